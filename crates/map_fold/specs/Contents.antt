@@ -1,0 +1,83 @@
+-- What a map holds: its items in the order of their numbers, each number once, none of them dropped.
+use Rattle.std.specs.Prelude.{◌≡◌, ℕ, ◌+◌, ◌<◌, ◌≤◌, Bool, true, false, not, List, [], ◌∷◌, map, filter, nat_lt, ◌==◌, if◌then◌else◌}
+use Rattle.std.specs.Ordering.{nat_cmp, ordering_then, is_lt}
+use Rattle.std.specs.declared.cmp.Ordering.{Ordering}
+use Rattle.point_geom.specs.Place.{Place, Bounds}
+use Rattle.point_geom.specs.Axes.{place_cmp}
+use Rattle.point_geom.specs.Distances.{centre_dist2}
+use Rattle.point_geom.specs.Boxes.{holds, voxel}
+use Rattle.node_labels.specs.declared.label.Label.TheVariants.{Live}
+use Rattle.node_labels.specs.declared.tag.Tag.{Tag}
+use Rattle.node_labels.specs.Labels.{apply, is_live, is_dropped, thin_tag}
+use Rattle.map_fold.specs.declared.item.Item.{Item}
+
+-- the numbers rise, from low on and below high, and no item is dropped
+abbrev pub AreContents : ℕ → ℕ → List Item → Type 0
+AreContents low high [] = Unit {0}
+AreContents low high (i ∷ m) = (low ≤ i.number) × (i.number < high) × (is_dropped i.label ≡ false) × AreContents (i.number + 1) high m
+
+-- the numbers rise, from low on
+abbrev pub IsRising : ℕ → List Item → Type 0
+IsRising low [] = Unit {0}
+IsRising low (i ∷ m) = (low ≤ i.number) × IsRising (i.number + 1) m
+
+-- a live item
+abbrev pub live_at : ℕ → Place → Item
+live_at n p = record { number = n; point = p; label = Live }
+
+-- m with the number n mapped to p, live
+abbrev pub put : List Item → ℕ → Place → List Item
+put [] n p = live_at n p ∷ []
+put (i ∷ m) n p =
+    if nat_lt i.number n then i ∷ put m n p
+    else (if i.number == n then live_at n p ∷ m else live_at n p ∷ i ∷ m)
+
+-- the item under an action
+abbrev pub relabelled : Tag → Item → Item
+relabelled a i = record i { label = apply a i.label }
+
+-- the item, under the action if it is chosen
+abbrev pub marked_item : (Item → Bool) → Tag → Item → Item
+marked_item chosen a i = if chosen i then relabelled a i else i
+
+-- the items that are left
+abbrev pub kept : List Item → List Item
+kept m = filter (λ i. not (is_dropped i.label)) m
+
+-- The action is done to each chosen item, and what it drops is gone.
+abbrev pub mark : List Item → (Item → Bool) → Tag → List Item
+mark m chosen a = kept (map (marked_item chosen a) m)
+
+-- chosen by a box
+abbrev pub in_box : Bounds → Item → Bool
+in_box c i = holds c i.point
+
+-- chosen without a box
+abbrev pub everything : Item → Bool
+everything i = true
+
+abbrev pub live_items : List Item → List Item
+live_items m = filter (λ i. is_live i.label) m
+
+-- nearer the centre of the box; then by x, y, z; then by number
+abbrev pub centre_cmp : Bounds → Item → Item → Ordering
+centre_cmp b i j =
+    ordering_then (nat_cmp (centre_dist2 b i.point) (centre_dist2 b j.point))
+    (ordering_then (place_cmp i.point j.point) (nat_cmp i.number j.number))
+
+-- the least item of i and the list
+abbrev pub least : (Item → Item → Ordering) → Item → List Item → Item
+least cmp i [] = i
+least cmp i (j ∷ m) = least cmp (if is_lt (cmp j i) then j else i) m
+
+-- of the live items in the voxel of p and the item (n, p), the one nearest the voxel's centre
+abbrev pub winner : ℕ → List Item → ℕ → Place → Item
+winner length m n p =
+    let cube = voxel length p in
+    least (centre_cmp cube) (live_at n p) (filter (in_box cube) (live_items m))
+
+-- The winner stays live under its number, and the voxel's other live items are dropped.
+abbrev pub thin : ℕ → List Item → ℕ → Place → List Item
+thin length m n p =
+    let w = winner length m n p in
+    put (mark m (in_box (voxel length p)) thin_tag) w.number w.point

@@ -1,0 +1,6 @@
+pub mod Sizes
+pub mod Contents
+pub mod Answers
+pub mod Fold
+pub mod Ops
+pub mod Nearest

@@ -1,0 +1,25 @@
+//! The plain map: what updates make of a map, and what queries answer.
+#![tactic(auto)]
+
+mod hits;
+mod item;
+mod memory;
+mod op;
+mod plain_map;
+mod reply;
+mod sequence;
+mod settings;
+#[cfg(test)]
+mod tests;
+mod update;
+
+pub use hits::{Hit, Hits};
+pub use item::{Item, Items};
+pub use memory::NoMemory;
+pub use node_labels::{Counts, Label, Tag};
+pub use op::{Op, Ops};
+pub use plain_map::PlainMap;
+pub use reply::NearReply;
+pub use sequence::Sequence;
+pub use settings::Settings;
+pub use update::{Cuboids, Points, Update};

@@ -1,0 +1,168 @@
+//! The plain map, a list of items.
+ghost use Rattle.std.specs.Prelude.{◌≡◌, ◌+◌, ◌≤◌, ◌<◌, IfOk, IsOk};
+ghost use Rattle.std.specs.Option.{ForSome};
+ghost use Rattle.map_fold.specs.Contents.{AreContents};
+ghost use Rattle.map_fold.specs.Fold.{MapAt, no_points, step, points_in};
+ghost use Rattle.map_fold.specs.Answers.{nearest, is_within, totals, live_count, suspended_count};
+ghost use Rattle.map_fold.specs.Nearest.{AreNearest};
+
+use crate::{Counts, Hit, Hits, Item, Label, NoMemory, Points, Settings, Update};
+use point_geom::{Point, dist2};
+use std::alloc::Global;
+use std::marker::Model;
+
+/// A map that scans its items: slow, and plain enough to check the quick one by.
+#[derive(Debug, Drop)]
+pub struct PlainMap {
+    items: Vec<Item>,
+    next: u32,
+}
+
+impl Model for PlainMap {
+    ghost use Rattle.std.specs.Prelude.{ℕ, ◌≤◌};
+    ghost use Rattle.map_fold.specs.Fold.{MapAt};
+    ghost use Rattle.map_fold.specs.Contents.{AreContents};
+
+    ghost Value = { MapAt };
+
+    ghost view = { λ m. record { items = m.items.items; next = m.next } };
+
+    ghost invariant = { λ m. AreContents 0 m.next m.items.items };
+}
+
+impl PlainMap {
+    /// A map of nothing, which takes no memory.
+    pub fn new(alloc: Global) -> Self
+        ensures { result ≡ no_points }
+    {
+        PlainMap {
+            items: Vec::new(alloc),
+            next: 0,
+        }
+    }
+
+    /// How many points were submitted, which is the number of the next one.
+    pub fn next(&self) -> u32
+        ensures value { result ≡ self.now.next }
+        ensures contents { AreContents 0 self.now.next self.now.items }
+    {
+        self.next
+    }
+
+    /// How many items are live and how many suspended. None are dropped.
+    pub fn counts(&self) -> Counts
+        ensures { result ≡ totals self.now.items }
+    {
+        let items = self.items.as_slice();
+        Counts {
+            live: live_of(items, self.next),
+            suspended: suspended_of(items, self.next),
+            dropped: 0,
+        }
+    }
+
+    /// The map after one more update. Want of memory loses the map.
+    pub fn apply(self, settings: &Settings, update: &Update) -> Result<PlainMap, NoMemory>
+        requires { self.next + points_in update.now ≤ 4194304 }
+        ensures { IfOk result (λ m. m ≡ step settings.now.voxel update.now self) }
+    {
+        match update {
+            Update::Add(points) => self.add(points),
+        }
+    }
+
+    fn add(self, points: &Points) -> Result<PlainMap, NoMemory>
+        requires { self.next + points_in (Update.Add points.now) ≤ 4194304 }
+        ensures { IfOk result (λ m. m ≡ step 0 (Update.Add points.now) self) }
+    {
+        let PlainMap {
+            mut items,
+            mut next,
+        } = self;
+        for point in points.as_slice() {
+            items.push(Item {
+                number: next,
+                point: *point,
+                label: Label::Live,
+            })?;
+            next += 1;
+        }
+        Ok(PlainMap { items, next })
+    }
+
+    /// The first k live points by squared distance from q, then by x, y and z, then by number; within the greatest
+    /// distance, in millimetres, where one is given. Costs k steps an item, and no memory for k up to 16.
+    pub fn nearest(
+        &self,
+        alloc: Global,
+        k: u32,
+        q: &Point,
+        within: Option<u64>,
+    ) -> Result<Hits, NoMemory>
+        requires k_from { 1 ≤ k }
+        requires k_to { k ≤ 256 }
+        requires within_to { ForSome within (λ r. r ≤ 4000000000) }
+        ensures found { IfOk result (λ hits. hits ≡ nearest self.now.items k q.now within) }
+
+        // What that list is, said without the way it is made.
+        ensures nearest { IfOk result (AreNearest self.now.items k q.now within) }
+        ensures inline { k ≤ 16 → IsOk result }
+    {
+        nearest_of(alloc, self.items.as_slice(), k as usize, q, within)
+    }
+}
+
+fn live_of(items: &[Item], next: u32) -> u32
+    requires { AreContents 0 next items.now }
+    ensures { result ≡ live_count items.now }
+{
+    items.iter().filter(|i| i.label == Label::Live).count() as u32
+}
+
+fn suspended_of(items: &[Item], next: u32) -> u32
+    requires { AreContents 0 next items.now }
+    ensures { result ≡ suspended_count items.now }
+{
+    items.iter().filter(|i| i.label == Label::Suspended).count() as u32
+}
+
+fn nearest_of(
+    alloc: Global,
+    items: &[Item],
+    k: usize,
+    q: &Point,
+    within: Option<u64>,
+) -> Result<Hits, NoMemory>
+    requires k_from { 1 ≤ k }
+    requires within_to { ForSome within (λ r. r ≤ 4000000000) }
+    ensures found { IfOk result (λ hits. hits ≡ nearest items.now k q.now within) }
+    ensures inline { k ≤ 16 → IsOk result }
+{
+    let mut hits = Hits::new(alloc);
+    let mut left = items.len();
+    while left > 0 {
+        left -= 1;
+        let item = &items[left];
+        if item.label == Label::Live {
+            let hit = Hit {
+                number: item.number,
+                point: item.point,
+                dist2: dist2(q, &item.point),
+            };
+            if is_within(within, &hit) {
+                hits.put(k, hit)?;
+            }
+        }
+    }
+    Ok(hits)
+}
+
+fn is_within(within: Option<u64>, hit: &Hit) -> bool
+    requires { ForSome within (λ r. r ≤ 4000000000) }
+    ensures { result ≡ is_within within hit.now }
+{
+    match within {
+        None => true,
+        Some(r) => hit.dist2 <= r as u128 * r as u128,
+    }
+}

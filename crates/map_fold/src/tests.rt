@@ -1,0 +1,78 @@
+//! Each call that may want memory, with ample memory.
+use crate::{Cuboids, Item, Items, Label, Op, Ops, PlainMap, Points, Settings, Tag, Update};
+use point_geom::{Cuboid, Point};
+use std::test::Fail;
+
+#[test]
+fn twenty_equal_points_are_found_by_number(rt: HostRuntime) -> Result<(), Fail> {
+    let alloc = rt.alloc();
+    let place = Point::new(3, 3, 3)?;
+    let mut points = Points::new(alloc);
+    for _ in 0..20 {
+        points.push(place)?;
+    }
+    let update = Update::Add(points);
+    assert!(rt; update.points() <= 20);
+    let map = PlainMap::new(alloc).apply(&Settings::new(200, 1500), &update)?;
+    assert_eq!(rt; map.next(), 20);
+    assert_eq!(rt; map.counts().live, 20);
+    assert_eq!(rt; map.counts().suspended, 0);
+
+    // More than take no memory, fewer, and more than there are.
+    for (k, want) in [(17, 17), (1, 1), (200, 20)] {
+        let hits = map.nearest(alloc, k, &place, Some(0))?;
+        assert_eq!(rt; hits.len(), want, "of {k}");
+        for (i, hit) in hits.as_slice().iter().enumerate() {
+            assert_eq!(rt; hit.number as usize, i);
+            assert_eq!(rt; hit.dist2, 0);
+        }
+    }
+    Ok(())
+}
+
+#[test]
+fn lists_hold_what_was_pushed(rt: HostRuntime) -> Result<(), Fail> {
+    let alloc = rt.alloc();
+    let point = Point::new(1, 2, 3)?;
+    let cuboid = Cuboid::unit(&point);
+    let mut cuboids = Cuboids::new(alloc);
+    cuboids.push(cuboid)?;
+    assert_eq!(rt; cuboids.len(), 1);
+    for held in cuboids.as_slice() {
+        assert!(rt; *held == cuboid);
+    }
+
+    let item = Item {
+        number: 7,
+        point,
+        label: Label::Suspended,
+    };
+    let mut items = Items::new(alloc);
+    items.push(item)?;
+    assert_eq!(rt; items.len(), 1);
+    for held in items.as_slice() {
+        assert!(rt; *held == item);
+    }
+
+    let put = Op::Put { number: 7, point };
+    let mut ops = Ops::new(alloc);
+    ops.push(put)?;
+    ops.push(Op::Mark {
+        within: None,
+        tag: Tag::SUSPEND,
+    })?;
+    assert_eq!(rt; ops.len(), 2);
+    for op in ops.as_slice() {
+        match op {
+            Op::Put { number, point } => {
+                assert_eq!(rt; *number, 7);
+                assert!(rt; point.z() == 3);
+            }
+            Op::Mark { within, tag } => {
+                assert!(rt; within.is_none());
+                assert!(rt; *tag == Tag::SUSPEND);
+            }
+        }
+    }
+    Ok(())
+}

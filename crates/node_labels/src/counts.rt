@@ -1,0 +1,57 @@
+//! Counts of labels.
+ghost use Rattle.std.specs.Prelude.{◌≡◌, ◌+◌, ◌≤◌, List, map};
+ghost use Rattle.node_labels.specs.Labels.{apply};
+ghost use Rattle.node_labels.specs.Tallies.{added, applied, counted, tally, total};
+ghost use Rattle.node_labels.specs.declared.label.Label.{Label};
+
+use crate::{Label, Tag};
+
+/// How many nodes or items there are of each label.
+#[derive(Clone, Copy, Debug, Default, PartialEq, Eq)]
+pub struct Counts {
+    pub live: u32,
+    pub suspended: u32,
+    pub dropped: u32,
+}
+
+impl Counts {
+    /// The counts after an action on all that was counted.
+    pub fn apply(self, tag: Tag) -> Counts
+        requires { total self ≤ 4194304 }
+        ensures value { result ≡ applied tag self }
+        ensures counts { (labels : List Label) → self ≡ tally labels → result ≡ tally (map (apply tag) labels) }
+        ensures same { total result ≡ total self }
+    {
+        let mut counts = Counts {
+            live: 0,
+            suspended: 0,
+            dropped: self.dropped,
+        };
+        counts.gain(tag.live, self.live);
+        counts.gain(tag.suspended, self.suspended);
+        counts
+    }
+
+    /// The counts of both together.
+    pub fn add(self, other: Counts) -> Counts
+        requires { total self + total other ≤ 4194304 }
+        ensures { result ≡ added self other }
+    {
+        Counts {
+            live: self.live + other.live,
+            suspended: self.suspended + other.suspended,
+            dropped: self.dropped + other.dropped,
+        }
+    }
+
+    fn gain(&mut self, label: Label, n: u32)
+        requires { total self.old + n ≤ 4194304 }
+        ensures { self.new ≡ added self.old (counted label n) }
+    {
+        match label {
+            Label::Live => self.live += n,
+            Label::Suspended => self.suspended += n,
+            Label::Dropped => self.dropped += n,
+        }
+    }
+}

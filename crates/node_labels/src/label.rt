@@ -1,0 +1,12 @@
+//! Labels.
+
+/// What a point of the map is marked as.
+#[derive(Clone, Copy, Debug, PartialEq, Eq)]
+pub enum Label {
+    /// Searches find it.
+    Live,
+    /// Searches pass over it, and it may be restored.
+    Suspended,
+    /// It is gone for good.
+    Dropped,
+}

@@ -1,0 +1,23 @@
+-- Axes, and the order of points.
+use Rattle.std.specs.Prelude.{ℤ}
+use Rattle.std.specs.declared.cmp.Ordering.{Ordering}
+use Rattle.std.specs.Ordering.{int_cmp, ordering_then}
+use Rattle.point_geom.specs.Place.{Place}
+use Rattle.point_geom.specs.declared.axis.Axis.{Axis}
+use Rattle.point_geom.specs.declared.axis.Axis.TheVariants.{X, Y, Z}
+
+-- X, Y, Z, X
+abbrev pub next_axis : Axis → Axis
+next_axis X = Y
+next_axis Y = Z
+next_axis Z = X
+
+-- the coordinate on an axis
+abbrev pub on : Axis → Place → ℤ
+on X p = p.x
+on Y p = p.y
+on Z p = p.z
+
+-- by x, then by y, then by z
+abbrev pub place_cmp : Place → Place → Ordering
+place_cmp p q = ordering_then (int_cmp p.x q.x) (ordering_then (int_cmp p.y q.y) (int_cmp p.z q.z))

@@ -1,0 +1,98 @@
+//! Closed boxes.
+ghost use Rattle.std.specs.Prelude.{◌≡◌, ◌≤◌, ◌≤ℤ◌, ◌↔◌};
+ghost use Rattle.std.specs.Int.{int_max, int_min};
+ghost use Rattle.point_geom.specs.Place.{IsBelow, IsCoordinate, Place, Span};
+ghost use Rattle.point_geom.specs.Distances.{dist2, gap2};
+ghost use Rattle.point_geom.specs.Extents.{IsIn, IsPart, clamped, joined_span, nearest_in, span_dist2, spot};
+
+use crate::Point;
+use crate::distance::gap2;
+use std::marker::Model;
+
+/// A closed box of points: both of its corners are in it.
+#[derive(Clone, Copy, Debug, PartialEq, Eq)]
+pub struct Extent {
+    lo: Point,
+    hi: Point,
+}
+
+impl Model for Extent {
+    ghost use Rattle.point_geom.specs.Place.{IsBelow, Span};
+
+    ghost Value = { Span };
+
+    ghost view = { λ e. record { lo = e.lo; hi = e.hi } };
+
+    ghost invariant = { λ e. IsBelow e.lo e.hi };
+
+    ghost inverse = { λ e. record { lo = e.lo; hi = e.hi } };
+}
+
+impl Extent {
+    /// The extent of this point alone.
+    pub fn of(p: &Point) -> Extent
+        ensures { result ≡ spot p.now }
+    {
+        Extent { lo: *p, hi: *p }
+    }
+
+    /// The corner with the least coordinates.
+    pub fn lo(&self) -> Point
+        ensures value { result ≡ self.now.lo }
+        ensures below { IsBelow self.now.lo self.now.hi }
+    {
+        self.lo
+    }
+
+    /// The corner with the greatest coordinates.
+    pub fn hi(&self) -> Point
+        ensures value { result ≡ self.now.hi }
+        ensures below { IsBelow self.now.lo self.now.hi }
+    {
+        self.hi
+    }
+
+    /// The least extent that covers both.
+    pub fn join(&self, other: &Extent) -> Extent
+        ensures value { result ≡ joined_span self.now other.now }
+        ensures least { (e : Span) → (IsPart self.now e × IsPart other.now e) ↔ IsPart result e }
+    {
+        Extent {
+            lo: self.lo.low_corner(&other.lo),
+            hi: self.hi.high_corner(&other.hi),
+        }
+    }
+
+    /// The least squared distance from the point to a point of the extent, in squared millimetres.
+    pub fn dist2(&self, p: &Point) -> u128
+        ensures value { result ≡ span_dist2 self.now p.now }
+        ensures least { (q : Place) → IsIn self.now q → result ≤ dist2 p.now q }
+        ensures reached { (q : Place) × IsIn self.now q × (result ≡ dist2 p.now q) }
+    {
+        let x = outside2(self.lo.x(), p.x(), self.hi.x());
+        let y = outside2(self.lo.y(), p.y(), self.hi.y());
+        let z = outside2(self.lo.z(), p.z(), self.hi.z());
+        (x + y + z) as u128
+    }
+}
+
+// How far the number lies outside these two, squared.
+fn outside2(low: i64, c: i64, high: i64) -> u64
+    requires low_range { IsCoordinate low }
+    requires range { IsCoordinate c }
+    requires high_range { IsCoordinate high }
+    ensures value { result ≡ gap2 c (clamped low high c) }
+    ensures bound { result ≤ 4000000000000000000 }
+{
+    gap2(c, clamped(low, c, high))
+}
+
+fn clamped(low: i64, c: i64, high: i64) -> i64
+    requires low_range { IsCoordinate low }
+    requires range { IsCoordinate c }
+    requires high_range { IsCoordinate high }
+    ensures value { result ≡ clamped low high c }
+    ensures range { IsCoordinate result }
+{
+    low.max(c.min(high))
+}

@@ -1,0 +1,17 @@
+//! Points, boxes and distances of a map, in whole millimetres.
+#![tactic(auto)]
+
+mod axis;
+mod cuboid;
+mod distance;
+mod extent;
+mod point;
+
+pub use axis::Axis;
+pub use cuboid::{Corner, Cuboid, CuboidError, voxel};
+pub use distance::{centre_dist2, dist2};
+pub use extent::Extent;
+pub use point::{OutOfRange, Point};
+
+#[cfg(test)]
+mod tests;
