@@ -1,10 +1,13 @@
 -- Items in the order of their numbers.
-use Rattle.std.proofs.Common.{◌≡◌, ℕ, ◌+◌, ◌<◌, ◌≤◌, List, [], ◌∷◌, ◌++◌, refl, ap, sym, ◌∙◌, arith, suc, length, drop, get_or}
+use Rattle.std.proofs.Common.{◌≡◌, ℕ, ◌+◌, ◌<◌, ◌≤◌, Bool, true, false, not, cond, List, [], ◌∷◌, ◌++◌, refl, ap, sym, ◌∙◌, arith, suc, zero, length, map, take, drop, get_or}
 use Rattle.std.proofs.Math.Seq.{drop-cons}
+use Rattle.std.proofs.Math.ListN.{set}
 use Rattle.std.proofs.lemmas.Bool.Decides.{nat_tests}
 use Rattle.point_geom.specs.Place.{Place}
+use Rattle.node_labels.specs.Labels.{apply, is_dropped}
+use Rattle.node_labels.specs.declared.tag.Tag.{Tag}
 use Rattle.map_fold.specs.declared.item.Item.{Item}
-use Rattle.map_fold.specs.Contents.{AreContents, IsRising, put, live_at}
+use Rattle.map_fold.specs.Contents.{AreContents, IsRising, put, live_at, relabelled, marked_item, kept, mark}
 
 -- a number above all goes to the end
 pub put-above : (low n : ℕ) (m : List Item) (p : Place) → AreContents low n m → put m n p ≡ m ++ live_at n p ∷ []
@@ -32,3 +35,37 @@ contents_length low high (i ∷ m) from h = omega (arith, h.0, h.1, contents_len
 pub contents_rise : (low high : ℕ) (m : List Item) → AreContents low high m → IsRising low m
 contents_rise low high [] h = tt
 contents_rise low high (i ∷ m) h = (h.0, contents_rise (i.number + 1) high m h.3)
+
+-- a lower bound may be lowered
+contents_from : (low least high : ℕ) (m : List Item) → least ≤ low → AreContents low high m → AreContents least high m
+contents_from low least high [] below h = tt
+contents_from low least high (i ∷ m) below h = (omega (arith, h.0), h.1, h.2, h.3)
+
+marked_number : (chosen : Item → Bool) (a : Tag) (i : Item) → (marked_item chosen a i).number ≡ i.number
+marked_number chosen a i = elim (chosen i) as (λ b. (cond b (relabelled a i) i).number ≡ i.number) [ true ↦ refl | false ↦ refl ]
+
+contents_kept : (low high : ℕ) (j : Item) (m : List Item) (b : Bool) → low ≤ j.number → j.number < high → is_dropped j.label ≡ b → AreContents (j.number + 1) high m → AreContents low high (cond (not b) (j ∷ m) m)
+contents_kept low high j m true from below e rest = contents_from (j.number + 1) low high m (omega arith) rest
+contents_kept low high j m false from below e rest = (from, below, e, rest)
+
+-- what a mark leaves is still what a map may hold
+pub contents_mark : (low high : ℕ) (m : List Item) (chosen : Item → Bool) (a : Tag) → AreContents low high m → AreContents low high (mark m chosen a)
+contents_mark low high [] chosen a h = tt
+contents_mark low high (i ∷ m) chosen a h =
+    let j = marked_item chosen a i in
+    let same : j.number ≡ i.number = marked_number chosen a i in
+    let rest = contents_mark (i.number + 1) high m chosen a h.3 in
+    contents_kept low high j (mark m chosen a) (is_dropped j.label) (omega (arith, h.0, same)) (omega (arith, h.1, same)) refl (rw same rest)
+
+-- one more element of a list is mapped in its place
+pub set-mapped : {X : Type 0} (f : X → X) (i : ℕ) (xs : List X) (d : X) → i < length xs
+    → set (map f (take i xs) ++ drop i xs) i (f (get_or xs i d)) ≡ map f (take (suc i) xs) ++ drop (suc i) xs
+set-mapped f i [] d below = absurd (omega arith)
+set-mapped f zero (y ∷ xs) d below = refl
+set-mapped f (suc i) (y ∷ xs) d below = ap (λ zs. f y ∷ zs) (set-mapped f i xs d (omega arith))
+
+-- the element that is next
+pub get_or-mapped : {X : Type 0} (f : X → X) (i : ℕ) (xs : List X) (d : X) → i < length xs → get_or (map f (take i xs) ++ drop i xs) i d ≡ get_or xs i d
+get_or-mapped f i [] d below = absurd (omega arith)
+get_or-mapped f zero (y ∷ xs) d below = refl
+get_or-mapped f (suc i) (y ∷ xs) d below = get_or-mapped f i xs d (omega arith)

@@ -1,13 +1,13 @@
 //! The plain map, a list of items.
-ghost use Rattle.std.specs.Prelude.{◌≡◌, ◌+◌, ◌≤◌, ◌<◌, IfOk, IsOk};
+ghost use Rattle.std.specs.Prelude.{◌≡◌, ◌+◌, ◌≤◌, ◌<◌, map, IfOk, IsOk};
 ghost use Rattle.std.specs.Option.{ForSome};
-ghost use Rattle.map_fold.specs.Contents.{AreContents};
-ghost use Rattle.map_fold.specs.Fold.{MapAt, no_points, step, points_in};
+ghost use Rattle.map_fold.specs.Contents.{AreContents, in_box, mark, marked_item};
+ghost use Rattle.map_fold.specs.Fold.{MapAt, mark_boxes, no_points, step, points_in};
 ghost use Rattle.map_fold.specs.Answers.{nearest, is_within, totals, live_count, suspended_count};
 ghost use Rattle.map_fold.specs.Nearest.{AreNearest};
 
-use crate::{Counts, Hit, Hits, Item, Label, NoMemory, Points, Settings, Update};
-use point_geom::{Point, dist2};
+use crate::{Counts, Cuboids, Hit, Hits, Item, Label, NoMemory, Points, Settings, Tag, Update};
+use point_geom::{Cuboid, Point, dist2};
 use std::alloc::Global;
 use std::marker::Model;
 
@@ -68,6 +68,9 @@ impl PlainMap {
     {
         match update {
             Update::Add(points) => self.add(points),
+            Update::Delete(boxes) => Ok(self.marked(boxes, Tag::DELETE)),
+            Update::Suspend(boxes) => Ok(self.marked(boxes, Tag::SUSPEND)),
+            Update::Restore(boxes) => Ok(self.marked(boxes, Tag::RESTORE)),
         }
     }
 
@@ -90,6 +93,16 @@ impl PlainMap {
         Ok(PlainMap { items, next })
     }
 
+    fn marked(self, boxes: &Cuboids, tag: Tag) -> PlainMap
+        ensures { result ≡ mark_boxes tag boxes.now self }
+    {
+        let PlainMap { mut items, next } = self;
+        for cuboid in boxes.as_slice() {
+            mark_items(&mut items, cuboid, tag);
+        }
+        PlainMap { items, next }
+    }
+
     /// The first k live points by squared distance from q, then by x, y and z, then by number; within the greatest
     /// distance, in millimetres, where one is given. Costs k steps an item, and no memory for k up to 16.
     pub fn nearest(
@@ -109,6 +122,35 @@ impl PlainMap {
         ensures inline { k ≤ 16 → IsOk result }
     {
         nearest_of(alloc, self.items.as_slice(), k as usize, q, within)
+    }
+}
+
+// Does the action to the items in the box, and lets go of what it drops.
+fn mark_items(items: &mut Vec<Item>, cuboid: &Cuboid, tag: Tag)
+    ensures { items.new.items ≡ mark items.old.items (in_box cuboid.now) tag }
+{
+    relabel(items, cuboid, tag);
+    items.retain(|i| i.label != Label::Dropped);
+}
+
+fn relabel(items: &mut Vec<Item>, cuboid: &Cuboid, tag: Tag)
+    ensures { items.new.items ≡ map (marked_item (in_box cuboid.now) tag) items.old.items }
+{
+    for i in 0..items.len() {
+        items[i] = relabelled(&items[i], cuboid, tag);
+    }
+}
+
+fn relabelled(item: &Item, cuboid: &Cuboid, tag: Tag) -> Item
+    ensures { result ≡ marked_item (in_box cuboid.now) tag item.now }
+{
+    if cuboid.holds(&item.point) {
+        Item {
+            label: tag.apply(item.label),
+            ..*item
+        }
+    } else {
+        *item
     }
 }
 

@@ -1,6 +1,9 @@
 //! Each call that may want memory, with ample memory.
-use crate::{Cuboids, Item, Items, Label, Op, Ops, PlainMap, Points, Settings, Tag, Update};
-use point_geom::{Cuboid, Point};
+use crate::{
+    Cuboids, Item, Items, Label, NoMemory, Op, Ops, PlainMap, Points, Settings, Tag, Update,
+};
+use point_geom::{Corner, Cuboid, Point};
+use std::alloc::Global;
 use std::test::Fail;
 
 #[test]
@@ -28,6 +31,41 @@ fn twenty_equal_points_are_found_by_number(rt: HostRuntime) -> Result<(), Fail> 
         }
     }
     Ok(())
+}
+
+#[test]
+fn what_is_deleted_is_gone_and_what_is_suspended_comes_back(rt: HostRuntime) -> Result<(), Fail> {
+    let alloc = rt.alloc();
+    let settings = Settings::new(200, 16);
+    let mut points = Points::new(alloc);
+    for x in [1, 2, 3] {
+        points.push(Point::new(x, 0, 0)?)?;
+    }
+    let add = Update::Add(points);
+    assert!(rt; add.points() <= 3);
+    let mut map = PlainMap::new(alloc).apply(&settings, &add)?;
+    let all = Cuboid::new(Corner { x: 0, y: 0, z: 0 }, Corner { x: 9, y: 9, z: 9 })?;
+    let first = Cuboid::unit(&Point::new(1, 0, 0)?);
+    let last = Cuboid::unit(&Point::new(3, 0, 0)?);
+    for (update, live, suspended) in [
+        (Update::Delete(boxes(alloc, first)?), 2, 0),
+        (Update::Restore(boxes(alloc, all)?), 2, 0),
+        (Update::Suspend(boxes(alloc, all)?), 0, 2),
+        (Update::Restore(boxes(alloc, last)?), 1, 1),
+    ] {
+        assert!(rt; map.next() == 3);
+        assert!(rt; update.points() == 0);
+        map = map.apply(&settings, &update)?;
+        assert_eq!(rt; map.counts().live, live);
+        assert_eq!(rt; map.counts().suspended, suspended);
+    }
+    Ok(())
+}
+
+fn boxes(alloc: Global, cuboid: Cuboid) -> Result<Cuboids, NoMemory> {
+    let mut boxes = Cuboids::new(alloc);
+    boxes.push(cuboid)?;
+    Ok(boxes)
 }
 
 #[test]

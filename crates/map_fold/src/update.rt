@@ -15,6 +15,12 @@ pub type Cuboids = Sequence<Cuboid>;
 pub enum Update {
     /// Each point in turn is held, live, under the next number.
     Add(Points),
+    /// What is live or suspended in each box in turn is dropped for good.
+    Delete(Cuboids),
+    /// What is live in each box in turn is hidden until it is restored.
+    Suspend(Cuboids),
+    /// What is suspended in each box in turn is live again.
+    Restore(Cuboids),
 }
 
 impl Update {
@@ -26,6 +32,7 @@ impl Update {
     {
         match self {
             Update::Add(points) => points.len(),
+            Update::Delete(_) | Update::Suspend(_) | Update::Restore(_) => 0,
         }
     }
 }

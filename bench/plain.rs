@@ -1,0 +1,301 @@
+// A straightforward incremental k-d tree in plain Rust, for comparison with map_bench: the same points, the same work and
+// the same checksums. Build with `rustc -O`. Words: `search N` or `update N`.
+use std::env;
+use std::time::Instant;
+
+const KEEP: [u8; 2] = [0, 1];
+const DELETE: [u8; 2] = [2, 2];
+const LIVE: u8 = 0;
+const DROPPED: u8 = 2;
+
+fn apply(tag: [u8; 2], label: u8) -> u8 {
+    if label == DROPPED { DROPPED } else { tag[label as usize] }
+}
+
+fn then(first: [u8; 2], second: [u8; 2]) -> [u8; 2] {
+    [apply(second, first[0]), apply(second, first[1])]
+}
+
+#[derive(Clone, Copy)]
+struct Item {
+    number: u32,
+    point: [i64; 3],
+    label: u8,
+}
+
+struct Node {
+    item: Item,
+    axis: usize,
+    pending: [u8; 2],
+    lo: [i64; 3],
+    hi: [i64; 3],
+    size: u32,
+    counts: [u32; 3],
+    left: Tree,
+    right: Tree,
+}
+
+type Tree = Option<Box<Node>>;
+
+fn counts_after(counts: [u32; 3], tag: [u8; 2]) -> [u32; 3] {
+    let mut after = [0, 0, counts[2]];
+    after[tag[0] as usize] += counts[0];
+    after[tag[1] as usize] += counts[1];
+    after
+}
+
+impl Node {
+    fn pull_up(&mut self) {
+        let mut counts = [0; 3];
+        let mut size = 1;
+        self.lo = self.item.point;
+        self.hi = self.item.point;
+        for son in [&self.left, &self.right].into_iter().flatten() {
+            size += son.size;
+            for i in 0..3 {
+                counts[i] += son.counts[i];
+                self.lo[i] = self.lo[i].min(son.lo[i]);
+                self.hi[i] = self.hi[i].max(son.hi[i]);
+            }
+        }
+        let mut counts = counts_after(counts, self.pending);
+        counts[self.item.label as usize] += 1;
+        self.counts = counts;
+        self.size = size;
+    }
+
+    fn tag(&mut self, tag: [u8; 2]) {
+        self.item.label = apply(tag, self.item.label);
+        self.pending = then(self.pending, tag);
+        self.counts = counts_after(self.counts, tag);
+    }
+
+    fn push_down(&mut self) {
+        let pending = std::mem::replace(&mut self.pending, KEEP);
+        if pending != KEEP {
+            for son in [&mut self.left, &mut self.right].into_iter().flatten() {
+                son.tag(pending);
+            }
+        }
+    }
+
+    fn breaches(&self) -> bool {
+        let size = |tree: &Tree| tree.as_ref().map_or(0, |son| son.size);
+        let share = 3 * (self.size - 1);
+        5 * size(&self.left) >= share || 5 * size(&self.right) >= share || 2 * self.counts[2] >= self.size
+    }
+}
+
+fn flatten(tree: Tree, owed: [u8; 2], items: &mut Vec<Item>) {
+    if let Some(node) = tree {
+        let label = apply(owed, node.item.label);
+        if label != DROPPED {
+            items.push(Item { label, ..node.item });
+        }
+        let owed = then(node.pending, owed);
+        flatten(node.left, owed, items);
+        flatten(node.right, owed, items);
+    }
+}
+
+fn build(items: &mut [Item]) -> Tree {
+    if items.is_empty() {
+        return None;
+    }
+    let mut lo = items[0].point;
+    let mut hi = lo;
+    for item in items.iter() {
+        for i in 0..3 {
+            lo[i] = lo[i].min(item.point[i]);
+            hi[i] = hi[i].max(item.point[i]);
+        }
+    }
+    let width = |i: usize| hi[i] - lo[i];
+    let axis = if width(0) >= width(1) && width(0) >= width(2) {
+        0
+    } else if width(1) >= width(2) {
+        1
+    } else {
+        2
+    };
+    let middle = (items.len() - 1) / 2;
+    let (front, item, back) = items.select_nth_unstable_by_key(middle, |i| (i.point[axis], i.point, i.number));
+    let item = *item;
+    let mut node = Node {
+        item,
+        axis,
+        pending: KEEP,
+        lo,
+        hi,
+        size: 0,
+        counts: [0; 3],
+        left: build(front),
+        right: build(back),
+    };
+    node.pull_up();
+    Some(Box::new(node))
+}
+
+fn refreshed(tree: Tree, large: u32) -> Tree {
+    match tree {
+        Some(node) if node.size >= 10 && node.size < large && node.breaches() => {
+            let mut items = Vec::with_capacity(node.size as usize);
+            flatten(Some(node), KEEP, &mut items);
+            build(&mut items)
+        }
+        tree => tree,
+    }
+}
+
+fn put(tree: Tree, large: u32, number: u32, point: [i64; 3], axis: usize) -> Tree {
+    let Some(mut node) = tree else {
+        let item = Item { number, point, label: LIVE };
+        let mut node = Node {
+            item,
+            axis,
+            pending: KEEP,
+            lo: point,
+            hi: point,
+            size: 0,
+            counts: [0; 3],
+            left: None,
+            right: None,
+        };
+        node.pull_up();
+        return Some(Box::new(node));
+    };
+    node.push_down();
+    let next = (node.axis + 1) % 3;
+    if point[node.axis] < node.item.point[node.axis] {
+        node.left = put(node.left.take(), large, number, point, next);
+    } else {
+        node.right = put(node.right.take(), large, number, point, next);
+    }
+    node.pull_up();
+    refreshed(Some(node), large)
+}
+
+type Cuboid = [[i64; 3]; 2];
+
+fn holds(c: &Cuboid, p: &[i64; 3]) -> bool {
+    (0..3).all(|i| c[0][i] <= p[i] && p[i] < c[1][i])
+}
+
+fn mark(tree: Tree, large: u32, c: &Cuboid, tag: [u8; 2]) -> Tree {
+    let mut node = tree?;
+    if !(0..3).all(|i| c[0][i] <= node.hi[i] && node.lo[i] < c[1][i]) {
+        return Some(node);
+    }
+    if holds(c, &node.lo) && holds(c, &node.hi) {
+        node.tag(tag);
+        return Some(node);
+    }
+    node.push_down();
+    if holds(c, &node.item.point) {
+        node.item.label = apply(tag, node.item.label);
+    }
+    node.left = mark(node.left.take(), large, c, tag);
+    node.right = mark(node.right.take(), large, c, tag);
+    node.pull_up();
+    refreshed(Some(node), large)
+}
+
+#[derive(Clone, Copy)]
+struct Hit {
+    dist2: u64,
+    point: [i64; 3],
+    number: u32,
+}
+
+fn dist2(a: &[i64; 3], b: &[i64; 3]) -> u64 {
+    (0..3).map(|i| a[i].abs_diff(b[i]).pow(2)).sum()
+}
+
+fn reach(node: &Node, q: &[i64; 3]) -> u64 {
+    (0..3).map(|i| q[i].abs_diff(q[i].clamp(node.lo[i], node.hi[i])).pow(2)).sum()
+}
+
+fn near(tree: &Tree, owed: [u8; 2], k: usize, q: &[i64; 3], hits: &mut Vec<Hit>) {
+    let Some(node) = tree else { return };
+    if hits.len() == k && reach(node, q) > hits[k - 1].dist2 {
+        return;
+    }
+    if apply(owed, node.item.label) == LIVE {
+        let point = node.item.point;
+        let hit = Hit { dist2: dist2(q, &point), point, number: node.item.number };
+        let key = (hit.dist2, hit.point, hit.number);
+        let at = hits.iter().take_while(|h| (h.dist2, h.point, h.number) < key).count();
+        if at < k {
+            hits.truncate(k - 1);
+            hits.insert(at, hit);
+        }
+    }
+    let below = then(node.pending, owed);
+    let (first, second) = if q[node.axis] < node.item.point[node.axis] {
+        (&node.left, &node.right)
+    } else {
+        (&node.right, &node.left)
+    };
+    near(first, below, k, q, hits);
+    near(second, below, k, q, hits);
+}
+
+struct Draws(u64);
+
+impl Draws {
+    fn draw(&mut self) -> i64 {
+        self.0 = (self.0 * 1664525 + 1013904223) % (1 << 32);
+        (self.0 / 65536) as i64
+    }
+
+    fn point(&mut self, scan: u32) -> [i64; 3] {
+        let (a, b, c) = (self.draw(), self.draw(), self.draw());
+        [1000 * scan as i64 + a % 60001 - 30000, b % 60001 - 30000, c % 6001 - 3000]
+    }
+}
+
+fn ask(tree: &Tree, queries: u32, scans: u32, draws: &mut Draws) -> u64 {
+    let mut sum = 0u64;
+    let mut hits = Vec::with_capacity(5);
+    for j in 0..queries {
+        let q = draws.point(j % scans);
+        hits.clear();
+        near(tree, KEEP, 5, &q, &mut hits);
+        for hit in &hits {
+            sum = sum.wrapping_mul(31).wrapping_add(hit.number as u64).wrapping_add(hit.dist2);
+        }
+    }
+    sum
+}
+
+fn main() {
+    let words: Vec<String> = env::args().skip(1).collect();
+    let count: u32 = words[1].parse().unwrap();
+    let queries: u32 = words[2].parse().unwrap();
+    let scans = (count / 2000).max(1);
+    let mut draws = Draws(1);
+    let mut tree = None;
+    let begun = Instant::now();
+    if words[0] == "search" {
+        let mut items: Vec<Item> = (0..count)
+            .map(|number| Item { number, point: draws.point(number / 2000), label: LIVE })
+            .collect();
+        let begun = Instant::now();
+        tree = build(&mut items);
+        eprintln!("build {} us", begun.elapsed().as_micros());
+    } else {
+        for number in 0..count {
+            let scan = number / 2000;
+            tree = put(tree, 1_000_000, number, draws.point(scan), 0);
+            if number % 20_000 == 19_999 {
+                let x = 1000 * scan as i64;
+                tree = mark(tree, 1_000_000, &[[x - 60000, -30000, -3000], [x - 30000, 30001, 3001]], DELETE);
+            }
+        }
+        eprintln!("update {} us", begun.elapsed().as_micros());
+    }
+    let begun = Instant::now();
+    let sum = ask(&tree, queries, scans, &mut draws);
+    eprintln!("ask {} us", begun.elapsed().as_micros());
+    println!("{} {} points {} queries sum {}", words[0], count, queries, sum);
+}

@@ -1,0 +1,150 @@
+-- Hits put in order one after the other: in which order they come doesn't matter.
+use Rattle.std.proofs.Common.{◌≡◌, ℕ, ◌⊎◌, inl, inr, true, false, cond, List, [], ◌∷◌, ◌++◌, take, map, refl, sym, ap, ◌∙◌}
+use Rattle.std.specs.Prelude.{filter, nat_lt}
+use Rattle.std.specs.declared.option.Option.{Option}
+use Rattle.std.proofs.lemmas.Bool.{cases_Bool, false_from_ne_true}
+use Rattle.std.proofs.lemmas.List.{map-append}
+use Rattle.std.proofs.lemmas.List.Elements.{filter-append}
+use Rattle.point_geom.specs.Place.{Place}
+use Rattle.map_fold.specs.declared.hits.Hit.{Hit}
+use Rattle.map_fold.specs.declared.item.Item.{Item}
+use Rattle.map_fold.specs.Contents.{kept, live_items}
+use Rattle.map_fold.specs.Answers.{is_nearer, put_hit, in_order, hit_of, is_within, candidates}
+use Rattle.map_fold.proofs.Order.{nearer_not_back, nearer_chain, nearer_either}
+use Rattle.map_fold.proofs.Ranking.{put_hit-take}
+use Rattle.kd_tree.specs.Contents.{insert_item, by_number}
+use Rattle.kd_search.specs.Nearest.{put_all}
+use Rattle.kd_search.proofs.Inserted.{take-take}
+use Rattle.kd_search.proofs.Walks.{live-kept, live-append}
+
+past : (h x : Hit) (xs : List Hit) → is_nearer x h ≡ true → put_hit h (x ∷ xs) ≡ x ∷ put_hit h xs
+past h x xs e = rw e refl
+
+front : (h x : Hit) (xs : List Hit) → is_nearer x h ≡ false → put_hit h (x ∷ xs) ≡ h ∷ x ∷ xs
+front h x xs e = rw e refl
+
+not_back : (a b : Hit) → is_nearer a b ≡ true → is_nearer b a ≡ false
+not_back a b e = false_from_ne_true _ (λ f. nearer_not_back a b e f)
+
+-- of two hits the nearer one may be put in first
+nearer_first : (a b : Hit) (xs : List Hit) → is_nearer a b ≡ true → put_hit a (put_hit b xs) ≡ put_hit b (put_hit a xs)
+nearer_first a b [] e = front a b [] (not_back a b e) ∙ sym (past b a [] e)
+nearer_first a b (x ∷ xs) e = elim (cases_Bool (is_nearer x a)) [
+  | inl xa ↦
+      let xb : is_nearer x b ≡ true = nearer_chain x a b xa e in
+      ap (put_hit a) (past b x xs xb) ∙ past a x (put_hit b xs) xa ∙ ap (λ ys. x ∷ ys) (nearer_first a b xs e)
+      ∙ sym (past b x (put_hit a xs) xb) ∙ ap (put_hit b) (sym (past a x xs xa))
+  | inr xa ↦ sym (ap (put_hit b) (front a x xs xa) ∙ past b a (x ∷ xs) e ∙ sym (later (cases_Bool (is_nearer x b)) xa))
+]
+  where
+    later : (is_nearer x b ≡ true) ⊎ (is_nearer x b ≡ false) → is_nearer x a ≡ false → put_hit a (put_hit b (x ∷ xs)) ≡ a ∷ put_hit b (x ∷ xs)
+    later (inl xb) xa = ap (put_hit a) (past b x xs xb) ∙ front a x (put_hit b xs) xa ∙ ap (λ ys. a ∷ ys) (sym (past b x xs xb))
+    later (inr xb) xa = ap (put_hit a) (front b x xs xb) ∙ front a b (x ∷ xs) (not_back a b e) ∙ ap (λ ys. a ∷ ys) (sym (front b x xs xb))
+
+-- either of two hits may be put in first
+pub put_hit-put_hit : (a b : Hit) (xs : List Hit) → put_hit a (put_hit b xs) ≡ put_hit b (put_hit a xs)
+put_hit-put_hit a b xs = elim (nearer_either a b) [
+  | inl same ↦ ap (λ h. put_hit h (put_hit b xs)) same ∙ ap (λ h. put_hit b (put_hit h xs)) (sym same)
+  | inr either ↦ elim either [ inl e ↦ nearer_first a b xs e | inr e ↦ sym (nearer_first b a xs e) ]
+]
+
+put_all-put_hit : (found : List Hit) (h : Hit) (hits : List Hit) → put_all found (put_hit h hits) ≡ put_hit h (put_all found hits)
+put_all-put_hit [] h hits = refl
+put_all-put_hit (g ∷ found) h hits = ap (put_hit g) (put_all-put_hit found h hits) ∙ put_hit-put_hit g h (put_all found hits)
+
+-- so may either of two lists
+pub put_all-put_all : (xs ys hits : List Hit) → put_all xs (put_all ys hits) ≡ put_all ys (put_all xs hits)
+put_all-put_all [] ys hits = refl
+put_all-put_all (x ∷ xs) ys hits = ap (put_hit x) (put_all-put_all xs ys hits) ∙ sym (put_all-put_hit ys x (put_all xs hits))
+
+pub put_all-append : (xs ys hits : List Hit) → put_all (xs ++ ys) hits ≡ put_all xs (put_all ys hits)
+put_all-append [] ys hits = refl
+put_all-append (x ∷ xs) ys hits = ap (put_hit x) (put_all-append xs ys hits)
+
+-- what is beyond the first k never comes among them
+pub put_all-take : (k : ℕ) (found hits : List Hit) → take k (put_all found (take k hits)) ≡ take k (put_all found hits)
+put_all-take k [] hits = take-take k hits
+put_all-take k (h ∷ found) hits =
+    sym (put_hit-take k h (put_all found (take k hits)))
+    ∙ ap (λ z. take k (put_hit h z)) (put_all-take k found hits)
+    ∙ put_hit-take k h (put_all found hits)
+
+-- put into nothing, they are in order
+pub put_all-nil : (found : List Hit) → put_all found [] ≡ in_order found
+put_all-nil [] = refl
+put_all-nil (h ∷ found) = ap (put_hit h) (put_all-nil found)
+
+pub candidates-append : (q : Place) (r : Option ℕ) (xs ys : List Item) → candidates (xs ++ ys) q r ≡ candidates xs q r ++ candidates ys q r
+candidates-append q r xs ys =
+    ap (λ z. filter (is_within r) (map (hit_of q) z)) (live-append xs ys)
+    ∙ ap (filter (is_within r)) (map-append (hit_of q) (live_items xs) (live_items ys))
+    ∙ filter-append (is_within r) (map (hit_of q) (live_items xs)) (map (hit_of q) (live_items ys))
+
+-- a node's candidate and those of its sons
+pub candidates-top : (q : Place) (r : Option ℕ) (i : Item) (left right : List Item) → candidates (kept (i ∷ []) ++ (left ++ right)) q r ≡ candidates (i ∷ []) q r ++ (candidates left q r ++ candidates right q r)
+candidates-top q r i left right =
+    candidates-append q r (kept (i ∷ [])) (left ++ right)
+    ∙ ap (λ z. filter (is_within r) (map (hit_of q) z) ++ candidates (left ++ right) q r) (live-kept i)
+    ∙ ap (λ z. candidates (i ∷ []) q r ++ z) (candidates-append q r left right)
+
+-- the candidates of one more item
+in_order-cons : (q : Place) (r : Option ℕ) (i : Item) (m : List Item) → in_order (candidates (i ∷ m) q r) ≡ put_all (candidates (i ∷ []) q r) (in_order (candidates m q r))
+in_order-cons q r i m =
+    ap in_order (candidates-append q r (i ∷ []) m) ∙ sym (put_all-nil (candidates (i ∷ []) q r ++ candidates m q r))
+    ∙ put_all-append (candidates (i ∷ []) q r) (candidates m q r) [] ∙ ap (put_all (candidates (i ∷ []) q r)) (put_all-nil (candidates m q r))
+
+in_order-insert : (q : Place) (r : Option ℕ) (i : Item) (m : List Item) → in_order (candidates (insert_item i m) q r) ≡ in_order (candidates (i ∷ m) q r)
+in_order-insert q r i [] = refl
+in_order-insert q r i (j ∷ m) =
+    elim (nat_lt i.number j.number) as (λ b. in_order (candidates (cond b (i ∷ j ∷ m) (j ∷ insert_item i m)) q r) ≡ in_order (candidates (i ∷ j ∷ m) q r)) [
+      | true ↦ refl
+      | false ↦
+          let one = candidates (i ∷ []) q r in
+          let two = candidates (j ∷ []) q r in
+          in_order-cons q r j (insert_item i m)
+          ∙ ap (put_all two) (in_order-insert q r i m ∙ in_order-cons q r i m)
+          ∙ put_all-put_all two one (in_order (candidates m q r))
+          ∙ ap (put_all one) (sym (in_order-cons q r j m)) ∙ sym (in_order-cons q r i (j ∷ m))
+    ]
+
+-- to put items in order changes no order of hits
+pub in_order-by_number : (q : Place) (r : Option ℕ) (m : List Item) → in_order (candidates (by_number m) q r) ≡ in_order (candidates m q r)
+in_order-by_number q r [] = refl
+in_order-by_number q r (i ∷ m) =
+    in_order-insert q r i (by_number m) ∙ in_order-cons q r i (by_number m)
+    ∙ ap (put_all (candidates (i ∷ []) q r)) (in_order-by_number q r m) ∙ sym (in_order-cons q r i m)
+
+in_turn : (k : ℕ) (top left right hits one two three : List Hit) → one ≡ take k (put_all top hits) → two ≡ take k (put_all left one) → three ≡ take k (put_all right two)
+    → three ≡ take k (put_all (top ++ (left ++ right)) hits)
+in_turn k top left right hits one two three e f g =
+    g ∙ ap (λ z. take k (put_all right z)) f ∙ put_all-take k right (put_all left one)
+    ∙ ap (λ z. take k (put_all right (put_all left z))) e
+    ∙ sym (ap (take k) (put_all-append right left (take k (put_all top hits))))
+    ∙ put_all-take k (right ++ left) (put_all top hits)
+    ∙ ap (take k) (
+    put_all-append right left (put_all top hits) ∙ put_all-put_all right left (put_all top hits) ∙ sym (put_all-append left right (put_all top hits))
+    ∙ put_all-put_all (left ++ right) top hits ∙ sym (put_all-append top (left ++ right) hits)
+    )
+
+turned : (top left right hits : List Hit) → put_all (top ++ (right ++ left)) hits ≡ put_all (top ++ (left ++ right)) hits
+turned top left right hits =
+    put_all-append top (right ++ left) hits
+    ∙ ap (put_all top) (put_all-append right left hits ∙ put_all-put_all right left hits ∙ sym (put_all-append left right hits))
+    ∙ sym (put_all-append top (left ++ right) hits)
+
+-- a node's item and then both sons, the left one first
+pub left_first : (k : ℕ) (q : Place) (r : Option ℕ) (i : Item) (left right whole : List Item) (hits one two three : List Hit) → whole ≡ kept (i ∷ []) ++ (left ++ right)
+    → one ≡ take k (put_all (candidates (i ∷ []) q r) hits) → two ≡ take k (put_all (candidates left q r) one) → three ≡ take k (put_all (candidates right q r) two)
+    → three ≡ take k (put_all (candidates whole q r) hits)
+left_first k q r i left right whole hits one two three all e f g =
+    in_turn k (candidates (i ∷ []) q r) (candidates left q r) (candidates right q r) hits one two three e f g
+    ∙ ap (λ z. take k (put_all z hits)) (sym (ap (λ m. candidates m q r) all ∙ candidates-top q r i left right))
+
+-- and the right one first
+pub right_first : (k : ℕ) (q : Place) (r : Option ℕ) (i : Item) (left right whole : List Item) (hits one two three : List Hit) → whole ≡ kept (i ∷ []) ++ (left ++ right)
+    → one ≡ take k (put_all (candidates (i ∷ []) q r) hits) → two ≡ take k (put_all (candidates right q r) one) → three ≡ take k (put_all (candidates left q r) two)
+    → three ≡ take k (put_all (candidates whole q r) hits)
+right_first k q r i left right whole hits one two three all e f g =
+    in_turn k (candidates (i ∷ []) q r) (candidates right q r) (candidates left q r) hits one two three e f g
+    ∙ ap (take k) (turned (candidates (i ∷ []) q r) (candidates left q r) (candidates right q r) hits)
+    ∙ ap (λ z. take k (put_all z hits)) (sym (ap (λ m. candidates m q r) all ∙ candidates-top q r i left right))

@@ -1,0 +1,5 @@
+pub mod Points
+pub mod Part
+pub mod Inserted
+pub mod Nearest
+pub mod Best

@@ -1,0 +1,41 @@
+-- Hits that a search has met so far.
+use Rattle.std.specs.Prelude.{◌≡◌, ℕ, ◌*◌, ◌≤◌, ◌<◌, Bool, true, List, [], ◌∷◌, length, nat_le}
+use Rattle.std.specs.declared.option.Option.{Option}
+use Rattle.std.specs.declared.option.Option.TheVariants.{None, Some}
+use Rattle.map_fold.specs.declared.hits.Hit.{Hit}
+use Rattle.map_fold.specs.Answers.{put_hit}
+
+-- all of the first, the last first, each in its place in the second
+abbrev pub put_all : List Hit → List Hit → List Hit
+put_all [] hits = hits
+put_all (h ∷ found) hits = put_hit h (put_all found hits)
+
+-- a squared distance that the greatest distance admits, where one is given
+abbrev pub is_admitted : Option ℕ → ℕ → Bool
+is_admitted None d = true
+is_admitted (Some r) d = nat_le d (r * r)
+
+-- each hit is at least as far as this
+abbrev pub AreFrom : ℕ → List Hit → Type 0
+AreFrom d [] = Unit {0}
+AreFrom d (h ∷ hits) = (d ≤ h.dist2) × AreFrom d hits
+
+-- each hit is nearer than this
+abbrev pub AreBefore : ℕ → List Hit → Type 0
+AreBefore d [] = Unit {0}
+AreBefore d (h ∷ hits) = (h.dist2 < d) × AreBefore d hits
+
+-- no hit is farther than one that stands after it
+abbrev pub Recede : List Hit → Type 0
+Recede [] = Unit {0}
+Recede (h ∷ hits) = AreFrom h.dist2 hits × Recede hits
+
+-- at most k hits, the nearest first
+pub record AreHeld (k : ℕ) (hits : List Hit) : Type 0 where
+  pub few : length hits ≤ k
+  pub recede : Recede hits
+
+-- k hits are held, and all are nearer than this
+pub record AreFull (k : ℕ) (hits : List Hit) (d : ℕ) : Type 0 where
+  pub all : length hits ≡ k
+  pub before : AreBefore d hits

@@ -1,0 +1,21 @@
+-- A subtree, with the action that it owes from above.
+use Rattle.std.specs.Prelude.{◌≡◌, ℕ, ◌+◌, ◌≤◌, List, [], ◌∷◌, ◌++◌}
+use Rattle.map_fold.specs.declared.item.Item.{Item}
+use Rattle.map_fold.specs.Contents.{kept}
+use Rattle.kd_tree.specs.Shape.{nodes}
+use Rattle.kd_tree.specs.Walk.{walk}
+use Rattle.kd_search.specs.declared.part.Part.{Part}
+use Rattle.kd_search.specs.declared.part.PartTop.{PartTop}
+
+-- the items that are left in it, node first
+abbrev pub items_of : Part → List Item
+items_of p = walk p.owed p.tree.now
+
+abbrev pub nodes_of : Part → ℕ
+nodes_of p = nodes p.tree.now
+
+-- a part is its top item, unless that is dropped, and both sons
+pub record IsTopOf (p : Part) (t : PartTop) : Type 0 where
+  pub items : items_of p ≡ kept (t.item ∷ []) ++ (items_of t.left ++ items_of t.right)
+  pub nodes : nodes_of p ≡ nodes_of t.left + nodes_of t.right + 1
+  pub few : nodes_of p ≤ 4194304

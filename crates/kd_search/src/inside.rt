@@ -1,0 +1,101 @@
+//! The live points of a box by number.
+ghost use Rattle.std.specs.Prelude.{◌≡◌, ◌≤◌, ◌&&◌, [], ◌∷◌, length, take, IfOk, OnOk};
+ghost use Rattle.std.specs.List.{insert};
+ghost use Rattle.node_labels.specs.Labels.{is_live};
+ghost use Rattle.map_fold.specs.Contents.{in_box};
+ghost use Rattle.map_fold.specs.Answers.{inside, inside_all};
+ghost use Rattle.kd_tree.specs.Contents.{contents, insert_item};
+ghost use Rattle.kd_search.specs.Inserted.{insert_all};
+ghost use Rattle.kd_search.specs.Part.{items_of};
+
+use crate::part::Part;
+use kd_tree::Tree;
+use map_fold::{Item, Items, Label, NoMemory};
+use point_geom::Cuboid;
+use std::alloc::Global;
+
+/// The live items in the cuboid, in the order of their numbers; the first `most` where there are more. A subtree that the
+/// cuboid doesn't meet is left out, and each item that is met costs at most `most` steps.
+pub fn in_cuboid(tree: &Tree, alloc: Global, c: &Cuboid, most: u32) -> Result<Items, NoMemory>
+    requires most_from { 1 ≤ most }
+    requires most_to { most ≤ 256 }
+    ensures found { IfOk result (λ items. items ≡ inside (contents tree.now) c.now most) }
+{
+    let mut items = Vec::new(alloc);
+    add_under(&Part::whole(tree), c, most as usize, &mut items)?;
+    Ok(Items::from(items))
+}
+
+// Adds the part's items to those in order, of which the first `most` are kept. The last comes first, as the definition of
+// the order has it.
+fn add_under(
+    part: &Part<'_>,
+    c: &Cuboid,
+    most: usize,
+    items: &mut Vec<Item>,
+) -> Result<(), NoMemory>
+    requires most_from { 1 ≤ most }
+    requires few { length items.old.items ≤ most }
+    ensures few { OnOk result (length items.new.items ≤ most) }
+    ensures found { OnOk result (items.new.items ≡ take most (insert_all (inside_all (items_of part.now) c.now) items.old.items)) }
+{
+    let Some(extent) = part.extent() else {
+        return Ok(());
+    };
+    if !c.meets(&extent) {
+        return Ok(());
+    }
+    let Some(top) = part.top() else {
+        return Ok(());
+    };
+    add_under(&top.right, c, most, items)?;
+    add_under(&top.left, c, most, items)?;
+    add(&top.item, c, most, items)
+}
+
+fn add(item: &Item, c: &Cuboid, most: usize, items: &mut Vec<Item>) -> Result<(), NoMemory>
+    requires most_from { 1 ≤ most }
+    requires few { length items.old.items ≤ most }
+    ensures few { OnOk result (length items.new.items ≤ most) }
+    ensures found { OnOk result (items.new.items ≡ take most (insert_all (inside_all (item.now ∷ []) c.now) items.old.items)) }
+{
+    if !is_in(item, c) {
+        return Ok(());
+    }
+    put(item, most, items)
+}
+
+fn put(item: &Item, most: usize, items: &mut Vec<Item>) -> Result<(), NoMemory>
+    requires most_from { 1 ≤ most }
+    requires few { length items.old.items ≤ most }
+    ensures { OnOk result (items.new.items ≡ take most (insert_item item.now items.old.items)) }
+{
+    let at = place_of(items.as_slice(), item);
+    if at == most {
+        return Ok(());
+    }
+    if items.len() == most {
+        items.truncate(most - 1);
+    }
+    items.insert(at, *item)?;
+    Ok(())
+}
+
+// Where the item goes among items by number.
+fn place_of(items: &[Item], item: &Item) -> usize
+    ensures bound { result ≤ length items.now }
+    ensures value { insert items.now result item.now ≡ insert_item item.now items.now }
+{
+    let mut at = 0;
+    while at < items.len() && items[at].number <= item.number {
+        at += 1;
+    }
+    at
+}
+
+/// Whether a search of the cuboid finds the item.
+pub(crate) fn is_in(item: &Item, c: &Cuboid) -> bool
+    ensures { result ≡ (is_live item.now.label && in_box c.now item.now) }
+{
+    item.label == Label::Live && c.holds(&item.point)
+}

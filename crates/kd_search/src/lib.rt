@@ -1,0 +1,15 @@
+//! Searches of a k-d tree: the nearest live points, and those in a box.
+#![tactic(auto)]
+
+mod best;
+mod count;
+mod inside;
+mod near;
+mod part;
+#[cfg(test)]
+mod tests;
+
+pub use best::best_in;
+pub use count::count_in;
+pub use inside::in_cuboid;
+pub use near::nearest;

@@ -1,0 +1,83 @@
+//! Parts of a tree as a search meets them. What a part owes from above is done to its items here, and nowhere else; the
+//! tree stays as it is. Nothing here knows what is searched for.
+ghost use Rattle.std.specs.Prelude.{◌≡◌, [], length, IfNone, IfSome};
+ghost use Rattle.node_labels.specs.Labels.{keep_tag};
+ghost use Rattle.map_fold.specs.Contents.{live_items};
+ghost use Rattle.kd_tree.specs.Walk.{walk};
+ghost use Rattle.kd_search.specs.Points.{AreIn};
+ghost use Rattle.kd_search.specs.Part.{IsTopOf, items_of};
+
+use kd_tree::Tree;
+use map_fold::{Item, Tag};
+use point_geom::{Axis, Extent};
+
+/// A subtree, and the action that it owes from above.
+#[derive(Drop)]
+pub(crate) struct Part<'a> {
+    tree: &'a Tree,
+    owed: Tag,
+}
+
+/// The top of a part. The item's label has the action that was owed, and the sons owe it with what the node owes to them.
+#[derive(Drop)]
+pub(crate) struct PartTop<'a> {
+    pub(crate) item: Item,
+    pub(crate) axis: Axis,
+    pub(crate) left: Part<'a>,
+    pub(crate) right: Part<'a>,
+}
+
+impl<'a> Part<'a> {
+    pub(crate) fn whole(tree: &'a Tree) -> Part<'a>
+        ensures { items_of result ≡ walk keep_tag tree.now }
+    {
+        Part {
+            tree,
+            owed: Tag::KEEP,
+        }
+    }
+
+    /// A box that all its points are in, also those of dropped items.
+    pub(crate) fn extent(&self) -> Option<Extent>
+        ensures none { IfNone result (items_of self.now ≡ []) }
+        ensures some { IfSome result (λ e. AreIn e (items_of self.now)) }
+    {
+        self.tree.extent()
+    }
+
+    /// How many live items there are, in the same time for each part.
+    pub(crate) fn live(&self) -> u32
+        ensures { result ≡ length (live_items (items_of self.now)) }
+    {
+        let _size = self.tree.size();
+        self.tree.counts().apply(self.owed).live
+    }
+
+    pub(crate) fn top(&self) -> Option<PartTop<'a>>
+        ensures none { IfNone result (items_of self.now ≡ []) }
+        ensures some { IfSome result (λ t. IsTopOf self.now t) }
+    {
+        let _size = self.tree.size();
+        match self.tree.top() {
+            None => None,
+            Some(top) => {
+                let owed = top.pending.then(self.owed);
+                Some(PartTop {
+                    item: Item {
+                        label: self.owed.apply(top.item.label),
+                        ..top.item
+                    },
+                    axis: top.axis,
+                    left: Part {
+                        tree: top.left,
+                        owed,
+                    },
+                    right: Part {
+                        tree: top.right,
+                        owed,
+                    },
+                })
+            }
+        }
+    }
+}

@@ -1,0 +1,236 @@
+-- A tree after an action in a box, without rebuilding.
+use Rattle.std.proofs.Common.{◌≡◌, ℕ, ◌+◌, ◌≤◌, max, true, false, cond, refl, ap, ◌∙◌, sym, arith, subst, Option, Some, None, [], ◌∷◌, ◌++◌}
+use Rattle.std.specs.Prelude.{All, count_by, ◌==◌, ◌≤ℤ◌}
+use Rattle.std.proofs.lemmas.Bool.{cond_both, cond-true, cond-false, false_from_ne_true, false≢true}
+use Rattle.std.proofs.lemmas.List.Elements.{All-weaker}
+use Rattle.point_geom.specs.Place.{Place, Bounds, Span}
+use Rattle.point_geom.specs.Axes.{on}
+use Rattle.point_geom.specs.Boxes.{holds}
+use Rattle.point_geom.specs.Extents.{IsIn, spot, covers, meets}
+use Rattle.point_geom.proofs.Laws.{IsPart-same, held_meets, covered_held}
+use Rattle.node_labels.specs.Labels.{composed, keep_tag}
+use Rattle.node_labels.specs.declared.tag.Tag.{Tag}
+use Rattle.node_labels.proofs.Laws.{composed-keep_right}
+use Rattle.map_fold.specs.declared.item.Item.{Item}
+use Rattle.map_fold.specs.Contents.{relabelled, marked_item, kept, mark, in_box, everything}
+use Rattle.kd_tree.specs.Shape.{Head, Shape, leaf, fork, nodes, levels, numbers}
+use Rattle.kd_tree.specs.Walk.{walk, extent, grown, tagged, AllLeft, times}
+use Rattle.kd_tree.specs.Sound.{IsSound, IsSoundFork}
+use Rattle.kd_tree.specs.Contents.{contents, by_number}
+use Rattle.kd_tree.specs.Parts.{pushed}
+use Rattle.kd_tree.specs.declared.change.Fork.{Fork}
+use Rattle.kd_tree.proofs.Actions.{tagged-keep, tagged_nodes, tagged_levels}
+use Rattle.kd_tree.proofs.Extents.{walk_in}
+use Rattle.kd_tree.proofs.Held.{walk_kept}
+use Rattle.kd_tree.proofs.Contents.{parts_alike, mark-append, by_number-mark, relabelled-keep, walk-composed, walk-tagged, times_walk}
+use Rattle.kd_update.specs.Mark.{box_of, marked_under, marked_shape, is_entered, IsVisitCalm}
+use Rattle.kd_update.specs.Refresh.{IsSpared}
+use Rattle.kd_update.specs.Update.{IsEven, IsUpdated}
+use Rattle.kd_update.proofs.Trees.{forked, some_fork, all_left, left_all, walk-tagged_keep}
+use Rattle.kd_update.proofs.Lists.{marked-point, marked-number, own-marked, mark_agree, mark_none, mark_points, mark_counts}
+use Rattle.kd_update.proofs.Refresh.{head}
+use Rattle.kd_update.proofs.Update.{even_sons, even_tagged, updated_plain}
+
+-- an action in a box after one on all
+marked-tagged : (c : Bounds) (a p : Tag) (t : Shape) → marked_under c a keep_tag (tagged p t) ≡ marked_under c a p t
+unfolding marked_under
+marked-tagged c a p leaf = refl
+marked-tagged c a p (fork h l r) =
+    let F : Shape → Item → Tag → Shape = λ s i q. cond (meets c (box_of h l r)) (cond (covers c (box_of h l r)) (tagged a s) (fork (record h { item = marked_item (in_box c) a i; pending = keep_tag }) (marked_under c a q l) (marked_under c a q r))) s in
+    ap (λ s. F s (relabelled keep_tag (relabelled p h.item)) (composed (composed h.pending p) keep_tag)) (tagged-keep (tagged p (fork h l r)))
+    ∙ ap (λ i. F (tagged p (fork h l r)) i (composed (composed h.pending p) keep_tag)) (relabelled-keep (relabelled p h.item))
+    ∙ ap (λ q. F (tagged p (fork h l r)) (relabelled p h.item) q) (composed-keep_right (composed h.pending p))
+
+nodes-marked : (c : Bounds) (a p : Tag) (t : Shape) → nodes (marked_under c a p t) ≡ nodes t
+unfolding marked_under
+nodes-marked c a p leaf = refl
+nodes-marked c a p (fork h l r) =
+    let P : Shape → Type 0 = λ s. nodes s ≡ nodes l + nodes r + 1 in
+    cond_both (meets c (box_of h l r)) _ _ P
+    (λ _. cond_both (covers c (box_of h l r)) _ _ P (λ _. refl)
+    (λ _. omega (arith, nodes-marked c a (composed h.pending p) l, nodes-marked c a (composed h.pending p) r)))
+    (λ _. refl)
+
+levels-marked : (c : Bounds) (a p : Tag) (t : Shape) → levels (marked_under c a p t) ≡ levels t
+unfolding marked_under
+levels-marked c a p leaf = refl
+levels-marked c a p (fork h l r) =
+    let P : Shape → Type 0 = λ s. levels s ≡ max (levels l) (levels r) + 1 in
+    cond_both (meets c (box_of h l r)) _ _ P
+    (λ _. cond_both (covers c (box_of h l r)) _ _ P (λ _. refl)
+    (λ _. omega (arith, levels-marked c a (composed h.pending p) l, levels-marked c a (composed h.pending p) r)))
+    (λ _. refl)
+
+pub numbers-marked : (c : Bounds) (a p : Tag) (t : Shape) → numbers (marked_under c a p t) ≡ numbers t
+unfolding marked_under
+numbers-marked c a p leaf = refl
+numbers-marked c a p (fork h l r) =
+    let P : Shape → Type 0 = λ s. numbers s ≡ h.item.number ∷ (numbers l ++ numbers r) in
+    cond_both (meets c (box_of h l r)) _ _ P
+    (λ _. cond_both (covers c (box_of h l r)) _ _ P (λ _. refl)
+    (λ _.
+    ap (λ n. n ∷ (numbers (marked_under c a (composed h.pending p) l) ++ numbers (marked_under c a (composed h.pending p) r))) (marked-number (in_box c) a (relabelled p h.item))
+    ∙ ap (λ x. h.item.number ∷ (x ++ numbers (marked_under c a (composed h.pending p) r))) (numbers-marked c a (composed h.pending p) l)
+    ∙ ap (λ x. h.item.number ∷ (numbers l ++ x)) (numbers-marked c a (composed h.pending p) r)))
+    (λ _. refl)
+
+extents_alike : (p q : Place) (a b c d : Option Span) → p ≡ q → a ≡ b → c ≡ d → grown (grown (spot p) a) c ≡ grown (grown (spot q) b) d
+extents_alike p q a b c d e f g = ap (λ x. grown (grown (spot x) a) c) e ∙ ap (λ x. grown (grown (spot q) x) c) f ∙ ap (λ x. grown (grown (spot q) b) x) g
+
+extent-marked : (c : Bounds) (a p : Tag) (t : Shape) → extent (marked_under c a p t) ≡ extent t
+unfolding marked_under
+extent-marked c a p leaf = refl
+extent-marked c a p (fork h l r) =
+    let P : Shape → Type 0 = λ s. extent s ≡ Some (box_of h l r) in
+    cond_both (meets c (box_of h l r)) _ _ P
+    (λ _. cond_both (covers c (box_of h l r)) _ _ P (λ _. refl)
+    (λ _. ap Some (extents_alike _ _ _ _ _ _ (marked-point (in_box c) a (relabelled p h.item)) (extent-marked c a (composed h.pending p) l) (extent-marked c a (composed h.pending p) r))))
+    (λ _. refl)
+
+extent-tagged : (a : Tag) (t : Shape) → extent (tagged a t) ≡ extent t
+extent-tagged a leaf = refl
+extent-tagged a (fork h l r) = refl
+
+mark-fork : (c : Bounds) (a p : Tag) (h : Head) (l r : Shape) → mark (walk p (fork h l r)) (in_box c) a ≡ mark (kept (relabelled p h.item ∷ [])) (in_box c) a ++ (mark (walk (composed h.pending p) l) (in_box c) a ++ mark (walk (composed h.pending p) r) (in_box c) a)
+mark-fork c a p h l r =
+    mark-append (in_box c) a (kept (relabelled p h.item ∷ [])) (walk (composed h.pending p) l ++ walk (composed h.pending p) r)
+    ∙ ap (λ z. mark (kept (relabelled p h.item ∷ [])) (in_box c) a ++ z) (mark-append (in_box c) a (walk (composed h.pending p) l) (walk (composed h.pending p) r))
+
+-- all that is left lies in the tree's box
+box_all : (p : Tag) (h : Head) (l r : Shape) → All (λ i. IsIn (box_of h l r) i.point) (walk p (fork h l r))
+box_all p h l r = walk_in p (fork h l r) (box_of h l r) (IsPart-same (box_of h l r))
+
+-- what the box covers
+covered : (c : Bounds) (a p : Tag) (h : Head) (l r : Shape) → covers c (box_of h l r) ≡ true → walk keep_tag (tagged a (tagged p (fork h l r))) ≡ mark (walk p (fork h l r)) (in_box c) a
+covered c a p h l r k =
+    walk-tagged_keep a (tagged p (fork h l r)) ∙ walk-tagged p a (fork h l r) ∙ walk-composed p a (fork h l r)
+    ∙ sym (mark_agree (in_box c) everything a (walk p (fork h l r)) (All-weaker (λ i. IsIn (box_of h l r) i.point) (λ i. in_box c i ≡ true) (λ i q. covered_held c (box_of h l r) i.point k q) (walk p (fork h l r)) (box_all p h l r)))
+
+not_held : (c : Bounds) (e : Span) (p : Place) → meets c e ≡ false → IsIn e p → holds c p ≡ false
+not_held c e p k i = false_from_ne_true _ (λ held. false≢true (sym k ∙ held_meets c e p held i))
+
+-- what the box misses
+missed : (c : Bounds) (a p : Tag) (h : Head) (l r : Shape) → meets c (box_of h l r) ≡ false → walk keep_tag (tagged p (fork h l r)) ≡ mark (walk p (fork h l r)) (in_box c) a
+missed c a p h l r k =
+    walk-tagged_keep p (fork h l r)
+    ∙ sym (mark_none (in_box c) a (walk p (fork h l r)) (All-weaker (λ i. IsIn (box_of h l r) i.point) (λ i. in_box c i ≡ false) (λ i q. not_held c (box_of h l r) i.point k q) (walk p (fork h l r)) (box_all p h l r)) (walk_kept p (fork h l r)))
+
+-- what is left after an action in a box is what it leaves of what was left
+pub walk-marked : (c : Bounds) (a p : Tag) (t : Shape) → walk keep_tag (marked_under c a p t) ≡ mark (walk p t) (in_box c) a
+unfolding marked_under
+walk-marked c a p leaf = refl
+walk-marked c a p (fork h l r) =
+    let Q : Shape → Type 0 = λ s. walk keep_tag s ≡ mark (walk p (fork h l r)) (in_box c) a in
+    let i = marked_item (in_box c) a (relabelled p h.item) in
+    cond_both (meets c (box_of h l r)) _ _ Q
+    (λ m. cond_both (covers c (box_of h l r)) _ _ Q (covered c a p h l r)
+    (λ k. parts_alike _ _ _ _ _ _ (ap (λ j. kept (j ∷ [])) (relabelled-keep i) ∙ own-marked (in_box c) a (relabelled p h.item)) (walk-marked c a (composed h.pending p) l) (walk-marked c a (composed h.pending p) r)
+    ∙ sym (mark-fork c a p h l r)))
+    (missed c a p h l r)
+
+pub contents-marked : (c : Bounds) (a : Tag) (t : Shape) → contents (marked_shape c a t) ≡ mark (contents t) (in_box c) a
+contents-marked c a t = ap by_number (walk-marked c a keep_tag t) ∙ by_number-mark (in_box c) a (walk keep_tag t)
+
+AllLeft-marked : (P : Place → Type 0) (c : Bounds) (a p : Tag) (t : Shape) → AllLeft P p t → AllLeft P keep_tag (marked_under c a p t)
+AllLeft-marked P c a p t k = left_all P keep_tag (marked_under c a p t) (subst (All (λ (i : Item). P i.point)) (sym (walk-marked c a p t)) (mark_points P (in_box c) a (walk p t) (all_left P p t k)))
+
+times-marked : (n : ℕ) (c : Bounds) (a : Tag) (t : Shape) → times n keep_tag (marked_shape c a t) ≤ times n keep_tag t
+times-marked n c a t =
+    omega (arith, times_walk n keep_tag (marked_shape c a t), times_walk n keep_tag t, mark_counts n (in_box c) a (walk keep_tag t), ap (count_by (λ (i : Item). n == i.number)) (walk-marked c a keep_tag t))
+
+-- no number is left twice after the action
+pub once-marked : (c : Bounds) (a : Tag) (t : Shape) → ((n : ℕ) → times n keep_tag t ≤ 1) → (n : ℕ) → times n keep_tag (marked_shape c a t) ≤ 1
+once-marked c a t k n = omega (arith, times-marked n c a t, k n)
+
+-- what holds where the box enters the top of s, which is taken apart to f
+pub record IsEntered (c : Bounds) (a : Tag) (s : Shape) (f : Fork) : Type 0 where
+  pub value : fork (head (marked_item (in_box c) a f.item) f.axis) (marked_shape c a f.left) (marked_shape c a f.right) ≡ marked_shape c a s
+  pub sound : IsSoundFork (head (marked_item (in_box c) a f.item) f.axis) (marked_shape c a f.left) (marked_shape c a f.right)
+  pub calm : (large : ℕ) → IsVisitCalm large c (marked_shape c a s) → IsSpared large (fork (head (marked_item (in_box c) a f.item) f.axis) (marked_shape c a f.left) (marked_shape c a f.right)) × IsVisitCalm large c (marked_shape c a f.left) × IsVisitCalm large c (marked_shape c a f.right)
+  pub even : (large : ℕ) → IsEven large s → IsEven large f.left × IsEven large f.right
+
+enters : (c : Bounds) (a : Tag) (h : Head) (l r : Shape) → meets c (box_of h l r) ≡ true → covers c (box_of h l r) ≡ false → fork (head (marked_item (in_box c) a h.item) h.axis) (marked_shape c a (tagged h.pending l)) (marked_shape c a (tagged h.pending r)) ≡ marked_shape c a (fork h l r)
+unfolding marked_under
+enters c a h l r m k =
+    let F : Item → Shape → Shape → Shape = λ i x y. fork (head (marked_item (in_box c) a i) h.axis) x y in
+    let q : composed h.pending keep_tag ≡ h.pending = composed-keep_right h.pending in
+    let x : marked_shape c a (tagged h.pending l) ≡ marked_under c a (composed h.pending keep_tag) l = marked-tagged c a h.pending l ∙ ap (λ t. marked_under c a t l) (sym q) in
+    let y : marked_shape c a (tagged h.pending r) ≡ marked_under c a (composed h.pending keep_tag) r = marked-tagged c a h.pending r ∙ ap (λ t. marked_under c a t r) (sym q) in
+    ap (λ i. F i (marked_shape c a (tagged h.pending l)) (marked_shape c a (tagged h.pending r))) (sym (relabelled-keep h.item))
+    ∙ ap (λ z. F (relabelled keep_tag h.item) z (marked_shape c a (tagged h.pending r))) x
+    ∙ ap (λ z. F (relabelled keep_tag h.item) (marked_under c a (composed h.pending keep_tag) l) z) y
+    ∙ sym (cond-true (meets c (box_of h l r)) _ _ m ∙ cond-false (covers c (box_of h l r)) _ _ k)
+
+entered_is : (c : Bounds) (e : Span) → meets c e ≡ true → covers c e ≡ false → is_entered c e ≡ true
+entered_is c e m k = rw (m, k) refl
+
+box-entered : (c : Bounds) (a : Tag) (h : Head) (l r : Shape) → box_of (head (marked_item (in_box c) a h.item) h.axis) (marked_shape c a (tagged h.pending l)) (marked_shape c a (tagged h.pending r)) ≡ box_of h l r
+box-entered c a h l r =
+    extents_alike _ _ _ _ _ _ (marked-point (in_box c) a h.item) (extent-marked c a keep_tag (tagged h.pending l) ∙ extent-tagged h.pending l) (extent-marked c a keep_tag (tagged h.pending r) ∙ extent-tagged h.pending r)
+
+calm_parts : (large : ℕ) (c : Bounds) (h : Head) (l r : Shape) → is_entered c (box_of h l r) ≡ true → IsVisitCalm large c (fork h l r) → IsSpared large (fork h l r) × IsVisitCalm large c l × IsVisitCalm large c r
+unfolding IsVisitCalm
+calm_parts large c h l r e k = k e
+
+entered_fork : (c : Bounds) (a : Tag) (h : Head) (l r : Shape) → meets c (box_of h l r) ≡ true → covers c (box_of h l r) ≡ false → IsSoundFork h l r → IsEntered c a (fork h l r) (forked h l r)
+entered_fork c a h l r m k s =
+    let value = enters c a h l r m k in
+    let i = marked_item (in_box c) a h.item in
+    let point = marked-point (in_box c) a h.item in
+    let ml = marked_shape c a (tagged h.pending l) in
+    let mr = marked_shape c a (tagged h.pending r) in
+    let below : AllLeft (λ p. on h.axis p ≤ℤ on h.axis h.item.point) keep_tag ml = rw (marked-tagged c a h.pending l) (AllLeft-marked (λ p. on h.axis p ≤ℤ on h.axis h.item.point) c a h.pending l s.below) in
+    let above : AllLeft (λ p. on h.axis h.item.point ≤ℤ on h.axis p) keep_tag mr = rw (marked-tagged c a h.pending r) (AllLeft-marked (λ p. on h.axis h.item.point ≤ℤ on h.axis p) c a h.pending r s.above) in
+    record {
+      value = value;
+      sound = record {
+        below = subst (λ (x : Place). AllLeft (λ p. on h.axis p ≤ℤ on h.axis x) keep_tag ml) (sym point) below;
+        above = subst (λ (x : Place). AllLeft (λ p. on h.axis x ≤ℤ on h.axis p) keep_tag mr) (sym point) above;
+        once = λ n. subst (λ z. times n keep_tag z ≤ 1) (sym value) (once-marked c a (fork h l r) s.once n);
+        few = omega (arith, s.few, nodes-marked c a keep_tag (tagged h.pending l), nodes-marked c a keep_tag (tagged h.pending r), tagged_nodes h.pending l, tagged_nodes h.pending r);
+        low = omega (arith, s.low, levels-marked c a keep_tag (tagged h.pending l), levels-marked c a keep_tag (tagged h.pending r), tagged_levels h.pending l, tagged_levels h.pending r);
+      };
+      calm = λ large all. calm_parts large c (head i h.axis) ml mr (entered_is c _ (rw (box-entered c a h l r) m) (rw (box-entered c a h l r) k)) (subst (IsVisitCalm large c) (sym value) all);
+      even = λ large e. even_sons large h l r e;
+    }
+
+some_box : (a b : Span) → ◌≡◌ {A = Option Span} (Some a) (Some b) → a ≡ b
+some_box a b e = cc
+
+pub entered_all : (c : Bounds) (a : Tag) (s : Shape) (f : Fork) (e : Span) → Some e ≡ extent s → meets c e ≡ true → covers c e ≡ false → IsSound s → Some f ≡ pushed s → IsEntered c a s f
+entered_all c a leaf f e x m k s p = absurd (cc)
+entered_all c a (fork h l r) f e x m k s p =
+    let b = some_box e (box_of h l r) x in
+    let g = some_fork f (forked h l r) p in
+    subst (IsEntered c a (fork h l r)) (sym g) (entered_fork c a h l r (rw b at m) (rw b at k) s.0)
+
+marked_none : (c : Bounds) (a : Tag) (s : Shape) → ◌≡◌ {A = Option Span} None (extent s) → s ≡ marked_shape c a s
+unfolding marked_under
+marked_none c a leaf x = refl
+marked_none c a (fork h l r) x = absurd (cc)
+
+marked_missed : (c : Bounds) (a : Tag) (s : Shape) (e : Span) → Some e ≡ extent s → meets c e ≡ false → s ≡ marked_shape c a s
+unfolding marked_under
+marked_missed c a leaf e x m = refl
+marked_missed c a (fork h l r) e x m =
+    let b = some_box e (box_of h l r) x in
+    sym (cond-false (meets c (box_of h l r)) _ _ (rw b at m) ∙ tagged-keep (fork h l r))
+
+marked_covered : (c : Bounds) (a : Tag) (s : Shape) (e : Span) → Some e ≡ extent s → meets c e ≡ true → covers c e ≡ true → tagged a s ≡ marked_shape c a s
+unfolding marked_under
+marked_covered c a leaf e x m k = refl
+marked_covered c a (fork h l r) e x m k =
+    let b = some_box e (box_of h l r) x in
+    sym (cond-true (meets c (box_of h l r)) _ _ (rw b at m) ∙ cond-true (covers c (box_of h l r)) _ _ (rw b at k) ∙ ap (tagged a) (tagged-keep (fork h l r)))
+
+-- an empty tree stays so
+pub updated_none : (large : ℕ) (c : Bounds) (a : Tag) (s : Shape) (C : Type 0) → ◌≡◌ {A = Option Span} None (extent s) → IsUpdated large s (marked_shape c a s) C s
+updated_none large c a s C x = subst (λ t. IsUpdated large s t C s) (marked_none c a s x) (updated_plain large s s C (λ e. e))
+
+-- and so does what the box misses
+pub updated_missed : (large : ℕ) (c : Bounds) (a : Tag) (s : Shape) (C : Type 0) (e : Span) → Some e ≡ extent s → meets c e ≡ false → IsUpdated large s (marked_shape c a s) C s
+updated_missed large c a s C e x m = subst (λ t. IsUpdated large s t C s) (marked_missed c a s e x m) (updated_plain large s s C (λ e. e))
+
+-- what it covers has the action done to it
+pub updated_covered : (large : ℕ) (c : Bounds) (a : Tag) (s : Shape) (C : Type 0) (e : Span) → Some e ≡ extent s → meets c e ≡ true → covers c e ≡ true → IsUpdated large s (marked_shape c a s) C (tagged a s)
+updated_covered large c a s C e x m k = subst (λ t. IsUpdated large s t C (tagged a s)) (marked_covered c a s e x m k) (updated_plain large s (tagged a s) C (even_tagged large a s))

@@ -1,0 +1,4 @@
+pub mod Refresh
+pub mod Update
+pub mod Mark
+pub mod Put

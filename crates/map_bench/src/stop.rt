@@ -1,0 +1,31 @@
+//! Why a measurement stopped.
+use map_fold::NoMemory;
+use std::alloc::AllocError;
+use std::io;
+
+#[derive(Clone, Copy, Debug, PartialEq, Eq)]
+pub enum Stop {
+    /// The words ask for nothing.
+    Words,
+    NoMemory,
+    /// The clock or a stream failed.
+    Outside,
+}
+
+impl From<NoMemory> for Stop {
+    fn from(_error: NoMemory) -> Stop {
+        Stop::NoMemory
+    }
+}
+
+impl From<AllocError> for Stop {
+    fn from(_error: AllocError) -> Stop {
+        Stop::NoMemory
+    }
+}
+
+impl From<io::Error> for Stop {
+    fn from(_error: io::Error) -> Stop {
+        Stop::Outside
+    }
+}

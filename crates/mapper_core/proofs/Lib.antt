@@ -1,0 +1,4 @@
+pub mod InOrder
+pub mod OneWord
+pub mod Pieces
+pub mod Trees

@@ -1,0 +1,82 @@
+-- How a script is spelled in a log.
+use Rattle.std.specs.Prelude.{ℕ, ◌≡◌, ◌⊎◌, List, [], ◌∷◌, ◌++◌, map, codes, decimal}
+use Rattle.std.specs.List.{flat_map, AllByRecursion}
+use Rattle.std.specs.Fmt.{signed_decimal}
+use Rattle.std.specs.declared.option.Option.{Option}
+use Rattle.std.specs.declared.option.Option.TheVariants.{None, Some}
+use Rattle.point_geom.specs.Place.{Place, Bounds}
+use Rattle.point_geom.specs.Boxes.{unit_box}
+use Rattle.map_fold.specs.Sizes.{Sizes}
+use Rattle.map_fold.specs.declared.update.Update.{Update}
+use Rattle.map_fold.specs.declared.update.Update.TheVariants.{Add, Delete, Suspend, Restore}
+use Rattle.scan_log.specs.declared.command.Command.{Command}
+use Rattle.scan_log.specs.declared.command.Command.TheVariants.{Change, Near}
+use Rattle.scan_log.specs.Lines.{lines_of, kept_lines, fields_of}
+use Rattle.scan_log.specs.Scripts.{ScriptAt, ArePoints, IsScript, IsBuilt}
+
+-- ikdmap 1 voxel L large N
+abbrev pub header_fields : Sizes → List (List ℕ)
+header_fields s =
+    codes "ikdmap" ∷ codes "1" ∷ codes "voxel" ∷ decimal s.voxel ∷ codes "large" ∷ decimal s.large ∷ []
+
+-- x y z
+abbrev pub point_fields : Place → List (List ℕ)
+point_fields p = signed_decimal p.x ∷ signed_decimal p.y ∷ signed_decimal p.z ∷ []
+
+-- lo's x y z, then hi's
+abbrev pub box_fields : Bounds → List (List ℕ)
+box_fields c = point_fields c.lo ++ point_fields c.hi
+
+-- the word of an update, and its arguments
+abbrev pub update_fields : Update → List (List ℕ)
+update_fields (Add ps) = codes "add" ∷ flat_map point_fields ps
+update_fields (Delete cs) = codes "delete" ∷ flat_map box_fields cs
+update_fields (Suspend cs) = codes "suspend" ∷ flat_map box_fields cs
+update_fields (Restore cs) = codes "restore" ∷ flat_map box_fields cs
+
+-- within r, where a greatest distance is given
+abbrev pub within_fields : Option ℕ → List (List ℕ)
+within_fields None = []
+within_fields (Some r) = codes "within" ∷ decimal r ∷ []
+
+-- @ and the caller's digit
+abbrev pub caller_field : ℕ → List ℕ
+caller_field caller = 64 ∷ decimal caller
+
+-- the caller, the word, and the arguments
+abbrev pub command_fields : Command → List (List ℕ)
+command_fields (Change caller u) = caller_field caller ∷ update_fields u
+command_fields (Near caller k p within) =
+    caller_field caller ∷ codes "near" ∷ decimal k ∷ (point_fields p ++ within_fields within)
+
+-- A deletion of points, each by its unit cuboid, may be spelled by the points alone.
+pub record SpelledAsErase (fields : List (List ℕ)) (c : Command) : Type 0 where
+  pub caller : ℕ
+  pub points : List Place
+  pub limits : ArePoints points
+  pub command : c ≡ Change caller (Delete (map unit_box points))
+  pub text : fields ≡ caller_field caller ∷ codes "erase" ∷ flat_map point_fields points
+
+-- the line spells the command: in the one way that each has, or as an erasure
+abbrev pub LineSpells : List ℕ → Command → Type 0
+LineSpells line c = (fields_of line ≡ command_fields c) ⊎ SpelledAsErase (fields_of line) c
+
+-- each line spells the command in its place
+abbrev pub LinesSpell : List (List ℕ) → List Command → Type 0
+LinesSpell [] [] = Unit {0}
+LinesSpell (line ∷ lines) (c ∷ cs) = LineSpells line c × LinesSpell lines cs
+LinesSpell [] (c ∷ cs) = ⊥
+LinesSpell (line ∷ lines) [] = ⊥
+
+-- a header, and a line for each command
+abbrev pub SpellsLines : List (List ℕ) → ScriptAt → Type 0
+SpellsLines [] s = ⊥
+SpellsLines (header ∷ lines) s = (fields_of header ≡ header_fields s.sizes) × LinesSpell lines s.commands
+
+-- the bytes are a log, and the script is what it says
+abbrev pub Spells : List ℕ → ScriptAt → Type 0
+Spells bytes s = SpellsLines (kept_lines bytes) s × IsScript s
+
+-- the same, with no skipped line and the commands that are built
+abbrev pub SpellsBuilt : List ℕ → ScriptAt → Type 0
+SpellsBuilt bytes s = SpellsLines (lines_of bytes) s × IsScript s × AllByRecursion IsBuilt s.commands

@@ -1,0 +1,110 @@
+-- The replies to a script, and their text.
+use Rattle.std.specs.Prelude.{ℕ, ◌+◌, List, [], ◌∷◌, ◌++◌, map, take, codes, decimal, nat_lt, if◌then◌else◌}
+use Rattle.std.specs.List.{flat_map}
+use Rattle.std.specs.Fmt.{signed_decimal}
+use Rattle.std.specs.declared.option.Option.{Option}
+use Rattle.std.specs.declared.option.Option.TheVariants.{None, Some}
+use Rattle.point_geom.specs.Place.{Place}
+use Rattle.map_fold.specs.declared.hits.Hit.{Hit}
+use Rattle.map_fold.specs.declared.item.Item.{Item}
+use Rattle.map_fold.specs.declared.reply.NearReply.{NearReply}
+use Rattle.map_fold.specs.declared.update.Update.{Update}
+use Rattle.map_fold.specs.Answers.{nearest, live_count, suspended_count}
+use Rattle.map_fold.specs.Fold.{fold}
+use Rattle.scan_log.specs.declared.command.Command.{Command}
+use Rattle.scan_log.specs.declared.command.Command.TheVariants.{Change, Near}
+use Rattle.scan_log.specs.declared.reply.Reply.{Reply}
+use Rattle.scan_log.specs.declared.reply.Reply.TheVariants as reply
+use Rattle.scan_log.specs.Scripts.{ScriptAt}
+use Rattle.scan_log.specs.Spelling.{caller_field}
+
+-- an update before the first whose mark is greater
+abbrev pub put_update : ℕ → Update → List (ℕ × Update) → List (ℕ × Update)
+put_update m u [] = (m, u) ∷ []
+put_update m u (h ∷ hs) = if nat_lt h.0 m then h ∷ put_update m u hs else (m, u) ∷ h ∷ hs
+
+-- the updates of the commands with their marks, in the order of these
+abbrev pub marked_updates : List Command → List ℕ → List (ℕ × Update)
+marked_updates (Change caller u ∷ cs) (m ∷ marks) = put_update m u (marked_updates cs marks)
+marked_updates (Near caller k p within ∷ cs) (m ∷ marks) = marked_updates cs marks
+marked_updates [] marks = []
+marked_updates cs [] = []
+
+-- the updates alone
+abbrev pub history : List Command → List ℕ → List Update
+history cs marks = map (λ h. h.1) (marked_updates cs marks)
+
+-- what is held after the first m updates
+abbrev pub held_at : ℕ → List Update → ℕ → List Item
+held_at voxel h m = (fold voxel (take m h)).items
+
+-- the reply to a command, where its mark is m
+abbrev pub reply_to : ℕ → List Update → Command → ℕ → Reply
+reply_to voxel h (Change caller u) m = reply.Done m
+reply_to voxel h (Near caller k p within) m = reply.Near (record { mark = m; hits = nearest (held_at voxel h m) k p within })
+
+-- the reply at the end, where the mark is m
+abbrev pub end_reply : ℕ → List Update → ℕ → Reply
+end_reply voxel h m = reply.Totals m (live_count (held_at voxel h m)) (suspended_count (held_at voxel h m))
+
+-- one reply for each command, and one for the end
+abbrev pub replies_from : ℕ → List Update → List Command → List ℕ → List Reply
+replies_from voxel h (c ∷ cs) (m ∷ marks) = reply_to voxel h c m ∷ replies_from voxel h cs marks
+replies_from voxel h [] (m ∷ marks) = end_reply voxel h m ∷ []
+replies_from voxel h cs [] = []
+
+-- the replies to a script under these marks
+abbrev pub replies : ScriptAt → List ℕ → List Reply
+replies s marks = replies_from s.sizes.voxel (history s.commands marks) s.commands marks
+
+-- the marks of a run in the log's order, where n updates stand before
+abbrev pub serial_marks_from : ℕ → List Command → List ℕ
+serial_marks_from n [] = n ∷ []
+serial_marks_from n (Change caller u ∷ cs) = (n + 1) ∷ serial_marks_from (n + 1) cs
+serial_marks_from n (Near caller k p within ∷ cs) = n ∷ serial_marks_from n cs
+
+-- the marks of a script that runs in the log's order
+abbrev pub serial_marks : ScriptAt → List ℕ
+serial_marks s = serial_marks_from 0 s.commands
+
+-- a space, and the field
+abbrev pub spaced : List ℕ → List ℕ
+spaced field = 32 ∷ field
+
+-- x y z, each after a space
+abbrev pub point_text : Place → List ℕ
+point_text p = spaced (signed_decimal p.x) ++ spaced (signed_decimal p.y) ++ spaced (signed_decimal p.z)
+
+-- n x y z d, after a bar
+abbrev pub hit_text : Hit → List ℕ
+hit_text h = codes " | " ++ decimal h.number ++ point_text h.point ++ spaced (decimal h.dist2)
+
+-- @c ok M
+abbrev pub done_text : ℕ → ℕ → List ℕ
+done_text caller mark = caller_field caller ++ codes " ok " ++ decimal mark ++ 10 ∷ []
+
+-- @c near M, and the hits
+abbrev pub near_text : ℕ → NearReply → List ℕ
+near_text caller r = caller_field caller ++ codes " near " ++ decimal r.mark ++ flat_map hit_text r.hits ++ 10 ∷ []
+
+-- end M live A suspended B
+abbrev pub totals_text : ℕ → ℕ → ℕ → List ℕ
+totals_text mark live suspended =
+    codes "end " ++ decimal mark ++ codes " live " ++ decimal live ++ codes " suspended " ++ decimal suspended ++ 10 ∷ []
+
+-- the line of a reply to a command, or without one at the end
+abbrev pub reply_text : Option Command → Reply → List ℕ
+reply_text (Some (Change caller u)) (reply.Done mark) = done_text caller mark
+reply_text (Some (Near caller k p within)) (reply.Near r) = near_text caller r
+reply_text None (reply.Totals mark live suspended) = totals_text mark live suspended
+reply_text c r = []
+
+-- the lines of the replies, one after another
+abbrev pub lines_text : List Command → List Reply → List ℕ
+lines_text (c ∷ cs) (r ∷ rs) = reply_text (Some c) r ++ lines_text cs rs
+lines_text [] (r ∷ rs) = reply_text None r
+lines_text cs [] = []
+
+-- the transcript of a script under these marks
+abbrev pub text : ScriptAt → List ℕ → List ℕ
+text s marks = lines_text s.commands (replies s marks)

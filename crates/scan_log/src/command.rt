@@ -1,0 +1,39 @@
+//! Commands.
+use map_fold::Update;
+use point_geom::Point;
+
+/// A command of a log.
+#[derive(Debug, Drop)]
+pub enum Command {
+    /// A change of the map.
+    Change {
+        /// From 1 to 8.
+        caller: u8,
+        update: Update,
+    },
+    /// A search for the nearest points.
+    Near {
+        /// From 1 to 8.
+        caller: u8,
+        /// How many points are looked for at most, from 1 to 256.
+        k: u32,
+        point: Point,
+        /// The greatest distance, in millimetres, up to 4,000,000,000.
+        within: Option<u64>,
+    },
+}
+
+impl Command {
+    ghost use Rattle.std.specs.Prelude.{◌≡◌, [], ◌∷◌};
+    ghost use Rattle.scan_log.specs.Scripts.{points_of};
+
+    /// How many points it submits.
+    pub fn points(&self) -> usize
+        ensures { result ≡ points_of (self.now ∷ []) }
+    {
+        match self {
+            Command::Change { update, .. } => update.points(),
+            Command::Near { .. } => 0,
+        }
+    }
+}

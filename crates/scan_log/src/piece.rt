@@ -1,0 +1,10 @@
+//! Where a line or a field ends.
+ghost use Rattle.std.specs.Prelude.{◌≡◌, ◌<◌, ◌==◌, length, position, IfSome};
+
+/// Where the byte stands first.
+pub fn place_of(byte: u8, bytes: &[u8]) -> Option<usize>
+    ensures value { result ≡ position (λ b. b == byte) bytes.now }
+    ensures bound { IfSome result (λ place. place < length bytes.now) }
+{
+    bytes.iter().position(|b| *b == byte)
+}

@@ -1,0 +1,21 @@
+//! Replies.
+use map_fold::NearReply;
+
+/// The reply to a command, or the one at the end.
+#[derive(Drop)]
+pub enum Reply {
+    /// A change was made.
+    Done {
+        /// Its place among the changes, from 1.
+        mark: u64,
+    },
+    /// What a search found.
+    Near(NearReply),
+    /// How many points are held.
+    Totals {
+        /// The number of changes of the log that stand before it.
+        mark: u64,
+        live: u32,
+        suspended: u32,
+    },
+}
