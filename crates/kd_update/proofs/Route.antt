@@ -22,7 +22,7 @@ use Rattle.kd_tree.specs.Contents.{contents, insert_item}
 use Rattle.kd_tree.specs.Parts.{pushed}
 use Rattle.kd_tree.specs.declared.change.Fork.{Fork}
 use Rattle.kd_tree.proofs.Actions.{tagged_nodes, tagged_levels, tagged_numbers, times-tagged, pushed_sound}
-use Rattle.kd_tree.proofs.Numbered.{by_number_moves, by_number-moved}
+use Rattle.kd_tree.proofs.Numbered.{by_number_moves, by_number-moved, counted_in, insert-put}
 use Rattle.kd_tree.proofs.Contents.{relabelled-keep, times_walk, once_walk, parts_alike}
 use Rattle.kd_update.specs.Refresh.{AreAmong, IsSpared, RefreshesIfDue}
 use Rattle.kd_update.specs.Update.{IsEven, IsUpdated}
@@ -143,18 +143,6 @@ at_most_one m n x y same few none = grind (arith, nat_tests)
 pub once-put : (n : ℕ) (p : Place) (axis : Axis) (t : Shape) → ((m : ℕ) → times m keep_tag t ≤ 1) → times n keep_tag t ≡ 0 → (m : ℕ) → times m keep_tag (put_from n p axis t) ≤ 1
 once-put n p axis t once none m = omega (arith, times-put m n p axis t, at_most_one m n (times m keep_tag t) (times n keep_tag t) (λ e. ap (λ k. times k keep_tag t) e) (once m) none)
 
-either_side : (n k : ℕ) (x y z : List Item) → (n ≡ k → ⊥) → cond (nat_lt n k) x y ≡ cond (nat_lt k n) y (cond (k == n) z x)
-either_side n k x y z apart = grind (arith, nat_tests)
-
-insert-put : (n : ℕ) (p : Place) (m : List Item) → count_by (λ i. n == i.number) m ≡ 0 → insert_item (live_at n p) m ≡ put m n p
-insert-put n p [] k = refl
-insert-put n p (i ∷ m) k =
-    let g : Item → ℕ = λ j. cond (n == j.number) 1 0 in
-    let all = sum_by-cons g i m in
-    let apart : n ≡ i.number → ⊥ = λ e. let one : g i ≡ 1 = rw (eq-eqb n i.number e) refl in omega arith in
-    ap (λ w. cond (nat_lt n i.number) (live_at n p ∷ i ∷ m) (i ∷ w)) (insert-put n p m (omega arith))
-    ∙ either_side n i.number (live_at n p ∷ i ∷ m) (i ∷ put m n p) (live_at n p ∷ m) apart
-
 -- the contents with one more point
 pub contents-put : (n : ℕ) (p : Place) (axis : Axis) (t : Shape) → ((m : ℕ) → times m keep_tag t ≤ 1) → times n keep_tag t ≡ 0 → contents (put_from n p axis t) ≡ put (contents t) n p
 contents-put n p axis t once none =
@@ -162,7 +150,7 @@ contents-put n p axis t once none =
     let g : Item → ℕ = λ i. cond (n == i.number) 1 0 in
     let new : count_by (λ i. n == i.number) (contents t) ≡ 0 = omega (arith, times_walk n keep_tag t, sum_by-IsPermutation g _ _ (by_number_moves (walk keep_tag t))) in
     let distinct = once_walk (put_from n p axis t) (once-put n p axis t once none) in
-    by_number-moved _ _ (IsPermutation-sym _ _ walked) distinct ∙ insert-put n p (contents t) new
+    by_number-moved _ _ (IsPermutation-sym _ _ walked) distinct ∙ insert-put (contents t) n p (λ i m e. absurd (omega (arith, new, counted_in i n (contents t) m e)))
 
 -- the route
 

@@ -2,7 +2,7 @@
 ghost use Rattle.std.specs.Prelude.{◌≡◌, IfOk};
 ghost use Rattle.node_labels.specs.Labels.{keep_tag};
 ghost use Rattle.kd_tree.specs.Sound.{IsSoundFork};
-ghost use Rattle.kd_tree.specs.Criteria.{IsCalm, is_breached};
+ghost use Rattle.kd_tree.specs.Criteria.{IsCalm};
 ghost use Rattle.kd_tree.specs.Parts.{joined};
 ghost use Rattle.kd_update.specs.Refresh.{IsRefresh, RefreshesIfDue};
 
@@ -29,7 +29,7 @@ fn refreshed(tree: Tree, alloc: Global, large: u32) -> Result<Tree, NoMemory>
     ensures { IfOk result (λ t. RefreshesIfDue large tree t) }
 {
     let size = tree.size();
-    if size < LEAST || large <= size || !is_breached(&tree) {
+    if size < LEAST || large <= size || !tree.is_breached() {
         return Ok(tree);
     }
     rebuilt(&tree, alloc)
@@ -43,18 +43,4 @@ pub(crate) fn rebuilt(tree: &Tree, alloc: Global) -> Result<Tree, NoMemory>
     let _size = tree.size();
     let items = tree.flatten(alloc)?;
     Tree::build(alloc, items.as_slice())
-}
-
-// Whether the top breaches a criterion.
-pub(crate) fn is_breached(tree: &Tree) -> bool
-    ensures { result ≡ is_breached tree.now }
-{
-    let Some(top) = tree.top() else {
-        return false;
-    };
-    let (left, right) = (top.left.size(), top.right.size());
-    let most = 3 * (left + right);
-    let balanced = 5 * left < most && 5 * right < most;
-    let fresh = 2 * tree.counts().dropped < tree.size();
-    !(balanced && fresh)
 }
