@@ -18,11 +18,12 @@ pub struct OutOfRange {
 }
 
 /// A point, in millimetres, each coordinate within a million metres of 0. Points are ordered by x, then y, then z.
+/// Takes 12 bytes.
 #[derive(Clone, Copy, Debug, Default, PartialEq, Eq, PartialOrd, Ord)]
 pub struct Point {
-    x: i64,
-    y: i64,
-    z: i64,
+    x: i32,
+    y: i32,
+    z: i32,
 }
 
 impl Model for Point {
@@ -48,7 +49,11 @@ impl Point {
         Self::within(Axis::X, x)?;
         Self::within(Axis::Y, y)?;
         Self::within(Axis::Z, z)?;
-        Ok(Point { x, y, z })
+        Ok(Point {
+            x: x as i32,
+            y: y as i32,
+            z: z as i32,
+        })
     }
 
     fn within(axis: Axis, value: i64) -> Result<(), OutOfRange>
@@ -67,7 +72,7 @@ impl Point {
         ensures value { result ≡ self.now.x }
         ensures range { IsCoordinate result }
     {
-        self.x
+        self.x as i64
     }
 
     /// The coordinate on the axis Y, in millimetres.
@@ -75,7 +80,7 @@ impl Point {
         ensures value { result ≡ self.now.y }
         ensures range { IsCoordinate result }
     {
-        self.y
+        self.y as i64
     }
 
     /// The coordinate on the axis Z, in millimetres.
@@ -83,7 +88,7 @@ impl Point {
         ensures value { result ≡ self.now.z }
         ensures range { IsCoordinate result }
     {
-        self.z
+        self.z as i64
     }
 
     /// The coordinate on the given axis, in millimetres.
@@ -91,12 +96,11 @@ impl Point {
         ensures value { result ≡ on axis self.now }
         ensures range { IsCoordinate result }
     {
-        match axis {
-            Axis::X => self.x,
-            Axis::Y => self.y,
-            Axis::Z => self.z,
-        }
+        // Looked up, since a search can't foresee the axis.
+        let all = [self.x, self.y, self.z];
+        all[axis as usize] as i64
     }
+
     /// The least coordinates of both.
     pub(crate) fn low_corner(&self, other: &Point) -> Point
         ensures { result ≡ low_corner self.now other.now }
@@ -118,7 +122,7 @@ impl Point {
     }
 }
 
-fn lower(a: i64, b: i64) -> i64
+fn lower(a: i32, b: i32) -> i32
     requires a { IsCoordinate a }
     requires b { IsCoordinate b }
     ensures value { result ≡ int_min a b }
@@ -127,7 +131,7 @@ fn lower(a: i64, b: i64) -> i64
     if b < a { b } else { a }
 }
 
-fn higher(a: i64, b: i64) -> i64
+fn higher(a: i32, b: i32) -> i32
     requires a { IsCoordinate a }
     requires b { IsCoordinate b }
     ensures value { result ≡ int_max a b }
