@@ -76,7 +76,8 @@ pub in_order_is : (xs : List Hit) → Apart xs → IsInOrder (in_order xs)
 in_order_is [] a = tt
 in_order_is (x ∷ xs) a = put_hit_in_order x (in_order xs) (in_order_is xs a.1) (λ m. a.0 (in_order_from x xs m))
 
-member-take : (g : Hit) (k : ℕ) (xs : List Hit) → Member g (take k xs) → Member g xs
+-- a member of the front is one of the list
+pub member-take : (g : Hit) (k : ℕ) (xs : List Hit) → Member g (take k xs) → Member g xs
 member-take g zero xs m = absurd m
 member-take g (suc k) [] m = absurd m
 member-take g (suc k) (x ∷ xs) (inl e) = inl e

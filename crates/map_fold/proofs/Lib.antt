@@ -3,4 +3,8 @@ pub mod Ranking
 pub mod Order
 pub mod FirstOnes
 pub mod Found
+pub mod Ranked
+pub mod Folds
+pub mod Replays
 mod Vectors
+pub mod Same

@@ -1,13 +1,16 @@
 -- Items in the order of their numbers.
-use Rattle.std.proofs.Common.{◌≡◌, ℕ, ◌+◌, ◌<◌, ◌≤◌, Bool, true, false, not, cond, List, [], ◌∷◌, ◌++◌, refl, ap, sym, ◌∙◌, arith, suc, zero, length, map, take, drop, get_or}
+use Rattle.std.proofs.Common.{◌≡◌, ℕ, ◌+◌, ◌<◌, ◌≤◌, Bool, true, false, not, cond, List, [], ◌∷◌, ◌++◌, refl, ap, sym, ◌∙◌, arith, suc, zero, length, map, take, drop, get_or, nat_eq}
+use Rattle.std.specs.Prelude.{◌==◌}
+use Rattle.std.proofs.lemmas.List.Sums.{sum_by-cons}
 use Rattle.std.proofs.Math.Seq.{drop-cons}
 use Rattle.std.proofs.Math.ListN.{set}
 use Rattle.std.proofs.lemmas.Bool.Decides.{nat_tests}
 use Rattle.point_geom.specs.Place.{Place}
-use Rattle.node_labels.specs.Labels.{apply, is_dropped}
+use Rattle.node_labels.specs.Labels.{is_dropped}
 use Rattle.node_labels.specs.declared.tag.Tag.{Tag}
 use Rattle.map_fold.specs.declared.item.Item.{Item}
-use Rattle.map_fold.specs.Contents.{AreContents, IsRising, put, live_at, relabelled, marked_item, kept, mark}
+use Rattle.map_fold.specs.Ops.{IsUnheld}
+use Rattle.map_fold.specs.Contents.{AreContents, IsRising, put, live_at, relabelled, marked_item, mark}
 
 -- a number above all goes to the end
 pub put-above : (low n : ℕ) (m : List Item) (p : Place) → AreContents low n m → put m n p ≡ m ++ live_at n p ∷ []
@@ -30,6 +33,16 @@ drop-at xs n j x e below is = rw e (drop-cons xs j x below ∙ ap (λ y. y ∷ d
 pub contents_length : (low high : ℕ) (m : List Item) → low ≤ high → AreContents low high m → low + length m ≤ high
 contents_length low high [] from h = omega arith
 contents_length low high (i ∷ m) from h = omega (arith, h.0, h.1, contents_length (i.number + 1) high m (omega (arith, h.1)) h.3)
+
+-- a number that is above all isn't held
+pub unheld_above : (low high n : ℕ) (m : List Item) → high ≤ n → AreContents low high m → IsUnheld n m
+unheld_above low high n [] above h = refl
+unheld_above low high n (i ∷ m) above h =
+    let f : Item → ℕ = λ j. cond (n == j.number) 1 0 in
+    let below : i.number < high = h.1 in
+    let other : nat_eq n i.number ≡ false = grind (arith, nat_tests) in
+    let here : f i ≡ 0 = rw other refl in
+    omega (arith, sum_by-cons f i m, unheld_above (i.number + 1) high n m above h.3)
 
 -- the numbers of what a map holds rise
 pub contents_rise : (low high : ℕ) (m : List Item) → AreContents low high m → IsRising low m

@@ -1,7 +1,10 @@
 -- Hits in order, of which the first k are kept.
-use Rattle.std.proofs.Common.{◌≡◌, ℕ, zero, suc, ◌+◌, ◌≤◌, true, false, cond, List, [], ◌∷◌, length, take, refl, sym, ap, ◌∙◌, arith}
+use Rattle.std.proofs.Common.{◌≡◌, ℕ, zero, suc, ◌+◌, ◌≤◌, true, false, cond, List, [], ◌∷◌, ◌++◌, ◌<◌, ◌-◌, length, length-append, take, drop, get_or, refl, sym, ap, ◌∙◌, arith, append_assoc}
 use Rattle.std.specs.List.{insert}
-use Rattle.std.proofs.lemmas.List.{take_all}
+use lib.Seq.{paste}
+use Rattle.std.proofs.Math.ListN.{set}
+use Rattle.std.proofs.Math.Seq.{take-suc, set-append_seam, take-append_seam}
+use Rattle.std.proofs.lemmas.List.{take_all, drop_all, take-take, drop-take, length-take-le, append-nil}
 use Rattle.std.specs.declared.option.Option.{Option}
 use Rattle.point_geom.specs.Place.{Place}
 use Rattle.node_labels.specs.Labels.{is_live}
@@ -42,17 +45,41 @@ length-insert zero xs x = omega arith
 length-insert (suc at) [] x = refl
 length-insert (suc at) (y ∷ xs) x = omega (arith, length-insert at xs x)
 
--- a hit is put among k = j + 1, of which the last has made room
-pub put_in_full : (k j at : ℕ) (old held new : List Hit) (h : Hit) → k ≡ suc j → at ≤ j → held ≡ take j old → new ≡ insert held at h
-    → insert old at h ≡ put_hit h old → new ≡ take k (put_hit h old)
-put_in_full k j at old held new h is below e f placed =
-    rw is (f ∙ ap (λ xs. insert xs at h) e ∙ insert-take at j old h below ∙ ap (take (suc j)) placed)
+-- a list but for the last, which was pushed
+pub take-pushed : {X : Type 0} (xs ys : List X) (x : X) → ys ≡ xs ++ x ∷ [] → take (length ys - 1) ys ≡ xs
+take-pushed xs ys x e =
+    let short : length ys - 1 ≡ length xs = omega (arith, ap length e, length-append xs (x ∷ [])) in
+    ap (λ n. take n ys) short ∙ ap (λ zs. take (length xs) zs) e ∙ take-append_seam xs (x ∷ [])
 
--- a hit is put among fewer than k
-pub put_in_room : (k at : ℕ) (old new : List Hit) (h : Hit) → length old + 1 ≤ k → new ≡ insert old at h
-    → insert old at h ≡ put_hit h old → new ≡ take k (put_hit h old)
-put_in_room k at old new h room f placed =
-    f ∙ sym (take_all k (insert old at h) (omega (arith, length-insert at old h))) ∙ ap (take k) placed
+-- those from at on move up by one, over the last, and x takes their first place
+pub set-shifted : {X : Type 0} (at next last room : ℕ) (xs : List X) (x : X) → next ≡ suc at → length xs ≡ suc last → at + room ≡ last
+    → set (paste xs next (drop at xs) room) at x ≡ insert (take last xs) at x
+set-shifted at next last room xs x e long rest =
+    let below : at < length xs = omega arith in
+    let moved = take room (drop at xs) in
+    let none : drop (next + room) xs ≡ [] = drop_all (next + room) xs (omega arith) in
+    let front : take next xs ≡ take at xs ++ get_or xs at x ∷ [] = rw e (take-suc xs at x below) in
+    let here : length (take at xs) ≡ at = length-take-le at xs (omega arith) in
+    let seam : set (take at xs ++ get_or xs at x ∷ moved) at x ≡ take at xs ++ x ∷ moved =
+    ap (λ n. set (take at xs ++ get_or xs at x ∷ moved) n x) (sym here) ∙ set-append_seam (take at xs) (get_or xs at x) moved x in
+    let first : take at (take last xs) ≡ take at xs = take-take at last xs (omega arith) in
+    let second : drop at (take last xs) ≡ moved = rw (← rest) (drop-take at room xs) in
+    ap (λ ys. set ((take next xs ++ moved) ++ ys) at x) none
+    ∙ ap (λ ys. set ys at x) (append-nil (take next xs ++ moved))
+    ∙ ap (λ ys. set (ys ++ moved) at x) front
+    ∙ ap (λ ys. set ys at x) (append_assoc (take at xs) (get_or xs at x ∷ []) moved)
+    ∙ seam
+    ∙ ap (λ ys. ys ++ x ∷ moved) (sym first)
+    ∙ ap (λ ys. take at (take last xs) ++ x ∷ ys) (sym second)
+
+-- one is put in over the last of k, or before one that was pushed for it
+pub insert-full : {X : Type 0} (k at : ℕ) (xs : List X) (x : X) → at < k → length xs ≡ k → insert (take (length xs - 1) xs) at x ≡ take k (insert xs at x)
+insert-full k at xs x below full =
+    insert-take at (length xs - 1) xs x (omega arith) ∙ ap (λ n. take n (insert xs at x)) (let e : suc (length xs - 1) ≡ k = omega arith in e)
+
+pub insert-room : {X : Type 0} (k at : ℕ) (xs ys : List X) (x : X) → length xs < k → ys ≡ xs ++ x ∷ [] → insert (take (length ys - 1) ys) at x ≡ take k (insert xs at x)
+insert-room k at xs ys x room pushed =
+    ap (λ zs. insert zs at x) (take-pushed xs ys x pushed) ∙ sym (take_all k (insert xs at x) (omega (arith, length-insert at xs x)))
 
 -- one more item that is live and near enough
 pub nearest-cons : (i : Item) (rest : List Item) (k : ℕ) (q : Place) (r : Option ℕ) → is_live i.label ≡ true → is_within r (hit_of q i) ≡ true

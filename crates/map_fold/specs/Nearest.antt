@@ -1,5 +1,5 @@
 -- What it means to be the k nearest.
-use Rattle.std.specs.Prelude.{◌≡◌, ℕ, ◌≤◌, ◌⊎◌, true, List, [], ◌∷◌, length}
+use Rattle.std.specs.Prelude.{◌≡◌, ℕ, ◌≤◌, ◌⊎◌, true, false, List, [], ◌∷◌, length}
 use Rattle.std.specs.declared.option.Option.{Option}
 use Rattle.point_geom.specs.Place.{Place}
 use Rattle.map_fold.specs.declared.item.Item.{Item}
@@ -16,6 +16,11 @@ Member x (y ∷ ys) = (x ≡ y) ⊎ Member x ys
 abbrev pub IsInOrder : List Hit → Type 0
 IsInOrder [] = Unit {0}
 IsInOrder (h ∷ hits) = ((g : Hit) → Member g hits → is_nearer h g ≡ true) × IsInOrder hits
+
+-- no hit comes before one that stands ahead of it, though the same may stand twice
+abbrev pub AreRanked : List Hit → Type 0
+AreRanked [] = Unit {0}
+AreRanked (h ∷ hits) = ((g : Hit) → Member g hits → is_nearer g h ≡ false) × AreRanked hits
 
 -- the hit is a live item with its distance, near enough
 pub record IsHitOf (m : List Item) (q : Place) (r : Option ℕ) (h : Hit) : Type 0 where

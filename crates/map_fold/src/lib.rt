@@ -1,6 +1,7 @@
 //! The plain map: what updates make of a map, and what queries answer.
 #![tactic(auto)]
 
+mod entry;
 mod hits;
 mod item;
 mod memory;
@@ -13,6 +14,7 @@ mod settings;
 mod tests;
 mod update;
 
+pub use entry::Entry;
 pub use hits::{Hit, Hits};
 pub use item::{Item, Items};
 pub use memory::NoMemory;

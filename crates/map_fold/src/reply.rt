@@ -2,7 +2,7 @@
 use crate::Hits;
 
 /// The answer to a search for the nearest points.
-#[derive(Drop)]
+#[derive(Debug, Drop)]
 pub struct NearReply {
     /// The number of updates of the history that it was answered at.
     pub mark: u64,

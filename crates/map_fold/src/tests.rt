@@ -1,10 +1,107 @@
 //! Each call that may want memory, with ample memory.
 use crate::{
-    Cuboids, Item, Items, Label, NoMemory, Op, Ops, PlainMap, Points, Settings, Tag, Update,
+    Cuboids, Hit, Hits, Item, Items, Label, NoMemory, Op, Ops, PlainMap, Points, Settings, Tag,
+    Update,
 };
 use point_geom::{Corner, Cuboid, Point};
 use std::alloc::Global;
 use std::test::Fail;
+
+#[test]
+fn a_map_of_one_point_finds_it(rt: HostRuntime) -> Result<(), Fail> {
+    let alloc = rt.alloc();
+    let mut points = Points::new(alloc);
+    points.push(Point::new(1, 2, 3)?)?;
+    let update = Update::Add(points);
+    assert!(rt; update.points() <= 1);
+    let map = PlainMap::new(alloc).apply(&Settings::new(200, 1500), &update)?;
+    assert_eq!(rt; map.counts().live, 1);
+    assert_eq!(rt; map.counts().suspended, 0);
+    let hits = map.nearest(alloc, 1, &Point::new(0, 0, 0)?, None)?;
+    assert_eq!(rt; hits.len(), 1);
+    for hit in hits.as_slice() {
+        assert_eq!(rt; (hit.number, hit.dist2), (0, 14));
+        assert!(rt; hit.point == Point::new(1, 2, 3)?);
+    }
+    Ok(())
+}
+
+// Number, place and squared distance. They are in order as 3, 4, 2, 0, 1, 6 to 17, and 5.
+const OFFERED: [(u32, (i64, i64, i64), u128); 18] = [
+    (1, (5, 0, 0), 25),
+    (5, (9, 0, 0), 81),
+    (4, (0, 0, 5), 25),
+    (17, (6, 0, 0), 25),
+    (16, (6, 0, 0), 25),
+    (15, (6, 0, 0), 25),
+    (0, (5, 0, 0), 25),
+    (14, (6, 0, 0), 25),
+    (13, (6, 0, 0), 25),
+    (12, (6, 0, 0), 25),
+    (11, (6, 0, 0), 25),
+    (3, (9, 9, 9), 1),
+    (10, (6, 0, 0), 25),
+    (9, (6, 0, 0), 25),
+    (6, (6, 0, 0), 25),
+    (2, (0, 5, 0), 25),
+    (8, (6, 0, 0), 25),
+    (7, (6, 0, 0), 25),
+];
+
+#[test]
+fn the_nearest_k_that_are_offered_are_kept_in_order(rt: HostRuntime) -> Result<(), Fail> {
+    let alloc = rt.alloc();
+    let seventeen = [3, 4, 2, 0, 1, 6, 7, 8, 9, 10, 11, 12, 13, 14, 15, 16, 17];
+    for (k, want) in [
+        (1, &seventeen[..1]),
+        (3, &seventeen[..3]),
+        (17, &seventeen[..]),
+    ] {
+        let mut hits = Hits::new(alloc);
+        for (number, (x, y, z), dist2) in OFFERED {
+            let point = Point::new(x, y, z)?;
+            assert!(rt; 1 <= k && hits.len() <= k);
+            hits.put(
+                k,
+                Hit {
+                    number,
+                    point,
+                    dist2,
+                },
+            )?;
+        }
+        assert_eq!(rt; hits.len(), want.len());
+        for (hit, number) in hits.as_slice().iter().zip(want) {
+            assert_eq!(rt; hit.number, *number);
+        }
+    }
+    Ok(())
+}
+
+#[test]
+fn among_hits_in_no_order_one_goes_before_the_first_that_comes_after_it(
+    rt: HostRuntime,
+) -> Result<(), Fail> {
+    let mut hits = Hits::new(rt.alloc());
+    for dist2 in [81, 1] {
+        let hit = Hit {
+            dist2,
+            ..Hit::default()
+        };
+        hits.push(hit)?;
+    }
+    let hit = Hit {
+        dist2: 25,
+        ..Hit::default()
+    };
+    assert!(rt; hits.len() <= 3);
+    hits.put(3, hit)?;
+    for (hit, dist2) in hits.as_slice().iter().zip([25, 81, 1]) {
+        assert_eq!(rt; hit.dist2, dist2);
+    }
+    assert_eq!(rt; hits.len(), 3);
+    Ok(())
+}
 
 #[test]
 fn twenty_equal_points_are_found_by_number(rt: HostRuntime) -> Result<(), Fail> {

@@ -1,0 +1,12 @@
+//! What a history is made of.
+use crate::Update;
+
+/// An update, and whose it is.
+#[derive(Debug, Drop)]
+pub struct Entry {
+    /// From 1 to 8.
+    pub caller: u8,
+    /// How many updates this caller made before it.
+    pub seq: u32,
+    pub update: Update,
+}
