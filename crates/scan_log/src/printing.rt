@@ -1,5 +1,5 @@
 //! The lines of a transcript.
-ghost use Rattle.std.specs.Prelude.{◌≡◌, ◌++◌, OnOk};
+ghost use Rattle.std.specs.Prelude.{◌≡◌, ◌++◌, OnOk, OnErr};
 ghost use Rattle.std.specs.List.{flat_map};
 ghost use Rattle.std.specs.Option.{option_copied};
 ghost use Rattle.scan_log.specs.Spelling.{caller_field};
@@ -10,13 +10,24 @@ use itoa::{Buffer, Integer};
 use map_fold::{Hit, NearReply, NoMemory};
 use point_geom::Point;
 
-/// Puts the line of a reply at the end; where memory runs out, a front of the line may be there. No command stands for
-/// the end of the log. A reply that isn't of the command's kind has no line.
+/// Puts the line of a reply at the end. No command stands for the end of the log. A reply that isn't of the command's kind
+/// has no line. Where memory runs out, nothing is put. The line takes memory of its own while it is made.
 pub fn reply_line(
     out: &mut Vec<u8>,
     command: Option<&Command>,
     reply: &Reply,
 ) -> Result<(), NoMemory>
+    ensures ok { OnOk result (out.new.items ≡ out.old.items ++ reply_text (option_copied command.entry) reply.now) }
+    ensures err { OnErr result (out.new.items ≡ out.old.items) }
+{
+    let mut line = Vec::new(*out.allocator());
+    put_reply(&mut line, command, reply)?;
+    put(out, line.as_slice())
+}
+
+// What these put of a line where memory runs out isn't said: it is let go.
+
+fn put_reply(out: &mut Vec<u8>, command: Option<&Command>, reply: &Reply) -> Result<(), NoMemory>
     ensures { OnOk result (out.new.items ≡ out.old.items ++ reply_text (option_copied command.entry) reply.now) }
 {
     match (command, reply) {
@@ -115,7 +126,8 @@ fn put_number<I: Integer>(out: &mut Vec<u8>, number: I) -> Result<(), NoMemory>
 }
 
 fn put(out: &mut Vec<u8>, bytes: &[u8]) -> Result<(), NoMemory>
-    ensures { OnOk result (out.new.items ≡ out.old.items ++ bytes.now) }
+    ensures ok { OnOk result (out.new.items ≡ out.old.items ++ bytes.now) }
+    ensures err { OnErr result (out.new.items ≡ out.old.items) }
 {
     out.extend_from_slice(bytes)?;
     Ok(())

@@ -2,7 +2,7 @@
 use map_fold::NearReply;
 
 /// The reply to a command, or the one at the end.
-#[derive(Drop)]
+#[derive(Debug, Drop)]
 pub enum Reply {
     /// A change was made.
     Done {
