@@ -19,3 +19,8 @@ pub record IsSoundFork (h : Head) (l r : Shape) : Type 0 where
 abbrev pub IsSound : Shape → Type 0
 IsSound leaf = Unit {0}
 IsSound (fork h l r) = IsSoundFork h l r × IsSound l × IsSound r
+
+-- what holds of the top and its sons, where there is a node
+abbrev pub IsTopSound : Shape → Type 0
+IsTopSound leaf = Unit {0}
+IsTopSound (fork h l r) = IsSoundFork h l r

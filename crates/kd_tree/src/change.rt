@@ -5,17 +5,19 @@ ghost use Rattle.node_labels.specs.Labels.{keep_tag};
 ghost use Rattle.map_fold.specs.Contents.{everything, mark};
 ghost use Rattle.kd_tree.specs.Shape.{leaf, levels, nodes, numbers};
 ghost use Rattle.kd_tree.specs.Walk.{AllLeft, tagged, times};
-ghost use Rattle.kd_tree.specs.Sound.{IsSound};
+ghost use Rattle.kd_tree.specs.Sound.{IsSound, IsTopSound};
 ghost use Rattle.kd_tree.specs.Contents.{contents};
-ghost use Rattle.kd_tree.specs.Parts.{contents_of_parts, joined, pushed};
+ghost use Rattle.kd_tree.specs.Parts.{contents_of_parts, joined, pushed, with_son};
 
-use crate::Tree;
+use crate::node::Node;
+use crate::{Side, Steps, Tree};
 use map_fold::{Item, NoMemory, Tag};
 use point_geom::Axis;
 use std::alloc::Global;
+use std::sync::ledger::Ledger;
 
 /// A tree taken apart at its top. The sons owe nothing to it.
-#[derive(Drop)]
+#[derive(Debug, Drop)]
 pub struct Fork {
     pub item: Item,
     pub axis: Axis,
@@ -24,12 +26,19 @@ pub struct Fork {
 }
 
 impl Tree {
-    /// The tree after this action on all its items. One node is made, and for KEEP none. Where memory is wanting, the tree is
-    /// let go.
-    pub fn tagged(self, alloc: Global, tag: Tag) -> Result<Tree, NoMemory>
+    /// The tree after this action on all its items. Where memory is wanting, the tree is let go.
+    pub fn tagged<L: Ledger>(
+        self,
+        alloc: Global,
+        tag: Tag,
+        steps: &mut Steps<L>,
+    ) -> Result<Tree, NoMemory>
         ensures shape { IfOk result (λ t. t ≡ tagged tag self) }
         ensures contents { IfOk result (λ t. contents t ≡ mark (contents self) everything tag) }
         ensures numbers { IfOk result (λ t. numbers t ≡ numbers self) }
+        ensures ticks { steps.new ≤ steps.old + 1 }
+        ensures still { self ≡ leaf → steps.new ≡ steps.old }
+        ensures keep { tag ≡ keep_tag → steps.new ≡ steps.old }
     {
         if tag == Tag::KEEP {
             return Ok(self);
@@ -42,25 +51,32 @@ impl Tree {
                     ..node.item
                 };
                 let pending = node.pending.then(tag);
-                Tree::made(alloc, item, node.axis, pending, node.left, node.right)
+                Tree::made(
+                    alloc, item, node.axis, pending, node.left, node.right, steps,
+                )
             }
         }
     }
 
-    /// The tree taken apart at its top node, if it has one. At most two nodes are made. Where memory is wanting, the tree is
-    /// let go.
-    pub fn push_down(self, alloc: Global) -> Result<Option<Fork>, NoMemory>
+    /// The tree taken apart at its top node, if it has one. Where memory is wanting, the tree is let go.
+    pub fn push_down<L: Ledger>(
+        self,
+        alloc: Global,
+        steps: &mut Steps<L>,
+    ) -> Result<Option<Fork>, NoMemory>
         ensures parts { IfOk result (λ o. o ≡ pushed self) }
         ensures none { IfOk result (λ o. IsNone o ↔ (self ≡ leaf)) }
         ensures contents { IfOk result (λ o. IfSome o (λ f. contents_of_parts f ≡ contents self)) }
         ensures numbers { IfOk result (λ o. IfSome o (λ f. numbers (joined f) ≡ numbers self)) }
         ensures sound { IfOk result (λ o. IfSome o (λ f. IsSound (joined f))) }
+        ensures ticks { steps.new ≤ steps.old + 2 }
+        ensures still { self ≡ leaf → steps.new ≡ steps.old }
     {
         match self.opened(alloc)? {
             None => Ok(None),
             Some(node) => {
-                let left = node.left.tagged(alloc, node.pending)?;
-                let right = node.right.tagged(alloc, node.pending)?;
+                let left = node.left.tagged(alloc, node.pending, steps)?;
+                let right = node.right.tagged(alloc, node.pending, steps)?;
                 Ok(Some(Fork {
                     item: node.item,
                     axis: node.axis,
@@ -71,9 +87,46 @@ impl Tree {
         }
     }
 
-    /// Joins the parts to a tree with nothing pending at its top. One node is made. Where memory is wanting, the parts are let
-    /// go.
-    pub fn pull_up(alloc: Global, fork: Fork) -> Result<Tree, NoMemory>
+    /// The tree with this son in the place of the one on this side. The top node's item, axis, pending action and other son
+    /// stay, and the new son owes the pending action as the old one did. A tree without a node stays so. Where memory is
+    /// wanting, both trees are let go.
+    pub fn with_son<L: Ledger>(
+        self,
+        alloc: Global,
+        side: Side,
+        son: Tree,
+        steps: &mut Steps<L>,
+    ) -> Result<Tree, NoMemory>
+        requires { IsTopSound (with_son side son self) }
+        ensures shape { IfOk result (λ t. t ≡ with_son side son self) }
+        ensures ticks { steps.new ≤ steps.old + 1 }
+    {
+        match self.opened(alloc)? {
+            None => Ok(Tree::empty()),
+            Some(node) => {
+                let Node {
+                    item,
+                    axis,
+                    pending,
+                    left,
+                    right,
+                    ..
+                } = node;
+                let (left, right) = match side {
+                    Side::Left => (son, right),
+                    Side::Right => (left, son),
+                };
+                Tree::made(alloc, item, axis, pending, left, right, steps)
+            }
+        }
+    }
+
+    /// Joins the parts to a tree with nothing pending at its top. Where memory is wanting, the parts are let go.
+    pub fn pull_up<L: Ledger>(
+        alloc: Global,
+        fork: Fork,
+        steps: &mut Steps<L>,
+    ) -> Result<Tree, NoMemory>
         requires below { AllLeft (λ p. on fork.axis p ≤ℤ on fork.axis fork.item.point) keep_tag fork.left }
         requires above { AllLeft (λ p. on fork.axis fork.item.point ≤ℤ on fork.axis p) keep_tag fork.right }
         requires once { (n : ℕ) → times n keep_tag (joined fork) ≤ 1 }
@@ -82,6 +135,7 @@ impl Tree {
         ensures shape { IfOk result (λ t. t ≡ joined fork) }
         ensures contents { IfOk result (λ t. contents t ≡ contents_of_parts fork) }
         ensures numbers { IfOk result (λ t. numbers t ≡ fork.item.number ∷ (numbers fork.left ++ numbers fork.right)) }
+        ensures ticks { steps.new ≤ steps.old + 1 }
     {
         let Fork {
             item,
@@ -89,6 +143,6 @@ impl Tree {
             left,
             right,
         } = fork;
-        Tree::made(alloc, item, axis, Tag::KEEP, left, right)
+        Tree::made(alloc, item, axis, Tag::KEEP, left, right, steps)
     }
 }
