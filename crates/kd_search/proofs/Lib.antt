@@ -1,6 +1,9 @@
 pub mod Walks
+pub mod Planes
+pub mod Tops
 pub mod Boxed
 pub mod Inserted
 pub mod Offered
 pub mod Shortlist
+pub mod Bounds
 pub mod Least

@@ -14,6 +14,7 @@ use Rattle.map_fold.proofs.Order.{nearer_not_back, nearer_chain, nearer_either}
 use Rattle.map_fold.proofs.Ranking.{put_hit-take}
 use Rattle.kd_tree.specs.Contents.{insert_item, by_number}
 use Rattle.kd_search.specs.Nearest.{put_all}
+use Rattle.kd_search.specs.Sides.{IsEitherWay}
 use Rattle.kd_search.proofs.Inserted.{take-take}
 use Rattle.kd_search.proofs.Walks.{live-kept, live-append}
 
@@ -132,19 +133,30 @@ turned top left right hits =
     ∙ ap (put_all top) (put_all-append right left hits ∙ put_all-put_all right left hits ∙ sym (put_all-append left right hits))
     ∙ sym (put_all-append top (left ++ right) hits)
 
--- a node's item and then both sons, the left one first
-pub left_first : (k : ℕ) (q : Place) (r : Option ℕ) (i : Item) (left right whole : List Item) (hits one two three : List Hit) → whole ≡ kept (i ∷ []) ++ (left ++ right)
-    → one ≡ take k (put_all (candidates (i ∷ []) q r) hits) → two ≡ take k (put_all (candidates left q r) one) → three ≡ take k (put_all (candidates right q r) two)
-    → three ≡ take k (put_all (candidates whole q r) hits)
-left_first k q r i left right whole hits one two three all e f g =
-    in_turn k (candidates (i ∷ []) q r) (candidates left q r) (candidates right q r) hits one two three e f g
-    ∙ ap (λ z. take k (put_all z hits)) (sym (ap (λ m. candidates m q r) all ∙ candidates-top q r i left right))
+swapped : (xs ys zs hits : List Hit) → put_all (xs ++ (ys ++ zs)) hits ≡ put_all (ys ++ (xs ++ zs)) hits
+swapped xs ys zs hits =
+    put_all-append xs (ys ++ zs) hits
+    ∙ ap (put_all xs) (put_all-append ys zs hits)
+    ∙ put_all-put_all xs ys (put_all zs hits)
+    ∙ ap (put_all ys) (sym (put_all-append xs zs hits))
+    ∙ sym (put_all-append ys (xs ++ zs) hits)
 
--- and the right one first
-pub right_first : (k : ℕ) (q : Place) (r : Option ℕ) (i : Item) (left right whole : List Item) (hits one two three : List Hit) → whole ≡ kept (i ∷ []) ++ (left ++ right)
-    → one ≡ take k (put_all (candidates (i ∷ []) q r) hits) → two ≡ take k (put_all (candidates right q r) one) → three ≡ take k (put_all (candidates left q r) two)
+either_way : (q : Place) (r : Option ℕ) (i : Item) (near far sons : List Item) (hits : List Hit) → IsEitherWay sons near far
+    → put_all (candidates (i ∷ []) q r ++ (candidates near q r ++ candidates far q r)) hits ≡ put_all (candidates (kept (i ∷ []) ++ sons) q r) hits
+either_way q r i near far sons hits (inl e) =
+    ap (λ z. put_all z hits) (sym (ap (λ m. candidates (kept (i ∷ []) ++ m) q r) e ∙ candidates-top q r i near far))
+either_way q r i near far sons hits (inr e) =
+    turned (candidates (i ∷ []) q r) (candidates far q r) (candidates near q r) hits
+    ∙ ap (λ z. put_all z hits) (sym (ap (λ m. candidates (kept (i ∷ []) ++ m) q r) e ∙ candidates-top q r i far near))
+
+-- the near son, then a node's item, then the far son
+pub near_first : (k : ℕ) (q : Place) (r : Option ℕ) (i : Item) (near far sons whole : List Item) (hits one two three : List Hit) → whole ≡ kept (i ∷ []) ++ sons → IsEitherWay sons near far
+    → one ≡ take k (put_all (candidates near q r) hits) → two ≡ take k (put_all (candidates (i ∷ []) q r) one) → three ≡ take k (put_all (candidates far q r) two)
     → three ≡ take k (put_all (candidates whole q r) hits)
-right_first k q r i left right whole hits one two three all e f g =
-    in_turn k (candidates (i ∷ []) q r) (candidates right q r) (candidates left q r) hits one two three e f g
-    ∙ ap (take k) (turned (candidates (i ∷ []) q r) (candidates left q r) (candidates right q r) hits)
-    ∙ ap (λ z. take k (put_all z hits)) (sym (ap (λ m. candidates m q r) all ∙ candidates-top q r i left right))
+near_first k q r i near far sons whole hits one two three all way e f g =
+    in_turn k (candidates near q r) (candidates (i ∷ []) q r) (candidates far q r) hits one two three e f g
+    ∙ ap (take k) (
+    swapped (candidates near q r) (candidates (i ∷ []) q r) (candidates far q r) hits
+    ∙ either_way q r i near far sons hits way
+    ∙ ap (λ m. put_all (candidates m q r) hits) (sym all)
+    )

@@ -3,10 +3,9 @@ use Rattle.std.proofs.Common.{◌≡◌, ℕ, zero, suc, ◌<◌, ◌≤◌, ◌
 use Rattle.std.specs.Prelude.{filter}
 use Rattle.std.proofs.lemmas.Bool.{cond_both, cond-false, lt-ltb, leb-false, lt-leb, cases_lt}
 use Rattle.std.proofs.lemmas.List.{take_all}
-use Rattle.point_geom.specs.Place.{Place, Span}
+use Rattle.std.proofs.lemmas.List.Elements.{All-head, All-tail}
+use Rattle.point_geom.specs.Place.{Place}
 use Rattle.point_geom.specs.Distances.{dist2}
-use Rattle.point_geom.specs.Extents.{span_dist2}
-use Rattle.point_geom.proofs.Laws.{reach}
 use Rattle.node_labels.specs.Labels.{is_live}
 use Rattle.map_fold.specs.declared.hits.Hit.{Hit}
 use Rattle.map_fold.specs.declared.item.Item.{Item}
@@ -14,8 +13,7 @@ use Rattle.map_fold.specs.Contents.{live_items}
 use Rattle.map_fold.specs.Answers.{is_nearer, put_hit, hit_of, is_within, candidates}
 use Rattle.map_fold.proofs.Order.{nearer_not_back}
 use Rattle.map_fold.proofs.Ranking.{put_hit-take}
-use Rattle.kd_search.specs.Points.{AreIn}
-use Rattle.kd_search.proofs.Walks.{first_in, rest_in}
+use Rattle.kd_search.specs.Points.{AreAway}
 use Rattle.kd_search.specs.Nearest.{put_all, is_admitted, AreFrom, AreBefore, Recede, AreHeld, AreFull}
 
 -- what is less far comes first
@@ -105,7 +103,7 @@ full_stays k d (g ∷ found) hits f h =
     ∙ ap (take k) (put_behind d g hits h.0 f.before) ∙ take-front k hits (g ∷ []) f.all
     )
 
-within_admitted : (r : Option ℕ) (h : Hit) → is_within r h ≡ is_admitted r h.dist2
+pub within_admitted : (r : Option ℕ) (h : Hit) → is_within r h ≡ is_admitted r h.dist2
 within_admitted None h = refl
 within_admitted (Some r) h = refl
 
@@ -113,26 +111,32 @@ admitted_less : (r : Option ℕ) (c d : ℕ) → c ≤ d → is_admitted r c ≡
 admitted_less None c d h e = absurd (cc)
 admitted_less (Some r) c d h e = lt-leb d (r * r) (omega (arith, leb-false c (r * r) e))
 
--- candidates are as far as a box that their points are in
-pub candidates_from : (q : Place) (r : Option ℕ) (e : Span) (m : List Item) → AreIn e m → AreFrom (span_dist2 e q) (candidates m q r)
-candidates_from q r e [] h = tt
-candidates_from q r e (i ∷ m) h = by_live (is_live i.label) (candidates_from q r e m (rest_in e i m h))
+first_away : (d : ℕ) (q : Place) (i : Item) (m : List Item) → AreAway d q (i ∷ m) → d ≤ dist2 q i.point
+first_away d q i m h = All-head (λ (j : Item). d ≤ dist2 q j.point) i m h
+
+rest_away : (d : ℕ) (q : Place) (i : Item) (m : List Item) → AreAway d q (i ∷ m) → AreAway d q m
+rest_away d q i m h = All-tail (λ (j : Item). d ≤ dist2 q j.point) i m h
+
+-- candidates are as far as their items
+pub candidates_away : (d : ℕ) (q : Place) (r : Option ℕ) (m : List Item) → AreAway d q m → AreFrom d (candidates m q r)
+candidates_away d q r [] h = tt
+candidates_away d q r (i ∷ m) h = by_live (is_live i.label) (candidates_away d q r m (rest_away d q i m h))
   where
-    by_near : (b : Bool) → AreFrom (span_dist2 e q) (candidates m q r) → AreFrom (span_dist2 e q) (cond b (hit_of q i ∷ candidates m q r) (candidates m q r))
-    by_near true rest = (reach e i.point q (first_in e i m h), rest)
+    by_near : (b : Bool) → AreFrom d (candidates m q r) → AreFrom d (cond b (hit_of q i ∷ candidates m q r) (candidates m q r))
+    by_near true rest = (first_away d q i m h, rest)
     by_near false rest = rest
 
-    by_live : (b : Bool) → AreFrom (span_dist2 e q) (candidates m q r) → AreFrom (span_dist2 e q) (filter (is_within r) (map (hit_of q) (cond b (i ∷ live_items m) (live_items m))))
+    by_live : (b : Bool) → AreFrom d (candidates m q r) → AreFrom d (filter (is_within r) (map (hit_of q) (cond b (i ∷ live_items m) (live_items m))))
     by_live true rest = by_near (is_within r (hit_of q i)) rest
     by_live false rest = rest
 
--- a box beyond the greatest distance has no candidate
-pub candidates_beyond : (q : Place) (r : Option ℕ) (e : Span) (m : List Item) → AreIn e m → is_admitted r (span_dist2 e q) ≡ false → candidates m q r ≡ []
-candidates_beyond q r e [] h f = refl
-candidates_beyond q r e (i ∷ m) h f = by_live (is_live i.label) (candidates_beyond q r e m (rest_in e i m h) f)
+-- beyond the greatest distance there is none
+pub candidates_beyond : (d : ℕ) (q : Place) (r : Option ℕ) (m : List Item) → AreAway d q m → is_admitted r d ≡ false → candidates m q r ≡ []
+candidates_beyond d q r [] h f = refl
+candidates_beyond d q r (i ∷ m) h f = by_live (is_live i.label) (candidates_beyond d q r m (rest_away d q i m h) f)
   where
     out : is_within r (hit_of q i) ≡ false
-    out = within_admitted r (hit_of q i) ∙ admitted_less r (span_dist2 e q) (dist2 q i.point) (reach e i.point q (first_in e i m h)) f
+    out = within_admitted r (hit_of q i) ∙ admitted_less r d (dist2 q i.point) (first_away d q i m h) f
 
     by_live : (b : Bool) → candidates m q r ≡ [] → filter (is_within r) (map (hit_of q) (cond b (i ∷ live_items m) (live_items m))) ≡ []
     by_live true rest = cond-false (is_within r (hit_of q i)) _ _ out ∙ rest

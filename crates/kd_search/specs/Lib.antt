@@ -1,5 +1,6 @@
 pub mod Points
 pub mod Part
+pub mod Sides
 pub mod Inserted
 pub mod Nearest
 pub mod Best

@@ -1,5 +1,5 @@
 -- Hits that a search has met so far.
-use Rattle.std.specs.Prelude.{◌≡◌, ℕ, ◌*◌, ◌≤◌, ◌<◌, Bool, true, List, [], ◌∷◌, length, nat_le}
+use Rattle.std.specs.Prelude.{◌≡◌, ℕ, ◌*◌, ◌^◌, ◌≤◌, ◌<◌, ◌⊎◌, Bool, true, false, List, [], ◌∷◌, length, nat_le}
 use Rattle.std.specs.declared.option.Option.{Option}
 use Rattle.std.specs.declared.option.Option.TheVariants.{None, Some}
 use Rattle.map_fold.specs.declared.hits.Hit.{Hit}
@@ -39,3 +39,11 @@ pub record AreHeld (k : ℕ) (hits : List Hit) : Type 0 where
 pub record AreFull (k : ℕ) (hits : List Hit) (d : ℕ) : Type 0 where
   pub all : length hits ≡ k
   pub before : AreBefore d hits
+
+-- The bound on squared distances of a search for k hits within r, which holds these.
+pub record IsBound (k : ℕ) (r : Option ℕ) (hits : List Hit) (bound : ℕ) : Type 0 where
+  pub held : AreHeld k hits
+  -- what is no farther is near enough
+  pub admits : (d : ℕ) → d ≤ bound → is_admitted r d ≡ true
+  -- what is farther isn't, or doesn't come among the hits
+  pub beyond : (d : ℕ) → bound < d → d < 2 ^ 128 → (is_admitted r d ≡ false) ⊎ AreFull k hits d

@@ -4,6 +4,7 @@ use Rattle.map_fold.specs.declared.item.Item.{Item}
 use Rattle.map_fold.specs.Contents.{kept}
 use Rattle.kd_tree.specs.Shape.{nodes}
 use Rattle.kd_tree.specs.Walk.{walk}
+use Rattle.kd_search.specs.Points.{AreBelow, AreAbove}
 use Rattle.kd_search.specs.declared.part.Part.{Part}
 use Rattle.kd_search.specs.declared.part.PartTop.{PartTop}
 
@@ -17,5 +18,8 @@ nodes_of p = nodes p.tree.now
 -- a part is its top item, unless that is dropped, and both sons
 pub record IsTopOf (p : Part) (t : PartTop) : Type 0 where
   pub items : items_of p ≡ kept (t.item ∷ []) ++ (items_of t.left ++ items_of t.right)
+  -- which lie on both sides of the item's plane
+  pub below : AreBelow t.axis t.item.point (items_of t.left)
+  pub above : AreAbove t.axis t.item.point (items_of t.right)
   pub nodes : nodes_of p ≡ nodes_of t.left + nodes_of t.right + 1
   pub few : nodes_of p ≤ 4194304

@@ -12,7 +12,7 @@ use map_fold::Item;
 use point_geom::{Cuboid, centre_dist2};
 
 /// The live item in the cuboid whose point is nearest to the cuboid's centre; of several the least by x, y and z, and then
-/// by number. It takes no memory. A subtree that the cuboid doesn't meet is left out.
+/// by number. It takes no memory. A subtree that the cuboid doesn't meet, or that has no live item, is left out.
 pub fn best_in(tree: &Tree, c: &Cuboid) -> Option<Item>
     ensures value { result ≡ best_inside (contents tree.now) c.now }
     ensures none { IsNone result ↔ (inside_all (contents tree.now) c.now ≡ []) }

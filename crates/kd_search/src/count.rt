@@ -10,7 +10,8 @@ use kd_tree::Tree;
 use map_fold::Item;
 use point_geom::Cuboid;
 
-/// How many live points are in the cuboid. A subtree that lies within it is counted without being entered.
+/// How many live points are in the cuboid. A subtree that lies within it is counted without being entered, and one
+/// without a live item is left out.
 pub fn count_in(tree: &Tree, c: &Cuboid) -> u32
     ensures { result ≡ count (contents tree.now) c.now }
 {

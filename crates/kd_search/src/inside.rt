@@ -15,8 +15,8 @@ use point_geom::Cuboid;
 use std::alloc::Global;
 
 /// The live items in the cuboid, in the order of their numbers; the first `most` where there are more. A subtree that the
-/// cuboid doesn't meet is left out, and each item that is met costs at most `most` steps.
-pub fn in_cuboid(tree: &Tree, alloc: Global, c: &Cuboid, most: u32) -> Result<Items, NoMemory>
+/// cuboid doesn't meet, or that has no live item, is left out, and each item that is met costs at most `most` steps.
+pub fn in_cuboid(alloc: Global, tree: &Tree, c: &Cuboid, most: u32) -> Result<Items, NoMemory>
     requires most_from { 1 ≤ most }
     requires most_to { most ≤ 256 }
     ensures found { IfOk result (λ items. items ≡ inside (contents tree.now) c.now most) }

@@ -6,6 +6,7 @@ mod count;
 mod inside;
 mod near;
 mod part;
+mod sides;
 #[cfg(test)]
 mod tests;
 

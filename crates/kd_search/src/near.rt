@@ -1,24 +1,26 @@
 //! The nearest live points.
-ghost use Rattle.std.specs.Prelude.{◌≡◌, ◌≤◌, [], ◌∷◌, take, IfOk, IsOk, OnOk, true};
+ghost use Rattle.std.specs.Prelude.{◌≡◌, ◌≤◌, [], ◌∷◌, take, IfOk, IsOk, OnOk};
 ghost use Rattle.std.specs.Option.{ForSome};
-ghost use Rattle.map_fold.specs.Answers.{candidates, nearest};
+ghost use Rattle.map_fold.specs.Answers.{candidates, nearest, put_hit};
 ghost use Rattle.map_fold.specs.Nearest.{AreNearest};
 ghost use Rattle.kd_tree.specs.Contents.{contents};
-ghost use Rattle.kd_search.specs.Nearest.{AreFull, AreHeld, is_admitted, put_all};
-ghost use Rattle.kd_search.specs.Part.{items_of};
+ghost use Rattle.kd_tree.specs.Walk.{walk};
+ghost use Rattle.kd_search.specs.Nearest.{IsBound, put_all};
 
-use crate::part::Part;
+use crate::part::live;
+use crate::sides::Sides;
 use kd_tree::Tree;
-use map_fold::{Hit, Hits, Item, Label, NoMemory};
+use map_fold::{Hit, Hits, Item, Label, NoMemory, Tag};
 use point_geom::{Point, dist2};
 use std::alloc::Global;
 
 /// The first k live points by squared distance from q, in squared millimetres, then by x, y and z, then by number; within
-/// the greatest distance, in millimetres, where one is given. It takes no memory for k up to 16. The nearer son of a node
-/// is searched first, and a subtree whose box is too far is left out.
+/// the greatest distance, in millimetres, where one is given. It takes no memory for k up to 16. The son of a node on
+/// the point's side is searched first. A subtree is left out where it has no live item, or where its box, or the plane
+/// between it and its sibling, is farther than the greatest distance or than each of k hits.
 pub fn nearest(
-    tree: &Tree,
     alloc: Global,
+    tree: &Tree,
     k: u32,
     q: &Point,
     within: Option<u64>,
@@ -38,39 +40,59 @@ pub fn nearest(
         point: *q,
         within,
     };
-    let mut hits = Hits::new(alloc);
-    add_under(&Part::whole(tree), &query, &mut hits)?;
-    Ok(hits)
+    let mut found = Found {
+        hits: Hits::new(alloc),
+        bound: query.reach(),
+    };
+    add_from(tree, Tag::KEEP, &query, &mut found)?;
+    Ok(found.hits)
 }
 
-// Adds the part's hits to those that are held, of which the first k are kept.
-fn add_under(part: &Part<'_>, query: &Query, hits: &mut Hits) -> Result<(), NoMemory>
-    requires { AreHeld query.now.k hits.old }
-    ensures held { OnOk result (AreHeld query.now.k hits.new) }
-    ensures found { OnOk result (hits.new ≡ take query.now.k (put_all (candidates (items_of part.now) query.now.point query.now.within) hits.old)) }
+// Adds the hits of a tree that owes this action to those that are held, of which the first k are kept.
+#[cycle(near)]
+fn add_from(tree: &Tree, owed: Tag, query: &Query, found: &mut Found) -> Result<(), NoMemory>
+    requires { IsBound query.now.k query.now.within found.old.hits found.old.bound }
+    ensures bound { OnOk result (IsBound query.now.k query.now.within found.new.hits found.new.bound) }
+    ensures found { OnOk result (found.new.hits ≡ take query.now.k (put_all (candidates (walk owed tree.now) query.now.point query.now.within) found.old.hits)) }
     ensures inline { query.now.k ≤ 16 → IsOk result }
 {
-    let Some(extent) = part.extent() else {
+    let Some(extent) = tree.extent() else {
         return Ok(());
     };
-    let gap = extent.dist2(&query.point);
-    if !query.admits(gap) {
+    if found.bound < extent.dist2(&query.point) {
         return Ok(());
     }
-    if query.is_full(hits, gap) {
+    add_under(tree, owed, query, found)
+}
+
+// The same for a tree that is near enough to be entered. Most aren't, so what this sets up isn't set up for them.
+#[cycle(near)]
+#[inline(never)]
+fn add_under(tree: &Tree, owed: Tag, query: &Query, found: &mut Found) -> Result<(), NoMemory>
+    requires { IsBound query.now.k query.now.within found.old.hits found.old.bound }
+    ensures bound { OnOk result (IsBound query.now.k query.now.within found.new.hits found.new.bound) }
+    ensures found { OnOk result (found.new.hits ≡ take query.now.k (put_all (candidates (walk owed tree.now) query.now.point query.now.within) found.old.hits)) }
+    ensures inline { query.now.k ≤ 16 → IsOk result }
+{
+    let _size = tree.size();
+    if live(tree, owed) == 0 {
         return Ok(());
     }
-    let Some(top) = part.top() else {
+    let Some(top) = tree.top() else {
         return Ok(());
     };
-    query.add(&top.item, hits)?;
-    if query.point.on(top.axis) < top.item.point.on(top.axis) {
-        add_under(&top.left, query, hits)?;
-        add_under(&top.right, query, hits)
-    } else {
-        add_under(&top.right, query, hits)?;
-        add_under(&top.left, query, hits)
+    let sides = Sides::of(&top, &query.point);
+    let below = top.pending.then(owed);
+    add_from(sides.near, below, query, found)?;
+    if found.bound < sides.gap {
+        return Ok(());
     }
+    let item = Item {
+        label: owed.apply(top.item.label),
+        ..top.item
+    };
+    query.add(&item, found)?;
+    add_from(sides.far, below, query, found)
 }
 
 // What is searched for.
@@ -82,36 +104,37 @@ struct Query {
     ghost some: { 1 ≤ k },
 }
 
+// The nearest so far.
+#[derive(Drop)]
+struct Found {
+    hits: Hits,
+    // What is farther than this, squared, is too far or comes after k hits. What is as far may come before them, by its
+    // coordinates or its number.
+    bound: u128,
+}
+
 impl Query {
-    fn admits(&self, gap: u128) -> bool
-        ensures { result ≡ is_admitted self.now.within gap }
+    // How far a hit may be before any is held, squared.
+    fn reach(&self) -> u128
+        ensures { IsBound self.now.k self.now.within [] result }
     {
         match self.within {
-            None => true,
-            Some(r) => gap <= r as u128 * r as u128,
+            None => u128::MAX,
+            Some(r) => r as u128 * r as u128,
         }
     }
 
-    // Whether k hits are held that are all nearer than this. At the same distance the coordinates and the number decide.
-    fn is_full(&self, hits: &Hits, gap: u128) -> bool
-        requires { AreHeld self.now.k hits.now }
-        ensures { result ≡ true → AreFull self.now.k hits.now gap }
-    {
-        let held = hits.as_slice();
-        held.len() == self.k && held[self.k - 1].dist2 < gap
-    }
-
-    fn add(&self, item: &Item, hits: &mut Hits) -> Result<(), NoMemory>
-        requires { AreHeld self.now.k hits.old }
-        ensures held { OnOk result (AreHeld self.now.k hits.new) }
-        ensures found { OnOk result (hits.new ≡ take self.now.k (put_all (candidates (item.now ∷ []) self.now.point self.now.within) hits.old)) }
+    fn add(&self, item: &Item, found: &mut Found) -> Result<(), NoMemory>
+        requires { IsBound self.now.k self.now.within found.old.hits found.old.bound }
+        ensures bound { OnOk result (IsBound self.now.k self.now.within found.new.hits found.new.bound) }
+        ensures found { OnOk result (found.new.hits ≡ take self.now.k (put_all (candidates (item.now ∷ []) self.now.point self.now.within) found.old.hits)) }
         ensures inline { self.now.k ≤ 16 → IsOk result }
     {
         if item.label != Label::Live {
             return Ok(());
         }
         let gap = dist2(&self.point, &item.point);
-        if !self.admits(gap) {
+        if found.bound < gap {
             return Ok(());
         }
         let hit = Hit {
@@ -119,6 +142,24 @@ impl Query {
             point: item.point,
             dist2: gap,
         };
-        hits.put(self.k, hit)
+        self.put(hit, found)
+    }
+
+    // Puts a hit among those that are held, and draws the bound in.
+    #[inline(never)]
+    fn put(&self, hit: Hit, found: &mut Found) -> Result<(), NoMemory>
+        requires bound { IsBound self.now.k self.now.within found.old.hits found.old.bound }
+        requires near { hit.dist2 ≤ found.old.bound }
+        ensures bound { OnOk result (IsBound self.now.k self.now.within found.new.hits found.new.bound) }
+        ensures found { OnOk result (found.new.hits ≡ take self.now.k (put_hit hit found.old.hits)) }
+        ensures inline { self.now.k ≤ 16 → IsOk result }
+    {
+        found.hits.put(self.k, hit)?;
+        let held = found.hits.as_slice();
+        if held.len() < self.k {
+            return Ok(());
+        }
+        found.bound = found.bound.min(held[self.k - 1].dist2);
+        Ok(())
     }
 }

@@ -1,5 +1,5 @@
 //! Parts of a tree as a search meets them. What a part owes from above is done to its items here, and nowhere else; the
-//! tree stays as it is. Nothing here knows what is searched for.
+//! tree stays as it is. Of what is searched for, no more is known here than round which point.
 ghost use Rattle.std.specs.Prelude.{◌≡◌, [], length, IfNone, IfSome};
 ghost use Rattle.node_labels.specs.Labels.{keep_tag};
 ghost use Rattle.map_fold.specs.Contents.{live_items};
@@ -49,14 +49,17 @@ impl<'a> Part<'a> {
     pub(crate) fn live(&self) -> u32
         ensures { result ≡ length (live_items (items_of self.now)) }
     {
-        let _size = self.tree.size();
-        self.tree.counts().apply(self.owed).live
+        live(self.tree, self.owed)
     }
 
+    /// The top of a part in which some item is live.
     pub(crate) fn top(&self) -> Option<PartTop<'a>>
-        ensures none { IfNone result (items_of self.now ≡ []) }
+        ensures none { IfNone result (live_items (items_of self.now) ≡ []) }
         ensures some { IfSome result (λ t. IsTopOf self.now t) }
     {
+        if self.live() == 0 {
+            return None;
+        }
         let _size = self.tree.size();
         match self.tree.top() {
             None => None,
@@ -80,4 +83,12 @@ impl<'a> Part<'a> {
             }
         }
     }
+}
+
+/// How many items of a tree that owes this action are live, in the same time for each tree.
+pub(crate) fn live(tree: &Tree, owed: Tag) -> u32
+    ensures { result ≡ length (live_items (walk owed tree.now)) }
+{
+    let _size = tree.size();
+    tree.counts().apply(owed).live
 }

@@ -1,12 +1,15 @@
 //! Worked examples, and each search beside a scan.
-ghost use Rattle.std.specs.Prelude.{◌≡◌, ◌≤◌, length, false, IfOk};
+ghost use Rattle.std.specs.Prelude.{◌≡◌, ◌<◌, ◌≤◌, length, false, IfOk};
 ghost use Rattle.node_labels.specs.Labels.{is_dropped};
+ghost use Rattle.kd_tree.specs.Contents.{AreDistinct, AreKept};
 
 use crate::{best_in, count_in, in_cuboid, nearest};
-use kd_tree::Tree;
-use map_fold::{Item, Label, PlainMap, Points, Settings, Tag, Update};
+use kd_tree::{Steps, Tree};
+use map_fold::{Item, Label, NoMemory, PlainMap, Points, Settings, Tag, Update};
 use point_geom::{Corner, Cuboid, Point, centre_dist2, dist2};
 use std::alloc::Global;
+use std::marker::Brand;
+use std::sync::ledger::{Blank, Ledger};
 use std::test::Fail;
 
 // Every third item is suspended.
@@ -20,7 +23,8 @@ fn label_of(number: u32) -> Label
     }
 }
 
-fn grown(alloc: Global, points: &[Point]) -> Result<Tree, Fail>
+// A tree of these points, with this action done to all.
+fn grown(alloc: Global, points: &[Point], tag: Tag) -> Result<Tree, Fail>
     requires { length points.now ≤ 5000 }
 {
     let mut items = Vec::new(alloc);
@@ -33,14 +37,26 @@ fn grown(alloc: Global, points: &[Point]) -> Result<Tree, Fail>
         })?;
         number += 1;
     }
-    Ok(Tree::build(alloc, &items)?)
+    Ok(built::<Brand>(alloc, &items, tag, Blank::new(1))?)
+}
+
+fn built<L: Ledger>(alloc: Global, items: &[Item], tag: Tag, blank: Blank) -> Result<Tree, NoMemory>
+    requires kept { AreKept items.now }
+    requires distinct { AreDistinct items.now }
+    requires few { length items.now ≤ 4194304 }
+    requires name { blank.name ≡ L.name }
+    requires parts { blank.parts ≡ L.parts }
+    requires some { 0 < blank.parts }
+{
+    let mut steps: Steps<L> = Steps::new(blank);
+    Tree::build(alloc, items, &mut steps)?.tagged(alloc, tag, &mut steps)
 }
 
 // All of them live.
 fn restored(alloc: Global, points: &[Point]) -> Result<Tree, Fail>
     requires { length points.now ≤ 5000 }
 {
-    Ok(grown(alloc, points)?.tagged(alloc, Tag::RESTORE)?)
+    grown(alloc, points, Tag::RESTORE)
 }
 
 fn cuboid(lo: (i64, i64, i64), hi: (i64, i64, i64)) -> Result<Cuboid, Fail> {
@@ -86,7 +102,7 @@ fn equal_points_are_found_by_number(rt: HostRuntime) -> Result<(), Fail> {
     let place = Point::new(3, 3, 3)?;
     let points = vec![in alloc; place; 5000]?;
     let tree = restored(alloc, &points)?;
-    let hits = nearest(&tree, alloc, 200, &place, None)?;
+    let hits = nearest(alloc, &tree, 200, &place, None)?;
     assert_eq!(rt; hits.len(), 200);
     for (i, hit) in hits.as_slice().iter().enumerate() {
         assert_eq!(rt; (hit.number as usize, hit.dist2), (i, 0));
@@ -103,7 +119,7 @@ fn the_upper_side_of_a_box_is_left_out(rt: HostRuntime) -> Result<(), Fail> {
         let c = cuboid((0, 0, 0), (x, 9, 9))?;
         assert_eq!(rt; count_in(&tree, &c), want, "up to {x}");
         for most in [1, 5] {
-            let items = in_cuboid(&tree, alloc, &c, most)?;
+            let items = in_cuboid(alloc, &tree, &c, most)?;
             assert_eq!(rt; items.len(), most.min(want) as usize, "up to {x}");
             for (i, item) in items.as_slice().iter().enumerate() {
                 assert_eq!(rt; item.number as usize, i);
@@ -119,10 +135,38 @@ fn a_greatest_distance_admits_its_own_value(rt: HostRuntime) -> Result<(), Fail>
     let origin = Point::new(0, 0, 0)?;
     let points = [Point::new(3, 4, 0)?, Point::new(6, 0, 0)?];
     let tree = restored(alloc, &points)?;
-    let hits = nearest(&tree, alloc, 3, &origin, Some(5))?;
+    let hits = nearest(alloc, &tree, 3, &origin, Some(5))?;
     assert_eq!(rt; hits.len(), 1);
     assert_eq!(rt; hits.as_slice()[0].dist2, 25);
-    assert_eq!(rt; nearest(&tree, alloc, 3, &origin, Some(0))?.len(), 0);
+    assert_eq!(rt; nearest(alloc, &tree, 3, &origin, Some(0))?.len(), 0);
+    Ok(())
+}
+
+#[test]
+fn of_equally_far_points_round_a_place_the_least_are_found(rt: HostRuntime) -> Result<(), Fail> {
+    let alloc = rt.alloc();
+    let origin = Point::new(0, 0, 0)?;
+    // All at the distance 5, on both sides of each plane, the greatest first.
+    let points = [
+        Point::new(5, 0, 0)?,
+        Point::new(3, 4, 0)?,
+        Point::new(0, 5, 0)?,
+        Point::new(0, 0, 5)?,
+        Point::new(0, 0, -5)?,
+        Point::new(0, -5, 0)?,
+        Point::new(-3, -4, 0)?,
+        Point::new(-5, 0, 0)?,
+    ];
+    let tree = restored(alloc, &points)?;
+    for k in 1..9 {
+        for within in [None, Some(5)] {
+            let hits = nearest(alloc, &tree, k, &origin, within)?;
+            let found = hits.as_slice().iter().map(|h| h.point);
+            let want = points.iter().rev().take(k as usize).copied();
+            assert!(rt; found.eq(want), "{k} within {within:?}");
+        }
+    }
+    assert_eq!(rt; nearest(alloc, &tree, 8, &origin, Some(4))?.len(), 0);
     Ok(())
 }
 
@@ -166,7 +210,7 @@ fn the_plain_map_finds_the_same_points(rt: HostRuntime) -> Result<(), Fail> {
             (17, Some(600_000_000)),
             (256, Some(0)),
         ] {
-            let hits = nearest(&tree, alloc, k, q, within)?;
+            let hits = nearest(alloc, &tree, k, q, within)?;
             let want = map.nearest(alloc, k, q, within)?;
             assert_eq!(rt; hits.as_slice(), want.as_slice(), "{k} within {within:?}");
         }
@@ -209,7 +253,7 @@ fn numbers(alloc: Global, keys: &[(u128, Point, u32)]) -> Result<Vec<u32>, Fail>
 fn finds_near(alloc: Global, tree: &Tree, items: &[Item], q: &Point) -> Result<bool, Fail> {
     let mut want = scan_near(alloc, items, q)?;
     want.truncate(30);
-    let hits = nearest(tree, alloc, 30, q, None)?;
+    let hits = nearest(alloc, tree, 30, q, None)?;
     Ok(
         hits.as_slice()
             .iter()
@@ -224,7 +268,7 @@ fn finds_in(alloc: Global, tree: &Tree, items: &[Item], c: &Cuboid) -> Result<bo
     let best = best_in(tree, c).map(|i| i.number) == want.first().copied();
     want.sort()?;
     want.truncate(30);
-    let found = in_cuboid(tree, alloc, c, 30)?;
+    let found = in_cuboid(alloc, tree, c, 30)?;
     let listed = found
         .as_slice()
         .iter()
@@ -249,8 +293,22 @@ fn an_action_on_all_shows_in_each_search(rt: HostRuntime) -> Result<(), Fail> {
         live: Label::Suspended,
         suspended: Label::Live,
     };
-    for tag in [Tag::KEEP, Tag::SUSPEND, Tag::RESTORE, Tag::THIN, swap] {
-        let tree = grown(alloc, &points)?.tagged(alloc, tag)?;
+    // Two of three nodes are dropped, and the others live beside them.
+    let drop = Tag {
+        live: Label::Dropped,
+        suspended: Label::Live,
+    };
+    let tags = [
+        Tag::KEEP,
+        Tag::SUSPEND,
+        Tag::RESTORE,
+        Tag::THIN,
+        Tag::DELETE,
+        swap,
+        drop,
+    ];
+    for tag in tags {
+        let tree = grown(alloc, &points, tag)?;
         let items = tree.flatten(alloc)?;
         for q in points.iter().step_by(17) {
             assert!(rt;

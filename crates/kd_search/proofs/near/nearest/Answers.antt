@@ -9,16 +9,15 @@ use Rattle.kd_tree.proofs.Held.{contents_rising}
 use Rattle.kd_search.specs.Nearest.{put_all}
 use Rattle.kd_search.proofs.Offered.{put_all-nil, in_order-by_number}
 use Rattle.kd_search.proofs.near.nearest.Goals as goal
-use Rattle.kd_search.proofs.near.nearest.Goals.{In_ok-add_under}
+use Rattle.kd_search.proofs.near.nearest.Goals.{In_ok-add_from}
 
-found : (c : In_ok-add_under) → c.add_under.new.hits ≡ nearest (contents c.args.tree.now) c.args.k c.args.q.now c.args.within
+found : (c : In_ok-add_from) → c.add_from.new.found.hits ≡ nearest (contents c.args.tree.now) c.args.k c.args.q.now c.args.within
 found c =
     let q = c.args.q.now in
     let r = c.args.within in
     let items = walk keep_tag c.args.tree.now in
-    c.in_ok-add_under.ensures.found
-    ∙ ap (λ m. take c.args.k (put_all (candidates m q r) c.new-hits.result)) c.whole.ensures
-    ∙ ap (λ z. take c.args.k (put_all (candidates items q r) z)) c.new-hits.ensures
+    c.in_ok-add_from.ensures.found
+    ∙ ap (λ z. take c.args.k (put_all (candidates items q r) z)) c.new.ensures
     ∙ ap (take c.args.k) (put_all-nil (candidates items q r) ∙ sym (in_order-by_number q r items))
 
 pub returns-clause-found : goal.returns-clause-found

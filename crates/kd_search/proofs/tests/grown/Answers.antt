@@ -19,11 +19,11 @@ loop-point-preserved c =
       numbered = rw c.in_ok-push.ensures.items (more 0 c.loop-point.number c.loop-point.items.items i (omega arith) refl c.label_of.ensures c.loop-point.invariant.numbered);
     }
 
-pub build-requires-clause-kept : goal.build-requires-clause-kept
-build-requires-clause-kept c = rw c.deref.ensures.value (are_kept 0 c.loop-point.number c.loop-point.items.items c.loop-point.invariant.numbered)
+pub built-requires-clause-kept : goal.built-requires-clause-kept
+built-requires-clause-kept c = rw c.deref.ensures.value (are_kept 0 c.loop-point.number c.loop-point.items.items c.loop-point.invariant.numbered)
 
-pub build-requires-clause-distinct : goal.build-requires-clause-distinct
-build-requires-clause-distinct c = rw c.deref.ensures.value (are_distinct 0 c.loop-point.number c.loop-point.items.items c.loop-point.invariant.numbered)
+pub built-requires-clause-distinct : goal.built-requires-clause-distinct
+built-requires-clause-distinct c = rw c.deref.ensures.value (are_distinct 0 c.loop-point.number c.loop-point.items.items c.loop-point.invariant.numbered)
 
-pub build-requires-clause-few : goal.build-requires-clause-few
-build-requires-clause-few c = rw c.deref.ensures.value (omega (arith, c.requires, contents_length 0 c.loop-point.number c.loop-point.items.items (omega arith) c.loop-point.invariant.numbered))
+pub built-requires-clause-few : goal.built-requires-clause-few
+built-requires-clause-few c = rw c.deref.ensures.value (omega (arith, c.requires, contents_length 0 c.loop-point.number c.loop-point.items.items (omega arith) c.loop-point.invariant.numbered))

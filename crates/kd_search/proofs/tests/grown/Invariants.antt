@@ -7,3 +7,6 @@ invariant-loop-point l = record {
   counted : l.number ≡ l.point-index;
   numbered : AreContents 0 l.number l.items.items;
 }
+
+abbrev pub ghosts-built : goal.ghosts-built
+ghosts-built a = record { name = a.blank.name; parts = a.blank.parts }

@@ -1,10 +1,16 @@
-use Rattle.std.proofs.Common.{[], ◌∷◌}
-use Rattle.std.proofs.lemmas.Result.{on_ok_weaker}
-use Rattle.map_fold.specs.declared.hits.Hit.{Hit}
-use Rattle.kd_search.proofs.Shortlist.{held_more}
+use Rattle.std.proofs.Common.{[], ◌∷◌, ◌≤◌, arith}
+use Rattle.std.proofs.lemmas.List.Elements.{All-cons, All-nil}
+use Rattle.point_geom.specs.Distances.{dist2}
+use Rattle.map_fold.specs.declared.item.Item.{Item}
+use Rattle.kd_search.specs.Points.{AreAway}
+use Rattle.kd_search.proofs.Bounds.{left_out}
 use Rattle.kd_search.proofs.near.Query.add.Goals as goal
 
-pub returns-clause-held : goal.returns-clause-held
-returns-clause-held c =
-    let hit : Hit = record { number = c.args.item.now.number; point = c.args.item.now.point; dist2 = c.dist2-gap.result } in
-    on_ok_weaker c.put.result (held_more c.args.self.now.k (hit ∷ []) c.args.hits.now c.put.new.self c.requires) c.put.ensures.ok
+pub returns-then-found-gap-clause-found : goal.returns-then-found-gap-clause-found
+returns-then-found-gap-clause-found c =
+    let query = c.args.self.now in
+    let item = c.args.item.now in
+    let gap = c.dist2-gap.result in
+    let Far = λ (i : Item). gap ≤ dist2 query.point i.point in
+    let away : AreAway gap query.point (item ∷ []) = All-cons Far item [] (omega (arith, c.dist2-gap.ensures.value)) (All-nil Far) in
+    left_out query.k query.point query.within c.args.found.now.hits c.args.found.now.bound gap (item ∷ []) c.requires c.if-found-gap.true (omega (arith, c.dist2-gap.ensures.bound)) away

@@ -4,11 +4,11 @@ use Rattle.node_labels.specs.Tallies.{applied}
 use Rattle.node_labels.specs.declared.counts.Counts.{Counts}
 use Rattle.kd_tree.proofs.Actions.{tally-composed}
 use Rattle.kd_tree.proofs.Held.{walk_live}
-use Rattle.kd_search.proofs.part.Part.live.Goals as goal
+use Rattle.kd_search.proofs.part.live.Goals as goal
 
 pub returns : goal.returns
 returns c =
-    let owed = c.args.self.now.owed in
-    let tree = c.args.self.now.tree.now in
+    let owed = c.args.owed in
+    let tree = c.args.tree.now in
     let live : Counts → _ = λ x. x.live in
     ap live (c.apply.ensures.value ∙ ap (applied owed) c.counts.ensures.value ∙ sym (tally-composed keep_tag owed tree)) ∙ sym (walk_live owed tree)

@@ -1,5 +1,0 @@
-use Rattle.kd_search.specs.Part.{nodes_of}
-use Rattle.kd_search.proofs.near.+add_under.Given as goal
-
-abbrev pub decreases-add_under : goal.decreases-add_under
-decreases-add_under l = nodes_of l.part.now

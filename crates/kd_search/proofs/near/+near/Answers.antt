@@ -1,0 +1,53 @@
+use Rattle.std.proofs.Common.{◌≤◌, [], ◌∷◌, Some, refl, sym, ap, subst, arith}
+use Rattle.std.proofs.lemmas.Result.{on_ok_weaker}
+use Rattle.std.proofs.lemmas.List.Elements.{All-cons, All-nil}
+use Rattle.point_geom.specs.Distances.{dist2}
+use Rattle.map_fold.specs.declared.item.Item.{Item}
+use Rattle.map_fold.specs.Contents.{relabelled}
+use Rattle.node_labels.specs.declared.label.Label.{Label}
+use Rattle.kd_tree.specs.Walk.{walk}
+use Rattle.kd_search.specs.Points.{AreAway}
+use Rattle.kd_search.proofs.Walks.{walk_in_extent}
+use Rattle.kd_search.proofs.Tops.{split}
+use Rattle.kd_search.proofs.Offered.{near_first}
+use Rattle.kd_search.proofs.Bounds.{in_away, left_out}
+use Rattle.kd_search.proofs.near.+near.Goals as goal
+
+pub add_from-returns-then-found-dist2-clause-found : goal.add_from-returns-then-found-dist2-clause-found
+add_from-returns-then-found-dist2-clause-found t c =
+    let query = c.args.query.now in
+    let items = walk c.args.owed c.args.tree.now in
+    let away = in_away c.in-Some.extent query.point items (walk_in_extent (Some c.in-Some.extent) c.args.owed c.args.tree.now c.in-Some.ensures.value) in
+    left_out query.k query.point query.within c.args.found.now.hits c.args.found.now.bound c.dist2.result items c.requires c.if-found-dist2.true (omega arith) (subst (λ d. AreAway d query.point items) (sym c.dist2.ensures.value) away)
+
+pub add_under-returns-then-found-sides-clause-found : goal.add_under-returns-then-found-sides-clause-found
+add_under-returns-then-found-sides-clause-found t c =
+    let query = c.args.query.now in
+    let owed = c.args.owed in
+    let top = c.in-Some.top in
+    let sides = c.of-sides.result in
+    let below = c.then-below.result in
+    let item = relabelled owed top.item in
+    let is = split c.args.tree.now owed top query.point sides item below c.in-Some.ensures.some c.size-size.ensures.sound c.of-sides.ensures refl c.then-below.ensures.value in
+    let found = c.add_from.new.found in
+    let bound = c.in_ok-add_from.ensures.bound in
+    let Far = λ (i : Item). sides.gap ≤ dist2 query.point i.point in
+    let own : AreAway sides.gap query.point (item ∷ []) = All-cons Far item [] is.item (All-nil Far) in
+    near_first query.k query.point query.within item (walk below sides.near.now) (walk below sides.far.now) is.sons (walk owed c.args.tree.now) c.args.found.now.hits found.hits found.hits found.hits
+    is.items is.turned c.in_ok-add_from.ensures.found
+    (left_out query.k query.point query.within found.hits found.bound sides.gap (item ∷ []) bound c.if-found-sides.true (omega arith) own)
+    (left_out query.k query.point query.within found.hits found.bound sides.gap (walk below sides.far.now) bound c.if-found-sides.true (omega arith) is.far)
+
+pub add_under-returns-clause-found : goal.add_under-returns-clause-found
+add_under-returns-clause-found t c =
+    let query = c.args.query.now in
+    let owed = c.args.owed in
+    let top = c.in-Some.top in
+    let sides = c.of-sides.result in
+    let below = c.then-below.result in
+    let item : Item = record top.item { label = c.apply.result } in
+    let is = split c.args.tree.now owed top query.point sides item below c.in-Some.ensures.some c.size-size.ensures.sound c.of-sides.ensures (ap (λ (x : Label). record top.item { label = x }) c.apply.ensures) c.then-below.ensures.value in
+    on_ok_weaker c.add_from-2.result
+    (near_first query.k query.point query.within item (walk below sides.near.now) (walk below sides.far.now) is.sons (walk owed c.args.tree.now) c.args.found.now.hits _ _ _
+    is.items is.turned c.in_ok-add_from.ensures.found c.in_ok-add.ensures.found)
+    c.add_from-2.ensures.found
