@@ -26,13 +26,14 @@ use Rattle.kd_tree.proofs.Contents.{parts_alike, mark-append, by_number-mark, re
 use Rattle.kd_update.specs.Mark.{box_of, marked_under, marked_shape, is_entered, IsVisitCalm}
 use Rattle.kd_update.specs.Refresh.{IsSpared}
 use Rattle.kd_update.specs.Update.{IsEven, IsUpdated}
-use Rattle.kd_update.proofs.Trees.{forked, some_fork, all_left, left_all, walk-tagged_keep}
+use Rattle.kd_tree.proofs.Left.{all_left, left_all}
+use Rattle.kd_update.proofs.Trees.{forked, some_fork, walk-tagged_keep}
 use Rattle.kd_update.proofs.Lists.{marked-point, marked-number, own-marked, mark_agree, mark_none, mark_points, mark_counts}
 use Rattle.kd_update.proofs.Refresh.{head}
 use Rattle.kd_update.proofs.Update.{even_sons, even_tagged, updated_plain}
 
 -- an action in a box after one on all
-marked-tagged : (c : Bounds) (a p : Tag) (t : Shape) → marked_under c a keep_tag (tagged p t) ≡ marked_under c a p t
+pub marked-tagged : (c : Bounds) (a p : Tag) (t : Shape) → marked_under c a keep_tag (tagged p t) ≡ marked_under c a p t
 unfolding marked_under
 marked-tagged c a p leaf = refl
 marked-tagged c a p (fork h l r) =
@@ -41,7 +42,7 @@ marked-tagged c a p (fork h l r) =
     ∙ ap (λ i. F (tagged p (fork h l r)) i (composed (composed h.pending p) keep_tag)) (relabelled-keep (relabelled p h.item))
     ∙ ap (λ q. F (tagged p (fork h l r)) (relabelled p h.item) q) (composed-keep_right (composed h.pending p))
 
-nodes-marked : (c : Bounds) (a p : Tag) (t : Shape) → nodes (marked_under c a p t) ≡ nodes t
+pub nodes-marked : (c : Bounds) (a p : Tag) (t : Shape) → nodes (marked_under c a p t) ≡ nodes t
 unfolding marked_under
 nodes-marked c a p leaf = refl
 nodes-marked c a p (fork h l r) =
@@ -204,19 +205,19 @@ entered_all c a (fork h l r) f e x m k s p =
     let g = some_fork f (forked h l r) p in
     subst (IsEntered c a (fork h l r)) (sym g) (entered_fork c a h l r (rw b at m) (rw b at k) s.0)
 
-marked_none : (c : Bounds) (a : Tag) (s : Shape) → ◌≡◌ {A = Option Span} None (extent s) → s ≡ marked_shape c a s
+pub marked_none : (c : Bounds) (a : Tag) (s : Shape) → ◌≡◌ {A = Option Span} None (extent s) → s ≡ marked_shape c a s
 unfolding marked_under
 marked_none c a leaf x = refl
 marked_none c a (fork h l r) x = absurd (cc)
 
-marked_missed : (c : Bounds) (a : Tag) (s : Shape) (e : Span) → Some e ≡ extent s → meets c e ≡ false → s ≡ marked_shape c a s
+pub marked_missed : (c : Bounds) (a : Tag) (s : Shape) (e : Span) → Some e ≡ extent s → meets c e ≡ false → s ≡ marked_shape c a s
 unfolding marked_under
 marked_missed c a leaf e x m = refl
 marked_missed c a (fork h l r) e x m =
     let b = some_box e (box_of h l r) x in
     sym (cond-false (meets c (box_of h l r)) _ _ (rw b at m) ∙ tagged-keep (fork h l r))
 
-marked_covered : (c : Bounds) (a : Tag) (s : Shape) (e : Span) → Some e ≡ extent s → meets c e ≡ true → covers c e ≡ true → tagged a s ≡ marked_shape c a s
+pub marked_covered : (c : Bounds) (a : Tag) (s : Shape) (e : Span) → Some e ≡ extent s → meets c e ≡ true → covers c e ≡ true → tagged a s ≡ marked_shape c a s
 unfolding marked_under
 marked_covered c a leaf e x m k = refl
 marked_covered c a (fork h l r) e x m k =

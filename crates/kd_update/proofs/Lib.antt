@@ -1,8 +1,17 @@
+pub mod AfterOps
 pub mod Calm
 pub mod InBox
+pub mod Large
 pub mod Lists
+pub mod Logged
+pub mod Made
+pub mod ManyLogs
 pub mod Numbers
 pub mod Refresh
 pub mod Route
+pub mod Several
+pub mod StandsFor
 pub mod Trees
 pub mod Update
+pub mod Watched
+pub mod WayLists

@@ -1,7 +1,7 @@
 -- A tree with one more point, without rebuilding.
 use Rattle.std.proofs.Common.{◌≡◌, ℕ, ℤ, ◌+◌, ◌≤◌, ◌≤ℤ◌, max, true, false, cond, refl, ap, ◌∙◌, sym, arith, subst, Option, Some, None, List, [], ◌∷◌, ◌++◌, inl, inr}
-use Rattle.std.specs.Prelude.{count_by, int_lt, nat_lt, IsPermutation, ◌==◌}
-use Rattle.std.proofs.lemmas.Bool.{cond_both, cond-true, cond-false, eq-eqb}
+use Rattle.std.specs.Prelude.{count_by, int_lt, IsPermutation, ◌==◌}
+use Rattle.std.proofs.lemmas.Bool.{cond_both, cond-true, cond-false}
 use Rattle.std.proofs.lemmas.Bool.Decides.{nat_tests}
 use Rattle.std.proofs.lemmas.Int.{ints}
 use Rattle.std.proofs.lemmas.List.Elements.{All-cons, Contains-append_left, Contains-append_right, Contains-append_cases}
@@ -18,7 +18,7 @@ use Rattle.map_fold.specs.Contents.{live_at, put, relabelled, kept}
 use Rattle.kd_tree.specs.Shape.{Head, Shape, leaf, fork, nodes, levels, numbers}
 use Rattle.kd_tree.specs.Walk.{walk, tagged, AllLeft, times}
 use Rattle.kd_tree.specs.Sound.{IsSound, IsSoundFork}
-use Rattle.kd_tree.specs.Contents.{contents, insert_item}
+use Rattle.kd_tree.specs.Contents.{contents}
 use Rattle.kd_tree.specs.Parts.{pushed}
 use Rattle.kd_tree.specs.declared.change.Fork.{Fork}
 use Rattle.kd_tree.proofs.Actions.{tagged_nodes, tagged_levels, tagged_numbers, times-tagged, pushed_sound}
@@ -27,12 +27,13 @@ use Rattle.kd_tree.proofs.Contents.{relabelled-keep, times_walk, once_walk, part
 use Rattle.kd_update.specs.Refresh.{AreAmong, IsSpared, RefreshesIfDue}
 use Rattle.kd_update.specs.Update.{IsEven, IsUpdated}
 use Rattle.kd_update.specs.Put.{goes_left, leaf_of, put_under, put_from, IsRouteCalm}
-use Rattle.kd_update.proofs.Trees.{forked, some_fork, all_left, left_all, walk-tagged_keep, among_same}
+use Rattle.kd_tree.proofs.Left.{all_left, left_all}
+use Rattle.kd_update.proofs.Trees.{forked, some_fork, walk-tagged_keep, among_same}
 use Rattle.kd_update.proofs.Refresh.{head}
 use Rattle.kd_update.proofs.Update.{even_sons, updated_plain, updated_fork}
 
 -- a put after an action on all
-put-tagged : (n : ℕ) (p : Place) (axis : Axis) (a : Tag) (t : Shape) → put_under n p axis keep_tag (tagged a t) ≡ put_under n p axis a t
+pub put-tagged : (n : ℕ) (p : Place) (axis : Axis) (a : Tag) (t : Shape) → put_under n p axis keep_tag (tagged a t) ≡ put_under n p axis a t
 unfolding put_under
 put-tagged n p axis a leaf = refl
 put-tagged n p axis a (fork h l r) =
@@ -42,7 +43,7 @@ put-tagged n p axis a (fork h l r) =
     ap (λ i. F i (composed (composed h.pending a) keep_tag)) (relabelled-keep (relabelled a h.item))
     ∙ ap (F (relabelled a h.item)) (composed-keep_right (composed h.pending a))
 
-nodes-put : (n : ℕ) (p : Place) (axis : Axis) (a : Tag) (t : Shape) → nodes (put_under n p axis a t) ≡ nodes t + 1
+pub nodes-put : (n : ℕ) (p : Place) (axis : Axis) (a : Tag) (t : Shape) → nodes (put_under n p axis a t) ≡ nodes t + 1
 unfolding put_under
 nodes-put n p axis a leaf = refl
 nodes-put n p axis a (fork h l r) =
@@ -196,7 +197,7 @@ value_right n p axis h l r e =
     (ap (λ t. tagged t l) (sym q)) (put-tagged n p (next_axis h.axis) h.pending r ∙ ap (λ t. put_under n p (next_axis h.axis) t r) (sym q))
     ∙ sym (cond-false (goes_left h.axis p h.item.point) _ _ e)
 
-new_sons : (n : ℕ) (h : Head) (l r : Shape) → times n keep_tag (fork h l r) ≡ 0 → (times n keep_tag (tagged h.pending l) ≡ 0) × (times n keep_tag (tagged h.pending r) ≡ 0)
+pub new_sons : (n : ℕ) (h : Head) (l r : Shape) → times n keep_tag (fork h l r) ≡ 0 → (times n keep_tag (tagged h.pending l) ≡ 0) × (times n keep_tag (tagged h.pending r) ≡ 0)
 new_sons n h l r k = (omega (arith, k, times-tagged n h.pending keep_tag l), omega (arith, k, times-tagged n h.pending keep_tag r))
 
 free_sons : (n : ℕ) (h : Head) (l r : Shape) → IsFree n (fork h l r) → IsFree n (tagged h.pending l) × IsFree n (tagged h.pending r)

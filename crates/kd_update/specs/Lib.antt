@@ -2,3 +2,9 @@ pub mod Refresh
 pub mod Update
 pub mod Mark
 pub mod Put
+pub mod Made
+pub mod Watch
+pub mod Several
+pub mod Watches
+pub mod Ways
+pub mod Replace

@@ -9,6 +9,10 @@ abbrev pub IsEven : ℕ → Shape → Type 0
 IsEven large leaf = Unit {0}
 IsEven large (fork h l r) = (10 ≤ nodes l + nodes r + 1 → nodes l + nodes r + 1 < large → IsBalanced l r) × IsEven large l × IsEven large r
 
+-- where the first tree is even, so is the second, from whatever number of nodes on a subtree is large
+abbrev pub KeepsEven : Shape → Shape → Type 0
+KeepsEven s t = (large : ℕ) → IsEven large s → IsEven large t
+
 -- The new tree is the plain result with some subtrees built anew: none where the fact holds, and enough to stay even.
 pub record IsUpdated (large : ℕ) (old plain : Shape) (Calm : Type 0) (new : Shape) : Type 0 where
   pub refresh : IsRefresh plain new

@@ -1,19 +1,21 @@
 //! Points put into a tree. A new node is a leaf: no node is moved to make room for it.
-ghost use Rattle.std.specs.Prelude.{◌≡◌, ◌<◌, ◌≤◌, ◌∷◌, IfOk};
+ghost use Rattle.std.specs.Prelude.{◌≡◌, ◌+◌, ◌*◌, ◌<◌, ◌≤◌, ◌∷◌, IfOk};
 ghost use Rattle.node_labels.specs.Labels.{keep_tag};
 ghost use Rattle.map_fold.specs.Contents.{live_at, put};
 ghost use Rattle.kd_tree.specs.Shape.{levels, nodes, numbers};
 ghost use Rattle.kd_tree.specs.Walk.{times};
 ghost use Rattle.kd_tree.specs.Contents.{contents};
-ghost use Rattle.kd_update.specs.Refresh.{AreAmong};
+ghost use Rattle.kd_update.specs.Refresh.{AreAmong, IsRefresh};
 ghost use Rattle.kd_update.specs.Update.{IsEven, IsUpdated};
+ghost use Rattle.kd_update.specs.Made.{entered_put};
 ghost use Rattle.kd_update.specs.Put.{IsRouteCalm, goes_left, leaf_of, put_from, put_shape};
 
 use crate::rebuild::rejoined;
-use kd_tree::{Fork, Tree};
+use kd_tree::{Fork, Steps, Tree};
 use map_fold::{Item, Label, NoMemory};
 use point_geom::{Axis, Point};
 use std::alloc::Global;
+use std::sync::ledger::Ledger;
 
 /// The tree with this point under this number, live.
 ///
@@ -21,12 +23,13 @@ use std::alloc::Global;
 /// axis is the next one after its father's, and X in the empty tree. On the way out each node of the route that has from 10
 /// nodes on, and fewer than `large`, is built anew where it breaches a criterion. Only nodes on the route and their sons
 /// are made. Where memory is wanting, the tree is let go.
-pub fn put(
-    tree: Tree,
+pub fn put<L: Ledger>(
     alloc: Global,
+    tree: Tree,
     large: u32,
     number: u32,
     point: Point,
+    steps: &mut Steps<L>,
 ) -> Result<Tree, NoMemory>
     requires low { levels tree < 512 }
     requires few { nodes tree < 4194304 }
@@ -34,9 +37,14 @@ pub fn put(
     ensures contents { IfOk result (λ t. contents t ≡ put (contents tree) number point) }
     ensures numbers { IfOk result (λ t. AreAmong (numbers t) (number ∷ numbers tree)) }
     ensures balance { IsEven large tree → IfOk result (λ t. IsEven large t) }
+    // The unrebuilt result, with some subtrees built anew.
+    ensures refresh { IfOk result (λ t. IsRefresh (put_shape number point tree) t) }
     // Where no node of the route is to be built anew, none is.
     ensures unrebuilt { IsRouteCalm large point (put_shape number point tree)
         → IfOk result (λ t. t ≡ put_shape number point tree) }
+    // Then at most so many nodes are made, whatever the call answers.
+    ensures ticks { IsRouteCalm large point (put_shape number point tree)
+        → steps.new ≤ steps.old + 5 * entered_put point tree + 1 }
 {
     let _size = tree.size();
     let item = Item {
@@ -44,27 +52,30 @@ pub fn put(
         point,
         label: Label::Live,
     };
-    put_below(tree, alloc, large, item, Axis::X)
+    put_below(alloc, tree, large, item, Axis::X, steps)
 }
 
 // The same, by shape. The axis is that of the new leaf, should the tree be empty.
-fn put_below(
-    tree: Tree,
+pub(crate) fn put_below<L: Ledger>(
     alloc: Global,
+    tree: Tree,
     large: u32,
     item: Item,
     axis: Axis,
+    steps: &mut Steps<L>,
 ) -> Result<Tree, NoMemory>
     requires live { item ≡ live_at item.number item.point }
     requires low { levels tree ≤ 511 }
     requires few { nodes tree ≤ 4194303 }
     requires new { times item.number keep_tag tree ≡ 0 }
-    ensures { let plain = put_from item.number item.point axis tree in
+    ensures updated { let plain = put_from item.number item.point axis tree in
         IfOk result (λ t. IsUpdated large tree plain (IsRouteCalm large item.point plain) t) }
+    ensures ticks { IsRouteCalm large item.point (put_from item.number item.point axis tree)
+        → steps.new ≤ steps.old + (3 * entered_put item.point tree + 1) }
 {
     let _size = tree.size();
-    let Some(fork) = tree.push_down(alloc)? else {
-        return leaf(alloc, item, axis);
+    let Some(fork) = tree.push_down(alloc, steps)? else {
+        return leaf(alloc, item, axis, steps);
     };
     let Fork {
         item: own,
@@ -73,28 +84,34 @@ fn put_below(
         right,
     } = fork;
     if goes_left(&item.point, axis, &own.point) {
-        let left = put_below(left, alloc, large, item, axis.next())?;
+        let left = put_below(alloc, left, large, item, axis.next(), steps)?;
         let fork = Fork {
             item: own,
             axis,
             left,
             right,
         };
-        rejoined(fork, alloc, large)
+        rejoined(alloc, fork, large, steps)
     } else {
-        let right = put_below(right, alloc, large, item, axis.next())?;
+        let right = put_below(alloc, right, large, item, axis.next(), steps)?;
         let fork = Fork {
             item: own,
             axis,
             left,
             right,
         };
-        rejoined(fork, alloc, large)
+        rejoined(alloc, fork, large, steps)
     }
 }
 
-fn leaf(alloc: Global, item: Item, axis: Axis) -> Result<Tree, NoMemory>
-    ensures { IfOk result (λ t. t ≡ leaf_of item axis) }
+pub(crate) fn leaf<L: Ledger>(
+    alloc: Global,
+    item: Item,
+    axis: Axis,
+    steps: &mut Steps<L>,
+) -> Result<Tree, NoMemory>
+    ensures shape { IfOk result (λ t. t ≡ leaf_of item axis) }
+    ensures ticks { steps.new ≤ steps.old + 1 }
 {
     let fork = Fork {
         item,
@@ -102,11 +119,11 @@ fn leaf(alloc: Global, item: Item, axis: Axis) -> Result<Tree, NoMemory>
         left: Tree::empty(),
         right: Tree::empty(),
     };
-    Tree::pull_up(alloc, fork)
+    Tree::pull_up(alloc, fork, steps)
 }
 
 // Whether the point belongs to the left of a node at the other point, with this axis.
-fn goes_left(point: &Point, axis: Axis, other: &Point) -> bool
+pub(crate) fn goes_left(point: &Point, axis: Axis, other: &Point) -> bool
     ensures { result ≡ goes_left axis point.now other.now }
 {
     point.on(axis) < other.on(axis)

@@ -1,13 +1,38 @@
 //! Changes of a k-d tree: points put in, actions done in boxes, and subtrees built anew where they have lost their balance.
+//! While such a subtree is built anew elsewhere, it is watched here: what it meets is logged.
 #![tactic(auto)]
 
 mod insert;
+mod insert_watched;
+mod log_mark;
+mod log_put;
 mod mark;
+mod mark_clear;
+mod mark_watched;
+mod put_clear;
 mod rebuild;
+mod replace;
+mod replacement;
+mod replay;
+mod room;
+#[cfg(test)]
+mod script;
 mod settle;
 #[cfg(test)]
 mod tests;
+mod watch;
+mod watches;
+mod ways;
 
 pub use insert::put;
+pub use insert_watched::put_watched;
 pub use mark::marked;
+pub use mark_watched::marked_watched;
+pub use rebuild::rebuilt;
+pub use replace::replaced;
+pub use replacement::Replaced;
+pub use replay::replayed;
+pub use room::roomy;
 pub use settle::settled;
+pub use watch::Watch;
+pub use watches::Watches;

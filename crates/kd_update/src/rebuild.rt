@@ -1,46 +1,97 @@
 //! Building anew, by medians. Only `rebuilt` builds, and nothing here knows why a tree was changed.
-ghost use Rattle.std.specs.Prelude.{◌≡◌, IfOk};
+ghost use Rattle.std.specs.Prelude.{◌≡◌, ◌+◌, ◌≤◌, IfOk, length};
 ghost use Rattle.node_labels.specs.Labels.{keep_tag};
+ghost use Rattle.kd_tree.specs.Shape.{levels, nodes, numbers};
+ghost use Rattle.kd_tree.specs.Walk.{walk};
 ghost use Rattle.kd_tree.specs.Sound.{IsSoundFork};
+ghost use Rattle.kd_tree.specs.Contents.{contents};
 ghost use Rattle.kd_tree.specs.Criteria.{IsCalm};
 ghost use Rattle.kd_tree.specs.Parts.{joined};
-ghost use Rattle.kd_update.specs.Refresh.{IsRefresh, RefreshesIfDue};
+ghost use Rattle.kd_update.specs.Refresh.{AreAmong, IsRefresh, IsSpared, RefreshesIfDue};
 
-use kd_tree::{Fork, Tree};
-use map_fold::NoMemory;
+use kd_tree::{Fork, Steps, Tree};
+use map_fold::{Item, NoMemory};
 use std::alloc::Global;
+use std::sync::ledger::Ledger;
 
 /// A node of fewer nodes is never built anew for itself.
 pub(crate) const LEAST: u32 = 10;
 
-// The joined parts, built anew where they are to be.
-pub(crate) fn rejoined(fork: Fork, alloc: Global, large: u32) -> Result<Tree, NoMemory>
-    requires { IsSoundFork (record { item = fork.item; axis = fork.axis; pending = keep_tag })
-        fork.left fork.right }
-    ensures { IfOk result (λ t. RefreshesIfDue large (joined fork) t) }
+/// No node has fewer than so many nodes: with this for `large`, none is built anew.
+pub(crate) const NEVER: u32 = 0;
+
+/// What is left in the tree, built anew by medians. n nodes take time in the order of n log n. The old nodes are let go
+/// before the new ones are made, so that beside these only one list of the items is needed. Where memory is wanting, the
+/// tree is let go.
+pub fn rebuilt<L: Ledger>(alloc: Global, tree: Tree, steps: &mut Steps<L>) -> Result<Tree, NoMemory>
+    ensures contents { IfOk result (λ t. contents t ≡ contents tree) }
+    ensures numbers { IfOk result (λ t. AreAmong (numbers t) (numbers tree)) }
+    ensures refresh { IfOk result (λ t. IsRefresh tree t) }
+    ensures calm { IfOk result (λ t. IsCalm 10 t) }
+    ensures nodes { IfOk result (λ t. nodes t ≡ length (contents tree)) }
+    ensures levels { IfOk result (λ t. levels t ≤ 23) }
+    // A node for each item, whatever the call answers.
+    ensures ticks { steps.new ≤ steps.old + length (contents tree) }
 {
-    let tree = Tree::pull_up(alloc, fork)?;
-    refreshed(tree, alloc, large)
+    let _size = tree.size();
+    let items = what_is_left(alloc, tree)?;
+    Tree::build_from(alloc, items, steps)
 }
 
-// The tree, built anew where it has from 10 nodes on, and fewer than `large`, and its top breaches a criterion. Its old
-// nodes are let go when the new ones stand.
-fn refreshed(tree: Tree, alloc: Global, large: u32) -> Result<Tree, NoMemory>
-    ensures { IfOk result (λ t. RefreshesIfDue large tree t) }
+// The items that are left, node first. The tree is let go.
+fn what_is_left(alloc: Global, tree: Tree) -> Result<Vec<Item>, NoMemory>
+    ensures { IfOk result (λ v. v.items ≡ walk keep_tag tree) }
+{
+    let _size = tree.size();
+    let counts = tree.counts();
+    let mut items = Vec::with_capacity(alloc, (counts.live + counts.suspended) as usize)?;
+    tree.gather(&mut items)?;
+    Ok(items)
+}
+
+// The joined parts, built anew where they are to be.
+pub(crate) fn rejoined<L: Ledger>(
+    alloc: Global,
+    fork: Fork,
+    large: u32,
+    steps: &mut Steps<L>,
+) -> Result<Tree, NoMemory>
+    requires { IsSoundFork (record { item = fork.item; axis = fork.axis; pending = keep_tag })
+        fork.left fork.right }
+    ensures due { IfOk result (λ t. RefreshesIfDue large (joined fork) t) }
+    ensures ticks { IsSpared large (joined fork) → steps.new ≤ steps.old + 1 }
+{
+    let tree = joined(alloc, fork, steps)?;
+    refreshed(alloc, tree, large, steps)
+}
+
+// The joined parts as they are.
+pub(crate) fn joined<L: Ledger>(
+    alloc: Global,
+    fork: Fork,
+    steps: &mut Steps<L>,
+) -> Result<Tree, NoMemory>
+    requires { IsSoundFork (record { item = fork.item; axis = fork.axis; pending = keep_tag })
+        fork.left fork.right }
+    ensures shape { IfOk result (λ t. t ≡ joined fork) }
+    ensures ticks { steps.new ≤ steps.old + 1 }
+{
+    Tree::pull_up(alloc, fork, steps)
+}
+
+// The tree, built anew where it has from 10 nodes on, and fewer than `large`, and its top breaches a criterion.
+pub(crate) fn refreshed<L: Ledger>(
+    alloc: Global,
+    tree: Tree,
+    large: u32,
+    steps: &mut Steps<L>,
+) -> Result<Tree, NoMemory>
+    ensures due { IfOk result (λ t. RefreshesIfDue large tree t) }
+    ensures still { IsSpared large tree → steps.new ≡ steps.old }
 {
     let size = tree.size();
     if size < LEAST || large <= size || !tree.is_breached() {
         return Ok(tree);
     }
-    rebuilt(&tree, alloc)
-}
-
-// What is left in the tree, built by medians.
-pub(crate) fn rebuilt(tree: &Tree, alloc: Global) -> Result<Tree, NoMemory>
-    ensures refresh { IfOk result (λ t. IsRefresh tree.now t) }
-    ensures calm { IfOk result (λ t. IsCalm 10 t) }
-{
-    let _size = tree.size();
-    let items = tree.flatten(alloc)?;
-    Tree::build(alloc, items.as_slice())
+    rebuilt(alloc, tree, steps)
 }

@@ -1,0 +1,210 @@
+-- What is logged of an update: how much it is, and how it is read from a tree that owes an action, before the update is done.
+use Rattle.std.proofs.Common.{◌≡◌, ℕ, ◌+◌, ◌≤◌, Bool, true, false, ◌&&◌, cond, refl, ap, ◌∙◌, sym, subst, arith, List, [], ◌∷◌, ◌++◌, length, length-append, append_assoc, Option, Some, None}
+use Rattle.std.specs.Prelude.{All}
+use Rattle.std.proofs.lemmas.List.Elements.{All-cons, All-nil}
+use Rattle.std.proofs.lemmas.Bool.{cond_both, cond-true, cond-false}
+use Rattle.point_geom.specs.Place.{Place, Bounds, Span}
+use Rattle.point_geom.specs.Extents.{covers, meets}
+use Rattle.node_labels.specs.Labels.{composed}
+use Rattle.node_labels.specs.declared.tag.Tag.{Tag}
+use Rattle.map_fold.specs.declared.op.Op.{Op}
+use Rattle.map_fold.specs.declared.op.Op.TheVariants.{Mark, Put}
+use Rattle.map_fold.specs.Ops.{numbers_put}
+use Rattle.kd_tree.specs.Shape.{Head, Shape, leaf, fork}
+use Rattle.kd_tree.specs.Walk.{extent, tagged}
+use Rattle.kd_tree.specs.declared.path.Side.{Side}
+use Rattle.kd_update.specs.Mark.{box_of, is_entered}
+use Rattle.kd_update.specs.Put.{goes_left}
+use Rattle.kd_update.specs.Watch.{is_keep, handed, goes_to, is_met, logged_mark, logged_put, son}
+
+-- at most two operations are logged
+
+handed_few : (path : List Side) (q : Tag) (ops : List Op) → length ops ≤ 1 → length (handed path q ++ ops) ≤ 2
+handed_few [] q ops k = cond_both (is_keep q) [] (Mark None q ∷ []) (λ os. length (os ++ ops) ≤ 2) (λ _. omega (arith, k)) (λ _. omega (arith, k))
+handed_few (side ∷ path) q ops k = omega (arith, k)
+
+handed_few_on : (path : List Side) (q : Tag) (ops : List Op) → length ops ≤ 2 → (path ≡ [] → length ops ≤ 1) → length (handed path q ++ ops) ≤ 2
+handed_few_on [] q ops k f = handed_few [] q ops (f refl)
+handed_few_on (side ∷ path) q ops k f = k
+
+mark_root_few : (c : Bounds) (a : Tag) (t : Shape) → length (logged_mark c a [] t) ≤ 1
+unfolding logged_mark
+mark_root_few c a t = cond_both (is_met c t) (Mark (Some c) a ∷ []) [] (λ os. length os ≤ 1) (λ _. omega arith) (λ _. omega arith)
+
+mark_root_at : (c : Bounds) (a : Tag) (path : List Side) (t : Shape) → path ≡ [] → length (logged_mark c a path t) ≤ 1
+mark_root_at c a path t e = subst (λ p. length (logged_mark c a p t) ≤ 1) (sym e) (mark_root_few c a t)
+
+pub logged_mark_few : (c : Bounds) (a : Tag) (path : List Side) (t : Shape) → length (logged_mark c a path t) ≤ 2
+unfolding logged_mark
+logged_mark_few c a [] t = let few = mark_root_few c a t in omega arith
+logged_mark_few c a (side ∷ path) leaf = omega arith
+logged_mark_few c a (side ∷ path) (fork h l r) =
+    cond_both (is_entered c (box_of h l r)) (handed path h.pending ++ logged_mark c a path (tagged h.pending (son side l r))) [] (λ os. length os ≤ 2)
+    (λ _. handed_few_on path h.pending _ (logged_mark_few c a path (tagged h.pending (son side l r))) (mark_root_at c a path (tagged h.pending (son side l r))))
+    (λ _. omega arith)
+
+put_root_at : (n : ℕ) (p : Place) (path : List Side) (t : Shape) → path ≡ [] → length (logged_put n p path t) ≤ 1
+unfolding logged_put
+put_root_at n p path t e = subst (λ q. length (logged_put n p q t) ≤ 1) (sym e) (omega arith)
+
+pub logged_put_few : (n : ℕ) (p : Place) (path : List Side) (t : Shape) → length (logged_put n p path t) ≤ 2
+unfolding logged_put
+logged_put_few n p [] t = omega arith
+logged_put_few n p (side ∷ path) leaf = omega arith
+logged_put_few n p (side ∷ path) (fork h l r) =
+    cond_both (goes_to side (goes_left h.axis p h.item.point)) (logged_put n p path (tagged h.pending (son side l r))) [] (λ os. length (handed path h.pending ++ os) ≤ 2)
+    (λ _. handed_few_on path h.pending _ (logged_put_few n p path (tagged h.pending (son side l r))) (put_root_at n p path (tagged h.pending (son side l r))))
+    (λ _. handed_few_on path h.pending [] (omega arith) (λ _. omega arith))
+
+-- no number is put by what is handed down, or by a mark
+
+handed_puts : (path : List Side) (q : Tag) (ops : List Op) → numbers_put (handed path q ++ ops) ≡ numbers_put ops
+handed_puts [] q ops = cond_both (is_keep q) [] (Mark None q ∷ []) (λ os. numbers_put (os ++ ops) ≡ numbers_put ops) (λ _. refl) (λ _. refl)
+handed_puts (side ∷ path) q ops = refl
+
+pub mark_puts : (c : Bounds) (a : Tag) (path : List Side) (t : Shape) → numbers_put (logged_mark c a path t) ≡ []
+unfolding logged_mark
+mark_puts c a [] t = cond_both (is_met c t) (Mark (Some c) a ∷ []) [] (λ os. numbers_put os ≡ []) (λ _. refl) (λ _. refl)
+mark_puts c a (side ∷ path) leaf = refl
+mark_puts c a (side ∷ path) (fork h l r) =
+    cond_both (is_entered c (box_of h l r)) (handed path h.pending ++ logged_mark c a path (tagged h.pending (son side l r))) [] (λ os. numbers_put os ≡ [])
+    (λ _. handed_puts path h.pending (logged_mark c a path (tagged h.pending (son side l r))) ∙ mark_puts c a path (tagged h.pending (son side l r))) (λ _. refl)
+
+-- and a point puts its own number alone
+pub put_puts : (P : ℕ → Type 0) (n : ℕ) (p : Place) (path : List Side) (t : Shape) → P n → All P (numbers_put (logged_put n p path t))
+unfolding logged_put
+put_puts P n p [] t k = All-cons P n [] k (All-nil P)
+put_puts P n p (side ∷ path) leaf k = All-nil P
+put_puts P n p (side ∷ path) (fork h l r) k =
+    cond_both (goes_to side (goes_left h.axis p h.item.point)) (logged_put n p path (tagged h.pending (son side l r))) [] (λ os. All P (numbers_put (handed path h.pending ++ os)))
+    (λ _. subst (All P) (sym (handed_puts path h.pending (logged_put n p path (tagged h.pending (son side l r))))) (put_puts P n p path (tagged h.pending (son side l r)) k))
+    (λ _. subst (All P) (sym (handed_puts path h.pending [])) (All-nil P))
+
+-- lists in parts
+
+pub no_sides : (path : List Side) → ◌≡◌ {A = ℕ} (length path) 0 → path ≡ []
+no_sides [] e = refl
+no_sides (side ∷ path) e = absurd (omega (arith, e))
+
+-- the parts of the room
+pub room_first : (n : ℕ) (xs ys zs : List Op) → xs ≡ ys ++ zs → n + length xs ≤ 65536 → n + length ys ≤ 65536
+room_first n xs ys zs e k = omega (arith, k, ap length e, length-append ys zs)
+
+pub few_first : (a b : ℕ) (xs ys zs : List Op) → xs ≡ ys ++ zs → b ≤ a + length ys → b ≤ a + length xs
+few_first a b xs ys zs e k = omega (arith, k, ap length e, length-append ys zs)
+
+pub few_rest : (a b d : ℕ) (xs ys zs : List Op) → xs ≡ ys ++ zs → b ≤ a + length ys → d ≤ b + length zs → d ≤ a + length xs
+few_rest a b d xs ys zs e k f = omega (arith, k, f, ap length e, length-append ys zs)
+
+pub room_rest : (before after xs ys zs : List Op) → xs ≡ ys ++ zs → after ≡ before ++ ys → length before + length xs ≤ 65536 → length after + length zs ≤ 65536
+room_rest before after xs ys zs e f k = omega (arith, k, ap length e, length-append ys zs, ap length f, length-append before ys)
+
+pub logged_all : (before mid after xs ys zs : List Op) → xs ≡ ys ++ zs → mid ≡ before ++ ys → after ≡ mid ++ zs → after ≡ before ++ xs
+logged_all before mid after xs ys zs e f g = g ∙ ap (λ z. z ++ zs) f ∙ append_assoc before ys zs ∙ ap (λ z. before ++ z) (sym e)
+
+-- a mark, read from the tree
+
+some_box : (a b : Span) → ◌≡◌ {A = Option Span} (Some a) (Some b) → a ≡ b
+some_box a b e = cc
+
+-- nothing is logged of what isn't entered
+logged_passed : (c : Bounds) (a : Tag) (side : Side) (path : List Side) (s : Shape) (e : Span) → Some e ≡ extent s → is_entered c e ≡ false → logged_mark c a (side ∷ path) s ≡ []
+unfolding logged_mark
+logged_passed c a side path leaf e x k = refl
+logged_passed c a side path (fork h l r) e x k = cond-false (is_entered c (box_of h l r)) _ _ (rw (some_box e (box_of h l r) x) at k)
+
+not_met : (c : Bounds) (e : Span) → meets c e ≡ false → is_entered c e ≡ false
+not_met c e m = rw m refl
+
+is_covered : (c : Bounds) (e : Span) → covers c e ≡ true → is_entered c e ≡ false
+is_covered c e k = rw k (and_none (meets c e))
+  where
+    and_none : (b : Bool) → (b && false) ≡ false
+    and_none true = refl
+    and_none false = refl
+
+logged_missed : (c : Bounds) (a : Tag) (side : Side) (path : List Side) (s : Shape) (e : Span) → Some e ≡ extent s → meets c e ≡ false → logged_mark c a (side ∷ path) s ≡ []
+logged_missed c a side path s e x m = logged_passed c a side path s e x (not_met c e m)
+
+logged_covered : (c : Bounds) (a : Tag) (side : Side) (path : List Side) (s : Shape) (e : Span) → Some e ≡ extent s → covers c e ≡ true → logged_mark c a (side ∷ path) s ≡ []
+logged_covered c a side path s e x k = logged_passed c a side path s e x (is_covered c e k)
+
+logged_met : (c : Bounds) (a : Tag) (t : Shape) → is_met c t ≡ true → logged_mark c a [] t ≡ Mark (Some c) a ∷ []
+unfolding logged_mark
+logged_met c a t e = cond-true (is_met c t) _ _ e
+
+logged_unmet : (c : Bounds) (a : Tag) (t : Shape) → is_met c t ≡ false → logged_mark c a [] t ≡ []
+unfolding logged_mark
+logged_unmet c a t e = cond-false (is_met c t) _ _ e
+
+met_tagged : (c : Bounds) (q : Tag) (t : Shape) → is_met c (tagged q t) ≡ is_met c t
+met_tagged c q leaf = refl
+met_tagged c q (fork h l r) = refl
+
+extent_tagged : (q : Tag) (t : Shape) → extent (tagged q t) ≡ extent t
+extent_tagged q leaf = refl
+extent_tagged q (fork h l r) = refl
+
+pub ahead_met : (c : Bounds) (a q : Tag) (t : Shape) → is_met c t ≡ true → logged_mark c a [] (tagged q t) ≡ Mark (Some c) a ∷ []
+ahead_met c a q t e = logged_met c a (tagged q t) (met_tagged c q t ∙ e)
+
+pub ahead_unmet : (c : Bounds) (a q : Tag) (t : Shape) → is_met c t ≡ false → logged_mark c a [] (tagged q t) ≡ []
+ahead_unmet c a q t e = logged_unmet c a (tagged q t) (met_tagged c q t ∙ e)
+
+pub ahead_none : (c : Bounds) (a q : Tag) (side : Side) (path : List Side) (t : Shape) → ◌≡◌ {A = Option Span} None (extent t) → logged_mark c a (side ∷ path) (tagged q t) ≡ []
+unfolding logged_mark
+ahead_none c a q side path leaf x = refl
+ahead_none c a q side path (fork h l r) x = absurd (cc)
+
+pub ahead_missed : (c : Bounds) (a q : Tag) (side : Side) (path : List Side) (t : Shape) (e : Span) → Some e ≡ extent t → meets c e ≡ false → logged_mark c a (side ∷ path) (tagged q t) ≡ []
+ahead_missed c a q side path t e x m = logged_missed c a side path (tagged q t) e (x ∙ sym (extent_tagged q t)) m
+
+pub ahead_covered : (c : Bounds) (a q : Tag) (side : Side) (path : List Side) (t : Shape) (e : Span) → Some e ≡ extent t → covers c e ≡ true → logged_mark c a (side ∷ path) (tagged q t) ≡ []
+ahead_covered c a q side path t e x k = logged_covered c a side path (tagged q t) e (x ∙ sym (extent_tagged q t)) k
+
+pub ahead_entered : (c : Bounds) (a q p : Tag) (side : Side) (path : List Side) (t s : Shape) (e : Span) (h : Head) (l r : Shape) → Some e ≡ extent t → meets c e ≡ true → covers c e ≡ false → t ≡ fork h l r → p ≡ composed h.pending q → s ≡ son side l r
+    → logged_mark c a (side ∷ path) (tagged q t) ≡ handed path p ++ logged_mark c a path (tagged p s)
+unfolding logged_mark
+ahead_entered c a q p side path t s e h l r x m k is owed on =
+    let o = composed h.pending q in
+    let b = some_box e (box_of h l r) (x ∙ ap extent is) in
+    let into_it : is_entered c (box_of h l r) ≡ true = subst (λ z. is_entered c z ≡ true) b (rw (m, k) refl) in
+    ap (λ z. logged_mark c a (side ∷ path) (tagged q z)) is
+    ∙ cond-true (is_entered c (box_of h l r)) (handed path o ++ logged_mark c a path (tagged o (son side l r))) [] into_it
+    ∙ ap (λ z. handed path z ++ logged_mark c a path (tagged z (son side l r))) (sym owed)
+    ∙ ap (λ z. handed path p ++ logged_mark c a path (tagged p z)) (sym on)
+
+-- a point, read from the tree
+
+pub ahead_put_root : (n : ℕ) (p : Place) (q : Tag) (t : Shape) → logged_put n p [] (tagged q t) ≡ Put n p ∷ []
+unfolding logged_put
+ahead_put_root n p q t = refl
+
+pub ahead_put_none : (n : ℕ) (p : Place) (q : Tag) (side : Side) (path : List Side) (t : Shape) → t ≡ leaf → logged_put n p (side ∷ path) (tagged q t) ≡ []
+unfolding logged_put
+ahead_put_none n p q side path t e = ap (λ z. logged_put n p (side ∷ path) (tagged q z)) e
+
+pub ahead_put_begins : (n : ℕ) (p : Place) (q o : Tag) (side : Side) (path : List Side) (t : Shape) (h : Head) (l r : Shape) → t ≡ fork h l r → o ≡ composed h.pending q → (ops : List Op) × (logged_put n p (side ∷ path) (tagged q t) ≡ handed path o ++ ops)
+unfolding logged_put
+ahead_put_begins n p q o side path t h l r is owed =
+    let ops = cond (goes_to side (goes_left h.axis p h.item.point)) (logged_put n p path (tagged (composed h.pending q) (son side l r))) [] in
+    (ops, ap (λ z. logged_put n p (side ∷ path) (tagged q z)) is ∙ ap (λ z. handed path z ++ ops) (sym owed))
+
+pub ahead_put_on : (n : ℕ) (p : Place) (q o : Tag) (side : Side) (path : List Side) (t s : Shape) (h : Head) (l r : Shape) → t ≡ fork h l r → o ≡ composed h.pending q → s ≡ son side l r → goes_to side (goes_left h.axis p h.item.point) ≡ true
+    → logged_put n p (side ∷ path) (tagged q t) ≡ handed path o ++ logged_put n p path (tagged o s)
+unfolding logged_put
+ahead_put_on n p q o side path t s h l r is owed on e =
+    let c = composed h.pending q in
+    ap (λ z. logged_put n p (side ∷ path) (tagged q z)) is
+    ∙ ap (λ z. handed path c ++ z) (cond-true (goes_to side (goes_left h.axis p h.item.point)) (logged_put n p path (tagged c (son side l r))) [] e)
+    ∙ ap (λ z. handed path z ++ logged_put n p path (tagged z (son side l r))) (sym owed)
+    ∙ ap (λ z. handed path o ++ logged_put n p path (tagged o z)) (sym on)
+
+pub ahead_put_off : (n : ℕ) (p : Place) (q o : Tag) (side : Side) (path : List Side) (t : Shape) (h : Head) (l r : Shape) → t ≡ fork h l r → o ≡ composed h.pending q → goes_to side (goes_left h.axis p h.item.point) ≡ false
+    → logged_put n p (side ∷ path) (tagged q t) ≡ handed path o ++ []
+unfolding logged_put
+ahead_put_off n p q o side path t h l r is owed e =
+    let c = composed h.pending q in
+    ap (λ z. logged_put n p (side ∷ path) (tagged q z)) is
+    ∙ ap (λ z. handed path c ++ z) (cond-false (goes_to side (goes_left h.axis p h.item.point)) (logged_put n p path (tagged c (son side l r))) [] e)
+    ∙ ap (λ z. handed path z ++ []) (sym owed)

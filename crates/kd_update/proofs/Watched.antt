@@ -1,0 +1,211 @@
+-- What an update does to a watched subtree.
+use Rattle.std.proofs.Common.{◌≡◌, ℕ, ◌≤◌, true, false, not, ◌&&◌, cond, refl, ap, ◌∙◌, sym, subst, arith, List, [], ◌∷◌, ◌++◌, Some, None}
+use Rattle.std.specs.Prelude.{◌==◌}
+use Rattle.std.proofs.lemmas.Bool.{cond_both, and_parts}
+use Rattle.std.proofs.lemmas.List.Sorted.{sum_by-IsPermutation}
+use Rattle.point_geom.specs.Place.{Place, Bounds}
+use Rattle.point_geom.specs.Axes.{next_axis}
+use Rattle.point_geom.specs.declared.axis.Axis.{Axis}
+use Rattle.point_geom.specs.Extents.{covers, meets}
+use Rattle.node_labels.specs.Labels.{composed, keep_tag, is_live, is_suspended}
+use Rattle.node_labels.specs.declared.label.Label.{Label}
+use Rattle.node_labels.specs.declared.label.Label.TheVariants.{Live, Suspended, Dropped}
+use Rattle.node_labels.specs.declared.tag.Tag.{Tag}
+use Rattle.node_labels.proofs.Laws.{tags_alike, composed-keep_right}
+use Rattle.map_fold.specs.declared.item.Item.{Item}
+use Rattle.map_fold.specs.declared.op.Op.{Op}
+use Rattle.map_fold.specs.declared.op.Op.TheVariants.{Mark}
+use Rattle.map_fold.specs.Contents.{everything, in_box, mark, marked_item, relabelled}
+use Rattle.map_fold.specs.Ops.{IsUnheld, Fit, replay}
+use Rattle.kd_tree.specs.Shape.{Head, Shape, leaf, fork, nodes}
+use Rattle.kd_tree.specs.Walk.{tagged, times, walk}
+use Rattle.kd_tree.specs.Contents.{contents}
+use Rattle.kd_tree.specs.Sound.{IsSound}
+use Rattle.kd_tree.specs.Parts.{at}
+use Rattle.kd_tree.specs.declared.path.Side.{Side}
+use Rattle.kd_tree.specs.declared.path.Side.TheVariants.{Left, Right}
+use Rattle.kd_tree.proofs.Actions.{tagged-keep, tagged_nodes, sound_once, pushed_sound}
+use Rattle.kd_tree.proofs.Contents.{contents-tagged, times_walk}
+use Rattle.kd_tree.proofs.Held.{contents_few}
+use Rattle.kd_tree.proofs.Numbered.{by_number_moves}
+use Rattle.kd_update.specs.Mark.{box_of, marked_under, marked_shape}
+use Rattle.kd_update.specs.Put.{goes_left, put_under, put_from}
+use Rattle.kd_update.specs.Watch.{is_keep, handed, is_met, logged_mark, logged_put, IsWatched}
+use Rattle.kd_update.proofs.Large.{some_shape}
+use Rattle.kd_update.proofs.InBox.{marked-tagged, nodes-marked, contents-marked, marked_missed}
+use Rattle.kd_update.proofs.Route.{put-tagged, nodes-put, contents-put, new_sons}
+
+only_live : (x : Label) → is_live x ≡ true → x ≡ Live
+only_live Live e = refl
+only_live Suspended e = cc
+only_live Dropped e = cc
+
+only_suspended : (x : Label) → is_suspended x ≡ true → x ≡ Suspended
+only_suspended Live e = cc
+only_suspended Suspended e = refl
+only_suspended Dropped e = cc
+
+-- the action that changes no label is KEEP
+pub only_keep : (a : Tag) → is_keep a ≡ true → a ≡ keep_tag
+only_keep a e = let h = and_parts _ _ e in tags_alike a keep_tag (only_live a.live h.0) (only_suspended a.suspended h.1)
+
+-- no operation, nothing changed
+pub watched_same : (path : List Side) (t s : Shape) → at path t ≡ Some s → IsWatched path t t []
+watched_same path t s e = record { before = s; after = s; was = e; is = e; size = omega arith; fit = tt; replayed = refl }
+
+-- an action that is handed to the watched root is its first operation
+handed_first : (q : Tag) (t u : Shape) (ops : List Op) → IsWatched [] (tagged q t) u ops → IsWatched [] t u (handed [] q ++ ops)
+handed_first q t u ops w =
+    let top : tagged q t ≡ w.before = some_shape (tagged q t) w.before w.was in
+    let is : contents w.before ≡ mark (contents t) everything q = ap contents (sym top) ∙ contents-tagged q t in
+    let size : nodes t ≤ nodes w.after = omega (arith, tagged_nodes q t, w.size, ap nodes top) in
+    let P : List Op → Type 0 = λ os. IsWatched [] t u (os ++ ops) in
+    cond_both (is_keep q) [] (Mark None q ∷ []) P
+    (λ e.
+    let same : contents w.before ≡ contents t = ap contents (sym top) ∙ ap (λ a. contents (tagged a t)) (only_keep q e) ∙ ap contents (tagged-keep t) in
+    record { before = t; after = w.after; was = refl; is = w.is; size = size; fit = subst (λ m. Fit m ops) same w.fit; replayed = w.replayed ∙ ap (λ m. replay m ops) same })
+    (λ e. record { before = t; after = w.after; was = refl; is = w.is; size = size; fit = subst (λ m. Fit m ops) is w.fit; replayed = w.replayed ∙ ap (λ m. replay m ops) is })
+
+-- a son that is handed an action, and then changed
+pub watched_handed : (path : List Side) (q : Tag) (t u s : Shape) (ops : List Op) → at path t ≡ Some s → IsWatched path (tagged q t) u ops → IsWatched path t u (handed path q ++ ops)
+watched_handed [] q t u s ops e w = handed_first q t u ops w
+watched_handed (side ∷ path) q leaf u s ops e w = absurd (cc)
+watched_handed (Left ∷ path) q (fork h l r) u s ops e w = record { before = w.before; after = w.after; was = w.was; is = w.is; size = w.size; fit = w.fit; replayed = w.replayed }
+watched_handed (Right ∷ path) q (fork h l r) u s ops e w = record { before = w.before; after = w.after; was = w.was; is = w.is; size = w.size; fit = w.fit; replayed = w.replayed }
+
+-- what is watched in a son is watched in the tree
+watched_left : (path : List Side) (h g : Head) (l r l' r' : Shape) (ops : List Op) → IsWatched path l l' ops → IsWatched (Left ∷ path) (fork h l r) (fork g l' r') ops
+watched_left path h g l r l' r' ops w = record { before = w.before; after = w.after; was = w.was; is = w.is; size = w.size; fit = w.fit; replayed = w.replayed }
+
+watched_right : (path : List Side) (h g : Head) (l r l' r' : Shape) (ops : List Op) → IsWatched path r r' ops → IsWatched (Right ∷ path) (fork h l r) (fork g l' r') ops
+watched_right path h g l r l' r' ops w = record { before = w.before; after = w.after; was = w.was; is = w.is; size = w.size; fit = w.fit; replayed = w.replayed }
+
+-- there is a subtree at the path of a tree that had an action done to it
+at-tagged : (path : List Side) (q : Tag) (t s : Shape) → at path t ≡ Some s → (u : Shape) × (at path (tagged q t) ≡ Some u)
+at-tagged [] q t s e = (tagged q t, refl)
+at-tagged (side ∷ path) q leaf s e = absurd (cc)
+at-tagged (Left ∷ path) q (fork h l r) s e = (s, e)
+at-tagged (Right ∷ path) q (fork h l r) s e = (s, e)
+
+-- marks
+
+pub mark_missed : (c : Bounds) (a : Tag) (t : Shape) → is_met c t ≡ false → marked_shape c a t ≡ t
+unfolding marked_under
+mark_missed c a leaf e = refl
+mark_missed c a (fork h l r) e = sym (marked_missed c a (fork h l r) (box_of h l r) refl e)
+
+-- the watched root itself
+mark_root : (c : Bounds) (a : Tag) (t : Shape) → IsWatched [] t (marked_shape c a t) (logged_mark c a [] t)
+unfolding logged_mark
+mark_root c a t =
+    let size : nodes t ≤ nodes (marked_shape c a t) = omega (arith, nodes-marked c a keep_tag t) in
+    let P : List Op → Type 0 = IsWatched [] t (marked_shape c a t) in
+    cond_both (is_met c t) (Mark (Some c) a ∷ []) [] P
+    (λ e. record { before = t; after = marked_shape c a t; was = refl; is = refl; size = size; fit = tt; replayed = contents-marked c a t })
+    (λ e. record { before = t; after = marked_shape c a t; was = refl; is = refl; size = size; fit = tt; replayed = ap contents (mark_missed c a t e) })
+
+-- a son that was handed the action owed, marked
+son-marked : (c : Bounds) (a q : Tag) (t : Shape) → marked_shape c a (tagged q t) ≡ marked_under c a (composed q keep_tag) t
+son-marked c a q t = marked-tagged c a q t ∙ ap (λ p. marked_under c a p t) (sym (composed-keep_right q))
+
+-- A mark on a tree is, for the subtree at a path, what is logged of it.
+pub watched-mark : (c : Bounds) (a : Tag) (path : List Side) (t s : Shape) → at path t ≡ Some s → IsWatched path t (marked_shape c a t) (logged_mark c a path t)
+unfolding marked_under logged_mark
+watched-mark c a [] t s e = mark_root c a t
+watched-mark c a (side ∷ path) leaf s e = absurd (cc)
+watched-mark c a (Left ∷ path) (fork h l r) s e =
+    let top : Head = record h { item = marked_item (in_box c) a (relabelled keep_tag h.item); pending = keep_tag } in
+    let l' = marked_under c a (composed h.pending keep_tag) l in
+    let r' = marked_under c a (composed h.pending keep_tag) r in
+    let same : IsWatched (Left ∷ path) (fork h l r) (tagged keep_tag (fork h l r)) [] = watched_left path h _ l r l r [] (watched_same path l s e) in
+    let covered : IsWatched (Left ∷ path) (fork h l r) (tagged a (tagged keep_tag (fork h l r))) [] = watched_left path h _ l r l r [] (watched_same path l s e) in
+    let u = at-tagged path h.pending l s e in
+    let below = watched_handed path h.pending l l' s (logged_mark c a path (tagged h.pending l)) e
+    (subst (λ x. IsWatched path (tagged h.pending l) x (logged_mark c a path (tagged h.pending l))) (son-marked c a h.pending l) (watched-mark c a path (tagged h.pending l) u.0 u.1)) in
+    let entered = watched_left path h top l r l' r' _ below in
+    let ops = handed path h.pending ++ logged_mark c a path (tagged h.pending l) in
+    elim (meets c (box_of h l r)) as (λ m. IsWatched (Left ∷ path) (fork h l r) (cond m (cond (covers c (box_of h l r)) (tagged a (tagged keep_tag (fork h l r))) (fork top l' r')) (tagged keep_tag (fork h l r))) (cond (m && not (covers c (box_of h l r))) ops [])) [
+      | true ↦ elim (covers c (box_of h l r)) as (λ k. IsWatched (Left ∷ path) (fork h l r) (cond k (tagged a (tagged keep_tag (fork h l r))) (fork top l' r')) (cond (true && not k) ops [])) [
+        | true ↦ covered
+        | false ↦ entered
+      ]
+      | false ↦ same
+    ]
+watched-mark c a (Right ∷ path) (fork h l r) s e =
+    let top : Head = record h { item = marked_item (in_box c) a (relabelled keep_tag h.item); pending = keep_tag } in
+    let l' = marked_under c a (composed h.pending keep_tag) l in
+    let r' = marked_under c a (composed h.pending keep_tag) r in
+    let same : IsWatched (Right ∷ path) (fork h l r) (tagged keep_tag (fork h l r)) [] = watched_right path h _ l r l r [] (watched_same path r s e) in
+    let covered : IsWatched (Right ∷ path) (fork h l r) (tagged a (tagged keep_tag (fork h l r))) [] = watched_right path h _ l r l r [] (watched_same path r s e) in
+    let u = at-tagged path h.pending r s e in
+    let below = watched_handed path h.pending r r' s (logged_mark c a path (tagged h.pending r)) e
+    (subst (λ x. IsWatched path (tagged h.pending r) x (logged_mark c a path (tagged h.pending r))) (son-marked c a h.pending r) (watched-mark c a path (tagged h.pending r) u.0 u.1)) in
+    let entered = watched_right path h top l r l' r' _ below in
+    let ops = handed path h.pending ++ logged_mark c a path (tagged h.pending r) in
+    elim (meets c (box_of h l r)) as (λ m. IsWatched (Right ∷ path) (fork h l r) (cond m (cond (covers c (box_of h l r)) (tagged a (tagged keep_tag (fork h l r))) (fork top l' r')) (tagged keep_tag (fork h l r))) (cond (m && not (covers c (box_of h l r))) ops [])) [
+      | true ↦ elim (covers c (box_of h l r)) as (λ k. IsWatched (Right ∷ path) (fork h l r) (cond k (tagged a (tagged keep_tag (fork h l r))) (fork top l' r')) (cond (true && not k) ops [])) [
+        | true ↦ covered
+        | false ↦ entered
+      ]
+      | false ↦ same
+    ]
+
+-- points that are put
+
+new_in : (n : ℕ) (t : Shape) → times n keep_tag t ≡ 0 → IsUnheld n (contents t)
+new_in n t none =
+    let g : Item → ℕ = λ i. cond (n == i.number) 1 0 in
+    omega (arith, times_walk n keep_tag t, sum_by-IsPermutation g _ _ (by_number_moves (walk keep_tag t)))
+
+son-put : (n : ℕ) (p : Place) (axis : Axis) (q : Tag) (t : Shape) → put_from n p axis (tagged q t) ≡ put_under n p axis (composed q keep_tag) t
+son-put n p axis q t = put-tagged n p axis q t ∙ ap (λ b. put_under n p axis b t) (sym (composed-keep_right q))
+
+at_son_tagged : (path : List Side) (q : Tag) (t s : Shape) → at path t ≡ Some s → IsWatched path t (tagged (composed q keep_tag) t) (handed path q ++ [])
+at_son_tagged path q t s e =
+    let u = at-tagged path q t s e in
+    subst (λ b. IsWatched path t (tagged b t) (handed path q ++ [])) (sym (composed-keep_right q)) (watched_handed path q t (tagged q t) s [] e (watched_same path (tagged q t) u.0 u.1))
+
+-- A point put into a tree is, for the subtree at a path, what is logged of it.
+pub watched-put : (n : ℕ) (p : Place) (axis : Axis) (path : List Side) (t s : Shape) → at path t ≡ Some s → IsSound t → times n keep_tag t ≡ 0 → nodes t ≤ 4194303
+    → IsWatched path t (put_from n p axis t) (logged_put n p path t)
+unfolding put_under logged_put
+watched-put n p axis [] t s e sound new few = record {
+  before = t;
+  after = put_from n p axis t;
+  was = refl;
+  is = refl;
+  size = omega (arith, nodes-put n p axis keep_tag t);
+  fit = (new_in n t new, omega (arith, contents_few t), tt);
+  replayed = contents-put n p axis t (sound_once t sound) new;
+}
+watched-put n p axis (side ∷ path) leaf s e sound new few = absurd (cc)
+watched-put n p axis (Left ∷ path) (fork h l r) s e sound new few =
+    let top : Head = record h { item = relabelled keep_tag h.item; pending = keep_tag } in
+    let owed = composed h.pending keep_tag in
+    let next = next_axis h.axis in
+    let l' = put_under n p next owed l in
+    let r' = put_under n p next owed r in
+    let u = at-tagged path h.pending l s e in
+    let free = new_sons n h l r new in
+    let below = watched_handed path h.pending l l' s (logged_put n p path (tagged h.pending l)) e
+    (subst (λ x. IsWatched path (tagged h.pending l) x (logged_put n p path (tagged h.pending l))) (son-put n p next h.pending l)
+    (watched-put n p next path (tagged h.pending l) u.0 u.1 (pushed_sound h l r sound).1 free.0 (omega (arith, tagged_nodes h.pending l)))) in
+    elim (goes_left h.axis p h.item.point) as (λ b. IsWatched (Left ∷ path) (fork h l r) (cond b (fork top l' (tagged owed r)) (fork top (tagged owed l) r')) (handed path h.pending ++ cond b (logged_put n p path (tagged h.pending l)) [])) [
+      | true ↦ watched_left path h top l r l' (tagged owed r) _ below
+      | false ↦ watched_left path h top l r (tagged owed l) r' _ (at_son_tagged path h.pending l s e)
+    ]
+watched-put n p axis (Right ∷ path) (fork h l r) s e sound new few =
+    let top : Head = record h { item = relabelled keep_tag h.item; pending = keep_tag } in
+    let owed = composed h.pending keep_tag in
+    let next = next_axis h.axis in
+    let l' = put_under n p next owed l in
+    let r' = put_under n p next owed r in
+    let u = at-tagged path h.pending r s e in
+    let free = new_sons n h l r new in
+    let below = watched_handed path h.pending r r' s (logged_put n p path (tagged h.pending r)) e
+    (subst (λ x. IsWatched path (tagged h.pending r) x (logged_put n p path (tagged h.pending r))) (son-put n p next h.pending r)
+    (watched-put n p next path (tagged h.pending r) u.0 u.1 (pushed_sound h l r sound).2 free.1 (omega (arith, tagged_nodes h.pending r)))) in
+    elim (goes_left h.axis p h.item.point) as (λ b. IsWatched (Right ∷ path) (fork h l r) (cond b (fork top l' (tagged owed r)) (fork top (tagged owed l) r')) (handed path h.pending ++ cond (not b) (logged_put n p path (tagged h.pending r)) [])) [
+      | true ↦ watched_right path h top l r l' (tagged owed r) _ (at_son_tagged path h.pending r s e)
+      | false ↦ watched_right path h top l r (tagged owed l) r' _ below
+    ]

@@ -1,0 +1,116 @@
+use Rattle.std.proofs.Common.{◌≡◌, ◌∷◌, ◌++◌, length, sym, ap, ◌∙◌, subst, arith, append-nil, refl}
+use Rattle.std.specs.Prelude.{Result, Ok, Err, OnOk}
+use Rattle.kd_tree.specs.Shape.{Head}
+use Rattle.kd_tree.specs.Walk.{tagged}
+use Rattle.kd_tree.specs.declared.path.Side.{Side}
+use Rattle.kd_tree.specs.declared.path.Side.TheVariants.{Left, Right}
+use Rattle.kd_update.specs.Watch.{logged_mark, son}
+use Rattle.kd_update.proofs.Logged.{room_first, room_rest, few_first, few_rest, logged_all}
+use Rattle.kd_update.proofs.Logged.{ahead_met, ahead_unmet, ahead_none, ahead_missed, ahead_covered, ahead_entered}
+use Rattle.kd_update.proofs.Logged.{no_sides}
+use Rattle.kd_update.proofs.log_mark.+log_mark.Goals as goal
+
+OnOk-weaker : {X Y P Q : Type 0} (r : Result X Y) → (P → Q) → OnOk r P → OnOk r Q
+OnOk-weaker (Ok x) f p = f p
+OnOk-weaker (Err e) f p = tt
+
+pub returns-then-not-is_met-clause-logged : goal.returns-then-not-is_met-clause-logged
+returns-then-not-is_met-clause-logged t c =
+    let root = no_sides c.args.sides.now c.in_default.ensures.cases in
+    let none = ap (λ q. logged_mark c.args.within.now c.args.tag q (tagged c.args.owed c.args.tree.now)) root ∙ ahead_unmet c.args.within.now c.args.tag c.args.owed c.args.tree.now (sym c.is_met.ensures ∙ c.if-not-is_met.true) in
+    sym (ap (λ ops. c.args.log.now ++ ops) none ∙ append-nil c.args.log.now)
+
+pub note_mark-requires : goal.note_mark-requires
+note_mark-requires t c =
+    let root = no_sides c.args.sides.now c.in_default.ensures.cases in
+    let one = ap length (ap (λ q. logged_mark c.args.within.now c.args.tag q (tagged c.args.owed c.args.tree.now)) root ∙ ahead_met c.args.within.now c.args.tag c.args.owed c.args.tree.now (sym c.is_met.ensures ∙ c.if-not-is_met.false)) in
+    omega (arith, c.requires, one)
+
+pub returns-in_default-clause-logged : goal.returns-in_default-clause-logged
+returns-in_default-clause-logged t c =
+    let root = no_sides c.args.sides.now c.in_default.ensures.cases in
+    let one = ap (λ q. logged_mark c.args.within.now c.args.tag q (tagged c.args.owed c.args.tree.now)) root ∙ ahead_met c.args.within.now c.args.tag c.args.owed c.args.tree.now (sym c.is_met.ensures ∙ c.if-not-is_met.false) in
+    subst (λ ops. OnOk c.note_mark.result (c.note_mark.new.log ≡ c.args.log.now ++ ops)) (sym one) c.note_mark.ensures.logged
+
+pub returns-in_default-extent-clause-logged : goal.returns-in_default-extent-clause-logged
+returns-in_default-extent-clause-logged t c =
+    let none = ap (λ q. logged_mark c.args.within.now c.args.tag q (tagged c.args.owed c.args.tree.now)) c.in-Some.ensures.cases.0 ∙ ahead_none c.args.within.now c.args.tag c.args.owed c.in-Some.side.now c.in-Some.rest.now c.args.tree.now (sym c.in_default-extent.is ∙ c.extent.ensures.value) in
+    sym (ap (λ ops. c.args.log.now ++ ops) none ∙ append-nil c.args.log.now)
+
+pub returns-then-not-meets-clause-logged : goal.returns-then-not-meets-clause-logged
+returns-then-not-meets-clause-logged t c =
+    let none = ap (λ q. logged_mark c.args.within.now c.args.tag q (tagged c.args.owed c.args.tree.now)) c.in-Some.ensures.cases.0 ∙ ahead_missed c.args.within.now c.args.tag c.args.owed c.in-Some.side.now c.in-Some.rest.now c.args.tree.now c.in-Some-extent.extent (sym c.in-Some-extent.is ∙ c.extent.ensures.value) (sym c.meets.ensures.value ∙ c.if-not-meets.true) in
+    sym (ap (λ ops. c.args.log.now ++ ops) none ∙ append-nil c.args.log.now)
+
+pub returns-then-covers-clause-logged : goal.returns-then-covers-clause-logged
+returns-then-covers-clause-logged t c =
+    let none = ap (λ q. logged_mark c.args.within.now c.args.tag q (tagged c.args.owed c.args.tree.now)) c.in-Some.ensures.cases.0 ∙ ahead_covered c.args.within.now c.args.tag c.args.owed c.in-Some.side.now c.in-Some.rest.now c.args.tree.now c.in-Some-extent.extent (sym c.in-Some-extent.is ∙ c.extent.ensures.value) (sym c.covers.ensures.value ∙ c.if-covers.true) in
+    sym (ap (λ ops. c.args.log.now ++ ops) none ∙ append-nil c.args.log.now)
+
+pub note_owed-requires : goal.note_owed-requires
+note_owed-requires t c =
+    let top = c.in-Some-top.top in
+    let h : Head = record { item = top.item; axis = top.axis; pending = top.pending } in
+    let b = ahead_entered c.args.within.now c.args.tag c.args.owed c.then-owed.result c.in-Some.side.now c.in-Some.rest.now c.args.tree.now (son c.in-Some.side.now top.left.now top.right.now) c.in-Some-extent.extent h top.left.now top.right.now (sym c.in-Some-extent.is ∙ c.extent.ensures.value) (sym c.meets.ensures.value ∙ c.if-not-meets.false) (sym c.covers.ensures.value ∙ c.if-covers.false) c.in-Some-top.ensures.some c.then-owed.ensures.value refl in
+    room_first _ _ _ _ (ap (λ q. logged_mark c.args.within.now c.args.tag q (tagged c.args.owed c.args.tree.now)) c.in-Some.ensures.cases.0 ∙ b) c.requires
+
+pub log_mark-requires : goal.log_mark-requires
+log_mark-requires t c =
+    let top = c.in-Some-top.top in
+    let h : Head = record { item = top.item; axis = top.axis; pending = top.pending } in
+    let path = c.in-Some.ensures.cases.0 ∙ ap (λ (s : Side). s ∷ c.in-Some.rest.now) c.in-Left.is in
+    let is = ap (λ q. logged_mark c.args.within.now c.args.tag q (tagged c.args.owed c.args.tree.now)) path ∙ ahead_entered c.args.within.now c.args.tag c.args.owed c.then-owed.result Left c.in-Some.rest.now c.args.tree.now top.left.now c.in-Some-extent.extent h top.left.now top.right.now (sym c.in-Some-extent.is ∙ c.extent.ensures.value) (sym c.meets.ensures.value ∙ c.if-not-meets.false) (sym c.covers.ensures.value ∙ c.if-covers.false) c.in-Some-top.ensures.some c.then-owed.ensures.value refl in
+    (omega (arith, c.in-Some.ensures.cases.1), room_rest _ _ _ _ _ is c.in_ok-note_owed.ensures.logged c.requires)
+
+pub returns-in-Left-clause-logged : goal.returns-in-Left-clause-logged
+returns-in-Left-clause-logged t c =
+    let top = c.in-Some-top.top in
+    let h : Head = record { item = top.item; axis = top.axis; pending = top.pending } in
+    let path = c.in-Some.ensures.cases.0 ∙ ap (λ (s : Side). s ∷ c.in-Some.rest.now) c.in-Left.is in
+    let is = ap (λ q. logged_mark c.args.within.now c.args.tag q (tagged c.args.owed c.args.tree.now)) path ∙ ahead_entered c.args.within.now c.args.tag c.args.owed c.then-owed.result Left c.in-Some.rest.now c.args.tree.now top.left.now c.in-Some-extent.extent h top.left.now top.right.now (sym c.in-Some-extent.is ∙ c.extent.ensures.value) (sym c.meets.ensures.value ∙ c.if-not-meets.false) (sym c.covers.ensures.value ∙ c.if-covers.false) c.in-Some-top.ensures.some c.then-owed.ensures.value refl in
+    OnOk-weaker c.log_mark.result (λ e. logged_all _ _ _ _ _ _ is c.in_ok-note_owed.ensures.logged e) c.log_mark.ensures.logged
+
+pub log_mark-requires-in-Right : goal.log_mark-requires-in-Right
+log_mark-requires-in-Right t c =
+    let top = c.in-Some-top.top in
+    let h : Head = record { item = top.item; axis = top.axis; pending = top.pending } in
+    let path = c.in-Some.ensures.cases.0 ∙ ap (λ (s : Side). s ∷ c.in-Some.rest.now) c.in-Right.is in
+    let is = ap (λ q. logged_mark c.args.within.now c.args.tag q (tagged c.args.owed c.args.tree.now)) path ∙ ahead_entered c.args.within.now c.args.tag c.args.owed c.then-owed.result Right c.in-Some.rest.now c.args.tree.now top.right.now c.in-Some-extent.extent h top.left.now top.right.now (sym c.in-Some-extent.is ∙ c.extent.ensures.value) (sym c.meets.ensures.value ∙ c.if-not-meets.false) (sym c.covers.ensures.value ∙ c.if-covers.false) c.in-Some-top.ensures.some c.then-owed.ensures.value refl in
+    (omega (arith, c.in-Some.ensures.cases.1), room_rest _ _ _ _ _ is c.in_ok-note_owed.ensures.logged c.requires)
+
+pub returns-in-Right-clause-logged : goal.returns-in-Right-clause-logged
+returns-in-Right-clause-logged t c =
+    let top = c.in-Some-top.top in
+    let h : Head = record { item = top.item; axis = top.axis; pending = top.pending } in
+    let path = c.in-Some.ensures.cases.0 ∙ ap (λ (s : Side). s ∷ c.in-Some.rest.now) c.in-Right.is in
+    let is = ap (λ q. logged_mark c.args.within.now c.args.tag q (tagged c.args.owed c.args.tree.now)) path ∙ ahead_entered c.args.within.now c.args.tag c.args.owed c.then-owed.result Right c.in-Some.rest.now c.args.tree.now top.right.now c.in-Some-extent.extent h top.left.now top.right.now (sym c.in-Some-extent.is ∙ c.extent.ensures.value) (sym c.meets.ensures.value ∙ c.if-not-meets.false) (sym c.covers.ensures.value ∙ c.if-covers.false) c.in-Some-top.ensures.some c.then-owed.ensures.value refl in
+    OnOk-weaker c.log_mark-in-Right.result (λ e. logged_all _ _ _ _ _ _ is c.in_ok-note_owed.ensures.logged e) c.log_mark-in-Right.ensures.logged
+
+pub returns-in_default-clause-few : goal.returns-in_default-clause-few
+returns-in_default-clause-few t c =
+    let root = no_sides c.args.sides.now c.in_default.ensures.cases in
+    let one = ap length (ap (λ q. logged_mark c.args.within.now c.args.tag q (tagged c.args.owed c.args.tree.now)) root ∙ ahead_met c.args.within.now c.args.tag c.args.owed c.args.tree.now (sym c.is_met.ensures ∙ c.if-not-is_met.false)) in
+    omega (arith, c.note_mark.ensures.few, one)
+
+pub returns-in_err-note_owed-clause-few : goal.returns-in_err-note_owed-clause-few
+returns-in_err-note_owed-clause-few t c =
+    let top = c.in-Some-top.top in
+    let h : Head = record { item = top.item; axis = top.axis; pending = top.pending } in
+    let b = ahead_entered c.args.within.now c.args.tag c.args.owed c.then-owed.result c.in-Some.side.now c.in-Some.rest.now c.args.tree.now (son c.in-Some.side.now top.left.now top.right.now) c.in-Some-extent.extent h top.left.now top.right.now (sym c.in-Some-extent.is ∙ c.extent.ensures.value) (sym c.meets.ensures.value ∙ c.if-not-meets.false) (sym c.covers.ensures.value ∙ c.if-covers.false) c.in-Some-top.ensures.some c.then-owed.ensures.value refl in
+    few_first _ _ _ _ _ (ap (λ q. logged_mark c.args.within.now c.args.tag q (tagged c.args.owed c.args.tree.now)) c.in-Some.ensures.cases.0 ∙ b) c.note_owed.ensures.few
+
+pub returns-in-Left-clause-few : goal.returns-in-Left-clause-few
+returns-in-Left-clause-few t c =
+    let top = c.in-Some-top.top in
+    let h : Head = record { item = top.item; axis = top.axis; pending = top.pending } in
+    let path = c.in-Some.ensures.cases.0 ∙ ap (λ (s : Side). s ∷ c.in-Some.rest.now) c.in-Left.is in
+    let is = ap (λ q. logged_mark c.args.within.now c.args.tag q (tagged c.args.owed c.args.tree.now)) path ∙ ahead_entered c.args.within.now c.args.tag c.args.owed c.then-owed.result Left c.in-Some.rest.now c.args.tree.now top.left.now c.in-Some-extent.extent h top.left.now top.right.now (sym c.in-Some-extent.is ∙ c.extent.ensures.value) (sym c.meets.ensures.value ∙ c.if-not-meets.false) (sym c.covers.ensures.value ∙ c.if-covers.false) c.in-Some-top.ensures.some c.then-owed.ensures.value refl in
+    few_rest _ _ _ _ _ _ is c.note_owed.ensures.few c.log_mark.ensures.few
+
+pub returns-in-Right-clause-few : goal.returns-in-Right-clause-few
+returns-in-Right-clause-few t c =
+    let top = c.in-Some-top.top in
+    let h : Head = record { item = top.item; axis = top.axis; pending = top.pending } in
+    let path = c.in-Some.ensures.cases.0 ∙ ap (λ (s : Side). s ∷ c.in-Some.rest.now) c.in-Right.is in
+    let is = ap (λ q. logged_mark c.args.within.now c.args.tag q (tagged c.args.owed c.args.tree.now)) path ∙ ahead_entered c.args.within.now c.args.tag c.args.owed c.then-owed.result Right c.in-Some.rest.now c.args.tree.now top.right.now c.in-Some-extent.extent h top.left.now top.right.now (sym c.in-Some-extent.is ∙ c.extent.ensures.value) (sym c.meets.ensures.value ∙ c.if-not-meets.false) (sym c.covers.ensures.value ∙ c.if-covers.false) c.in-Some-top.ensures.some c.then-owed.ensures.value refl in
+    few_rest _ _ _ _ _ _ is c.note_owed.ensures.few c.log_mark-in-Right.ensures.few

@@ -1,0 +1,27 @@
+use Rattle.std.proofs.Common.{[], ◌∷◌, sym, subst}
+use Rattle.std.proofs.lemmas.Result.{IfOk-weaker}
+use Rattle.map_fold.specs.declared.op.Op.{Op}
+use Rattle.kd_tree.specs.Shape.{numbers}
+use Rattle.kd_tree.specs.Contents.{contents}
+use Rattle.kd_update.specs.Refresh.{AreAmong}
+use Rattle.map_fold.specs.Ops.{Fit, IsUnheld}
+use Rattle.kd_update.proofs.Trees.{among_same, among_append}
+use Rattle.kd_tree.proofs.Contents.{unheld_free}
+use Rattle.kd_update.proofs.replay.performed.Goals as goal
+
+pub put-requires-clause-new : goal.put-requires-clause-new
+put-requires-clause-new g c =
+    let fit = subst (λ (o : Op). Fit (contents c.args.tree) (o ∷ [])) c.in-Put.is c.requires.fit in
+    unheld_free c.in-Put.number c.in_ok-tree-in-Put.tree (subst (IsUnheld c.in-Put.number) (sym c.in_ok-tree-in-Put.ensures.contents) fit.0)
+
+pub returns-in-Some-clause-numbers : goal.returns-in-Some-clause-numbers
+returns-in-Some-clause-numbers g c = rw c.in-Mark.is c.marked.ensures.numbers
+
+pub returns-in_ok-tree-in-Put-clause-numbers : goal.returns-in_ok-tree-in-Put-clause-numbers
+returns-in_ok-tree-in-Put-clause-numbers g c =
+    rw c.in-Put.is
+    (IfOk-weaker c.put.result _ (λ t. AreAmong (numbers t) (c.in-Put.number ∷ numbers c.args.tree))
+    (λ t f n k. among_append (c.in-Put.number ∷ []) (c.in-Put.number ∷ []) (numbers c.in_ok-tree-in-Put.tree) (numbers c.args.tree) (among_same (c.in-Put.number ∷ [])) c.in_ok-tree-in-Put.ensures.numbers n (f n k)) c.put.ensures.numbers)
+
+pub returns-in_ok-tree-in-Put-clause-balance : goal.returns-in_ok-tree-in-Put-clause-balance
+returns-in_ok-tree-in-Put-clause-balance g c = λ even. c.put.ensures.balance (c.in_ok-tree-in-Put.ensures.balance c.args.large even)

@@ -1,0 +1,45 @@
+-- A subtree that another tree stands in for.
+use Rattle.std.specs.Prelude.{◌≡◌, ℕ, ◌≤◌, List, [], ◌∷◌, ◌++◌, Some}
+use Rattle.kd_tree.specs.Shape.{Shape, leaf, fork, nodes, levels, numbers}
+use Rattle.kd_tree.specs.Contents.{contents}
+use Rattle.kd_tree.specs.Parts.{at, replaced_at}
+use Rattle.kd_tree.specs.Apart.{AreApart}
+use Rattle.kd_tree.specs.declared.path.Side.{Side}
+use Rattle.kd_tree.specs.declared.path.Side.TheVariants.{Left, Right}
+use Rattle.kd_update.specs.Refresh.{AreAmong, IsSpared}
+use Rattle.kd_update.specs.Update.{IsEven}
+use Rattle.kd_update.specs.Watch.{IsLargeAt}
+use Rattle.kd_update.specs.Several.{IsEvenClear}
+
+-- a subtree stands at the path, and the other tree holds what the subtree by itself holds
+pub record StandsFor (path : List Side) (t other : Shape) : Type 0 where
+  pub node : Shape
+  pub there : at path t ≡ Some node
+  pub same : contents other ≡ contents node
+
+-- the tree with the other at the path has no more levels and nodes than a tree may have
+pub record HasRoomAt (path : List Side) (other t : Shape) : Type 0 where
+  pub low : levels (replaced_at path other t) ≤ 512
+  pub few : nodes (replaced_at path other t) ≤ 4194304
+
+-- no node above the path's end is to be built anew
+abbrev pub IsCalmAbove : ℕ → List Side → Shape → Type 0
+IsCalmAbove large [] t = Unit {0}
+IsCalmAbove large (side ∷ path) leaf = Unit {0}
+IsCalmAbove large (Left ∷ path) (fork h l r) = IsSpared large (fork h l r) × IsCalmAbove large path l
+IsCalmAbove large (Right ∷ path) (fork h l r) = IsSpared large (fork h l r) × IsCalmAbove large path r
+
+-- the second tree has no more levels and nodes than the first
+pub record IsNoLarger (s t : Shape) : Type 0 where
+  pub few : nodes t ≤ nodes s
+  pub low : levels t ≤ levels s
+
+-- The new tree is the old one with the other at the path, and some nodes above it built anew: none that has a large subtree
+-- beside the path, none at all where none is to be, and enough to stay even.
+pub record IsReplaced (large : ℕ) (path : List Side) (old other new : Shape) : Type 0 where
+  pub held : contents new ≡ contents old
+  pub size : IsNoLarger (replaced_at path other old) new
+  pub from : AreAmong (numbers new) (numbers other ++ numbers old)
+  pub beside : (p : List Side) → AreApart path p → IsLargeAt large p old → at p new ≡ at p old
+  pub balance : (ps : List (List Side)) → IsEvenClear large (path ∷ ps) old → IsEven large other → IsEvenClear large ps new
+  pub unrebuilt : IsCalmAbove large path (replaced_at path other old) → new ≡ replaced_at path other old

@@ -1,0 +1,13 @@
+-- At most four paths, as the code has them.
+use Rattle.std.specs.Prelude.{List, [], ◌∷◌, ◌++◌, Option, Some, None}
+use Rattle.std.specs.Borrow.{Bor}
+use Rattle.kd_tree.specs.declared.path.Side.{Side}
+use Rattle.kd_update.specs.declared.ways.Ways.{Ways}
+
+abbrev pub way_of : Option (Bor (List Side)) → List (List Side)
+way_of None = []
+way_of (Some p) = p.now ∷ []
+
+-- the paths that there are, in order
+abbrev pub paths_of : Ways → List (List Side)
+paths_of w = way_of w.first ++ (way_of w.second ++ (way_of w.third ++ way_of w.fourth))

@@ -1,0 +1,93 @@
+//! What a point that is put does to watched subtrees, logged before it is put. Nothing here takes a node apart.
+ghost use Rattle.std.specs.Prelude.{◌≡◌, ◌+◌, ◌≤◌, ◌++◌, length, OnOk};
+ghost use Rattle.map_fold.specs.Ops.{Extends};
+ghost use Rattle.kd_tree.specs.Walk.{tagged};
+ghost use Rattle.kd_update.specs.Watch.{logged_put};
+ghost use Rattle.kd_update.specs.Watches.{AreExtended, AreFewMore, HaveRoom, with_puts};
+
+use crate::insert::goes_left;
+use crate::log_mark::note_owed;
+use crate::watch::note_put;
+use crate::{Watch, Watches};
+use kd_tree::{Side, Tree};
+use map_fold::{NoMemory, Tag};
+use op_logger::OpLog;
+use point_geom::Point;
+
+pub(crate) fn log_puts(
+    tree: &Tree,
+    watches: &mut Watches,
+    number: u32,
+    point: Point,
+) -> Result<(), NoMemory>
+    requires { HaveRoom watches.old }
+    ensures logged { OnOk result (watches.new ≡ with_puts number point tree.now watches.old) }
+    ensures begins { AreExtended watches.old watches.new }
+    ensures few { AreFewMore watches.old watches.new }
+{
+    log_each_put(tree, watches.items.as_mut_slice(), number, point)
+}
+
+fn log_each_put(
+    tree: &Tree,
+    watches: &mut [Watch],
+    number: u32,
+    point: Point,
+) -> Result<(), NoMemory>
+    requires { HaveRoom watches.old }
+    ensures logged { OnOk result (watches.new ≡ with_puts number point tree.now watches.old) }
+    ensures begins { AreExtended watches.old watches.new }
+    ensures few { AreFewMore watches.old watches.new }
+{
+    let Some((watch, rest)) = watches.split_first_mut() else {
+        return Ok(());
+    };
+    log_put(
+        tree,
+        Tag::KEEP,
+        watch.path.as_slice(),
+        number,
+        point,
+        &mut watch.log,
+    )?;
+    log_each_put(tree, rest, number, point)
+}
+
+// For the subtree at the sides. The tree owes the action `owed` before.
+fn log_put(
+    tree: &Tree,
+    owed: Tag,
+    sides: &[Side],
+    number: u32,
+    point: Point,
+    log: &mut OpLog,
+) -> Result<(), NoMemory>
+    requires { length log.old + length (logged_put number point sides.now (tagged owed tree.now)) ≤ 65536 }
+    ensures logged { OnOk result (log.new ≡ log.old ++ logged_put number point sides.now (tagged owed tree.now)) }
+    ensures begins { Extends log.old log.new }
+    ensures few { length log.new ≤ length log.old + length (logged_put number point sides.now (tagged owed tree.now)) }
+{
+    let Some((side, rest)) = sides.split_first() else {
+        return note_put(log, number, point);
+    };
+    let Some(top) = tree.top() else {
+        return Ok(());
+    };
+    let owed = top.pending.then(owed);
+    note_owed(owed, rest, log)?;
+    let on_left = goes_left(&point, top.axis, &top.item.point);
+    match side {
+        Side::Left => {
+            if !on_left {
+                return Ok(());
+            }
+            log_put(top.left, owed, rest, number, point, log)
+        }
+        Side::Right => {
+            if on_left {
+                return Ok(());
+            }
+            log_put(top.right, owed, rest, number, point, log)
+        }
+    }
+}

@@ -1,0 +1,70 @@
+//! Actions on the items in a box, with watched subtrees left as they stand. Nothing here knows what is logged of them.
+ghost use Rattle.std.specs.Prelude.{◌≡◌, ◌+◌, ◌≤◌, IfOk};
+ghost use Rattle.kd_update.specs.Made.{made_mark};
+ghost use Rattle.kd_update.specs.Mark.{IsVisitCalm, marked_shape};
+ghost use Rattle.kd_update.specs.Several.{AreLargeAt, IsUpdatedClear};
+ghost use Rattle.kd_update.specs.Ways.{paths_of};
+
+use crate::mark::{marked_item, marked_within};
+use crate::rebuild::{NEVER, joined};
+use crate::ways::Ways;
+use kd_tree::{Fork, Side, Steps, Tree};
+use map_fold::{NoMemory, Tag};
+use point_geom::Cuboid;
+use std::alloc::Global;
+use std::sync::ledger::Ledger;
+
+// `marked`, by shape, where nothing is built anew above the ends of the ways, at them or below them.
+pub(crate) fn marked_clear<L: Ledger>(
+    alloc: Global,
+    tree: Tree,
+    large: u32,
+    within: &Cuboid,
+    tag: Tag,
+    ways: &Ways<'_>,
+    steps: &mut Steps<L>,
+) -> Result<Tree, NoMemory>
+    requires { AreLargeAt large (paths_of ways.now) tree }
+    ensures updated { let plain = marked_shape within.now tag tree in
+        IfOk result (λ t. IsUpdatedClear large (paths_of ways.now) tree plain (IsVisitCalm large within.now plain) t) }
+    ensures ticks { IsVisitCalm large within.now (marked_shape within.now tag tree)
+        → steps.new ≤ steps.old + made_mark within.now tree }
+{
+    let _size = tree.size();
+    if ways.is_empty() {
+        return marked_within(alloc, tree, large, within, tag, steps);
+    }
+    if ways.is_here() {
+        return marked_within(alloc, tree, NEVER, within, tag, steps);
+    }
+    let Some(extent) = tree.extent() else {
+        return Ok(tree);
+    };
+    if !within.meets(&extent) {
+        return Ok(tree);
+    }
+    if within.covers(&extent) {
+        return tree.tagged(alloc, tag, steps);
+    }
+    let Some(fork) = tree.push_down(alloc, steps)? else {
+        return Ok(Tree::empty());
+    };
+    let Fork {
+        item,
+        axis,
+        left,
+        right,
+    } = fork;
+    let item = marked_item(item, within, tag);
+    let lefts = ways.onward(Side::Left);
+    let left = marked_clear(alloc, left, large, within, tag, &lefts, steps)?;
+    let rights = ways.onward(Side::Right);
+    let right = marked_clear(alloc, right, large, within, tag, &rights, steps)?;
+    let fork = Fork {
+        item,
+        axis,
+        left,
+        right,
+    };
+    joined(alloc, fork, steps)
+}

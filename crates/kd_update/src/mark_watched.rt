@@ -1,0 +1,61 @@
+//! Actions on the items in a box, while subtrees are watched: what each meets is logged first, and then the tree is changed.
+ghost use Rattle.std.specs.Prelude.{◌≡◌, ◌+◌, ◌*◌, ◌≤◌, IfOk, OnOk};
+ghost use Rattle.map_fold.specs.Contents.{in_box, mark};
+ghost use Rattle.kd_tree.specs.Shape.{numbers};
+ghost use Rattle.kd_tree.specs.Contents.{contents};
+ghost use Rattle.kd_update.specs.Refresh.{AreAmong, IsRefresh};
+ghost use Rattle.kd_update.specs.Made.{entered_mark};
+ghost use Rattle.kd_update.specs.Mark.{IsVisitCalm, marked_shape};
+ghost use Rattle.kd_update.specs.Several.{AreLargeAt, AreWatched, IsEvenClear};
+ghost use Rattle.kd_update.specs.Watch.{IsWatched, logged_mark};
+ghost use Rattle.kd_update.specs.Watches.{AreExtended, AreFewMore, HaveRoom, paths_in, with_marks};
+
+use crate::Watches;
+use crate::log_mark::log_marks;
+use crate::mark_clear::marked_clear;
+use crate::ways::Ways;
+use kd_tree::{Steps, Tree};
+use map_fold::{NoMemory, Tag};
+use point_geom::Cuboid;
+use std::alloc::Global;
+use std::sync::ledger::Ledger;
+
+/// `marked`, while the subtrees at the watches' paths are watched: no node above one, at its top or in it is built anew, and
+/// what it meets is put at the end of its log. With no watch it is `marked`. Where memory is wanting, the tree is let go, and
+/// logs may have grown.
+pub fn marked_watched<L: Ledger>(
+    alloc: Global,
+    tree: Tree,
+    large: u32,
+    within: &Cuboid,
+    tag: Tag,
+    watches: &mut Watches,
+    steps: &mut Steps<L>,
+) -> Result<Tree, NoMemory>
+    requires there { AreLargeAt large (paths_in watches.old) tree }
+    requires room { HaveRoom watches.old }
+    ensures contents { IfOk result (λ t. contents t ≡ mark (contents tree) (in_box within.now) tag) }
+    ensures numbers { IfOk result (λ t. AreAmong (numbers t) (numbers tree)) }
+    // Outside the watched subtrees.
+    ensures balance { IsEvenClear large (paths_in watches.old) tree
+        → IfOk result (λ t. IsEvenClear large (paths_in watches.old) t) }
+    ensures refresh { IfOk result (λ t. IsRefresh (marked_shape within.now tag tree) t) }
+    ensures there { IfOk result (λ t. AreLargeAt large (paths_in watches.old) t) }
+    // Whatever the call answers.
+    ensures begins { AreExtended watches.old watches.new }
+    ensures few { AreFewMore watches.old watches.new }
+    ensures logged { OnOk result (watches.new ≡ with_marks within.now tag tree watches.old) }
+    // Of each watched subtree the new tree has what these operations make of the old one's own contents.
+    ensures watched { IfOk result (λ t. AreWatched (λ p. IsWatched p tree t (logged_mark within.now tag p tree)) (paths_in watches.old)) }
+    // Where no node that was entered is to be built anew, none is.
+    ensures unrebuilt { IsVisitCalm large within.now (marked_shape within.now tag tree)
+        → IfOk result (λ t. t ≡ marked_shape within.now tag tree) }
+    // Then at most so many nodes are made, whatever the call answers.
+    ensures ticks { IsVisitCalm large within.now (marked_shape within.now tag tree)
+        → steps.new ≤ steps.old + 5 * entered_mark within.now tree + 1 }
+{
+    let _size = tree.size();
+    log_marks(&tree, watches, within, tag)?;
+    let ways = Ways::of(watches.as_slice());
+    marked_clear(alloc, tree, large, within, tag, &ways, steps)
+}

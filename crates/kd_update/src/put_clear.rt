@@ -1,0 +1,78 @@
+//! Points put into a tree, with watched subtrees left as they stand. Nothing here knows what is logged of them.
+ghost use Rattle.std.specs.Prelude.{◌≡◌, ◌+◌, ◌*◌, ◌≤◌, IfOk};
+ghost use Rattle.node_labels.specs.Labels.{keep_tag};
+ghost use Rattle.map_fold.specs.Contents.{live_at};
+ghost use Rattle.kd_tree.specs.Shape.{levels, nodes};
+ghost use Rattle.kd_tree.specs.Walk.{times};
+ghost use Rattle.kd_update.specs.Made.{entered_put};
+ghost use Rattle.kd_update.specs.Put.{IsRouteCalm, put_from};
+ghost use Rattle.kd_update.specs.Several.{AreLargeAt, IsUpdatedClear};
+ghost use Rattle.kd_update.specs.Ways.{paths_of};
+
+use crate::insert::{goes_left, put_below};
+use crate::rebuild::{NEVER, joined};
+use crate::ways::Ways;
+use kd_tree::{Fork, Side, Steps, Tree};
+use map_fold::{Item, NoMemory};
+use point_geom::Axis;
+use std::alloc::Global;
+use std::sync::ledger::Ledger;
+
+// `put`, by shape, where nothing is built anew above the ends of the ways, at them or below them.
+pub(crate) fn put_clear<L: Ledger>(
+    alloc: Global,
+    tree: Tree,
+    large: u32,
+    item: Item,
+    axis: Axis,
+    ways: &Ways<'_>,
+    steps: &mut Steps<L>,
+) -> Result<Tree, NoMemory>
+    requires live { item ≡ live_at item.number item.point }
+    requires low { levels tree ≤ 511 }
+    requires few { nodes tree ≤ 4194303 }
+    requires new { times item.number keep_tag tree ≡ 0 }
+    requires there { AreLargeAt large (paths_of ways.now) tree }
+    ensures updated { let plain = put_from item.number item.point axis tree in
+        IfOk result (λ t. IsUpdatedClear large (paths_of ways.now) tree plain (IsRouteCalm large item.point plain) t) }
+    ensures ticks { IsRouteCalm large item.point (put_from item.number item.point axis tree)
+        → steps.new ≤ steps.old + (3 * entered_put item.point tree + 1) }
+{
+    let _size = tree.size();
+    if ways.is_empty() {
+        return put_below(alloc, tree, large, item, axis, steps);
+    }
+    if ways.is_here() {
+        return put_below(alloc, tree, NEVER, item, axis, steps);
+    }
+    let Some(fork) = tree.push_down(alloc, steps)? else {
+        return Ok(Tree::empty());
+    };
+    let Fork {
+        item: own,
+        axis,
+        left,
+        right,
+    } = fork;
+    if goes_left(&item.point, axis, &own.point) {
+        let ways = ways.onward(Side::Left);
+        let left = put_clear(alloc, left, large, item, axis.next(), &ways, steps)?;
+        let fork = Fork {
+            item: own,
+            axis,
+            left,
+            right,
+        };
+        joined(alloc, fork, steps)
+    } else {
+        let ways = ways.onward(Side::Right);
+        let right = put_clear(alloc, right, large, item, axis.next(), &ways, steps)?;
+        let fork = Fork {
+            item: own,
+            axis,
+            left,
+            right,
+        };
+        joined(alloc, fork, steps)
+    }
+}

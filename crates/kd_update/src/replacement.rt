@@ -1,0 +1,10 @@
+//! What a replacement of a subtree leaves.
+use kd_tree::Tree;
+
+/// A tree of which a subtree was replaced.
+#[derive(Debug, Drop)]
+pub struct Replaced {
+    pub tree: Tree,
+    /// Whether the whole tree was built anew by medians, for want of room.
+    pub anew: bool,
+}

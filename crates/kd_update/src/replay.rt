@@ -1,0 +1,77 @@
+//! Operations done one after the other. Nothing here knows where they were logged.
+ghost use Rattle.std.specs.Prelude.{◌≡◌, [], ◌∷◌, ◌++◌, IfOk};
+ghost use Rattle.map_fold.specs.Ops.{Fit, numbers_put, perform, replay};
+ghost use Rattle.kd_tree.specs.Shape.{numbers};
+ghost use Rattle.kd_tree.specs.Contents.{contents};
+ghost use Rattle.kd_update.specs.Refresh.{AreAmong};
+ghost use Rattle.kd_update.specs.Update.{IsEven};
+
+#[cfg(test)]
+mod tests;
+
+use crate::{marked, put, roomy};
+use kd_tree::{Steps, Tree};
+use map_fold::{NoMemory, Op};
+use std::alloc::Global;
+use std::marker::Brand;
+use std::sync::ledger::{Blank, Ledger};
+
+/// The tree after these operations, done one after the other. Where a point finds 512 levels or 4,194,304 nodes, the tree is
+/// built anew by medians first. Where memory is wanting, the tree is let go.
+pub fn replayed(alloc: Global, tree: Tree, large: u32, ops: &[Op]) -> Result<Tree, NoMemory>
+    requires fit { Fit (contents tree) ops.now }
+    ensures contents { IfOk result (λ t. contents t ≡ replay (contents tree) ops.now) }
+    ensures numbers { IfOk result (λ t. AreAmong (numbers t) (numbers_put ops.now ++ numbers tree)) }
+    ensures balance { IsEven large tree → IfOk result (λ t. IsEven large t) }
+{
+    replayed_by::<Brand>(alloc, tree, large, ops, Blank::new(1))
+}
+
+// The same, with a counter of its own.
+fn replayed_by<L: Ledger>(
+    alloc: Global,
+    tree: Tree,
+    large: u32,
+    ops: &[Op],
+    blank: Blank,
+) -> Result<Tree, NoMemory>
+    requires name { blank.name ≡ L.name }
+    requires parts { blank.parts ≡ L.parts }
+    requires some { blank.parts ≡ 1 }
+    requires fit { Fit (contents tree) ops.now }
+    ensures contents { IfOk result (λ t. contents t ≡ replay (contents tree) ops.now) }
+    ensures numbers { IfOk result (λ t. AreAmong (numbers t) (numbers_put ops.now ++ numbers tree)) }
+    ensures balance { IsEven large tree → IfOk result (λ t. IsEven large t) }
+{
+    let mut steps: Steps<L> = Steps::new(blank);
+    let mut tree = tree;
+    for op in ops {
+        tree = performed(alloc, tree, large, op, &mut steps)?;
+    }
+    Ok(tree)
+}
+
+// One operation.
+fn performed<L: Ledger>(
+    alloc: Global,
+    tree: Tree,
+    large: u32,
+    op: &Op,
+    steps: &mut Steps<L>,
+) -> Result<Tree, NoMemory>
+    requires fit { Fit (contents tree) (op.now ∷ []) }
+    ensures contents { IfOk result (λ t. contents t ≡ perform (contents tree) op.now) }
+    ensures numbers { IfOk result (λ t. AreAmong (numbers t) (numbers_put (op.now ∷ []) ++ numbers tree)) }
+    ensures balance { IsEven large tree → IfOk result (λ t. IsEven large t) }
+{
+    match op {
+        Op::Mark { within, tag } => match within {
+            None => tree.tagged(alloc, *tag, steps),
+            Some(within) => marked(alloc, tree, large, within, *tag, steps),
+        },
+        Op::Put { number, point } => {
+            let tree = roomy(alloc, tree, steps)?;
+            put(alloc, tree, large, *number, *point, steps)
+        }
+    }
+}

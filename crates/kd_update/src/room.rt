@@ -1,0 +1,34 @@
+//! Room for one more point. Nothing here knows which point is put.
+ghost use Rattle.std.specs.Prelude.{◌≡◌, ◌+◌, ◌<◌, ◌≤◌, IfOk, length};
+ghost use Rattle.kd_tree.specs.Shape.{levels, nodes, numbers};
+ghost use Rattle.kd_tree.specs.Contents.{contents};
+ghost use Rattle.kd_update.specs.Refresh.{AreAmong, IsRefresh};
+ghost use Rattle.kd_update.specs.Update.{KeepsEven};
+
+use crate::rebuild::rebuilt;
+use kd_tree::{Steps, Tree};
+use map_fold::NoMemory;
+use std::alloc::Global;
+use std::sync::ledger::Ledger;
+
+/// The tree, with room for one more point: where it has 512 levels or 4,194,304 nodes, what is left in it is built anew.
+/// Where memory is wanting, the tree is let go.
+pub fn roomy<L: Ledger>(alloc: Global, tree: Tree, steps: &mut Steps<L>) -> Result<Tree, NoMemory>
+    requires { length (contents tree) < 4194304 }
+    ensures contents { IfOk result (λ t. contents t ≡ contents tree) }
+    ensures numbers { IfOk result (λ t. AreAmong (numbers t) (numbers tree)) }
+    ensures balance { IfOk result (λ t. KeepsEven tree t) }
+    ensures refresh { IfOk result (λ t. IsRefresh tree t) }
+    ensures low { IfOk result (λ t. levels t < 512) }
+    ensures few { IfOk result (λ t. nodes t < 4194304) }
+    // Where there is room, nothing is built anew.
+    ensures unrebuilt { levels tree < 512 → nodes tree < 4194304 → IfOk result (λ t. t ≡ tree) }
+    ensures still { levels tree < 512 → nodes tree < 4194304 → steps.new ≡ steps.old }
+    // And else a node for each item at most, whatever the call answers.
+    ensures ticks { steps.new ≤ steps.old + length (contents tree) }
+{
+    if tree.levels() < 512 && tree.size() < 4_194_304 {
+        return Ok(tree);
+    }
+    rebuilt(alloc, tree, steps)
+}

@@ -1,0 +1,54 @@
+//! What is watched of a tree while updates cross it: the subtree at a path, and the operations that it has met.
+ghost use Rattle.std.specs.Prelude.{◌≡◌, ◌+◌, ◌<◌, ◌≤◌, [], ◌∷◌, ◌++◌, length, IfOk, OnOk, OnErr};
+ghost use Rattle.map_fold.specs.Ops.{Extends};
+ghost use Rattle.map_fold.specs.declared.op.Op.TheVariants.{Mark, Put};
+ghost use Rattle.kd_update.specs.Watch.{is_keep};
+
+use kd_tree::Path;
+use map_fold::{Label, NoMemory, Op, Tag};
+use op_logger::OpLog;
+use point_geom::{Cuboid, Point};
+
+/// A subtree that is watched: its path, and the operations on its own items that were met since the log was empty.
+#[derive(Debug, Drop)]
+pub struct Watch {
+    pub path: Path,
+    pub log: OpLog,
+}
+
+pub(crate) fn note_mark(log: &mut OpLog, within: Option<Cuboid>, tag: Tag) -> Result<(), NoMemory>
+    requires { length log.old < 65536 }
+    ensures logged { OnOk result (log.new ≡ log.old ++ Mark within tag ∷ []) }
+    ensures begins { Extends log.old log.new }
+    ensures few { length log.new ≤ length log.old + 1 }
+{
+    match log.push(Op::Mark { within, tag }) {
+        Ok(()) => Ok(()),
+        Err(_) => Err(NoMemory),
+    }
+}
+
+pub(crate) fn note_put(log: &mut OpLog, number: u32, point: Point) -> Result<(), NoMemory>
+    requires { length log.old < 65536 }
+    ensures logged { OnOk result (log.new ≡ log.old ++ Put number point ∷ []) }
+    ensures begins { Extends log.old log.new }
+    ensures few { length log.new ≤ length log.old + 1 }
+{
+    match log.push(Op::Put { number, point }) {
+        Ok(()) => Ok(()),
+        Err(_) => Err(NoMemory),
+    }
+}
+
+// Whether the action changes no label.
+pub(crate) fn is_keep(tag: Tag) -> bool
+    ensures { result ≡ is_keep tag }
+{
+    match tag.live {
+        Label::Live => match tag.suspended {
+            Label::Suspended => true,
+            Label::Live | Label::Dropped => false,
+        },
+        Label::Suspended | Label::Dropped => false,
+    }
+}

@@ -1,0 +1,70 @@
+//! A short list of watches.
+ghost use Rattle.std.specs.Prelude.{◌≡◌, ◌<◌, ◌≤◌, [], ◌∷◌, ◌++◌, length, OnOk, OnErr};
+
+use crate::Watch;
+use map_fold::NoMemory;
+use std::alloc::Global;
+use std::marker::Model;
+
+/// At most four watches, in order.
+#[derive(Debug, Drop)]
+pub struct Watches {
+    pub(crate) items: Vec<Watch>,
+}
+
+impl Model for Watches {
+    ghost use Rattle.std.specs.Prelude.{List, ◌≤◌, length};
+    ghost use Rattle.kd_update.specs.declared.watch.Watch.{Watch};
+
+    ghost Value = { List Watch };
+
+    ghost view = { λ w. w.items.items };
+
+    ghost invariant = { λ w. length w.items.items ≤ 4 };
+}
+
+impl Watches {
+    /// None, which takes no memory.
+    pub fn new(alloc: Global) -> Watches
+        ensures { result ≡ [] }
+    {
+        Watches {
+            items: Vec::new(alloc),
+        }
+    }
+
+    /// How many there are.
+    pub fn len(&self) -> u32
+        ensures value { result ≡ length self.now }
+        ensures few { result ≤ 4 }
+    {
+        self.items.len() as u32
+    }
+
+    /// All of them, in order.
+    pub fn as_slice(&self) -> &[Watch]
+        ensures value { result.now ≡ self.now }
+        ensures few { length result.now ≤ 4 }
+    {
+        self.items.as_slice()
+    }
+
+    /// Puts one more at the end. Where memory is wanting, that one is let go, and the others stay as they were.
+    pub fn push(&mut self, watch: Watch) -> Result<(), NoMemory>
+        requires { length self.old < 4 }
+        ensures ok { OnOk result (self.new ≡ self.old ++ watch ∷ []) }
+        ensures err { OnErr result (self.new ≡ self.old) }
+    {
+        self.items.reserve(1)?;
+        self.items.push_reserved(watch);
+        Ok(())
+    }
+
+    /// Their list.
+    pub fn into_vec(self) -> Vec<Watch>
+        ensures value { result.items ≡ self }
+        ensures few { length result.items ≤ 4 }
+    {
+        self.items
+    }
+}

@@ -1,0 +1,100 @@
+//! At most four paths at once: which of them end at a node, and which go on to a son.
+ghost use Rattle.std.specs.Prelude.{◌≡◌, ◌-◌, ◌≤◌, [], ◌∷◌, ◌++◌, length};
+ghost use Rattle.kd_tree.specs.Apart.{is_here, is_none_left, onward};
+ghost use Rattle.kd_update.specs.Watches.{paths_in};
+ghost use Rattle.kd_update.specs.Ways.{paths_of, way_of};
+
+use crate::Watch;
+use kd_tree::Side;
+
+// The sides that each of them still takes. A list would take memory at each node above the ends.
+#[derive(Clone, Copy)]
+pub(crate) struct Ways<'a> {
+    first: Option<&'a [Side]>,
+    second: Option<&'a [Side]>,
+    third: Option<&'a [Side]>,
+    fourth: Option<&'a [Side]>,
+}
+
+impl<'a> Ways<'a> {
+    // The paths of the watches.
+    pub(crate) fn of(watches: &'a [Watch]) -> Ways<'a>
+        requires { length watches.now ≤ 4 }
+        ensures { paths_of result ≡ paths_in watches.now }
+    {
+        let (first, rest) = next_way(watches);
+        let (second, rest) = next_way(rest);
+        let (third, rest) = next_way(rest);
+        let (fourth, _none) = next_way(rest);
+        Ways {
+            first,
+            second,
+            third,
+            fourth,
+        }
+    }
+
+    pub(crate) fn is_empty(&self) -> bool
+        ensures { result ≡ is_none_left (paths_of self.now) }
+    {
+        self.first.is_none()
+            && self.second.is_none()
+            && self.third.is_none()
+            && self.fourth.is_none()
+    }
+
+    // Whether one of them ends here.
+    pub(crate) fn is_here(&self) -> bool
+        ensures { result ≡ is_here (paths_of self.now) }
+    {
+        ends(self.first) || ends(self.second) || ends(self.third) || ends(self.fourth)
+    }
+
+    // Those that go on to this side, from there.
+    pub(crate) fn onward(&self, side: Side) -> Ways<'a>
+        ensures { paths_of result ≡ onward side (paths_of self.now) }
+    {
+        Ways {
+            first: below(self.first, side),
+            second: below(self.second, side),
+            third: below(self.third, side),
+            fourth: below(self.fourth, side),
+        }
+    }
+}
+
+// The path of the first watch, if there is one, and the other watches.
+fn next_way<'a>(watches: &'a [Watch]) -> (Option<&'a [Side]>, &'a [Watch])
+    ensures paths { paths_in watches.now ≡ way_of result.0 ++ paths_in result.1.now }
+    ensures length { length result.1.now ≡ length watches.now - 1 }
+{
+    match watches.split_first() {
+        None => (None, watches),
+        Some((watch, rest)) => (Some(watch.path.as_slice()), rest),
+    }
+}
+
+fn ends(way: Option<&[Side]>) -> bool
+    ensures { result ≡ is_here (way_of way.entry) }
+{
+    match way {
+        None => false,
+        Some(sides) => sides.is_empty(),
+    }
+}
+
+fn below<'a>(way: Option<&'a [Side]>, side: Side) -> Option<&'a [Side]>
+    ensures { way_of result ≡ onward side (way_of way.entry) }
+{
+    let (first, rest) = way?.split_first()?;
+    match first {
+        Side::Left => match side {
+            Side::Left => Some(rest),
+            Side::Right => None,
+        },
+        Side::Right => match side {
+            Side::Left => None,
+            Side::Right => Some(rest),
+        },
+    }
+}

@@ -1,0 +1,21 @@
+//! Why an operation isn't taken.
+use std::alloc::AllocError;
+
+/// Why an operation isn't taken.
+#[derive(Clone, Copy, Debug, PartialEq, Eq)]
+pub enum PushFault {
+    /// As many are held as there may be.
+    Full,
+    NoMemory,
+}
+
+impl From<AllocError> for PushFault {
+    ghost use Rattle.std.specs.Prelude.{◌≡◌};
+    ghost use Rattle.op_logger.specs.declared.fault.PushFault.TheVariants.{NoMemory};
+
+    ghost from_gives = { λ error fault. fault ≡ NoMemory };
+
+    fn from(_error: AllocError) -> PushFault {
+        PushFault::NoMemory
+    }
+}

@@ -1,0 +1,10 @@
+//! A bounded list of operations: what a subtree met while it was being built anew elsewhere.
+#![tactic(auto)]
+
+mod fault;
+mod log;
+#[cfg(test)]
+mod tests;
+
+pub use fault::PushFault;
+pub use log::OpLog;
