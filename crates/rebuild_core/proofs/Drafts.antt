@@ -1,0 +1,91 @@
+-- Trees on which an update is at work.
+use Rattle.std.proofs.Common.{◌≡◌, ℕ, ◌+◌, ◌*◌, ◌<◌, ◌≤◌, List, [], ◌∷◌, ◌∙◌, length, drop, arith, refl, ap, sym, subst, Some}
+use Rattle.std.specs.Prelude.{All, Contains, IfOk}
+use Rattle.std.specs.declared.result.Result.{Result}
+use Rattle.std.specs.declared.result.Result.TheVariants.{Ok, Err}
+use Rattle.std.proofs.lemmas.List.Elements.{All-contains, All-contains_itself, All-weaker}
+use Rattle.node_labels.specs.Labels.{keep_tag}
+use Rattle.node_labels.specs.declared.tag.Tag.{Tag}
+use Rattle.point_geom.specs.Place.{Place, Bounds}
+use Rattle.map_fold.specs.declared.memory.NoMemory.{NoMemory}
+use Rattle.map_fold.specs.declared.op.Op.{Op}
+use Rattle.map_fold.specs.declared.op.Op.TheVariants.{Mark, Put}
+use Rattle.map_fold.specs.declared.update.Update.TheVariants.{Add}
+use Rattle.kd_tree.specs.Shape.{Shape, numbers}
+use Rattle.kd_tree.specs.Walk.{times}
+use Rattle.kd_tree.specs.Sound.{IsSound}
+use Rattle.kd_tree.specs.Contents.{contents}
+use Rattle.kd_update.specs.Refresh.{AreAmong}
+use Rattle.kd_update.specs.Update.{IsEven, KeepsEven}
+use Rattle.kd_update.proofs.Numbers.{below_next, left_few, unheld}
+use Rattle.rebuild_core.specs.Draft.{IsDraft}
+use Rattle.rebuild_core.specs.Single.{IsQuiet, entered_nodes, only_mark, only_op, unrebuilt}
+
+-- the next number isn't held
+pub draft_free : (large next : ℕ) (t : Shape) → IsDraft large next t → times next keep_tag t ≡ 0
+draft_free large next t d = unheld next t (λ n k. All-contains (λ m. m < next) (numbers t) n d.below k)
+
+-- no more is held than numbers were given
+pub draft_few : (large next : ℕ) (t : Shape) → IsSound t → IsDraft large next t → length (contents t) ≤ next
+draft_few large next t sound d = left_few next t sound (λ n k. All-contains (λ m. m < next) (numbers t) n d.below k)
+
+all_among : (P : ℕ → Type 0) (ns ms : List ℕ) → AreAmong ns ms → All P ms → All P ns
+all_among P ns ms f k = All-weaker (λ n. Contains ns n) P (λ n c. All-contains P ms n k (f n c)) ns (All-contains_itself ns)
+
+-- numbers that are among those of before lie below the next too
+pub among_below : (next : ℕ) (ns ms : List ℕ) → AreAmong ns ms → All (λ n. n < next) ms → All (λ n. n < next) ns
+among_below next ns ms f k = all_among (λ n. n < next) ns ms f k
+
+-- and after the next was put they lie below the one after it
+pub put_below_next : (next : ℕ) (ns ms : List ℕ) → AreAmong ns (next ∷ ms) → All (λ n. n < next) ms → All (λ n. n < next + 1) ns
+put_below_next next ns ms f k =
+    All-weaker (λ n. Contains ns n) (λ n. n < next + 1) (λ n c. below_next next ms ns f (λ m q. All-contains (λ m. m < next) ms m k q) n c) ns (All-contains_itself ns)
+
+-- room that is made keeps a draft
+pub roomy_draft : (large next : ℕ) (s t : Shape) → IsDraft large next s → AreAmong (numbers t) (numbers s) → KeepsEven s t → IsDraft large next t
+roomy_draft large next s t d ns even = record { below = among_below next (numbers t) (numbers s) ns d.below; even = even large d.even }
+
+-- and so does the next number that is put
+pub put_draft : (large next : ℕ) (s : Shape) (r : Result Shape NoMemory) → IsDraft large next s → IfOk r (λ t. AreAmong (numbers t) (next ∷ numbers s)) → IfOk r (λ t. IsEven large t) → IfOk r (λ t. IsDraft large (next + 1) t)
+put_draft large next s (Ok t) d ns even = record { below = put_below_next next (numbers t) (numbers s) ns d.below; even = even }
+put_draft large next s (Err e) d ns even = tt
+
+-- the list of an update of one operation has one item, which the operation is of
+pub only_put : (next : ℕ) (ps rest : List Place) (p : Place) (op : Op) → ps ≡ p ∷ rest → only_op next (Add ps) ≡ Some op → (Put next p ≡ op)
+only_put next [] rest p op e o = absurd cc
+only_put next (q ∷ []) rest p op e o = cc
+only_put next (q ∷ r ∷ ps) rest p op e o = absurd cc
+
+pub only_point : (next : ℕ) (ps : List Place) (op : Op) → only_op next (Add ps) ≡ Some op → length ps ≡ 1
+only_point next [] op o = absurd cc
+only_point next (q ∷ []) op o = refl
+only_point next (q ∷ r ∷ ps) op o = absurd cc
+
+pub only_marked : (a : Tag) (cs rest : List Bounds) (c : Bounds) (op : Op) → cs ≡ c ∷ rest → only_mark a cs ≡ Some op → (Mark (Some c) a ≡ op)
+only_marked a [] rest c op e o = absurd cc
+only_marked a (d ∷ []) rest c op e o = cc
+only_marked a (d ∷ f ∷ cs) rest c op e o = absurd cc
+
+pub only_box : (a : Tag) (cs : List Bounds) (op : Op) → only_mark a cs ≡ Some op → length cs ≡ 1
+only_box a [] op o = absurd cc
+only_box a (d ∷ []) op o = refl
+only_box a (d ∷ f ∷ cs) op o = absurd cc
+
+-- the first of the points, or of the boxes, is the operation's
+pub first_point : (next n i : ℕ) (ps : List Place) (p : Place) (op : Op) → drop i ps ≡ p ∷ drop (i + 1) ps → i ≡ 0 → n ≡ next → only_op next (Add ps) ≡ Some op → Put n p ≡ op
+first_point next n i ps p op cut none same only = ap (λ k. Put k p) same ∙ only_put next ps (drop (i + 1) ps) p op (sym (ap (λ k. drop k ps) none) ∙ cut) only
+
+pub first_box : (a : Tag) (i : ℕ) (cs : List Bounds) (c : Bounds) (op : Op) → drop i cs ≡ c ∷ drop (i + 1) cs → i ≡ 0 → only_mark a cs ≡ Some op → Mark (Some c) a ≡ op
+first_box a i cs c op cut none only = only_marked a cs (drop (i + 1) cs) c op (sym (ap (λ k. drop k cs) none) ∙ cut) only
+
+-- what is promised of an operation that builds nothing anew, said of equal values
+pub quiet_shape : (large : ℕ) (o op : Op) (t s new : Shape) → o ≡ op → t ≡ s → (IsQuiet large o t → new ≡ unrebuilt o t) → IsQuiet large op s → new ≡ unrebuilt op s
+quiet_shape large o op t s new e f k =
+    let first : IsQuiet large op t → new ≡ unrebuilt op t = subst (λ (x : Op). IsQuiet large x t → new ≡ unrebuilt x t) e k in
+    subst (λ (x : Shape). IsQuiet large op x → new ≡ unrebuilt op x) f first
+
+pub quiet_ticks : (large : ℕ) (o op : Op) (t s : Shape) (m n new : ℕ) → o ≡ op → t ≡ s → m ≡ n → (IsQuiet large o t → new ≤ m + (5 * entered_nodes o t + 1)) → IsQuiet large op s → new ≤ n + (5 * entered_nodes op s + 1)
+quiet_ticks large o op t s m n new e f same k =
+    let first : IsQuiet large op t → new ≤ m + (5 * entered_nodes op t + 1) = subst (λ (x : Op). IsQuiet large x t → new ≤ m + (5 * entered_nodes x t + 1)) e k in
+    let second : IsQuiet large op s → new ≤ m + (5 * entered_nodes op s + 1) = subst (λ (x : Shape). IsQuiet large op x → new ≤ m + (5 * entered_nodes op x + 1)) f first in
+    λ quiet. let h = second quiet in omega (arith, h, same)

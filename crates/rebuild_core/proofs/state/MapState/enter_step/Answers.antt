@@ -1,0 +1,7 @@
+use Rattle.std.proofs.Common.{ap}
+use Rattle.rebuild_core.specs.Lawful.{Stored}
+use Rattle.rebuild_core.proofs.Plans.{next_of}
+use Rattle.rebuild_core.proofs.state.MapState.enter_step.Goals as goal
+
+pub list-requires-clause-next : goal.list-requires-clause-next
+list-requires-clause-next c = next_of _ _ _ _ c.planned.view_is (ap (λ (x : Stored). x.state) c.self.view_is) c.requires.lawful

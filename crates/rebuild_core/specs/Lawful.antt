@@ -1,0 +1,64 @@
+-- When the state of a map is lawful.
+use Rattle.std.specs.Prelude.{◌≡◌, ℕ, ◌<◌, ◌≤◌, List, [], length, All}
+use Rattle.map_fold.specs.Sizes.{Sizes, AreSizes}
+use Rattle.map_fold.specs.Fold.{MapAt, fold}
+use Rattle.kd_tree.specs.Shape.{Shape, leaf, numbers}
+use Rattle.kd_tree.specs.Sound.{IsSound}
+use Rattle.kd_tree.specs.Contents.{contents}
+use Rattle.kd_update.specs.Several.{IsEvenClear}
+use Rattle.map_fold.specs.declared.entry.Entry.{Entry}
+use Rattle.rebuild_core.specs.History.{AreEntries, updates}
+use Rattle.rebuild_core.specs.Parts.{AreLawfulParts, PartAt, paths}
+
+-- what queries see: a tree, how many points were submitted, and how many entries the history had
+pub record VersionAt : Type 0 where
+  pub tree : Shape
+  pub next : ℕ
+  pub len : ℕ
+
+-- the state of a map: the parts are in the order of their slots, and last is the last ticket that was given
+pub record StateAt : Type 0 where
+  pub settings : Sizes
+  pub tree : Shape
+  pub next : ℕ
+  pub history : List Entry
+  pub parts : List PartAt
+  pub last : ℕ
+  pub version : VersionAt
+
+-- a state, and for how many more entries its history has room
+pub record Stored : Type 0 where
+  pub state : StateAt
+  pub spare : ℕ
+
+-- a tree, and how many points were submitted, as a map
+abbrev pub map_of : Shape → ℕ → MapAt
+map_of t next = record { items = contents t; next = next }
+
+pub record IsLawful (s : StateAt) : Type 0 where
+  pub sizes : AreSizes s.settings
+  pub sound : IsSound s.tree
+  -- it holds the fold of its history, and the next number is how many points the history submitted
+  pub folded : map_of s.tree s.next ≡ fold s.settings.voxel (updates s.history)
+  pub few : s.next ≤ 4194304
+  pub below : All (λ n. n < s.next) (numbers s.tree)
+  pub short : length s.history ≤ 1048576
+  pub entries : AreEntries [] s.history
+  pub parts : AreLawfulParts s.settings.large s.next s.last s.tree s.parts
+  -- outside the parts
+  pub even : IsEvenClear s.settings.large (paths s.parts) s.tree
+  pub shown : contents s.version.tree ≡ contents s.tree
+  pub shown_next : s.version.next ≡ s.next
+  pub shown_len : s.version.len ≡ length s.history
+
+-- nothing was submitted
+abbrev pub new_state : Sizes → StateAt
+new_state settings = record {
+  settings = settings;
+  tree = leaf;
+  next = 0;
+  history = [];
+  parts = [];
+  last = 0;
+  version = record { tree = leaf; next = 0; len = 0 };
+}

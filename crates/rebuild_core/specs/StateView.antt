@@ -1,0 +1,23 @@
+-- What contracts see of a state.
+use Rattle.std.specs.Prelude.{◌≡◌, ℕ, ◌+◌, ◌-◌, ◌<◌, List, [], length, slice_index_or, Option, Some, None}
+use Rattle.map_fold.specs.declared.entry.Entry.{Entry}
+use Rattle.rebuild_core.specs.declared.state.MapState.TheInside.{Inside}
+use Rattle.rebuild_core.specs.History.{Follows, entries_of}
+use Rattle.rebuild_core.specs.Lawful.{StateAt}
+
+-- nothing is ever detached, and no ticket given
+abbrev pub state_of : Inside → StateAt
+state_of s = record { settings = s.settings; tree = s.tree; next = s.next; history = s.history.items; parts = []; last = 0; version = s.version.value }
+
+abbrev pub spare_of : Inside → ℕ
+spare_of s = s.history.cap - length s.history.items
+
+-- each caller's number of entries, the first caller's first
+pub record AreMade (made : List ℕ) (history : List Entry) : Type 0 where
+  pub all : length made ≡ 8
+  pub each : (i d : ℕ) → i < 8 → slice_index_or made i d ≡ entries_of (i + 1) history
+
+-- the entry, if there is one, may follow these, of which there are few enough
+abbrev pub IsNextOf : List Entry → Option Entry → Type 0
+IsNextOf before None = Unit {0}
+IsNextOf before (Some e) = Follows before e × (length before < 1048576)

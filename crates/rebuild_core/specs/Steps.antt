@@ -1,0 +1,79 @@
+-- What steps make of a state.
+use Rattle.std.specs.Prelude.{◌≡◌, ℕ, ◌+◌, ◌<◌, ◌≤◌, List, [], ◌∷◌, ◌++◌, length, Option, Some, None}
+use Rattle.map_fold.specs.Fold.{step, points_in}
+use Rattle.map_fold.specs.declared.op.Op.{Op}
+use Rattle.map_fold.specs.declared.update.Update.{Update}
+use Rattle.kd_tree.specs.Shape.{Shape}
+use Rattle.kd_tree.specs.Contents.{contents}
+use Rattle.kd_tree.specs.Criteria.{IsCalm}
+use Rattle.map_fold.specs.declared.entry.Entry.{Entry}
+use Rattle.rebuild_core.specs.declared.fault.StateFault.{StateFault}
+use Rattle.rebuild_core.specs.declared.fault.StateFault.TheVariants.{TooManyUpdates, TooManyPoints, NoMemory}
+use Rattle.rebuild_core.specs.History.{entry_by}
+use Rattle.rebuild_core.specs.Lawful.{IsLawful, StateAt, VersionAt, map_of}
+use Rattle.rebuild_core.specs.Parts.{LogPlan, planned_parts}
+use Rattle.rebuild_core.specs.Single.{IsQuiet, only_op}
+
+-- what a step stores
+pub record PlannedAt : Type 0 where
+  pub tree : Shape
+  pub next : ℕ
+  pub version : VersionAt
+  pub entry : Option Entry
+  pub logs : List LogPlan
+
+abbrev pub listed : Option Entry → List Entry
+listed None = []
+listed (Some e) = e ∷ []
+
+-- the state with what was planned put in
+abbrev pub entered : PlannedAt → StateAt → StateAt
+entered p s = record s { tree = p.tree; next = p.next; version = p.version; history = s.history ++ listed p.entry; parts = planned_parts p.logs s.parts }
+
+-- there is room for one more update, and for its points
+pub record HasRoom (u : Update) (s : StateAt) : Type 0 where
+  pub updates : length s.history < 1048576
+  pub points : s.next + points_in u ≤ 4194304
+
+-- why an update is refused
+abbrev pub IsFault : Update → StateAt → StateFault → Type 0
+IsFault u s (TooManyUpdates len) = (length s.history ≡ 1048576) × (len ≡ length s.history)
+IsFault u s (TooManyPoints next asked) = (length s.history < 1048576) × (4194304 < s.next + points_in u) × (next ≡ s.next) × (asked ≡ points_in u)
+IsFault u s NoMemory = HasRoom u s
+
+-- the plan is that of this caller's update
+pub record IsUpdatePlan (caller : ℕ) (u : Update) (s : StateAt) (p : PlannedAt) : Type 0 where
+  pub lawful : IsLawful (entered p s)
+  pub stepped : map_of p.tree p.next ≡ step s.settings.voxel u (map_of s.tree s.next)
+  pub entry : p.entry ≡ Some (entry_by caller u s.history)
+
+-- the second state is the first after this caller's update
+pub record IsUpdateStep (caller : ℕ) (u : Update) (s t : StateAt) : Type 0 where
+  pub settings : t.settings ≡ s.settings
+  pub stepped : map_of t.tree t.next ≡ step s.settings.voxel u (map_of s.tree s.next)
+  pub history : t.history ≡ s.history ++ entry_by caller u s.history ∷ []
+  pub last : t.last ≡ s.last
+
+-- the update is this one operation, and builds nothing anew
+pub record IsQuietUpdate (u : Update) (op : Op) (s : StateAt) : Type 0 where
+  pub only : only_op s.next u ≡ Some op
+  pub quiet : IsQuiet s.settings.large op s.tree
+
+-- The plan leaves no node from 10 nodes on that breaches a criterion, no part, and what the map holds.
+pub record IsSettlePlan (s : StateAt) (p : PlannedAt) : Type 0 where
+  pub lawful : IsLawful (entered p s)
+  pub held : contents p.tree ≡ contents s.tree
+  pub next : p.next ≡ s.next
+  pub none : p.entry ≡ None
+  pub parts : planned_parts p.logs s.parts ≡ []
+  pub calm : IsCalm 10 p.tree
+
+-- the second state is the first, settled
+pub record IsSettleStep (s t : StateAt) : Type 0 where
+  pub settings : t.settings ≡ s.settings
+  pub held : contents t.tree ≡ contents s.tree
+  pub next : t.next ≡ s.next
+  pub history : t.history ≡ s.history
+  pub parts : t.parts ≡ []
+  pub last : t.last ≡ s.last
+  pub calm : IsCalm 10 t.tree

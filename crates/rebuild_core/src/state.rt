@@ -1,0 +1,93 @@
+//! The state of a map.
+ghost use Rattle.std.specs.Prelude.{◌≡◌, IfOk};
+ghost use Rattle.rebuild_core.specs.Lawful.{IsLawful, new_state};
+
+use crate::Version;
+use kd_tree::Tree;
+use map_fold::{Entry, NoMemory, Settings};
+use std::alloc::Global;
+use std::marker::Model;
+use std::sync::Arc;
+
+/// The state of a map. Whatever steps it takes, it holds the fold of its history, and its version shows that.
+#[derive(Debug, Drop)]
+pub struct MapState {
+    pub(crate) settings: Settings,
+    pub(crate) tree: Tree,
+    pub(crate) next: u32,
+    pub(crate) history: Vec<Entry>,
+    pub(crate) version: Arc<Version>,
+    // How many entries each caller has, the first caller's first, so that no step reads the history.
+    pub(crate) made: [u32; 8],
+}
+
+impl Model for MapState {
+    ghost use Rattle.rebuild_core.specs.Lawful.{IsLawful, Stored};
+    ghost use Rattle.rebuild_core.specs.StateView.{AreMade, spare_of, state_of};
+
+    ghost Value = { Stored };
+
+    ghost use Rattle.std.specs.Coded.{codes};
+    ghost use Rattle.kd_tree.specs.ShapeCode.{coded_shape};
+
+    ghost coded = { Prim.hlevel (codes, coded_shape) };
+
+    ghost view = { λ s. record { state = state_of s; spare = spare_of s } };
+
+    ghost invariant = { λ s. IsLawful (state_of s) × AreMade s.made s.history.items };
+}
+
+impl MapState {
+    /// The state of a map that holds nothing.
+    pub fn new(alloc: Global, settings: Settings) -> Result<MapState, NoMemory>
+        ensures { IfOk result (λ s. s.state ≡ new_state settings) }
+    {
+        let version = Version::empty(alloc)?;
+        let _sizes = settings.large();
+        Ok(MapState {
+            settings,
+            tree: Tree::empty(),
+            next: 0,
+            history: Vec::new(alloc),
+            version,
+            made: [0; 8],
+        })
+    }
+
+    /// What queries see.
+    pub fn version(&self) -> &Arc<Version>
+        ensures { result.now.value ≡ self.now.state.version }
+    {
+        &self.version
+    }
+
+    /// All updates, in order.
+    pub fn history(&self) -> &[Entry]
+        ensures value { result.now ≡ self.now.state.history }
+        ensures lawful { IsLawful self.now.state }
+    {
+        self.history.as_slice()
+    }
+
+    /// How many points were submitted, which is the number of the next one.
+    pub fn next(&self) -> u32
+        ensures { result ≡ self.now.state.next }
+    {
+        self.next
+    }
+
+    /// The settings that it was made with.
+    pub fn settings(&self) -> &Settings
+        ensures { result.now ≡ self.now.state.settings }
+    {
+        &self.settings
+    }
+}
+
+fn share<T: Send + Sync>(_x: &T) {}
+
+// States and versions may be sent to other threads and read by several at once.
+fn _shares(state: &MapState, version: &Arc<Version>) {
+    share(state);
+    share(version);
+}
