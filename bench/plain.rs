@@ -1,5 +1,5 @@
-// A straightforward incremental k-d tree in plain Rust, for comparison with map_bench: the same points, the same work and
-// the same checksums. Build with `rustc -O`. Words: `search N` or `update N`.
+// A straightforward incremental k-d tree in plain Rust, to be measured beside map_bench: the same words, points, works and
+// checksums. Build with `rustc -O`. It is changed in place and holds no versions, so `held` is here the work of `scans`.
 use std::env;
 use std::time::Instant;
 
@@ -207,6 +207,14 @@ struct Hit {
     number: u32,
 }
 
+fn live(node: &Node, owed: [u8; 2]) -> u32 {
+    counts_after(node.counts, owed)[LIVE as usize]
+}
+
+fn live_of(tree: &Tree) -> u32 {
+    tree.as_ref().map_or(0, |node| live(node, KEEP))
+}
+
 fn dist2(a: &[i64; 3], b: &[i64; 3]) -> u64 {
     (0..3).map(|i| a[i].abs_diff(b[i]).pow(2)).sum()
 }
@@ -217,7 +225,7 @@ fn reach(node: &Node, q: &[i64; 3]) -> u64 {
 
 fn near(tree: &Tree, owed: [u8; 2], k: usize, q: &[i64; 3], hits: &mut Vec<Hit>) {
     let Some(node) = tree else { return };
-    if hits.len() == k && reach(node, q) > hits[k - 1].dist2 {
+    if live(node, owed) == 0 || (hits.len() == k && reach(node, q) > hits[k - 1].dist2) {
         return;
     }
     if apply(owed, node.item.label) == LIVE {
@@ -252,50 +260,107 @@ impl Draws {
         let (a, b, c) = (self.draw(), self.draw(), self.draw());
         [1000 * scan as i64 + a % 60001 - 30000, b % 60001 - 30000, c % 6001 - 3000]
     }
+
+    fn points(&mut self, count: u32) -> Vec<[i64; 3]> {
+        (0..count).map(|number| self.point(number / POINTS_OF_SCAN)).collect()
+    }
+
+    // In turn from all over what scans of so many points saw.
+    fn places(&mut self, count: u32, points: u32) -> Vec<[i64; 3]> {
+        let scans = (points / POINTS_OF_SCAN).max(1);
+        (0..count).map(|place| self.point(place % scans)).collect()
+    }
 }
 
-fn ask(tree: &Tree, queries: u32, scans: u32, draws: &mut Draws) -> u64 {
-    let mut sum = 0u64;
-    let mut hits = Vec::with_capacity(5);
-    for j in 0..queries {
-        let q = draws.point(j % scans);
-        hits.clear();
-        near(tree, KEEP, 5, &q, &mut hits);
-        for hit in &hits {
-            sum = sum.wrapping_mul(31).wrapping_add(hit.number as u64).wrapping_add(hit.dist2);
+const POINTS_OF_SCAN: u32 = 2_000;
+
+// As in map_bench: the update itself builds anew whatever lost its balance.
+const LARGE: u32 = 1_000_000;
+
+fn with(sum: u64, number: u32, dist2: u64) -> u64 {
+    sum.wrapping_mul(31).wrapping_add(number as u64).wrapping_add(dist2)
+}
+
+fn numbered(points: &[[i64; 3]]) -> Vec<Item> {
+    (0..).zip(points).map(|(number, &point)| Item { number, point, label: LIVE }).collect()
+}
+
+struct Map {
+    tree: Tree,
+    next: u32,
+    sum: u64,
+}
+
+impl Map {
+    fn ask(&mut self, places: &[[i64; 3]]) {
+        let mut hits = Vec::with_capacity(5);
+        for q in places {
+            hits.clear();
+            near(&self.tree, KEEP, 5, q, &mut hits);
+            for hit in &hits {
+                self.sum = with(self.sum, hit.number, hit.dist2);
+            }
         }
     }
-    sum
+
+    fn delete(&mut self, cuboid: &Cuboid) {
+        self.tree = mark(self.tree.take(), LARGE, cuboid, DELETE);
+    }
+
+    fn add(&mut self, points: &[[i64; 3]]) {
+        for point in points {
+            self.tree = put(self.tree.take(), LARGE, self.next, *point, 0);
+            self.next += 1;
+        }
+    }
+
+    // Takes the scans in, after something that is done with each scan's points. After each tenth scan what lies from 30
+    // to 60 metres behind the robot is deleted.
+    fn grow(&mut self, points: &[[i64; 3]], before: impl Fn(&mut Map, &[[i64; 3]])) {
+        for (scan, points) in points.chunks(POINTS_OF_SCAN as usize).enumerate() {
+            before(self, points);
+            self.add(points);
+            if scan % 10 == 9 {
+                let x = 1000 * scan as i64;
+                self.delete(&[[x - 60000, -30000, -3000], [x - 30000, 30001, 3001]]);
+            }
+        }
+    }
+
+    // The checksum of all that is held, by number.
+    fn finish(mut self) -> u64 {
+        let mut items = Vec::new();
+        flatten(self.tree.take(), KEEP, &mut items);
+        items.sort_unstable_by_key(|item| item.number);
+        items.iter().fold(self.sum, |sum, item| with(sum, item.number, dist2(&[0; 3], &item.point)))
+    }
 }
 
 fn main() {
     let words: Vec<String> = env::args().skip(1).collect();
     let count: u32 = words[1].parse().unwrap();
-    let queries: u32 = words[2].parse().unwrap();
-    let scans = (count / 2000).max(1);
+    let asked: u32 = words[2].parse().unwrap();
     let mut draws = Draws(1);
-    let mut tree = None;
-    let begun = Instant::now();
-    if words[0] == "search" {
-        let mut items: Vec<Item> = (0..count)
-            .map(|number| Item { number, point: draws.point(number / 2000), label: LIVE })
-            .collect();
-        let begun = Instant::now();
-        tree = build(&mut items);
-        eprintln!("build {} us", begun.elapsed().as_micros());
-    } else {
-        for number in 0..count {
-            let scan = number / 2000;
-            tree = put(tree, 1_000_000, number, draws.point(scan), 0);
-            if number % 20_000 == 19_999 {
-                let x = 1000 * scan as i64;
-                tree = mark(tree, 1_000_000, &[[x - 60000, -30000, -3000], [x - 30000, 30001, 3001]], DELETE);
-            }
-        }
-        eprintln!("update {} us", begun.elapsed().as_micros());
+    let points = draws.points(count);
+    let places = draws.places(asked, count);
+    let cubes: Vec<Cuboid> = places.iter().map(|lo| [*lo, lo.map(|c| c + 1000)]).collect();
+    let mut items = numbered(&points);
+    let mut map = Map { tree: None, next: 0, sum: 0 };
+    match words[0].as_str() {
+        "ask" | "box" => map.tree = build(&mut items),
+        "after" => map.grow(&points, |_, _| ()),
+        _ => (),
     }
     let begun = Instant::now();
-    let sum = ask(&tree, queries, scans, &mut draws);
-    eprintln!("ask {} us", begun.elapsed().as_micros());
-    println!("{} {} points {} queries sum {}", words[0], count, queries, sum);
+    match words[0].as_str() {
+        "build" => map.tree = build(&mut items),
+        "ask" | "after" => map.ask(&places),
+        "scans" => map.grow(&points, |_, _| ()),
+        "held" => map.grow(&points, |map, _| map.sum = with(map.sum, live_of(&map.tree), 0)),
+        "turn" => map.grow(&points, |map, points| map.ask(points)),
+        "box" => cubes.iter().for_each(|cube| map.delete(cube)),
+        _ => panic!("no such work"),
+    }
+    eprintln!("{}", begun.elapsed().as_micros());
+    println!("{} {} {} sum {}", words[0], count, asked, map.finish());
 }

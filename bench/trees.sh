@@ -1,40 +1,62 @@
 #!/usr/bin/env bash
-# Runs map_bench beside the plain Rust tree of plain.rs, and prints the best times of three runs and their ratio.
+# How fast trees are built, asked and changed, beside the tree of plain.rs in plain Rust.
 #
-#   bench/trees.sh search|update [PROGRAM]
+#   bench/trees.sh [PROGRAM]
 #
-# Both get the same points, do the same work, and have to print the same checksum. Needs rustc; writes only to a folder
-# that it removes.
+# Both programs get the same points, do the same works in turn, three times each, and have to print the same checksums; the
+# least times and their ratio are printed. SIZES='10000' takes other numbers of points. Needs bash 5 and rustc, and writes
+# only to a folder that it removes.
 set -euo pipefail
 
-work=$1
 here=$(dirname "$0")
-program=$(realpath "${2:-$here/../crates/map_bench/out/map_bench}")
+program=$(realpath "${1:-$here/../crates/map_bench/out/map_bench}")
 folder=$(mktemp -d)
 trap 'rm -rf "$folder"' EXIT
 rustc --edition 2021 -O -o "$folder/plain" "$here/plain.rs"
 
-case $work in
-search) first=build; sizes='10000 100000 1000000' ;;
-update) first=update; sizes='100000 1000000' ;;
-*) echo 'usage: bench/trees.sh search|update [PROGRAM]' >&2; exit 2 ;;
-esac
-
-# The best microseconds of three runs for both lines that a program prints: best PROGRAM POINTS
-best() {
+# Runs both programs: run_both WORK POINTS ASKED
+run_both() {
     for _ in 1 2 3; do
-        "$1" "$work" "$2" 100000 2>&1 >>"$folder/sums" | awk '{ print $2 }' | paste -sd' '
-    done | awk 'NR == 1 { a = $1; b = $2 } { if ($1 < a) a = $1; if ($2 < b) b = $2 } END { print a, b }'
+        "$program" "$@" >>"$folder/sums" 2>>"$folder/ours"
+        "$folder/plain" "$@" >>"$folder/sums" 2>>"$folder/theirs"
+    done
+    [ "$(sort -u "$folder/sums" | wc -l)" = 1 ] || { echo "the checksums of $* differ" >&2; exit 1; }
 }
 
-printf '%8s %12s %12s %6s %14s %14s %6s\n' points "$first ms" 'plain ms' ratio '100k asks ms' 'plain ms' ratio
-for size in $sizes; do
-    : >"$folder/sums"
-    ours=$(best "$program" "$size")
-    plain=$(best "$folder/plain" "$size")
-    [ "$(sort -u "$folder/sums" | wc -l)" = 1 ] || { echo "the checksums differ at $size points" >&2; exit 1; }
-    awk -v n="$size" -v ours="$ours" -v plain="$plain" 'BEGIN {
-        split(ours, a, " "); split(plain, b, " ")
-        printf "%8d %12.1f %12.1f %6.2f %14.1f %14.1f %6.2f\n", n, a[1] / 1000, b[1] / 1000, a[1] / b[1], a[2] / 1000, b[2] / 1000, a[2] / b[2]
-    }'
-done
+# Prints the least of each one's microseconds in a unit of so many: print_row NAME POINTS UNIT
+print_row() {
+    awk -v name="$1" -v points="$2" -v unit="$3" -v ours="$(sort -n "$folder/ours" | head -n 1)" \
+        -v plain="$(sort -n "$folder/theirs" | head -n 1)" \
+        'BEGIN { printf "%-16s %8d %10.2f %10.2f %6.2f\n", name, points, ours / unit, plain / unit, ours / plain }'
+}
+
+# One row: measure WORK ASKED UNIT NAME
+measure() {
+    for points in ${SIZES:-10000 100000 1000000}; do
+        rm -f "$folder"/{sums,ours,theirs}
+        run_both "$1" "$points" "$2"
+        print_row "$4" "$points" "$3"
+    done
+}
+
+printf '%-16s %8s %10s %10s %6s\n' work points ours plain ratio
+measure build 0 1000 'build, ms'
+measure ask 100000 100000 'ask, us each'
+measure after 100000 100000 'after, us each'
+measure scans 0 1000 'scans, ms'
+measure held 0 1000 'held, ms'
+measure turn 0 1000 'turn, ms'
+measure box 10000 10000 'box, us each'
+cat <<'LEGEND'
+
+build   a tree is built by medians
+ask     that tree is asked for the 5 nearest, 100,000 times
+after   a tree that grew as by scans is asked, all over the places that the scans saw
+scans   points are added in scans of 2,000, and each tenth time the slab that was left is deleted
+held    the same, while the version before each scan is held. The plain tree holds no versions: its work is that of scans
+turn    as scans, and before a scan is added each of its points is asked for its 5 nearest
+box     cubes of a metre are deleted from a tree that was built, 10,000 times
+
+Both build subtrees below 1,000,000 nodes anew in place, and leave out subtrees without a live item when they search.
+The plain tree has 8 bytes a coordinate.
+LEGEND

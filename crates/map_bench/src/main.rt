@@ -1,23 +1,33 @@
-//! How long trees take to be built, changed and asked, on generated points.
+//! How long trees take to be built, asked and changed, on generated points.
 //!
-//! Words: `search N Q` builds a tree of N points and asks Q queries of 5 nearest; `update N Q` adds N points one by one,
-//! deletes a leaving slab after every ten scans, and asks. The checksum of the answers goes to standard output, the times to
-//! standard error.
+//! Words: `WORK N Q`, where N is how many points there are, and the work one of
+//! - `build`: a tree is built of them;
+//! - `ask`: that tree is asked Q times for the 5 nearest;
+//! - `after`: a tree that grew as by `scans` is asked;
+//! - `scans`: a tree grows by scans of 2,000 points, and after each tenth the slab that is left is deleted;
+//! - `held`: the same, while the version before each scan is held until the scan is done;
+//! - `turn`: the same without versions, but each point is asked for its 5 nearest before its scan is added;
+//! - `box`: Q cubes of a metre are deleted from a tree that was built.
+//!
+//! The work's checksum goes to standard output, the microseconds that it took to standard error.
 #![tactic(auto)]
 
-ghost use Rattle.std.specs.Prelude.{◌≤◌, IfOk};
+ghost use Rattle.std.specs.Prelude.{◌≡◌, ◌<◌, ◌≤◌, IfOk};
 
+mod course;
 mod draws;
+mod grown;
 mod stop;
-mod work;
+mod sums;
+mod works;
 
-use crate::draws::Draws;
 use crate::stop::Stop;
-use crate::work::{ask, built, drawn, updated};
-use kd_tree::Tree;
+use crate::works::Measured;
+use kd_tree::Steps;
 use std::env;
+use std::marker::Brand;
 use std::process::ExitCode;
-use std::time::Instant;
+use std::sync::ledger::{Blank, Ledger};
 
 fn main(rt: HostRuntime) -> ExitCode {
     match measure(&rt) {
@@ -30,41 +40,66 @@ fn main(rt: HostRuntime) -> ExitCode {
 
 fn measure(rt: &HostRuntime) -> Result<(), Stop> {
     let words = Vec::from_iter(rt.alloc(), env::args(rt)?.skip(1))?;
-    let [work, count, queries] = words.as_slice() else {
+    let [work, count, asked] = words.as_slice() else {
         return Err(Stop::Words);
     };
+    let named = named(work)?;
     let count = number(count, 4_194_304)?;
-    let queries = number(queries, 1_000_000_000)?;
-    let mut draws = Draws::new();
-    let (tree, made) = match work.as_str() {
-        "search" => search(rt, count, &mut draws)?,
-        "update" => update(rt, count, &mut draws)?,
-        _ => return Err(Stop::Words),
-    };
-    let begun = Instant::now(rt)?;
-    let sum = ask(rt.alloc(), &tree, count, queries, &mut draws)?;
-    let asked = begun.elapsed(rt)?.as_micros();
-    eprintln!(rt; "{work} {made} us")?;
-    eprintln!(rt; "ask {asked} us")?;
-    println!(rt; "{work} {count} points {queries} queries sum {sum}")?;
+    let asked = number(asked, 1_000_000_000)?;
+    let Measured { micros, sum } = measured::<Brand>(rt, named, count, asked, Blank::new(1))?;
+    eprintln!(rt; "{micros}")?;
+    println!(rt; "{work} {count} {asked} sum {sum}")?;
     Ok(())
 }
 
-// The tree, and in how many microseconds it was built. The points are drawn before.
-fn search(rt: &HostRuntime, count: u32, draws: &mut Draws) -> Result<(Tree, u128), Stop>
-    requires { count ≤ 4194304 }
+// The nodes that are made are counted by a counter that nothing looks at.
+fn measured<L: Ledger>(
+    rt: &HostRuntime,
+    work: Work,
+    count: u32,
+    asked: u32,
+    blank: Blank,
+) -> Result<Measured, Stop>
+    requires few { count ≤ 4194304 }
+    requires name { blank.name ≡ L.name }
+    requires parts { blank.parts ≡ L.parts }
+    requires some { 0 < blank.parts }
 {
-    let items = drawn(rt.alloc(), count, draws)?;
-    let begun = Instant::now(rt)?;
-    let tree = built(rt.alloc(), count, &items)?;
-    Ok((tree, begun.elapsed(rt)?.as_micros()))
+    let alloc = rt.alloc();
+    let steps: &mut Steps<L> = &mut Steps::new(blank);
+    match work {
+        Work::Build => works::build(rt, alloc, count, steps),
+        Work::Ask => works::ask(rt, alloc, count, asked, steps),
+        Work::After => works::after(rt, alloc, count, asked, steps),
+        Work::Scans => works::grow(rt, alloc, count, steps),
+        Work::Held => works::held(rt, alloc, count, steps),
+        Work::Turn => works::turn(rt, alloc, count, steps),
+        Work::Box => works::delete(rt, alloc, count, asked, steps),
+    }
 }
 
-// The tree, and in how many microseconds it grew.
-fn update(rt: &HostRuntime, count: u32, draws: &mut Draws) -> Result<(Tree, u128), Stop> {
-    let begun = Instant::now(rt)?;
-    let tree = updated(rt.alloc(), count, draws)?;
-    Ok((tree, begun.elapsed(rt)?.as_micros()))
+#[derive(Clone, Copy, Debug, PartialEq, Eq)]
+enum Work {
+    Build,
+    Ask,
+    After,
+    Scans,
+    Held,
+    Turn,
+    Box,
+}
+
+fn named(word: &str) -> Result<Work, Stop> {
+    match word {
+        "build" => Ok(Work::Build),
+        "ask" => Ok(Work::Ask),
+        "after" => Ok(Work::After),
+        "scans" => Ok(Work::Scans),
+        "held" => Ok(Work::Held),
+        "turn" => Ok(Work::Turn),
+        "box" => Ok(Work::Box),
+        _ => Err(Stop::Words),
+    }
 }
 
 fn number(word: &str, most: u32) -> Result<u32, Stop>

@@ -3,12 +3,8 @@ use Rattle.std.proofs.Common.{◌≡◌, ℕ, zero, suc, ◌+◌, ◌<◌, ◌�
 use Rattle.std.proofs.lemmas.Bool.Decides.{nat_tests}
 use Rattle.std.specs.List.{AllByRecursion}
 use Rattle.map_fold.specs.declared.update.Update.{Update}
-use Rattle.map_fold.specs.declared.update.Update.TheVariants.{Add, Delete, Suspend, Restore}
-use Rattle.map_fold.specs.Contents.{put, mark, in_box}
-use Rattle.map_fold.specs.Fold.{MapAt, step, fold, fold_from, no_points, points_in, add_points, mark_boxes}
-use Rattle.point_geom.specs.Place.{Place, Bounds}
-use Rattle.node_labels.specs.Labels.{delete_tag, suspend_tag, restore_tag}
-use Rattle.node_labels.specs.declared.tag.Tag.{Tag}
+use Rattle.map_fold.specs.Fold.{MapAt, step, fold, no_points}
+use Rattle.map_fold.proofs.Folds.{step_next, fold_from-push}
 use Rattle.scan_log.specs.declared.command.Command.{Command}
 use Rattle.scan_log.specs.declared.command.Command.TheVariants.{Change, Near}
 use Rattle.scan_log.specs.declared.reply.Reply.{Reply}
@@ -45,24 +41,6 @@ pub serial_history : (n : ℕ) (cs : List Command) → history cs (serial_marks_
 serial_history n [] = refl
 serial_history n (Change caller u ∷ cs) = rw (put_first (n + 1) u _ (serial_above (n + 1) cs)) (ap (λ us. u ∷ us) (serial_history (n + 1) cs))
 serial_history n (Near caller k p within ∷ cs) = serial_history n cs
-
-add_next : (ps : List Place) (m : MapAt) → (add_points ps m).next ≡ m.next + length ps
-add_next [] m = omega arith
-add_next (p ∷ ps) m = omega (arith, add_next ps (record { items = put m.items m.next p; next = m.next + 1 }))
-
-mark_next : (a : Tag) (cs : List Bounds) (m : MapAt) → (mark_boxes a cs m).next ≡ m.next + 0
-mark_next a [] m = omega arith
-mark_next a (c ∷ cs) m = mark_next a cs (record m { items = mark m.items (in_box c) a })
-
-pub step_next : (voxel : ℕ) (u : Update) (m : MapAt) → (step voxel u m).next ≡ m.next + points_in u
-step_next voxel (Add ps) m = add_next ps m
-step_next voxel (Delete cs) m = mark_next delete_tag cs m
-step_next voxel (Suspend cs) m = mark_next suspend_tag cs m
-step_next voxel (Restore cs) m = mark_next restore_tag cs m
-
-fold_from-push : (voxel : ℕ) (us : List Update) (u : Update) (m : MapAt) → fold_from voxel (us ++ u ∷ []) m ≡ step voxel u (fold_from voxel us m)
-fold_from-push voxel [] u m = refl
-fold_from-push voxel (v ∷ us) u m = fold_from-push voxel us u (step voxel v m)
 
 -- one more of a list of which so many are taken
 take_next : {X : Type 0} (n : ℕ) (xs rest : List X) (x : X) → drop n xs ≡ x ∷ rest → (take (suc n) xs ≡ take n xs ++ x ∷ []) × (drop (suc n) xs ≡ rest)

@@ -27,6 +27,7 @@ impl Model for SureSource {
 }
 
 impl SureSource {
+    /// A source that gives these bytes, and then their end.
     pub fn new(bytes: Vec<u8>) -> SureSource
         ensures { result ≡ record { left = bytes.items; ended = false } }
     {
@@ -90,6 +91,7 @@ impl Model for SureSink {
 }
 
 impl SureSink {
+    /// A sink that nothing was written to yet. It takes no memory.
     pub fn new(alloc: Global) -> SureSink
         ensures { result ≡ [] }
     {

@@ -48,6 +48,10 @@ fn worked_logs_give_their_transcripts(rt: HostRuntime) -> Result<(), Fail> {
             "@1 add 1000000000 1000000000 1000000000\n@1 near 1 -1000000000 -1000000000 -1000000000\n",
             "@1 ok 1\n@1 near 1 | 0 1000000000 1000000000 1000000000 12000000000000000000\nend 1 live 1 suspended 0\n",
         ),
+        (
+            "@1 add 1 2 3 1 2 3 1 2 4\n@1 erase 1 2 3\n@1 near 5 0 0 0\n",
+            "@1 ok 1\n@1 ok 2\n@1 near 2 | 2 1 2 4 21\nend 2 live 1 suspended 0\n",
+        ),
         // The last line needs no line feed.
         ("@1 add 1 2 3", "@1 ok 1\nend 1 live 1 suspended 0\n"),
     ] {
@@ -73,11 +77,54 @@ fn worked_logs_give_their_transcripts(rt: HostRuntime) -> Result<(), Fail> {
     Ok(())
 }
 
+// Each pair of texts is a log and its transcript in examples/.
 #[test]
-fn deleted_is_gone_and_suspended_comes_back(rt: HostRuntime) -> Result<(), Fail> {
+fn the_examples_give_their_transcripts(rt: HostRuntime) -> Result<(), Fail> {
     let alloc = rt.alloc();
     let words = words_of(alloc, "run")?;
     for (log, want) in [
+        (
+            "ikdmap 1 voxel 200 large 1500
+@1 add 1 2 3
+@1 near 1 0 0 0
+",
+            "@1 ok 1
+@1 near 1 | 0 1 2 3 14
+end 1 live 1 suspended 0
+",
+        ),
+        (
+            "ikdmap 1 voxel 200 large 1500
+@1 near 5 0 0 0
+@1 add 5 0 0 0 5 0 0 0 5
+@1 near 2 0 0 0
+@1 add 7 7 7 7 7 7
+@1 near 1 7 7 7
+@1 near 9 0 0 0
+",
+            "@1 near 0
+@1 ok 1
+@1 near 1 | 2 0 0 5 25 | 1 0 5 0 25
+@1 ok 2
+@1 near 2 | 3 7 7 7 0
+@1 near 2 | 2 0 0 5 25 | 1 0 5 0 25 | 0 5 0 0 25 | 3 7 7 7 147 | 4 7 7 7 147
+end 2 live 5 suspended 0
+",
+        ),
+        (
+            "ikdmap 1 voxel 1000000 large 16
+@1 add 1000000000 1000000000 1000000000
+@1 near 1 -1000000000 -1000000000 -1000000000
+@1 add -1000000000 -1000000000 -1000000000
+@1 near 1 -1000000000 -1000000000 -1000000000
+",
+            "@1 ok 1
+@1 near 1 | 0 1000000000 1000000000 1000000000 12000000000000000000
+@1 ok 2
+@1 near 2 | 1 -1000000000 -1000000000 -1000000000 0
+end 2 live 2 suspended 0
+",
+        ),
         (
             "ikdmap 1 voxel 200 large 16
 @1 add 1 0 0 2 0 0 3 0 0
@@ -87,6 +134,7 @@ fn deleted_is_gone_and_suspended_comes_back(rt: HostRuntime) -> Result<(), Fail>
 @1 near 3 0 0 0
 @1 restore 3 0 0 4 1 1
 @1 near 3 0 0 0
+@1 erase 3 0 0
 ",
             "@1 ok 1
 @1 ok 2
@@ -95,19 +143,8 @@ fn deleted_is_gone_and_suspended_comes_back(rt: HostRuntime) -> Result<(), Fail>
 @1 near 4
 @1 ok 5
 @1 near 5 | 2 3 0 0 9
-end 5 live 1 suspended 1
-",
-        ),
-        (
-            "ikdmap 1 voxel 200 large 1500
-@1 add 1 2 3 1 2 3 1 2 4
-@1 erase 1 2 3
-@1 near 5 0 0 0
-",
-            "@1 ok 1
-@1 ok 2
-@1 near 2 | 2 1 2 4 21
-end 2 live 1 suspended 0
+@1 ok 6
+end 6 live 0 suspended 1
 ",
         ),
     ] {
@@ -136,6 +173,7 @@ fn a_log_out_of_form_is_refused_whole(rt: HostRuntime) -> Result<(), Fail> {
         b"ikdmap 1 voxel 200 large 15\n",
         b"ikdmap 1 voxel 200 large 1500\r\n",
         b"ikdmap 1 voxel 200 large 1500\n@1 add 1 2 3\r\n",
+        b"ikdmap 1 voxel 200 large 1500\n@1 add 1000000001 0 0\n",
         b"ikdmap 1 voxel 200 large 1500\n@1 add 1 2 3\n@1 add 1000000001 0 0\n",
         b"ikdmap 1 voxel 200 large 1500\n@1 add -1000000001 0 0\n",
         b"ikdmap 1 voxel 200 large 1500\n@1 add +5 0 0\n",
@@ -177,13 +215,19 @@ fn other_words_than_run_are_refused(rt: HostRuntime) -> Result<(), Fail> {
     let alloc = rt.alloc();
     for line in [
         "",
-        "run --serial",
-        "make 1",
-        "drive 1",
-        "--help",
         "run fast",
         "run run",
         "Run",
+        "run --serial",
+        "--serial run",
+        "run --serial --serial",
+        "make",
+        "make 0",
+        "make 01",
+        "make 1",
+        "drive 1",
+        "drive 201",
+        "--help",
     ] {
         let words = words_of(alloc, line)?;
         let mut log = SureSource::new(SMALLEST.to_vec(alloc)?);

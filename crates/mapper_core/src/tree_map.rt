@@ -4,15 +4,16 @@ ghost use Rattle.std.specs.Option.{ForSome};
 ghost use Rattle.map_fold.specs.Contents.{AreContents};
 ghost use Rattle.map_fold.specs.Fold.{MapAt, add_points, mark_boxes, no_points, step, points_in};
 ghost use Rattle.map_fold.specs.Answers.{nearest, totals};
-ghost use Rattle.kd_tree.specs.Shape.{Shape, levels, nodes};
+ghost use Rattle.kd_tree.specs.Shape.{Shape};
 ghost use Rattle.kd_tree.specs.Contents.{contents};
 
-use kd_tree::Tree;
-use kd_update::{marked, put};
+use kd_tree::{Steps, Tree};
+use kd_update::{marked, put, roomy};
 use map_fold::{Counts, Cuboids, Hits, NoMemory, Points, Settings, Tag, Update};
 use point_geom::Point;
 use std::alloc::Global;
-use std::marker::Model;
+use std::marker::{Brand, Model};
+use std::sync::ledger::{Blank, Ledger};
 
 #[cfg(test)]
 mod tests;
@@ -73,7 +74,7 @@ impl TreeMap {
         requires within_to { ForSome within (λ r. r ≤ 4000000000) }
         ensures { IfOk result (λ hits. hits ≡ nearest self.now.items k q.now within) }
     {
-        kd_search::nearest(&self.tree, alloc, k, q, within)
+        kd_search::nearest(alloc, &self.tree, k, q, within)
     }
 
     /// The map after one more update. Want of memory loses the map.
@@ -86,51 +87,66 @@ impl TreeMap {
         requires { self.next + points_in update.now ≤ 4194304 }
         ensures { IfOk result (λ m. m ≡ step settings.now.voxel update.now self) }
     {
+        self.counted::<Brand>(alloc, settings, update, Blank::new(1))
+    }
+
+    // The same, with a counter that nothing looks at.
+    fn counted<L: Ledger>(
+        self,
+        alloc: Global,
+        settings: &Settings,
+        update: &Update,
+        blank: Blank,
+    ) -> Result<TreeMap, NoMemory>
+        requires room { self.next + points_in update.now ≤ 4194304 }
+        requires name { blank.name ≡ L.name }
+        requires parts { blank.parts ≡ L.parts }
+        requires some { 0 < blank.parts }
+        ensures { IfOk result (λ m. m ≡ step settings.now.voxel update.now self) }
+    {
+        let mut steps: Steps<L> = Steps::new(blank);
         let large = settings.large();
         match update {
-            Update::Add(points) => self.add(alloc, large, points),
-            Update::Delete(boxes) => self.mark(alloc, large, boxes, Tag::DELETE),
-            Update::Suspend(boxes) => self.mark(alloc, large, boxes, Tag::SUSPEND),
-            Update::Restore(boxes) => self.mark(alloc, large, boxes, Tag::RESTORE),
+            Update::Add(points) => self.add(alloc, large, points, &mut steps),
+            Update::Delete(boxes) => self.mark(alloc, large, boxes, Tag::DELETE, &mut steps),
+            Update::Suspend(boxes) => self.mark(alloc, large, boxes, Tag::SUSPEND, &mut steps),
+            Update::Restore(boxes) => self.mark(alloc, large, boxes, Tag::RESTORE, &mut steps),
         }
     }
 
-    fn add(self, alloc: Global, large: u32, points: &Points) -> Result<TreeMap, NoMemory>
+    fn add<L: Ledger>(
+        self,
+        alloc: Global,
+        large: u32,
+        points: &Points,
+        steps: &mut Steps<L>,
+    ) -> Result<TreeMap, NoMemory>
         requires { self.next + points_in (Update.Add points.now) ≤ 4194304 }
         ensures { IfOk result (λ m. m ≡ add_points points.now self) }
     {
         let TreeMap { mut tree, mut next } = self;
         for point in points.as_slice() {
-            tree = roomy(tree, alloc, next)?;
-            tree = put(tree, alloc, large, next, *point)?;
+            tree = roomy(alloc, tree, steps)?;
+            tree = put(alloc, tree, large, next, *point, steps)?;
             next += 1;
         }
         Ok(TreeMap { tree, next })
     }
 
-    fn mark(self, alloc: Global, large: u32, boxes: &Cuboids, tag: Tag) -> Result<TreeMap, NoMemory>
+    fn mark<L: Ledger>(
+        self,
+        alloc: Global,
+        large: u32,
+        boxes: &Cuboids,
+        tag: Tag,
+        steps: &mut Steps<L>,
+    ) -> Result<TreeMap, NoMemory>
         ensures { IfOk result (λ m. m ≡ mark_boxes tag boxes.now self) }
     {
         let TreeMap { mut tree, next } = self;
         for cuboid in boxes.as_slice() {
-            tree = marked(tree, alloc, large, cuboid, tag)?;
+            tree = marked(alloc, tree, large, cuboid, tag, steps)?;
         }
         Ok(TreeMap { tree, next })
     }
-}
-
-// A tree of as many nodes and levels as there may be takes no further point. What is left in it does: where fewer numbers
-// were given than there may be nodes, it has room for one more.
-fn roomy(tree: Tree, alloc: Global, next: u32) -> Result<Tree, NoMemory>
-    requires held { AreContents 0 next (contents tree) }
-    requires few { next < 4194304 }
-    ensures contents { IfOk result (λ t. contents t ≡ contents tree) }
-    ensures low { IfOk result (λ t. levels t < 512) }
-    ensures few { IfOk result (λ t. nodes t < 4194304) }
-{
-    if tree.levels() < 512 && tree.size() < 4_194_304 {
-        return Ok(tree);
-    }
-    let items = tree.flatten(alloc)?;
-    Tree::build(alloc, items.as_slice())
 }

@@ -104,13 +104,20 @@ fn the_tree_answers_as_the_plain_map_does(rt: HostRuntime) -> Result<(), Fail> {
 #[test]
 fn a_rising_row_that_fills_all_levels_is_found_whole(rt: HostRuntime) -> Result<(), Fail> {
     let alloc = rt.alloc();
-    let mut points = Points::new(alloc);
+    let settings = Settings::new(200, 16);
+    let mut map = TreeMap::new();
+    let mut most_levels = 0;
     for x in 0..4_000 {
+        let mut points = Points::new(alloc);
         points.push(Point::new(x, 0, 0)?)?;
+        let update = Update::Add(points);
+        assert!(rt; update.points() <= 1);
+        assert!(rt; map.next <= 4_000_000);
+        map = map.apply(alloc, &settings, &update)?;
+        most_levels = map.tree.levels().max(most_levels);
     }
-    let update = Update::Add(points);
-    assert!(rt; update.points() <= 4_000);
-    let map = TreeMap::new().apply(alloc, &Settings::new(200, 16), &update)?;
+    // No tree is higher, so this one was built anew on the way.
+    assert_eq!(rt; most_levels, 512);
     let lo = Corner { x: 0, y: 0, z: 0 };
     for (x, want) in [(4_000, 4_000), (3_999, 3_999), (1, 1), (0, 0)] {
         let row = Cuboid::new(lo, Corner { x, y: 1, z: 1 })?;

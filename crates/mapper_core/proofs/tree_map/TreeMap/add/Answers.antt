@@ -1,26 +1,23 @@
-use Rattle.std.proofs.Common.{◌≡◌, ◌∷◌, ◌+◌, ◌<◌, ◌∙◌, ap, arith, drop, length}
-use Rattle.map_fold.proofs.Numbered.{put-above, contents_push, drop-at}
+use Rattle.std.proofs.Common.{◌≡◌, ◌∷◌, ◌+◌, ◌∙◌, ap, arith, drop, length}
+use Rattle.map_fold.proofs.Numbered.{put-above, contents_length, contents_push, drop-at}
 use Rattle.map_fold.specs.Contents.{put}
 use Rattle.kd_tree.specs.Contents.{contents}
 use Rattle.mapper_core.proofs.Trees.{next_is_free}
 use Rattle.mapper_core.proofs.tree_map.TreeMap.add.Goals as goal
 
-pub roomy-requires-clause-held : goal.roomy-requires-clause-held
-roomy-requires-clause-held c = c.loop-point.invariant.held
-
-pub roomy-requires-clause-few : goal.roomy-requires-clause-few
-roomy-requires-clause-few c =
+pub roomy-requires : goal.roomy-requires
+roomy-requires g c =
     let p = c.point-item.result in
     let cut : drop c.loop-point.point-index c.args.points.now ≡ p ∷ drop (c.loop-point.point-index + 1) c.args.points.now =
     drop-at c.args.points.now _ c.loop-point.point-index p (omega arith) (rw c.as_slice-point-items.ensures at c.loop-point-test.true) (rw c.as_slice-point-items.ensures at c.point-item.is) in
     let shorter : length (drop c.loop-point.point-index c.args.points.now) ≡ length (drop (c.loop-point.point-index + 1) c.args.points.now) + 1 = rw cut (omega arith) in
-    omega arith
+    omega (arith, contents_length 0 c.loop-point.next (contents c.loop-point.tree) (omega arith) c.loop-point.invariant.held)
 
 pub put-requires-clause-new : goal.put-requires-clause-new
-put-requires-clause-new c = next_is_free c.loop-point.next c.in_ok-tree.tree (rw c.in_ok-tree.ensures.contents c.loop-point.invariant.held)
+put-requires-clause-new g c = next_is_free c.loop-point.next c.in_ok-tree.tree (rw c.in_ok-tree.ensures.contents c.loop-point.invariant.held)
 
 pub loop-point-preserved : goal.loop-point-preserved
-loop-point-preserved c =
+loop-point-preserved g c =
     let p = c.point-item.result in
     let next = c.loop-point.next in
     let held = c.loop-point.invariant.held in

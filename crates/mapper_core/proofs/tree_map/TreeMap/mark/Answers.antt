@@ -5,7 +5,7 @@ use Rattle.kd_tree.specs.Contents.{contents}
 use Rattle.mapper_core.proofs.tree_map.TreeMap.mark.Goals as goal
 
 pub loop-cuboid-preserved : goal.loop-cuboid-preserved
-loop-cuboid-preserved c =
+loop-cuboid-preserved g c =
     let box = c.cuboid-item.result in
     let cut : drop c.loop-cuboid.cuboid-index c.args.boxes.now ≡ box ∷ drop (c.loop-cuboid.cuboid-index + 1) c.args.boxes.now =
     drop-at c.args.boxes.now _ c.loop-cuboid.cuboid-index box (omega arith) (rw c.as_slice-cuboid-items.ensures at c.loop-cuboid-test.true) (rw c.as_slice-cuboid-items.ensures at c.cuboid-item.is) in

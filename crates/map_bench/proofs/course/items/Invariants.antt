@@ -1,5 +1,5 @@
 use Rattle.map_fold.specs.Contents.{AreContents}
-use Rattle.map_bench.proofs.work.drawn.Given as goal
+use Rattle.map_bench.proofs.course.items.Given as goal
 
 abbrev pub invariant-loop-number : goal.invariant-loop-number
 invariant-loop-number l = AreContents 0 l.number l.items

@@ -1,6 +1,6 @@
 use Rattle.std.proofs.Common.{arith}
 use Rattle.map_fold.proofs.Numbered.{contents_push}
-use Rattle.map_bench.proofs.work.drawn.Goals as goal
+use Rattle.map_bench.proofs.course.items.Goals as goal
 
 pub loop-number-preserved : goal.loop-number-preserved
 loop-number-preserved c =

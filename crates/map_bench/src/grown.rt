@@ -1,0 +1,97 @@
+//! A map that grows scan by scan.
+ghost use Rattle.std.specs.Prelude.{◌<◌, ◌≤◌, ℕ, Contains};
+ghost use Rattle.kd_tree.specs.Shape.{numbers};
+
+use crate::course::Scan;
+use kd_tree::{Steps, Tree};
+use kd_update::{marked, put, roomy};
+use map_fold::{NoMemory, Points, Tag};
+use point_geom::{Cuboid, Point};
+use std::alloc::Global;
+use std::sync::ledger::Ledger;
+
+/// A million: the update itself builds anew whatever lost its balance, since nothing here works beside it. The plain tree
+/// does the same.
+pub const LARGE: u32 = 1_000_000;
+
+// How many numbers there are: a tree has at most so many nodes.
+const NUMBERS: u32 = 4_194_304;
+
+/// A tree whose numbers lie below the next one.
+#[derive(Drop)]
+pub struct Grown {
+    pub tree: Tree,
+    next: u32,
+    ghost below: { (n : ℕ) → Contains (numbers tree) n → n < next },
+    ghost few: { next ≤ 4194304 },
+}
+
+impl Grown {
+    pub fn new() -> Grown {
+        Grown {
+            tree: Tree::empty(),
+            next: 0,
+        }
+    }
+
+    /// The map after a scan: its points are put one by one, and then what the robot leaves is deleted.
+    pub fn after<L: Ledger>(
+        self,
+        alloc: Global,
+        scan: &Scan,
+        steps: &mut Steps<L>,
+    ) -> Result<Grown, NoMemory> {
+        let map = self.put_all(alloc, &scan.points, steps)?;
+        match &scan.left {
+            None => Ok(map),
+            Some(within) => map.deleted(alloc, within, steps),
+        }
+    }
+
+    // Where all numbers are given, no more are put.
+    fn put_all<L: Ledger>(
+        self,
+        alloc: Global,
+        points: &Points,
+        steps: &mut Steps<L>,
+    ) -> Result<Grown, NoMemory> {
+        let mut map = self;
+        for point in points.as_slice() {
+            if map.next == NUMBERS {
+                return Ok(map);
+            }
+            map = map.put(alloc, *point, steps)?;
+        }
+        Ok(map)
+    }
+
+    fn put<L: Ledger>(
+        self,
+        alloc: Global,
+        point: Point,
+        steps: &mut Steps<L>,
+    ) -> Result<Grown, NoMemory>
+        requires { self.next < 4194304 }
+    {
+        let _size = self.tree.size();
+        let tree = roomy(alloc, self.tree, steps)?;
+        let tree = put(alloc, tree, LARGE, self.next, point, steps)?;
+        Ok(Grown {
+            tree,
+            next: self.next + 1,
+        })
+    }
+
+    fn deleted<L: Ledger>(
+        self,
+        alloc: Global,
+        within: &Cuboid,
+        steps: &mut Steps<L>,
+    ) -> Result<Grown, NoMemory> {
+        let tree = marked(alloc, self.tree, LARGE, within, Tag::DELETE, steps)?;
+        Ok(Grown {
+            tree,
+            next: self.next,
+        })
+    }
+}

@@ -1,0 +1,31 @@
+//! Checksums of what was found and of what is held.
+use kd_tree::Tree;
+use map_fold::{Hits, NoMemory};
+use point_geom::{Point, dist2};
+use std::alloc::Global;
+
+/// The checksum after these hits.
+pub fn with_hits(sum: u64, hits: &Hits) -> u64 {
+    let mut sum = sum;
+    for hit in hits.as_slice() {
+        sum = with(sum, hit.number, hit.dist2);
+    }
+    sum
+}
+
+/// The checksum after all items of the tree.
+pub fn with_items(sum: u64, alloc: Global, tree: &Tree) -> Result<u64, NoMemory> {
+    let mut sum = sum;
+    for item in tree.flatten(alloc)?.as_slice() {
+        sum = with(sum, item.number, dist2(&Point::default(), &item.point));
+    }
+    Ok(sum)
+}
+
+/// The checksum after a number and a squared distance.
+pub fn with(sum: u64, number: u32, dist2: u128) -> u64 {
+    let dist2 = u64::try_from(dist2).unwrap_or(0);
+    sum.wrapping_mul(31)
+        .wrapping_add(number as u64)
+        .wrapping_add(dist2)
+}
