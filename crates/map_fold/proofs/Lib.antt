@@ -8,3 +8,6 @@ pub mod Folds
 pub mod Replays
 mod Vectors
 pub mod Same
+pub mod Centre
+pub mod Puts
+pub mod Thinning

@@ -49,16 +49,17 @@ pub contents_rise : (low high : ℕ) (m : List Item) → AreContents low high m 
 contents_rise low high [] h = tt
 contents_rise low high (i ∷ m) h = (h.0, contents_rise (i.number + 1) high m h.3)
 
--- a lower bound may be lowered
-contents_from : (low least high : ℕ) (m : List Item) → least ≤ low → AreContents low high m → AreContents least high m
-contents_from low least high [] below h = tt
-contents_from low least high (i ∷ m) below h = (omega (arith, h.0), h.1, h.2, h.3)
+-- the bounds may be widened
+pub contents_within : (low least high most : ℕ) (m : List Item) → least ≤ low → high ≤ most → AreContents low high m → AreContents least most m
+contents_within low least high most [] below above h = tt
+contents_within low least high most (i ∷ m) below above h =
+    (omega (arith, h.0), omega (arith, h.1), h.2, contents_within (i.number + 1) (i.number + 1) high most m (omega arith) above h.3)
 
 marked_number : (chosen : Item → Bool) (a : Tag) (i : Item) → (marked_item chosen a i).number ≡ i.number
 marked_number chosen a i = elim (chosen i) as (λ b. (cond b (relabelled a i) i).number ≡ i.number) [ true ↦ refl | false ↦ refl ]
 
 contents_kept : (low high : ℕ) (j : Item) (m : List Item) (b : Bool) → low ≤ j.number → j.number < high → is_dropped j.label ≡ b → AreContents (j.number + 1) high m → AreContents low high (cond (not b) (j ∷ m) m)
-contents_kept low high j m true from below e rest = contents_from (j.number + 1) low high m (omega arith) rest
+contents_kept low high j m true from below e rest = contents_within (j.number + 1) low high high m (omega arith) (omega arith) rest
 contents_kept low high j m false from below e rest = (from, below, e, rest)
 
 -- what a mark leaves is still what a map may hold

@@ -6,7 +6,6 @@ use Rattle.std.proofs.lemmas.Bool.{and_parts}
 use Rattle.std.proofs.lemmas.Bool.Decides.{Decides-eqb}
 use Rattle.point_geom.specs.Place.{Place, Bounds}
 use Rattle.point_geom.proofs.Same.{bounds_Decides, place_Decides}
-use Rattle.node_labels.specs.declared.label.Label.{Label}
 use Rattle.node_labels.specs.declared.tag.Tag.{Tag}
 use Rattle.node_labels.proofs.Same.{label_Decides, tag_Decides}
 use Rattle.map_fold.specs.declared.item.Item.{Item}

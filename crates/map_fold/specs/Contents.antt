@@ -65,6 +65,10 @@ centre_cmp b i j =
     ordering_then (nat_cmp (centre_dist2 b i.point) (centre_dist2 b j.point))
     (ordering_then (place_cmp i.point j.point) (nat_cmp i.number j.number))
 
+-- i comes before j, towards the centre of the box
+abbrev pub comes_before : Bounds → Item → Item → Bool
+comes_before b i j = is_lt (centre_cmp b i j)
+
 -- the least item of i and the list
 abbrev pub least : (Item → Item → Ordering) → Item → List Item → Item
 least cmp i [] = i

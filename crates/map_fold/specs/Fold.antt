@@ -5,7 +5,7 @@ use Rattle.node_labels.specs.declared.tag.Tag.{Tag}
 use Rattle.node_labels.specs.Labels.{delete_tag, suspend_tag, restore_tag}
 use Rattle.map_fold.specs.declared.item.Item.{Item}
 use Rattle.map_fold.specs.declared.update.Update.{Update}
-use Rattle.map_fold.specs.declared.update.Update.TheVariants.{Add, Delete, Suspend, Restore}
+use Rattle.map_fold.specs.declared.update.Update.TheVariants.{Add, Thin, Delete, Suspend, Restore}
 use Rattle.map_fold.specs.Contents.{put, mark, thin, in_box}
 
 -- what is held, and how many points were submitted
@@ -34,6 +34,7 @@ mark_boxes a (c ∷ cs) m = mark_boxes a cs (record m { items = mark m.items (in
 -- one update, on a map whose voxels have this edge
 abbrev pub step : ℕ → Update → MapAt → MapAt
 step voxel (Add ps) m = add_points ps m
+step voxel (Thin ps) m = thin_points voxel ps m
 step voxel (Delete cs) m = mark_boxes delete_tag cs m
 step voxel (Suspend cs) m = mark_boxes suspend_tag cs m
 step voxel (Restore cs) m = mark_boxes restore_tag cs m
@@ -49,6 +50,7 @@ fold voxel us = fold_from voxel us no_points
 -- how many points an update submits
 abbrev pub points_in : Update → ℕ
 points_in (Add ps) = length ps
+points_in (Thin ps) = length ps
 points_in (Delete cs) = 0
 points_in (Suspend cs) = 0
 points_in (Restore cs) = 0

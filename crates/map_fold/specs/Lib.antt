@@ -4,3 +4,4 @@ pub mod Answers
 pub mod Fold
 pub mod Ops
 pub mod Nearest
+pub mod Thinned

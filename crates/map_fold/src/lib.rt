@@ -12,6 +12,7 @@ mod sequence;
 mod settings;
 #[cfg(test)]
 mod tests;
+mod thin;
 mod update;
 
 pub use entry::Entry;
@@ -21,7 +22,7 @@ pub use memory::NoMemory;
 pub use node_labels::{Counts, Label, Tag};
 pub use op::{Op, Ops};
 pub use plain_map::PlainMap;
-pub use reply::NearReply;
+pub use reply::{BoxReply, NearReply};
 pub use sequence::Sequence;
 pub use settings::Settings;
 pub use update::{Cuboids, Points, Update};

@@ -1,12 +1,18 @@
 //! The plain map, a list of items.
-ghost use Rattle.std.specs.Prelude.{◌≡◌, ◌+◌, ◌≤◌, ◌<◌, map, IfOk, IsOk};
+ghost use Rattle.std.specs.Prelude.{◌≡◌, ◌+◌, ◌≤◌, [], ◌∷◌, map, IfOk, IsOk};
 ghost use Rattle.std.specs.Option.{ForSome};
+ghost use Rattle.point_geom.specs.Place.{Place};
 ghost use Rattle.map_fold.specs.Contents.{AreContents, in_box, mark, marked_item};
-ghost use Rattle.map_fold.specs.Fold.{MapAt, mark_boxes, no_points, step, points_in};
-ghost use Rattle.map_fold.specs.Answers.{nearest, is_within, totals, live_count, suspended_count};
+ghost use Rattle.map_fold.specs.Fold.{MapAt, mark_boxes, no_points, step, points_in, thin_points};
+ghost use Rattle.map_fold.specs.Answers.{inside, nearest, is_within, totals, live_count, suspended_count};
 ghost use Rattle.map_fold.specs.Nearest.{AreNearest};
+ghost use Rattle.map_fold.specs.Thinned.{IsThinned};
+ghost use Rattle.map_fold.specs.declared.update.Update.TheVariants as Update;
 
-use crate::{Counts, Cuboids, Hit, Hits, Item, Label, NoMemory, Points, Settings, Tag, Update};
+use crate::thin::thin_one;
+use crate::{
+    Counts, Cuboids, Hit, Hits, Item, Items, Label, NoMemory, Points, Settings, Tag, Update,
+};
 use point_geom::{Cuboid, Point, dist2};
 use std::alloc::Global;
 use std::marker::Model;
@@ -19,7 +25,6 @@ pub struct PlainMap {
 }
 
 impl Model for PlainMap {
-    ghost use Rattle.std.specs.Prelude.{ℕ, ◌≤◌};
     ghost use Rattle.map_fold.specs.Fold.{MapAt};
     ghost use Rattle.map_fold.specs.Contents.{AreContents};
 
@@ -64,10 +69,15 @@ impl PlainMap {
     /// The map after one more update. Want of memory loses the map.
     pub fn apply(self, settings: &Settings, update: &Update) -> Result<PlainMap, NoMemory>
         requires { self.next + points_in update.now ≤ 4194304 }
-        ensures { IfOk result (λ m. m ≡ step settings.now.voxel update.now self) }
+        ensures stepped { IfOk result (λ m. m ≡ step settings.now.voxel update.now self) }
+
+        // What that is for one point that is thinned, said without the way it is made.
+        ensures thinned { (p : Place) → update.now ≡ Update.Thin (p ∷ [])
+            → IfOk result (λ m. IsThinned settings.now.voxel self.items self.next p m.items) }
     {
         match update {
             Update::Add(points) => self.add(points),
+            Update::Thin(points) => self.thin(settings.voxel(), points),
             Update::Delete(boxes) => Ok(self.marked(boxes, Tag::DELETE)),
             Update::Suspend(boxes) => Ok(self.marked(boxes, Tag::SUSPEND)),
             Update::Restore(boxes) => Ok(self.marked(boxes, Tag::RESTORE)),
@@ -88,6 +98,24 @@ impl PlainMap {
                 point: *point,
                 label: Label::Live,
             })?;
+            next += 1;
+        }
+        Ok(PlainMap { items, next })
+    }
+
+    fn thin(self, edge: u32, points: &Points) -> Result<PlainMap, NoMemory>
+        requires edge_from { 1 ≤ edge }
+        requires edge_to { edge ≤ 1000000 }
+        requires room { self.next + points_in (Update.Thin points.now) ≤ 4194304 }
+        ensures stepped { IfOk result (λ m. m ≡ thin_points edge points.now self) }
+        ensures thinned { (p : Place) → points.now ≡ p ∷ [] → IfOk result (λ m. IsThinned edge self.items self.next p m.items) }
+    {
+        let PlainMap {
+            mut items,
+            mut next,
+        } = self;
+        for point in points.as_slice() {
+            thin_one(&mut items, edge, next, point)?;
             next += 1;
         }
         Ok(PlainMap { items, next })
@@ -123,10 +151,19 @@ impl PlainMap {
     {
         nearest_of(alloc, self.items.as_slice(), k as usize, q, within)
     }
+
+    /// The first live points in the cuboid by number, as many as are asked for. Costs a step an item.
+    pub fn in_cuboid(&self, alloc: Global, c: &Cuboid, most: u32) -> Result<Items, NoMemory>
+        requires most_from { 1 ≤ most }
+        requires most_to { most ≤ 256 }
+        ensures { IfOk result (λ items. items ≡ inside self.now.items c.now most) }
+    {
+        inside_of(alloc, self.items.as_slice(), c, most as usize)
+    }
 }
 
 // Does the action to the items in the box, and lets go of what it drops.
-fn mark_items(items: &mut Vec<Item>, cuboid: &Cuboid, tag: Tag)
+pub(crate) fn mark_items(items: &mut Vec<Item>, cuboid: &Cuboid, tag: Tag)
     ensures { items.new.items ≡ mark items.old.items (in_box cuboid.now) tag }
 {
     relabel(items, cuboid, tag);
@@ -207,4 +244,19 @@ fn is_within(within: Option<u64>, hit: &Hit) -> bool
         None => true,
         Some(r) => hit.dist2 <= r as u128 * r as u128,
     }
+}
+
+fn inside_of(alloc: Global, items: &[Item], c: &Cuboid, most: usize) -> Result<Items, NoMemory>
+    ensures { IfOk result (λ found. found ≡ inside items.now c.now most) }
+{
+    let mut found = Items::new(alloc);
+    for item in items {
+        if found.len() == most {
+            return Ok(found);
+        }
+        if item.is_live_in(c) {
+            found.push(*item)?;
+        }
+    }
+    Ok(found)
 }

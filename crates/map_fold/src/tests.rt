@@ -1,4 +1,6 @@
 //! Each call that may want memory, with ample memory.
+mod thinning;
+
 use crate::{
     Cuboids, Hit, Hits, Item, Items, Label, NoMemory, Op, Ops, PlainMap, Points, Settings, Tag,
     Update,

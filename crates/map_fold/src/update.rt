@@ -1,8 +1,9 @@
 //! Updates.
-ghost use Rattle.std.specs.Prelude.{◌≡◌};
+ghost use Rattle.std.specs.Prelude.{◌≡◌, IfOk};
 
-use crate::Sequence;
+use crate::{NoMemory, Sequence};
 use point_geom::{Cuboid, Point};
+use std::alloc::Global;
 
 /// A list of points.
 pub type Points = Sequence<Point>;
@@ -15,6 +16,9 @@ pub type Cuboids = Sequence<Cuboid>;
 pub enum Update {
     /// Each point in turn is held, live, under the next number.
     Add(Points),
+    /// Each point in turn takes the next number, and of its voxel the live point nearest to the centre is kept: the others are
+    /// dropped for good.
+    Thin(Points),
     /// What is live or suspended in each box in turn is dropped for good.
     Delete(Cuboids),
     /// What is live in each box in turn is hidden until it is restored.
@@ -31,8 +35,21 @@ impl Update {
         ensures { result ≡ points_in self.now }
     {
         match self {
-            Update::Add(points) => points.len(),
+            Update::Add(points) | Update::Thin(points) => points.len(),
             Update::Delete(_) | Update::Suspend(_) | Update::Restore(_) => 0,
+        }
+    }
+
+    /// An equal update, with memory of its own.
+    pub fn copy(&self, alloc: Global) -> Result<Update, NoMemory>
+        ensures { IfOk result (λ copy. copy ≡ self.now) }
+    {
+        match self {
+            Update::Add(points) => Ok(Update::Add(points.copy(alloc)?)),
+            Update::Thin(points) => Ok(Update::Thin(points.copy(alloc)?)),
+            Update::Delete(boxes) => Ok(Update::Delete(boxes.copy(alloc)?)),
+            Update::Suspend(boxes) => Ok(Update::Suspend(boxes.copy(alloc)?)),
+            Update::Restore(boxes) => Ok(Update::Restore(boxes.copy(alloc)?)),
         }
     }
 }

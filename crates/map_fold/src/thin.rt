@@ -1,0 +1,73 @@
+//! Downsampling of a list of items. Nothing here knows the map that the list is of.
+ghost use Rattle.std.specs.Prelude.{◌≡◌, ◌≤◌, List, ◌∷◌, ◌++◌, drop, filter, length, take, OnOk};
+ghost use Rattle.point_geom.specs.Place.{Place};
+ghost use Rattle.map_fold.specs.declared.item.Item.{Item};
+ghost use Rattle.map_fold.specs.Contents.{centre_cmp, in_box, least, live_at, live_items, put, thin};
+
+use crate::plain_map::mark_items;
+use crate::{Item, Label, NoMemory, Tag};
+use point_geom::{Cuboid, Point, voxel};
+
+// Keeps, of the live items in the point's voxel and the point under this number, the one nearest to the centre.
+pub(crate) fn thin_one(
+    items: &mut Vec<Item>,
+    edge: u32,
+    number: u32,
+    point: &Point,
+) -> Result<(), NoMemory>
+    requires edge_from { 1 ≤ edge }
+    requires edge_to { edge ≤ 1000000 }
+    ensures { OnOk result (items.new.items ≡ thin edge items.old.items number point.now) }
+{
+    let cube = voxel(point, edge);
+    let winner = winner(items.as_slice(), &cube, number, point);
+    mark_items(items, &cube, Tag::THIN);
+    put_item(items, winner.number, winner.point)
+}
+
+fn winner(items: &[Item], cube: &Cuboid, number: u32, point: &Point) -> Item
+    ensures { result ≡ least (centre_cmp cube.now) (live_at number point.now) (filter (in_box cube.now) (live_items items.now)) }
+{
+    let mut best = Item {
+        number,
+        point: *point,
+        label: Label::Live,
+    };
+    for item in items {
+        if item.is_live_in(cube) && item.comes_before(&best, cube) {
+            best = *item;
+        }
+    }
+    best
+}
+
+// Holds the point, live, under this number.
+fn put_item(items: &mut Vec<Item>, number: u32, point: Point) -> Result<(), NoMemory>
+    ensures { OnOk result (items.new.items ≡ put items.old.items number point) }
+{
+    let at = place_of(items.as_slice(), number);
+    let item = Item {
+        number,
+        point,
+        label: Label::Live,
+    };
+    if at < items.len() && items[at].number == number {
+        items[at] = item;
+        return Ok(());
+    }
+    items.insert(at, item)?;
+    Ok(())
+}
+
+// Where an item of this number is, or goes, among items by number.
+fn place_of(items: &[Item], number: u32) -> usize
+    ensures bound { result ≤ length items.now }
+    ensures value { (p : Place) → take result items.now ++ put (drop result items.now) number p ≡ put items.now number p }
+    ensures first { (i : Item) (rest : List Item) → drop result items.now ≡ i ∷ rest → number ≤ i.number }
+{
+    let mut at = 0;
+    while at < items.len() && items[at].number < number {
+        at += 1;
+    }
+    at
+}
