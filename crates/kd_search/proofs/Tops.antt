@@ -1,13 +1,13 @@
 -- What is left in a tree is its top's item, unless that is dropped, and both sons.
-use Rattle.std.proofs.Common.{◌≡◌, ◌≤ℤ◌, ℕ, ◌+◌, ◌<◌, ◌≤◌, [], ◌∷◌, ◌++◌, List, refl, subst, sym, ap, ◌∙◌, inl, inr, arith}
+use Rattle.std.proofs.Common.{◌≡◌, ◌≤ℤ◌, ℕ, ◌≤◌, [], ◌∷◌, ◌++◌, List, subst, sym, ap, ◌∙◌, inl, inr}
 use Rattle.point_geom.specs.Place.{Place}
 use Rattle.point_geom.specs.Axes.{on}
 use Rattle.point_geom.specs.Distances.{dist2, gap2}
-use Rattle.node_labels.specs.Labels.{apply, composed}
+use Rattle.node_labels.specs.Labels.{composed}
 use Rattle.node_labels.specs.declared.tag.Tag.{Tag}
 use Rattle.map_fold.specs.declared.item.Item.{Item}
 use Rattle.map_fold.specs.Contents.{kept, relabelled}
-use Rattle.kd_tree.specs.Shape.{Head, Shape, fork, nodes}
+use Rattle.kd_tree.specs.Shape.{Head, Shape, fork}
 use Rattle.kd_tree.specs.Walk.{walk}
 use Rattle.kd_tree.specs.Sound.{IsSound}
 use Rattle.kd_tree.specs.declared.look.Top.{Top}
@@ -74,11 +74,3 @@ split_owed t owed top q s e sound is =
 pub split : (t : Shape) (owed : Tag) (top : Top) (q : Place) (s : Sides) (i : Item) (below : Tag) → t ≡ fork (record { item = top.item; axis = top.axis; pending = top.pending }) top.left.now top.right.now → IsSound t → AreSidesOf top q s
     → i ≡ relabelled owed top.item → below ≡ composed top.pending owed → IsSplit (walk owed t) q s.gap i (walk below s.near.now) (walk below s.far.now)
 split t owed top q s i below e sound is own under = rw (own, under) (split_owed t owed top q s e sound is)
-
--- both sons are smaller
-pub fewer : (t : Shape) (top : Top) (q : Place) (s : Sides) → t ≡ fork (record { item = top.item; axis = top.axis; pending = top.pending }) top.left.now top.right.now → AreSidesOf top q s
-    → nodes t ≡ nodes s.near.now + nodes s.far.now + 1
-fewer t top q s e is = elim is.sons [
-  | inl w ↦ omega (arith, ap nodes e, ap nodes w.near, ap nodes w.far)
-  | inr w ↦ omega (arith, ap nodes e, ap nodes w.near, ap nodes w.far)
-]

@@ -1,18 +1,13 @@
 -- The live item in a box that is nearest to its centre.
-use Rattle.std.specs.Prelude.{◌≡◌, Bool, true, false, List, [], ◌∷◌, if◌then◌else◌}
-use Rattle.std.specs.Ordering.{is_lt}
+use Rattle.std.specs.Prelude.{◌≡◌, true, false, List, [], ◌∷◌, if◌then◌else◌}
 use Rattle.std.specs.declared.option.Option.{Option}
 use Rattle.std.specs.declared.option.Option.TheVariants.{None, Some}
 use Rattle.point_geom.specs.Place.{Bounds}
 use Rattle.point_geom.specs.Boxes.{holds}
 use Rattle.map_fold.specs.declared.item.Item.{Item}
-use Rattle.map_fold.specs.Contents.{centre_cmp, least, live_items}
+use Rattle.map_fold.specs.Contents.{centre_cmp, comes_before, least, live_items}
 use Rattle.map_fold.specs.Answers.{inside_all}
 use Rattle.map_fold.specs.Nearest.{Member}
-
--- the first item is nearer the box's centre than the second; then by x, y, z; then by number
-abbrev pub comes_before : Bounds → Item → Item → Bool
-comes_before c i j = is_lt (centre_cmp c i j)
 
 -- the least item of a list, if it has one
 abbrev pub best_of : Bounds → List Item → Option Item

@@ -2,14 +2,13 @@
 ghost use Rattle.std.specs.Prelude.{◌≡◌, [], ◌∷◌, IfSome, IsNone, ◌↔◌};
 ghost use Rattle.map_fold.specs.Answers.{inside_all};
 ghost use Rattle.kd_tree.specs.Contents.{contents};
-ghost use Rattle.kd_search.specs.Best.{best_from, best_inside, comes_before, IsBest};
+ghost use Rattle.kd_search.specs.Best.{best_from, best_inside, IsBest};
 ghost use Rattle.kd_search.specs.Part.{items_of};
 
-use crate::inside::is_in;
 use crate::part::Part;
 use kd_tree::Tree;
 use map_fold::Item;
-use point_geom::{Cuboid, centre_dist2};
+use point_geom::Cuboid;
 
 /// The live item in the cuboid whose point is nearest to the cuboid's centre; of several the least by x, y and z, and then
 /// by number. It takes no memory. A subtree that the cuboid doesn't meet, or that has no live item, is left out.
@@ -42,25 +41,17 @@ fn best_under(part: &Part<'_>, c: &Cuboid, best: Option<Item>) -> Option<Item>
 fn better(c: &Cuboid, best: Option<Item>, item: &Item) -> Option<Item>
     ensures { result ≡ best_from c.now best (inside_all (item.now ∷ []) c.now) }
 {
-    if !is_in(item, c) {
+    if !item.is_live_in(c) {
         return best;
     }
     match best {
         None => Some(*item),
         Some(held) => {
-            if comes_before(c, item, &held) {
+            if item.comes_before(&held, c) {
                 Some(*item)
             } else {
                 Some(held)
             }
         }
     }
-}
-
-fn comes_before(c: &Cuboid, a: &Item, b: &Item) -> bool
-    ensures { result ≡ comes_before c.now a.now b.now }
-{
-    let one = (centre_dist2(&a.point, c), a.point, a.number);
-    let two = (centre_dist2(&b.point, c), b.point, b.number);
-    one < two
 }

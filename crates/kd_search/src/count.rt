@@ -4,7 +4,6 @@ ghost use Rattle.map_fold.specs.Answers.{count};
 ghost use Rattle.kd_tree.specs.Contents.{contents};
 ghost use Rattle.kd_search.specs.Part.{items_of, nodes_of};
 
-use crate::inside::is_in;
 use crate::part::Part;
 use kd_tree::Tree;
 use map_fold::Item;
@@ -41,5 +40,5 @@ fn own(item: &Item, c: &Cuboid) -> u32
     ensures value { result ≡ count (item.now ∷ []) c.now }
     ensures few { result ≤ 1 }
 {
-    if is_in(item, c) { 1 } else { 0 }
+    if item.is_live_in(c) { 1 } else { 0 }
 }

@@ -1,8 +1,6 @@
 //! The live points of a box by number.
-ghost use Rattle.std.specs.Prelude.{◌≡◌, ◌≤◌, ◌&&◌, [], ◌∷◌, length, take, IfOk, OnOk};
+ghost use Rattle.std.specs.Prelude.{◌≡◌, ◌≤◌, [], ◌∷◌, length, take, IfOk, OnOk};
 ghost use Rattle.std.specs.List.{insert};
-ghost use Rattle.node_labels.specs.Labels.{is_live};
-ghost use Rattle.map_fold.specs.Contents.{in_box};
 ghost use Rattle.map_fold.specs.Answers.{inside, inside_all};
 ghost use Rattle.kd_tree.specs.Contents.{contents, insert_item};
 ghost use Rattle.kd_search.specs.Inserted.{insert_all};
@@ -59,7 +57,7 @@ fn add(item: &Item, c: &Cuboid, most: usize, items: &mut Vec<Item>) -> Result<()
     ensures few { OnOk result (length items.new.items ≤ most) }
     ensures found { OnOk result (items.new.items ≡ take most (insert_all (inside_all (item.now ∷ []) c.now) items.old.items)) }
 {
-    if !is_in(item, c) {
+    if !item.is_live_in(c) {
         return Ok(());
     }
     put(item, most, items)
@@ -91,11 +89,4 @@ fn place_of(items: &[Item], item: &Item) -> usize
         at += 1;
     }
     at
-}
-
-/// Whether a search of the cuboid finds the item.
-pub(crate) fn is_in(item: &Item, c: &Cuboid) -> bool
-    ensures { result ≡ (is_live item.now.label && in_box c.now item.now) }
-{
-    item.label == Label::Live && c.holds(&item.point)
 }

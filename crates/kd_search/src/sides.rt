@@ -2,7 +2,7 @@
 ghost use Rattle.kd_search.specs.Sides.{AreSidesOf};
 
 use kd_tree::{Top, Tree};
-use point_geom::Point;
+use point_geom::{Point, dist2_on};
 
 /// The son on whose side of the node's plane the point lies, and the other one.
 #[derive(Drop)]
@@ -17,11 +17,8 @@ impl<'a> Sides<'a> {
     pub(crate) fn of(top: &Top<'a>, q: &Point) -> Sides<'a>
         ensures { AreSidesOf top.now q.now result }
     {
-        let here = q.on(top.axis);
-        let there = top.item.point.on(top.axis);
-        let gap = here.abs_diff(there) as u128;
-        let gap = gap * gap;
-        if here < there {
+        let gap = dist2_on(top.axis, q, &top.item.point);
+        if q.on(top.axis) < top.item.point.on(top.axis) {
             Sides {
                 gap,
                 near: top.left,
