@@ -1,6 +1,8 @@
 pub mod AfterOps
 pub mod Calm
+pub mod Grown
 pub mod InBox
+pub mod Joins
 pub mod Large
 pub mod Lists
 pub mod Logged
@@ -8,6 +10,7 @@ pub mod Made
 pub mod ManyLogs
 pub mod Numbers
 pub mod Refresh
+pub mod Results
 pub mod Route
 pub mod Several
 pub mod StandsFor

@@ -53,7 +53,7 @@ nodes-put n p axis a (fork h l r) =
     (λ _. omega (arith, nodes-put n p (next_axis h.axis) owed l, tagged_nodes owed r))
     (λ _. omega (arith, nodes-put n p (next_axis h.axis) owed r, tagged_nodes owed l))
 
-levels-put : (n : ℕ) (p : Place) (axis : Axis) (a : Tag) (t : Shape) → levels (put_under n p axis a t) ≤ levels t + 1
+pub levels-put : (n : ℕ) (p : Place) (axis : Axis) (a : Tag) (t : Shape) → levels (put_under n p axis a t) ≤ levels t + 1
 unfolding put_under
 levels-put n p axis a leaf = omega arith
 levels-put n p axis a (fork h l r) =
@@ -155,10 +155,10 @@ contents-put n p axis t once none =
 
 -- the route
 
-le_of_true : (a b : ℤ) → int_lt a b ≡ true → a ≤ℤ b
+pub le_of_true : (a b : ℤ) → int_lt a b ≡ true → a ≤ℤ b
 le_of_true a b h = grind (arith, ints)
 
-le_of_false : (a b : ℤ) → int_lt a b ≡ false → b ≤ℤ a
+pub le_of_false : (a b : ℤ) → int_lt a b ≡ false → b ≤ℤ a
 le_of_false a b h = grind (arith, ints)
 
 -- the point may go on to this son

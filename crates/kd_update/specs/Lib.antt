@@ -3,6 +3,7 @@ pub mod Update
 pub mod Mark
 pub mod Put
 pub mod Made
+pub mod Scan
 pub mod Watch
 pub mod Several
 pub mod Watches

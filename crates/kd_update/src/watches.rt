@@ -1,5 +1,6 @@
 //! A short list of watches.
-ghost use Rattle.std.specs.Prelude.{◌≡◌, ◌<◌, ◌≤◌, [], ◌∷◌, ◌++◌, length, OnOk, OnErr};
+ghost use Rattle.std.specs.Prelude.{◌≡◌, ◌<◌, ◌≤◌, [], ◌∷◌, ◌++◌, length, slice_index_or, OnOk, OnErr};
+ghost use Rattle.std.specs.List.{remove};
 
 use crate::Watch;
 use map_fold::NoMemory;
@@ -58,6 +59,15 @@ impl Watches {
         self.items.reserve(1)?;
         self.items.push_reserved(watch);
         Ok(())
+    }
+
+    /// Takes the one at this place out. The others stay in order.
+    pub fn remove(&mut self, index: usize) -> Watch
+        requires { index < length self.old }
+        ensures value { result ≡ slice_index_or self.old index result }
+        ensures items { self.new ≡ remove self.old index }
+    {
+        self.items.remove(index)
     }
 
     /// Their list.

@@ -1,5 +1,5 @@
 use Rattle.std.proofs.Common.{◌≡◌, ◌≤◌, ◌∙◌, List, ap, subst, sym, arith}
-use Rattle.std.specs.Prelude.{IsPermutation, map, length, Result, Ok, Err, IfOk}
+use Rattle.std.specs.Prelude.{IsPermutation, map, length, IfOk}
 use Rattle.std.proofs.lemmas.Result.{IfOk-weaker}
 use Rattle.std.proofs.lemmas.List.Sorted.{length_permutation}
 use Rattle.node_labels.specs.Labels.{keep_tag}
@@ -13,13 +13,9 @@ use Rattle.kd_tree.proofs.Contents.{once_walk}
 use Rattle.kd_tree.proofs.Held.{walk_kept, walk_few}
 use Rattle.kd_tree.proofs.Numbered.{by_number_moves}
 use Rattle.kd_update.proofs.Refresh.{built_refresh}
+use Rattle.kd_update.proofs.Results.{ok_both}
 use Rattle.kd_update.specs.Refresh.{AreAmong, IsRefresh}
 use Rattle.kd_update.proofs.rebuild.rebuilt.Goals as goal
-
--- two facts of the value, if there is one
-ok_both : {X Y : Type 0} (r : Result X Y) (P Q R : X → Type 0) → ((x : X) → P x → Q x → R x) → IfOk r P → IfOk r Q → IfOk r R
-ok_both (Ok x) P Q R f p q = f x p q
-ok_both (Err e) P Q R f p q = tt
 
 pub build_from-requires-clause-kept : goal.build_from-requires-clause-kept
 build_from-requires-clause-kept g c = subst AreKept (sym c.in_ok-items.ensures) (walk_kept keep_tag c.args.tree)

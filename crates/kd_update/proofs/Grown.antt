@@ -1,0 +1,290 @@
+-- Trees with more items than before, some subtrees built anew.
+use Rattle.std.proofs.Common.{◌≡◌, ℕ, ◌+◌, ◌≤◌, ◌≤ℤ◌, true, false, cond, inl, inr, refl, ap, sym, subst, arith, List, [], ◌∷◌, ◌++◌, Some, map, length, take, drop, length-append, append_assoc}
+use Rattle.std.specs.Prelude.{All, Contains, IsPermutation, ◌==◌}
+use Rattle.std.proofs.lemmas.List.{map-append, take-append-drop, append-nil, get_or_append_left, get_or-append-add}
+use Rattle.std.proofs.lemmas.List.Elements.{All-append, All-map, All-weaker, All-contains, All-contains_itself, recursion_from_All, Contains-append_left, Contains-append_right}
+use Rattle.std.proofs.lemmas.List.Sorted.{All-permutation, Contains-permutation, length_permutation, IsPermutation-refl, IsPermutation-sym, IsPermutation-trans, IsPermutation-append, IsPermutation-append_left, IsPermutation-append_right, IsPermutation-append_comm, IsPermutation-map}
+use Rattle.std.proofs.lemmas.List.Sums.{sum_by-append}
+use Rattle.point_geom.specs.Place.{Place}
+use Rattle.point_geom.specs.Axes.{on}
+use Rattle.point_geom.specs.declared.axis.Axis.{Axis}
+use Rattle.node_labels.specs.Labels.{keep_tag, is_dropped}
+use Rattle.node_labels.specs.declared.label.Label.TheVariants.{Live}
+use Rattle.map_fold.specs.declared.item.Item.{Item}
+use Rattle.map_fold.specs.Contents.{live_at, relabelled, kept}
+use Rattle.map_fold.specs.Nearest.{Member}
+use Rattle.kd_tree.specs.Shape.{Head, Shape, leaf, fork, levels, numbers}
+use Rattle.kd_tree.specs.Walk.{walk, times}
+use Rattle.kd_tree.specs.Sound.{IsSound, IsSoundFork}
+use Rattle.kd_tree.specs.Contents.{AreDistinct, AreKept}
+use Rattle.kd_tree.specs.Build.{IsBuilt}
+use Rattle.kd_tree.specs.Parts.{pushed}
+use Rattle.kd_tree.specs.declared.change.Fork.{Fork}
+use Rattle.kd_tree.proofs.Contents.{times_walk}
+use Rattle.kd_tree.proofs.Held.{walk_kept, walk_few, walk_numbers}
+use Rattle.kd_tree.proofs.Left.{all_left, left_all}
+use Rattle.kd_tree.proofs.Medians.{built_nodes, built_levels, built_walk}
+use Rattle.kd_tree.proofs.Numbered.{counted_in, once_moved}
+use Rattle.kd_update.specs.Refresh.{AreAmong, IsRefresh, RefreshesIfDue}
+use Rattle.kd_update.specs.Update.{IsEven, IsUpdated}
+use Rattle.kd_update.specs.Put.{goes_left, put_from}
+use Rattle.kd_update.specs.Scan.{AreLive, IsGrown, IsParted, IsPiece, numbers_in}
+use Rattle.kd_update.proofs.Trees.{among_same, among_append, among_fork, forked, some_fork}
+use Rattle.kd_update.proofs.Refresh.{head, refreshed_refresh}
+use Rattle.kd_update.proofs.Update.{calm_even, even_sons}
+use Rattle.kd_update.proofs.Calm.{IsApart, apart}
+use Rattle.kd_update.proofs.Route.{le_of_true, le_of_false, walk-put, nodes-put, levels-put, numbers-put}
+
+-- lists
+
+swapped : {X : Type 0} (b c d : List X) → IsPermutation (b ++ (c ++ d)) (c ++ (b ++ d))
+swapped b c d = simp append_assoc at (IsPermutation-append_left d (b ++ c) (c ++ b) (IsPermutation-append_comm b c))
+
+-- two lists more, each brought to its place
+pub spread : {X : Type 0} (k a b c d : List X) → IsPermutation ((k ++ (a ++ b)) ++ (c ++ d)) (k ++ ((a ++ c) ++ (b ++ d)))
+spread k a b c d = simp append_assoc (IsPermutation-append_right k _ _ (IsPermutation-append_right a _ _ (swapped b c d)))
+
+-- trees that have grown
+
+pub grown_none : (s : Shape) → IsGrown s [] s
+grown_none s = record {
+  same = subst (λ w. IsPermutation w (walk keep_tag s)) (sym (append-nil (walk keep_tag s))) (IsPermutation-refl (walk keep_tag s));
+  few = omega arith;
+  low = omega arith;
+  from = λ n k. Contains-append_left (numbers s) [] n k;
+}
+
+pub grown_after : (s t u : Shape) (is : List Item) → IsRefresh s t → IsGrown t is u → IsGrown s is u
+grown_after s t u is f g = record {
+  same = IsPermutation-trans _ _ _ (IsPermutation-append_left is _ _ f.same) g.same;
+  few = omega (arith, f.few, g.few);
+  low = omega (arith, f.low, g.low);
+  from = λ n k. among_append (numbers t) (numbers s) (numbers_in is) (numbers_in is) f.from (among_same (numbers_in is)) n (g.from n k);
+}
+
+pub grown_then : (s t u : Shape) (is : List Item) → IsGrown s is t → IsRefresh t u → IsGrown s is u
+grown_then s t u is f g = record {
+  same = IsPermutation-trans _ _ _ f.same g.same;
+  few = omega (arith, f.few, g.few);
+  low = omega (arith, f.low, g.low);
+  from = λ n k. f.from n (g.from n k);
+}
+
+-- the items in another order
+pub grown_moved : (s t : Shape) (is js : List Item) → IsPermutation is js → IsGrown s js t → IsGrown s is t
+grown_moved s t is js p g = record {
+  same = IsPermutation-trans _ _ _ (IsPermutation-append_right (walk keep_tag s) _ _ p) g.same;
+  few = omega (arith, g.few, length_permutation is js p);
+  low = g.low;
+  from = λ n k. Contains-permutation _ _ n (IsPermutation-append_right (numbers s) _ _ (IsPermutation-map (λ (i : Item). i.number) js is (IsPermutation-sym is js p))) (g.from n k);
+}
+
+-- sons that have grown
+pub grown_fork : (i : Item) (a : Axis) (l r l' r' : Shape) (xs ys : List Item) → IsGrown l xs l' → IsGrown r ys r' → IsGrown (fork (head i a) l r) (xs ++ ys) (fork (head i a) l' r')
+grown_fork i a l r l' r' xs ys f g =
+    let own = i.number ∷ [] in
+    let s = fork (head i a) l r in
+    record {
+      same = IsPermutation-trans _ _ _ (spread (kept (relabelled keep_tag i ∷ [])) (walk keep_tag l) (walk keep_tag r) xs ys)
+          (IsPermutation-append_right (kept (relabelled keep_tag i ∷ [])) _ _ (IsPermutation-append _ _ _ _ f.same g.same));
+      few = omega (arith, f.few, g.few, length-append xs ys);
+      low = omega (arith, f.low, g.low);
+      from = λ n k. subst (λ z. Contains (numbers s ++ z) n) (sym (map-append (λ (j : Item). j.number) xs ys))
+          (Contains-permutation _ _ n (IsPermutation-sym _ _ (spread own (numbers l) (numbers r) (numbers_in xs) (numbers_in ys)))
+          (among_fork i.number (numbers l') (numbers r') (numbers l ++ numbers_in xs) (numbers r ++ numbers_in ys) f.from g.from n k));
+    }
+
+pub live_of : (i : Item) → i.label ≡ Live → i ≡ live_at i.number i.point
+live_of i e = ap (λ x. record i { label = x }) e
+
+-- a single point that is put
+pub grown_put : (large : ℕ) (i : Item) (axis : Axis) (s t : Shape) (C : Type 0) → i.label ≡ Live → IsUpdated large s (put_from i.number i.point axis s) C t → IsGrown s (i ∷ []) t
+grown_put large i axis s t C live u =
+    let p = put_from i.number i.point axis s in
+    let one : IsPermutation (i ∷ walk keep_tag s) (walk keep_tag p) =
+    subst (λ (j : Item). IsPermutation (j ∷ walk keep_tag s) (walk keep_tag p)) (sym (live_of i live)) (walk-put i.number i.point axis keep_tag s) in
+    grown_then s p t (i ∷ [])
+    (record {
+      same = IsPermutation-trans _ _ _ (IsPermutation-append_comm (walk keep_tag s) (i ∷ [])) one;
+      few = omega (arith, nodes-put i.number i.point axis keep_tag s);
+      low = omega (arith, levels-put i.number i.point axis keep_tag s);
+      from = λ n k. Contains-permutation _ _ n (IsPermutation-append_comm (i.number ∷ []) (numbers s)) (numbers-put i.number i.point axis keep_tag s n k);
+    }) u.refresh
+
+abbrev pub IsLive : Item → Type 0
+IsLive i = i.label ≡ Live
+
+pub live_kept : (is : List Item) → AreLive is → AreKept is
+live_kept is k = All-weaker IsLive (λ i. is_dropped i.label ≡ false) (λ i e. ap is_dropped e) is k
+
+pub kept_with : (s : Shape) (is : List Item) → AreLive is → AreKept (walk keep_tag s ++ is)
+kept_with s is k = All-append (λ (i : Item). is_dropped i.label ≡ false) (walk keep_tag s) is (walk_kept keep_tag s) (live_kept is k)
+
+built_low : (large : ℕ) (s t : Shape) (is : List Item) → IsPiece large s is → IsBuilt (walk keep_tag s ++ is) t → levels t ≤ levels s + 22
+built_low large leaf t is p b = built_levels t is 22 b (omega (arith, p.short))
+built_low large (fork h l r) t is p b =
+    let all = walk keep_tag (fork h l r) ++ is in
+    omega (arith, built_levels t all 23 b (omega (arith, length-append (walk keep_tag (fork h l r)) is, walk_few keep_tag (fork h l r), p.few)))
+
+built_from : (s t : Shape) (is : List Item) → IsPermutation (map (λ i. i.number) (walk keep_tag s ++ is)) (numbers t) → AreAmong (numbers t) (numbers s ++ numbers_in is)
+built_from s t is ns = λ n k.
+    let number : Item → ℕ = λ i. i.number in
+    let F : ℕ → Type 0 = λ m. Contains (numbers s ++ numbers_in is) m in
+    let old : All F (numbers s) = All-weaker _ _ (λ m c. Contains-append_left (numbers s) (numbers_in is) m c) (numbers s) (All-contains_itself (numbers s)) in
+    let new : All F (numbers_in is) = All-weaker _ _ (λ m c. Contains-append_right (numbers s) (numbers_in is) m c) (numbers_in is) (All-contains_itself (numbers_in is)) in
+    let left : All F (map number (walk keep_tag s)) = All-map F number (walk keep_tag s) (walk_numbers F keep_tag s (recursion_from_All F (numbers s) old)) in
+    let all : All F (map number (walk keep_tag s ++ is)) = subst (All F) (sym (map-append number (walk keep_tag s) is)) (All-append F _ _ left new) in
+    All-contains F (numbers t) n (All-permutation F _ (numbers t) ns all) k
+
+-- what is left and the items, built by medians
+pub grown_built : (large : ℕ) (s t : Shape) (is : List Item) → IsPiece large s is → IsBuilt (walk keep_tag s ++ is) t → IsPermutation (map (λ i. i.number) (walk keep_tag s ++ is)) (numbers t) → IsGrown s is t
+grown_built large s t is p b ns = record {
+  same = built_walk t (walk keep_tag s ++ is) b (kept_with s is p.live);
+  few = omega (arith, built_nodes t (walk keep_tag s ++ is) b, length-append (walk keep_tag s) is, walk_few keep_tag s);
+  low = built_low large s t is p b;
+  from = built_from s t is ns;
+}
+
+-- pieces
+
+-- the number of an item isn't held
+pub piece_new : (large : ℕ) (s : Shape) (is rest : List Item) (i : Item) → is ≡ i ∷ rest → IsPiece large s is → times i.number keep_tag s ≡ 0
+piece_new large s is rest i e p =
+    let g : Item → ℕ = λ j. cond (i.number == j.number) 1 0 in
+    let once = p.distinct.once i.number in
+    let here = counted_in i i.number is (subst (Member i) (sym e) (inl refl)) refl in
+    omega (arith, once, here, times_walk i.number keep_tag s, sum_by-append g (walk keep_tag s) is)
+
+pub piece_moved : (large : ℕ) (s : Shape) (is js : List Item) → IsPermutation is js → IsPiece large s is → IsPiece large s js
+piece_moved large s is js m p = record {
+  live = All-permutation IsLive is js m p.live;
+  distinct = once_moved _ _ (IsPermutation-append_right (walk keep_tag s) _ _ m) p.distinct;
+  small = omega (arith, p.small, length_permutation is js m);
+  short = omega (arith, p.short, length_permutation is js m);
+  low = p.low;
+  few = omega (arith, p.few, length_permutation is js m);
+}
+
+piece_after : (large : ℕ) (s t : Shape) (is : List Item) → IsRefresh s t → IsPiece large s is → IsPiece large t is
+piece_after large s t is f p = record {
+  live = p.live;
+  distinct = once_moved _ _ (IsPermutation-append_left is _ _ f.same) p.distinct;
+  small = p.small;
+  short = p.short;
+  low = omega (arith, f.low, p.low);
+  few = omega (arith, f.few, p.few);
+}
+
+pub all_first : (P : Item → Type 0) (xs ys : List Item) → All P (xs ++ ys) → All P xs
+all_first P xs ys k = λ n d below. subst P (get_or_append_left xs ys d n below) (k n d (omega (arith, length-append xs ys)))
+
+pub all_last : (P : Item → Type 0) (xs ys : List Item) → All P (xs ++ ys) → All P ys
+all_last P xs ys k = λ n d below. subst P (get_or-append-add xs ys n d) (k (length xs + n) d (omega (arith, length-append xs ys)))
+
+-- no number stands twice in a part
+pub distinct_front : (xs ys : List Item) → AreDistinct (xs ++ ys) → AreDistinct xs
+distinct_front xs ys d = record { once = λ n. let g : Item → ℕ = λ i. cond (n == i.number) 1 0 in omega (arith, d.once n, sum_by-append g xs ys) }
+
+pub distinct_back : (xs ys : List Item) → AreDistinct (xs ++ ys) → AreDistinct ys
+distinct_back xs ys d = record { once = λ n. let g : Item → ℕ = λ i. cond (n == i.number) 1 0 in omega (arith, d.once n, sum_by-append g xs ys) }
+
+distinct_parts : (k xs ys : List Item) → AreDistinct (k ++ (xs ++ ys)) → AreDistinct xs × AreDistinct ys
+distinct_parts k xs ys d = let both = distinct_back k (xs ++ ys) d in (distinct_front xs ys both, distinct_back xs ys both)
+
+-- the items that go to each son may be put there
+piece_sons : (large : ℕ) (i : Item) (a : Axis) (l r : Shape) (xs ys : List Item) → IsPiece large (fork (head i a) l r) (xs ++ ys) → IsPiece large l xs × IsPiece large r ys
+piece_sons large i a l r xs ys p =
+    let own = kept (relabelled keep_tag i ∷ []) in
+    let parts = distinct_parts own (walk keep_tag l ++ xs) (walk keep_tag r ++ ys) (once_moved _ _ (spread own (walk keep_tag l) (walk keep_tag r) xs ys) p.distinct) in
+    let size = length-append xs ys in (
+      record {
+        live = all_first IsLive xs ys p.live;
+        distinct = parts.0;
+        small = omega (arith, p.small);
+        short = omega (arith, p.short);
+        low = omega (arith, p.low);
+        few = omega (arith, p.few);
+      },
+      record {
+        live = all_last IsLive xs ys p.live;
+        distinct = parts.1;
+        small = omega (arith, p.small);
+        short = omega (arith, p.short);
+        low = omega (arith, p.low);
+        few = omega (arith, p.few);
+      },
+    )
+
+-- the first list goes left of the item, the second right
+pub record GoBeside (i : Item) (a : Axis) (xs ys : List Item) : Type 0 where
+  pub left : All (λ j. goes_left a j.point i.point ≡ true) xs
+  pub right : All (λ j. goes_left a j.point i.point ≡ false) ys
+
+-- sons that have grown by what goes there may be joined
+sound_grown : (large : ℕ) (i : Item) (a : Axis) (l r l' r' : Shape) (xs ys : List Item) → IsSoundFork (head i a) l r → IsPiece large (fork (head i a) l r) (xs ++ ys) → GoBeside i a xs ys
+    → IsGrown l xs l' → IsGrown r ys r' → IsSoundFork (head i a) l' r'
+sound_grown large i a l r l' r' xs ys s p b f g =
+    let all = grown_fork i a l r l' r' xs ys f g in
+    let P : Place → Type 0 = λ q. on a q ≤ℤ on a i.point in
+    let Q : Place → Type 0 = λ q. on a i.point ≤ℤ on a q in
+    record {
+      below = left_all P keep_tag l' (All-permutation (λ (j : Item). P j.point) _ _ f.same
+          (All-append (λ (j : Item). P j.point) _ _ (all_left P keep_tag l s.below) (All-weaker _ _ (λ j e. le_of_true (on a j.point) (on a i.point) e) xs b.left)));
+      above = left_all Q keep_tag r' (All-permutation (λ (j : Item). Q j.point) _ _ g.same
+          (All-append (λ (j : Item). Q j.point) _ _ (all_left Q keep_tag r s.above) (All-weaker _ _ (λ j e. le_of_false (on a j.point) (on a i.point) e) ys b.right)));
+      once = λ n. omega (arith, times_walk n keep_tag (fork (head i a) l' r'), (once_moved _ _ all.same p.distinct).once n);
+      few = omega (arith, all.few, p.few);
+      low = omega (arith, all.low, p.low);
+    }
+
+-- one step of the pass: the tree is taken apart, and the items are parted
+
+pub record IsStep (s : Shape) (is : List Item) (f : Fork) (xs ys : List Item) : Type 0 where
+  pub apart : IsApart s f
+  pub moved : IsPermutation is (xs ++ ys)
+  pub beside : GoBeside f.item f.axis xs ys
+
+parted_fork : (h : Head) (l r : Shape) (n : ℕ) (js : List Item) → IsParted (fork h l r) n js → GoBeside h.item h.axis (take n js) (drop n js)
+parted_fork h l r n js k = record { left = k.1; right = k.2 }
+
+parted_at : (s : Shape) (f : Fork) (n : ℕ) (js : List Item) → Some f ≡ pushed s → IsParted s n js → GoBeside f.item f.axis (take n js) (drop n js)
+parted_at leaf f n js x k = absurd k
+parted_at (fork h l r) f n js x k = subst (λ (g : Fork). GoBeside g.item g.axis (take n js) (drop n js)) (sym (some_fork f (forked h l r) x)) (parted_fork h l r n js k)
+
+pub step_at : (s : Shape) (f : Fork) (n : ℕ) (is js xs ys : List Item) → Some f ≡ pushed s → IsSound s → IsPermutation is js → IsParted s n js → xs ≡ take n js → ys ≡ drop n js → IsStep s is f xs ys
+step_at s f n is js xs ys x k m p e e' = record {
+  apart = apart s f x k;
+  moved = rw (e, e', take-append-drop n js) m;
+  beside = rw (e, e') (parted_at s f n js x p);
+}
+
+pub step_pieces : (large : ℕ) (s : Shape) (is : List Item) (f : Fork) (xs ys : List Item) → IsStep s is f xs ys → IsPiece large s is → IsPiece large f.left xs × IsPiece large f.right ys
+step_pieces large s is f xs ys k p =
+    piece_sons large f.item f.axis f.left f.right xs ys (piece_after large s (fork (head f.item f.axis) f.left f.right) (xs ++ ys) k.apart.refresh (piece_moved large s is (xs ++ ys) k.moved p))
+
+pub step_sound : (large : ℕ) (s : Shape) (is : List Item) (f : Fork) (xs ys : List Item) (l r : Shape) → IsStep s is f xs ys → IsPiece large s is → IsGrown f.left xs l → IsGrown f.right ys r → IsSoundFork (head f.item f.axis) l r
+step_sound large s is f xs ys l r k p left right =
+    sound_grown large f.item f.axis f.left f.right l r xs ys k.apart.sound
+    (piece_after large s (fork (head f.item f.axis) f.left f.right) (xs ++ ys) k.apart.refresh (piece_moved large s is (xs ++ ys) k.moved p)) k.beside left right
+
+pub step_grown : (large : ℕ) (s : Shape) (is : List Item) (f : Fork) (xs ys : List Item) (l r t : Shape) → IsStep s is f xs ys → IsGrown f.left xs l → IsGrown f.right ys r → RefreshesIfDue large (fork (head f.item f.axis) l r) t → IsGrown s is t
+step_grown large s is f xs ys l r t k left right done =
+    grown_moved s t is (xs ++ ys) k.moved
+    (grown_after s (fork (head f.item f.axis) f.left f.right) t (xs ++ ys) k.apart.refresh
+    (grown_then (fork (head f.item f.axis) f.left f.right) (fork (head f.item f.axis) l r) t (xs ++ ys) (grown_fork f.item f.axis f.left f.right l r xs ys left right) (refreshed_refresh large (fork (head f.item f.axis) l r) t done)))
+
+-- evenness
+
+apart_even : (large : ℕ) (s : Shape) (f : Fork) → Some f ≡ pushed s → IsEven large s → IsEven large f.left × IsEven large f.right
+apart_even large leaf f x k = absurd (cc)
+apart_even large (fork h l r) f x k = subst (λ (g : Fork). IsEven large g.left × IsEven large g.right) (sym (some_fork f (forked h l r) x)) (even_sons large h l r k)
+
+even_due : (large : ℕ) (h : Head) (l r t : Shape) → IsEven large l → IsEven large r → RefreshesIfDue large (fork h l r) t → IsEven large t
+even_due large h l r t left right (inl k) = subst (IsEven large) k.1 ((λ many few. (k.0 many few).0), left, right)
+even_due large h l r t left right (inr k) = calm_even large t k.2
+
+pub step_even : (large : ℕ) (s : Shape) (f : Fork) (l r t : Shape) → Some f ≡ pushed s → (IsEven large f.left → IsEven large l) → (IsEven large f.right → IsEven large r) → RefreshesIfDue large (fork (head f.item f.axis) l r) t
+    → IsEven large s → IsEven large t
+step_even large s f l r t x left right done even =
+    let both = apart_even large s f x even in
+    even_due large (head f.item f.axis) l r t (left both.0) (right both.1) done

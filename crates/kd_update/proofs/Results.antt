@@ -1,0 +1,7 @@
+-- Results of calls that may fail.
+use Rattle.std.specs.Prelude.{Result, Ok, Err, IfOk}
+
+-- two facts of the value, if there is one
+pub ok_both : {X Y : Type 0} (r : Result X Y) (P Q R : X → Type 0) → ((x : X) → P x → Q x → R x) → IfOk r P → IfOk r Q → IfOk r R
+ok_both (Ok x) P Q R f p q = f x p q
+ok_both (Err e) P Q R f p q = tt

@@ -1,0 +1,72 @@
+use Rattle.std.proofs.Common.{◌≡◌, ◌∙◌, List, [], ◌∷◌, sym, subst, arith, length, true}
+use Rattle.std.specs.Prelude.{◌==◌}
+use Rattle.std.proofs.lemmas.Bool.{eqb-true}
+use Rattle.std.proofs.lemmas.Result.{IfOk-weaker}
+use Rattle.std.proofs.lemmas.List.Elements.{All-head}
+use Rattle.node_labels.specs.declared.label.Label.TheVariants.{Live}
+use Rattle.map_fold.specs.declared.item.Item.{Item}
+use Rattle.kd_update.specs.Update.{IsEven}
+use Rattle.kd_update.specs.Scan.{AreLive, IsGrown}
+use Rattle.kd_update.proofs.Trees.{pushed_smaller}
+use Rattle.kd_update.proofs.Grown.{grown_moved, grown_put, piece_moved, piece_new, step_at, step_pieces, step_sound, step_grown, step_even}
+use Rattle.kd_update.proofs.one_pass.+put_at_once.Goals as goal
+
+-- a list whose rest is empty
+alone : (is rest : List Item) (i : Item) → is ≡ i ∷ rest → (length rest == 0) ≡ true → is ≡ i ∷ []
+alone is [] i e k = e
+alone is (j ∷ rest) i e k = absurd (let h = eqb-true (length (j ∷ rest)) 0 k in omega arith)
+
+pub put_below-requires-clause-new : goal.put_below-requires-clause-new
+put_below-requires-clause-new g t c = piece_new c.args.large c.args.tree c.args.items.now c.in-Some.rest.now c.in-Some.first.now c.in-Some.ensures.cases.0 c.requires
+
+pub returns-then-is_empty-clause-grown : goal.returns-then-is_empty-clause-grown
+returns-then-is_empty-clause-grown g t c =
+    let i = c.in-Some.first.now in
+    let e = alone c.args.items.now c.in-Some.rest.now i c.in-Some.ensures.cases.0 (sym c.is_empty.ensures ∙ c.if-is_empty.true) in
+    let live : i.label ≡ Live = All-head (λ (j : Item). j.label ≡ Live) i [] (subst AreLive e c.requires.live) in
+    IfOk-weaker c.put_below.result _ (λ v. IsGrown c.args.tree c.args.items.now v)
+    (λ v u. subst (λ (xs : List Item). IsGrown c.args.tree xs v) (sym e) (grown_put c.args.large i c.args.axis c.args.tree v _ live u)) c.put_below.ensures.updated
+
+pub built_with-requires-clause-piece : goal.built_with-requires-clause-piece
+built_with-requires-clause-piece g t c = piece_moved c.args.large c.args.tree c.args.items.now c.parted.new.items c.parted.ensures.moved c.requires
+
+pub returns-in_default-parted-clause-grown : goal.returns-in_default-parted-clause-grown
+returns-in_default-parted-clause-grown g t c =
+    IfOk-weaker c.built_with.result _ (λ v. IsGrown c.args.tree c.args.items.now v)
+    (λ v u. grown_moved c.args.tree v c.args.items.now c.parted.new.items c.parted.ensures.moved u) c.built_with.ensures.grown
+
+pub put_at_once-requires : goal.put_at_once-requires
+put_at_once-requires g t c κs within =
+    let x = sym c.in-Some-2.is ∙ c.in_ok-fork.ensures.parts in
+    let f = c.in-Some-2.fork in
+    let k = step_at c.args.tree f c.in-Some-parted.count c.args.items.now c.parted.new.items c.split_at_mut-lefts.result.0.now c.split_at_mut-lefts.result.1.now x c.size-size.ensures.sound c.parted.ensures.moved c.in-Some-parted.ensures.parted c.split_at_mut-lefts.ensures.front c.split_at_mut-lefts.ensures.back in
+    let less = pushed_smaller c.args.tree f x in
+    (omega (arith, less.0), (within, (step_pieces c.args.large c.args.tree c.args.items.now f _ _ k c.requires).0))
+
+pub put_at_once-requires-2 : goal.put_at_once-requires-2
+put_at_once-requires-2 g t c κs within =
+    let x = sym c.in-Some-2.is ∙ c.in_ok-fork.ensures.parts in
+    let f = c.in-Some-2.fork in
+    let k = step_at c.args.tree f c.in-Some-parted.count c.args.items.now c.parted.new.items c.split_at_mut-lefts.result.0.now c.split_at_mut-lefts.result.1.now x c.size-size.ensures.sound c.parted.ensures.moved c.in-Some-parted.ensures.parted c.split_at_mut-lefts.ensures.front c.split_at_mut-lefts.ensures.back in
+    let less = pushed_smaller c.args.tree f x in
+    (omega (arith, less.1), (within, (step_pieces c.args.large c.args.tree c.args.items.now f _ _ k c.requires).1))
+
+pub rejoined-requires : goal.rejoined-requires
+rejoined-requires g t c =
+    let x = sym c.in-Some-2.is ∙ c.in_ok-fork.ensures.parts in
+    let f = c.in-Some-2.fork in
+    let k = step_at c.args.tree f c.in-Some-parted.count c.args.items.now c.parted.new.items c.split_at_mut-lefts.result.0.now c.split_at_mut-lefts.result.1.now x c.size-size.ensures.sound c.parted.ensures.moved c.in-Some-parted.ensures.parted c.split_at_mut-lefts.ensures.front c.split_at_mut-lefts.ensures.back in
+    step_sound c.args.large c.args.tree c.args.items.now f _ _ c.in_ok-left.left c.in_ok-right.right k c.requires c.in_ok-left.ensures.grown c.in_ok-right.ensures.grown
+
+pub returns-clause-grown : goal.returns-clause-grown
+returns-clause-grown g t c =
+    let x = sym c.in-Some-2.is ∙ c.in_ok-fork.ensures.parts in
+    let f = c.in-Some-2.fork in
+    let k = step_at c.args.tree f c.in-Some-parted.count c.args.items.now c.parted.new.items c.split_at_mut-lefts.result.0.now c.split_at_mut-lefts.result.1.now x c.size-size.ensures.sound c.parted.ensures.moved c.in-Some-parted.ensures.parted c.split_at_mut-lefts.ensures.front c.split_at_mut-lefts.ensures.back in
+    IfOk-weaker c.rejoined.result _ (λ v. IsGrown c.args.tree c.args.items.now v)
+    (λ v done. step_grown c.args.large c.args.tree c.args.items.now f _ _ c.in_ok-left.left c.in_ok-right.right v k c.in_ok-left.ensures.grown c.in_ok-right.ensures.grown done) c.rejoined.ensures.due
+
+pub returns-clause-balance : goal.returns-clause-balance
+returns-clause-balance g t c =
+    IfOk-weaker c.rejoined.result _ (λ v. IsEven c.args.large c.args.tree → IsEven c.args.large v)
+    (λ v done even. step_even c.args.large c.args.tree c.in-Some-2.fork c.in_ok-left.left c.in_ok-right.right v (sym c.in-Some-2.is ∙ c.in_ok-fork.ensures.parts) c.in_ok-left.ensures.balance c.in_ok-right.ensures.balance done even) c.rejoined.ensures.due

@@ -1,0 +1,54 @@
+//! Points put into a tree under the numbers that come next.
+ghost use Rattle.std.specs.Prelude.{◌≡◌, ◌+◌, ◌≤◌, ◌++◌, length, IfOk};
+ghost use Rattle.map_fold.specs.Contents.{AreContents};
+ghost use Rattle.map_fold.specs.Fold.{add_points};
+ghost use Rattle.kd_tree.specs.Shape.{nodes, numbers};
+ghost use Rattle.kd_tree.specs.Contents.{contents};
+ghost use Rattle.kd_update.specs.Refresh.{AreAmong};
+ghost use Rattle.kd_update.specs.Update.{IsEven};
+ghost use Rattle.kd_update.specs.Scan.{live_from, numbers_in};
+
+use crate::put_all;
+use kd_tree::{Steps, Tree};
+use map_fold::{Item, Label, NoMemory};
+use point_geom::Point;
+use std::alloc::Global;
+use std::sync::ledger::Ledger;
+
+/// The tree with these points put, live, under the numbers from `first` on, as `put_all` puts them. Where memory is wanting,
+/// the tree is let go.
+pub fn put_points<L: Ledger>(
+    alloc: Global,
+    tree: Tree,
+    large: u32,
+    first: u32,
+    points: &[Point],
+    steps: &mut Steps<L>,
+) -> Result<Tree, NoMemory>
+    requires held { AreContents 0 first (contents tree) }
+    requires few { first + length points.now ≤ 4194304 }
+    ensures added { IfOk result (λ t. record { items = contents t; next = first + length points.now } ≡ add_points points.now (record { items = contents tree; next = first })) }
+    ensures numbers { IfOk result (λ t. AreAmong (numbers t) (numbers_in (live_from first points.now) ++ numbers tree)) }
+    ensures balance { IsEven large tree → IfOk result (λ t. IsEven large t) }
+    ensures nodes { IfOk result (λ t. nodes t ≤ nodes tree + length points.now) }
+{
+    let items = numbered(alloc, first, points)?;
+    put_all(alloc, tree, large, items.as_slice(), steps)
+}
+
+fn numbered(alloc: Global, first: u32, points: &[Point]) -> Result<Vec<Item>, NoMemory>
+    requires { first + length points.now ≤ 4194304 }
+    ensures { IfOk result (λ v. v.items ≡ live_from first points.now) }
+{
+    let mut items = Vec::with_capacity(alloc, points.len())?;
+    let mut number = first;
+    for point in points {
+        items.push(Item {
+            number,
+            point: *point,
+            label: Label::Live,
+        })?;
+        number += 1;
+    }
+    Ok(items)
+}
