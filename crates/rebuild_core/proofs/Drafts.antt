@@ -1,33 +1,15 @@
--- Trees on which an update is at work.
+-- Operations of an update, and where their numbers lie.
 use Rattle.std.proofs.Common.{◌≡◌, ℕ, ◌+◌, ◌*◌, ◌<◌, ◌≤◌, List, [], ◌∷◌, ◌∙◌, length, drop, arith, refl, ap, sym, subst, Some}
-use Rattle.std.specs.Prelude.{All, Contains, IfOk}
-use Rattle.std.specs.declared.result.Result.{Result}
-use Rattle.std.specs.declared.result.Result.TheVariants.{Ok, Err}
+use Rattle.std.specs.Prelude.{All, Contains}
 use Rattle.std.proofs.lemmas.List.Elements.{All-contains, All-contains_itself, All-weaker}
-use Rattle.node_labels.specs.Labels.{keep_tag}
 use Rattle.node_labels.specs.declared.tag.Tag.{Tag}
 use Rattle.point_geom.specs.Place.{Place, Bounds}
-use Rattle.map_fold.specs.declared.memory.NoMemory.{NoMemory}
 use Rattle.map_fold.specs.declared.op.Op.{Op}
 use Rattle.map_fold.specs.declared.op.Op.TheVariants.{Mark, Put}
 use Rattle.map_fold.specs.declared.update.Update.TheVariants.{Add}
-use Rattle.kd_tree.specs.Shape.{Shape, numbers}
-use Rattle.kd_tree.specs.Walk.{times}
-use Rattle.kd_tree.specs.Sound.{IsSound}
-use Rattle.kd_tree.specs.Contents.{contents}
+use Rattle.kd_tree.specs.Shape.{Shape}
 use Rattle.kd_update.specs.Refresh.{AreAmong}
-use Rattle.kd_update.specs.Update.{IsEven, KeepsEven}
-use Rattle.kd_update.proofs.Numbers.{below_next, left_few, unheld}
-use Rattle.rebuild_core.specs.Draft.{IsDraft}
 use Rattle.rebuild_core.specs.Single.{IsQuiet, entered_nodes, only_mark, only_op, unrebuilt}
-
--- the next number isn't held
-pub draft_free : (large next : ℕ) (t : Shape) → IsDraft large next t → times next keep_tag t ≡ 0
-draft_free large next t d = unheld next t (λ n k. All-contains (λ m. m < next) (numbers t) n d.below k)
-
--- no more is held than numbers were given
-pub draft_few : (large next : ℕ) (t : Shape) → IsSound t → IsDraft large next t → length (contents t) ≤ next
-draft_few large next t sound d = left_few next t sound (λ n k. All-contains (λ m. m < next) (numbers t) n d.below k)
 
 all_among : (P : ℕ → Type 0) (ns ms : List ℕ) → AreAmong ns ms → All P ms → All P ns
 all_among P ns ms f k = All-weaker (λ n. Contains ns n) P (λ n c. All-contains P ms n k (f n c)) ns (All-contains_itself ns)
@@ -35,20 +17,6 @@ all_among P ns ms f k = All-weaker (λ n. Contains ns n) P (λ n c. All-contains
 -- numbers that are among those of before lie below the next too
 pub among_below : (next : ℕ) (ns ms : List ℕ) → AreAmong ns ms → All (λ n. n < next) ms → All (λ n. n < next) ns
 among_below next ns ms f k = all_among (λ n. n < next) ns ms f k
-
--- and after the next was put they lie below the one after it
-pub put_below_next : (next : ℕ) (ns ms : List ℕ) → AreAmong ns (next ∷ ms) → All (λ n. n < next) ms → All (λ n. n < next + 1) ns
-put_below_next next ns ms f k =
-    All-weaker (λ n. Contains ns n) (λ n. n < next + 1) (λ n c. below_next next ms ns f (λ m q. All-contains (λ m. m < next) ms m k q) n c) ns (All-contains_itself ns)
-
--- room that is made keeps a draft
-pub roomy_draft : (large next : ℕ) (s t : Shape) → IsDraft large next s → AreAmong (numbers t) (numbers s) → KeepsEven s t → IsDraft large next t
-roomy_draft large next s t d ns even = record { below = among_below next (numbers t) (numbers s) ns d.below; even = even large d.even }
-
--- and so does the next number that is put
-pub put_draft : (large next : ℕ) (s : Shape) (r : Result Shape NoMemory) → IsDraft large next s → IfOk r (λ t. AreAmong (numbers t) (next ∷ numbers s)) → IfOk r (λ t. IsEven large t) → IfOk r (λ t. IsDraft large (next + 1) t)
-put_draft large next s (Ok t) d ns even = record { below = put_below_next next (numbers t) (numbers s) ns d.below; even = even }
-put_draft large next s (Err e) d ns even = tt
 
 -- the list of an update of one operation has one item, which the operation is of
 pub only_put : (next : ℕ) (ps rest : List Place) (p : Place) (op : Op) → ps ≡ p ∷ rest → only_op next (Add ps) ≡ Some op → (Put next p ≡ op)

@@ -1,3 +1,14 @@
 pub mod Drafts
 pub mod Histories
 pub mod Plans
+pub mod Winners
+pub mod OnePoint
+pub mod ApartPaths
+pub mod PartLogs
+pub mod Detached
+pub mod Working
+pub mod Replaying
+pub mod Detaching
+pub mod Balance
+pub mod OtherParts
+pub mod Swapping

@@ -1,88 +1,95 @@
--- Plans that leave a lawful state, where nothing is detached.
+-- Plans that leave a lawful state.
 use Rattle.std.proofs.Common.{◌≡◌, ℕ, ◌+◌, ◌*◌, ◌<◌, ◌≤◌, List, [], ◌∷◌, ◌++◌, length, length-append, append-nil, refl, ap, sym, ◌∙◌, arith, subst, Some, None}
-use Rattle.map_fold.specs.Fold.{step}
+use Rattle.std.specs.Prelude.{All}
+use Rattle.map_fold.specs.Fold.{points_in, step}
 use Rattle.map_fold.specs.declared.op.Op.{Op}
 use Rattle.map_fold.specs.declared.update.Update.{Update}
 use Rattle.kd_tree.specs.Shape.{Shape, numbers}
 use Rattle.kd_tree.specs.Sound.{IsSound}
 use Rattle.kd_tree.specs.Contents.{contents}
 use Rattle.kd_tree.specs.Criteria.{IsCalm}
+use Rattle.kd_update.specs.declared.watch.Watch.{Watch}
 use Rattle.kd_update.specs.Refresh.{AreAmong}
 use Rattle.kd_update.specs.Several.{IsEvenClear}
-use Rattle.kd_update.proofs.Several.{clear_even, even_clear}
+use Rattle.kd_update.specs.Watches.{HaveRoom}
+use Rattle.kd_update.proofs.Several.{even_clear}
 use Rattle.kd_update.proofs.Update.{calm_even}
 use Rattle.map_fold.specs.declared.entry.Entry.{Entry}
+use Rattle.rebuild_core.specs.Draft.{watches_of}
 use Rattle.rebuild_core.specs.History.{entry_by}
 use Rattle.rebuild_core.specs.Lawful.{IsLawful, StateAt, VersionAt, map_of}
-use Rattle.rebuild_core.specs.Draft.{IsDraft}
-use Rattle.rebuild_core.specs.Parts.{AreLawfulParts, PartAt, paths, planned_parts}
+use Rattle.rebuild_core.specs.Logs.{LogPlan, planned_parts}
+use Rattle.rebuild_core.specs.Parts.{AreInSlots, AreLawfulParts, PartAt, paths}
 use Rattle.rebuild_core.specs.Single.{IsQuiet, entered_nodes, only_op, unrebuilt}
 use Rattle.rebuild_core.specs.StateView.{IsNextOf}
-use Rattle.rebuild_core.specs.Steps.{IsQuietUpdate, IsSettlePlan, IsUpdatePlan, PlannedAt, entered, listed}
+use Rattle.rebuild_core.specs.Steps.{IsDrafted, IsQuietUpdate, IsSettlePlan, IsUpdatePlan, PlannedAt, entered, listed}
+use Rattle.rebuild_core.specs.declared.plan.Drafted.{Drafted}
+use Rattle.rebuild_core.proofs.Detached.{left_lawful, left_none}
 use Rattle.rebuild_core.proofs.Drafts.{among_below}
 use Rattle.rebuild_core.proofs.Histories.{entries-push, fold-entry, next_entry}
+use Rattle.rebuild_core.proofs.Working.{watched_room}
 
--- nothing is detached
-pub no_parts : (large next last : ℕ) (t : Shape) → AreLawfulParts large next last t []
-no_parts large next last t = record { each = tt; apart = tt; slots = tt; tickets = tt }
+slots_few : (from : ℕ) (ps : List PartAt) → from ≤ 5 → AreInSlots from ps → from + length ps ≤ 5
+slots_few from [] low k = omega (arith, low)
+slots_few from (p ∷ ps) low k = omega (arith, k.0, slots_few (p.slot + 1) ps (omega (arith, k.1)) k.2)
 
--- what a lawful state holds may be worked on
-pub lawful_draft : (s : StateAt) (t : Shape) → s.parts ≡ [] → IsLawful s → t ≡ s.tree → IsDraft s.settings.large s.next t
-lawful_draft s t none k same =
-    let even : IsEvenClear s.settings.large [] s.tree = subst (λ (ps : List PartAt). IsEvenClear s.settings.large (paths ps) s.tree) none k.even in
-    subst (IsDraft s.settings.large s.next) (sym same) (record { below = k.below; even = clear_even s.settings.large s.tree even })
+-- there are at most four parts
+pub parts_few : (s : StateAt) → IsLawful s → length s.parts ≤ 4
+parts_few s k = omega (arith, slots_few 1 s.parts (omega arith) k.parts.slots)
 
 -- what the work on a copy promises of one operation, the plan promises of the state
-pub plan_shape : (u : Update) (op : Op) (s z : StateAt) (t new : Shape) → s ≡ z → t ≡ s.tree → (only_op s.next u ≡ Some op → IsQuiet s.settings.large op t → new ≡ unrebuilt op t) → IsQuietUpdate u op z → new ≡ unrebuilt op z.tree
-plan_shape u op s z t new is same k =
-    let here : IsQuietUpdate u op s → new ≡ unrebuilt op s.tree = λ q. subst (λ (x : Shape). IsQuiet s.settings.large op x → new ≡ unrebuilt op x) same (k q.only) q.quiet in
+pub plan_shape : (u : Update) (op : Op) (s z : StateAt) (t new : Shape) (ws : List Watch) → s ≡ z → t ≡ s.tree → ws ≡ watches_of s.parts → (only_op s.next u ≡ Some op → HaveRoom ws → IsQuiet s.settings.large op t → new ≡ unrebuilt op t)
+    → IsQuietUpdate u op z → new ≡ unrebuilt op z.tree
+plan_shape u op s z t new ws is same seen k =
+    let here : IsQuietUpdate u op s → new ≡ unrebuilt op s.tree =
+    λ q. subst (λ (x : Shape). IsQuiet s.settings.large op x → new ≡ unrebuilt op x) same (k q.only (subst HaveRoom (sym seen) (watched_room s.parts q.room))) q.quiet in
     subst (λ (x : StateAt). IsQuietUpdate u op x → new ≡ unrebuilt op x.tree) is here
 
-pub plan_ticks : (u : Update) (op : Op) (s z : StateAt) (t : Shape) (m n new : ℕ) → s ≡ z → t ≡ s.tree → m ≡ n → (only_op s.next u ≡ Some op → IsQuiet s.settings.large op t → new ≤ m + (5 * entered_nodes op t + 1))
-    → IsQuietUpdate u op z → new ≤ n + (5 * entered_nodes op z.tree + 1)
-plan_ticks u op s z t m n new is same start k =
-    let here : IsQuietUpdate u op s → new ≤ m + (5 * entered_nodes op s.tree + 1) = λ q. subst (λ (x : Shape). IsQuiet s.settings.large op x → new ≤ m + (5 * entered_nodes op x + 1)) same (k q.only) q.quiet in
+pub plan_ticks : (u : Update) (op : Op) (s z : StateAt) (t : Shape) (m n new : ℕ) (ws : List Watch) → s ≡ z → t ≡ s.tree → m ≡ n → ws ≡ watches_of s.parts
+    → (only_op s.next u ≡ Some op → HaveRoom ws → IsQuiet s.settings.large op t → new ≤ m + (5 * entered_nodes op t + 1)) → IsQuietUpdate u op z → new ≤ n + (5 * entered_nodes op z.tree + 1)
+plan_ticks u op s z t m n new ws is same start seen k =
+    let here : IsQuietUpdate u op s → new ≤ m + (5 * entered_nodes op s.tree + 1) =
+    λ q. subst (λ (x : Shape). IsQuiet s.settings.large op x → new ≤ m + (5 * entered_nodes op x + 1)) same (k q.only (subst HaveRoom (sym seen) (watched_room s.parts q.room))) q.quiet in
     let there : IsQuietUpdate u op z → new ≤ m + (5 * entered_nodes op z.tree + 1) = subst (λ (x : StateAt). IsQuietUpdate u op x → new ≤ m + (5 * entered_nodes op x.tree + 1)) is here in
     λ q. let h = there q in omega (arith, h, start)
 
 -- A draft that was worked out from a lawful state makes a lawful state.
-pub planned_lawful : (caller : ℕ) (u : Update) (s : StateAt) (t v : Shape) (next : ℕ) → s.parts ≡ [] → IsLawful s → 1 ≤ caller → caller ≤ 8 → length s.history < 1048576 → next ≤ 4194304
-    → IsSound t → IsDraft s.settings.large next t → map_of t next ≡ step s.settings.voxel u (map_of s.tree s.next) → v ≡ t
+planned_lawful : (caller : ℕ) (u : Update) (s : StateAt) (d : Drafted) → IsLawful s → 1 ≤ caller → caller ≤ 8 → length s.history < 1048576 → s.next + points_in u ≤ 4194304 → IsSound d.tree → IsDrafted u s d
     → IsLawful (record s {
-      tree = t;
-      next = next;
-      version = record { tree = v; next = next; len = length s.history + 1 };
+      tree = d.tree;
+      next = s.next + points_in u;
+      version = record { tree = d.tree; next = s.next + points_in u; len = length s.history + 1 };
       history = s.history ++ entry_by caller u s.history ∷ [];
-      parts = [];
+      parts = planned_parts d.logs.items s.parts;
     })
-planned_lawful caller u s t v next none k from to short few sound draft stepped same = record {
+planned_lawful caller u s d k from to short few sound made = record {
   sizes = k.sizes;
   sound = sound;
-  folded = stepped ∙ ap (step s.settings.voxel u) k.folded ∙ sym (fold-entry s.settings.voxel s.history (entry_by caller u s.history));
+  folded = made.stepped ∙ ap (step s.settings.voxel u) k.folded ∙ sym (fold-entry s.settings.voxel s.history (entry_by caller u s.history));
   few = few;
-  below = draft.below;
+  below = made.below;
   short = omega (arith, short, length-append s.history (entry_by caller u s.history ∷ []));
   entries = entries-push s.history (entry_by caller u s.history) k.entries (record { caller_from = from; caller_to = to; seq = refl });
-  parts = no_parts s.settings.large next s.last t;
-  even = even_clear s.settings.large t draft.even;
-  shown = ap contents same;
+  parts = made.parts;
+  even = made.even;
+  shown = refl;
   shown_next = refl;
   shown_len = omega (arith, length-append s.history (entry_by caller u s.history ∷ []));
 }
 
 -- the plan of an update, with what its values are equal to
-pub planned : (caller : ℕ) (u : Update) (s z : StateAt) (t v : Shape) (next : ℕ) (ver : VersionAt) (e : Entry) → s.parts ≡ [] → IsLawful s → 1 ≤ caller → caller ≤ 8 → length s.history < 1048576 → next ≤ 4194304
-    → IsSound t → IsDraft s.settings.large next t → map_of t next ≡ step s.settings.voxel u (map_of s.tree s.next) → v ≡ t
-    → ver ≡ record { tree = v; next = next; len = length s.history + 1 } → e ≡ entry_by caller u s.history → s ≡ z
-    → IsUpdatePlan caller u z (record { tree = t; next = next; version = ver; entry = Some e; logs = [] })
-planned caller u s z t v next ver e none k from to short few sound draft stepped same shown made is =
-    let P : PlannedAt = record { tree = t; next = next; version = record { tree = v; next = next; len = length s.history + 1 }; entry = Some (entry_by caller u s.history); logs = [] } in
-    let all = planned_lawful caller u s t v next none k from to short few sound draft stepped same in
-    let lawful : IsLawful (entered P s) = subst (λ (ps : List PartAt). IsLawful (record s { tree = t; next = next; version = P.version; history = s.history ++ listed P.entry; parts = planned_parts [] ps })) (sym none) all in
-    let plan : IsUpdatePlan caller u s P = record { lawful = lawful; stepped = stepped; entry = refl } in
-    let with_version : IsUpdatePlan caller u s (record P { version = ver }) = subst (λ (x : VersionAt). IsUpdatePlan caller u s (record P { version = x })) (sym shown) plan in
-    let with_entry : IsUpdatePlan caller u s (record P { version = ver; entry = Some e }) = subst (λ (x : Entry). IsUpdatePlan caller u s (record P { version = ver; entry = Some x })) (sym made) with_version in
-    subst (λ (x : StateAt). IsUpdatePlan caller u x (record P { version = ver; entry = Some e })) is with_entry
+pub planned : (caller : ℕ) (u : Update) (s z : StateAt) (d : Drafted) (next : ℕ) (ver : VersionAt) (e : Entry) → IsLawful s → 1 ≤ caller → caller ≤ 8 → length s.history < 1048576 → next ≤ 4194304 → next ≡ s.next + points_in u
+    → IsSound d.tree → IsDrafted u s d → ver ≡ record { tree = d.tree; next = next; len = length s.history + 1 } → e ≡ entry_by caller u s.history → s ≡ z
+    → IsUpdatePlan caller u z (record { tree = d.tree; next = next; version = ver; entry = Some e; logs = d.logs.items })
+planned caller u s z d next ver e k from to short few asked sound made shown by is =
+    let P : PlannedAt =
+    record { tree = d.tree; next = s.next + points_in u; version = record { tree = d.tree; next = s.next + points_in u; len = length s.history + 1 }; entry = Some (entry_by caller u s.history); logs = d.logs.items } in
+    let plan : IsUpdatePlan caller u s P = record { lawful = planned_lawful caller u s d k from to short (omega (arith, few, asked)) sound made; stepped = made.stepped; entry = refl; parts = made.left } in
+    let V : ℕ → VersionAt = λ n. record { tree = d.tree; next = n; len = length s.history + 1 } in
+    let with_next : IsUpdatePlan caller u s (record P { next = next; version = V next }) = subst (λ (n : ℕ). IsUpdatePlan caller u s (record P { next = n; version = V n })) (sym asked) plan in
+    let with_version : IsUpdatePlan caller u s (record P { next = next; version = ver }) = subst (λ (x : VersionAt). IsUpdatePlan caller u s (record P { next = next; version = x })) (sym shown) with_next in
+    let with_entry : IsUpdatePlan caller u s (record P { next = next; version = ver; entry = Some e }) = subst (λ (x : Entry). IsUpdatePlan caller u s (record P { next = next; version = ver; entry = Some x })) (sym by) with_version in
+    subst (λ (x : StateAt). IsUpdatePlan caller u x (record P { next = next; version = ver; entry = Some e })) is with_entry
 
 -- what is planned may be listed
 pub next_of : (p q : PlannedAt) (s z : StateAt) → p ≡ q → s ≡ z → IsLawful (entered q z) → IsNextOf s.history p.entry
@@ -91,29 +98,35 @@ next_of p q s z e f k =
     let there = subst (λ (x : StateAt). IsLawful (entered p x)) (sym f) here in
     next_entry s.history p.entry there.entries there.short
 
--- the plan of settling, likewise
-pub settles : (s z : StateAt) (t v : Shape) (ver : VersionAt) → s.parts ≡ [] → IsLawful s → IsSound t → contents t ≡ contents s.tree → AreAmong (numbers t) (numbers s.tree) → IsCalm 10 t → v ≡ t
-    → ver ≡ record { tree = v; next = s.next; len = length s.history } → s ≡ z
-    → IsSettlePlan z (record { tree = t; next = s.next; version = ver; entry = None; logs = [] })
-settles s z t v ver none k sound held from calm twin shown is =
-    let P : PlannedAt = record { tree = t; next = s.next; version = record { tree = v; next = s.next; len = length s.history }; entry = None; logs = [] } in
-    let lawful : IsLawful (record s { tree = t; version = P.version; parts = [] }) = record {
+-- A lawful state stays lawful with another tree that holds the same, and with parts that are lawful in that.
+pub held_lawful : (s : StateAt) (t : Shape) (ps : List PartAt) → IsLawful s → IsSound t → contents t ≡ contents s.tree → All (λ n. n < s.next) (numbers t) → AreLawfulParts s.settings.large s.next s.last t ps
+    → IsEvenClear s.settings.large (paths ps) t → IsLawful (record s { tree = t; version = record { tree = t; next = s.next; len = length s.history }; history = s.history ++ []; parts = ps })
+held_lawful s t ps k sound held below lawful even =
+    let one : IsLawful (record s { tree = t; version = record { tree = t; next = s.next; len = length s.history }; parts = ps }) = record {
       sizes = k.sizes;
       sound = sound;
       folded = ap (λ m. record { items = m; next = s.next }) held ∙ k.folded;
       few = k.few;
-      below = among_below s.next (numbers t) (numbers s.tree) from k.below;
+      below = below;
       short = k.short;
       entries = k.entries;
-      parts = no_parts s.settings.large s.next s.last t;
-      even = even_clear s.settings.large t (calm_even s.settings.large t calm);
-      shown = ap contents twin;
+      parts = lawful;
+      even = even;
+      shown = refl;
       shown_next = refl;
       shown_len = refl;
     } in
-    let listed_all : IsLawful (record s { tree = t; version = P.version; history = s.history ++ []; parts = [] }) =
-    subst (λ (h : List Entry). IsLawful (record s { tree = t; version = P.version; history = h; parts = [] })) (sym (append-nil s.history)) lawful in
-    let here : IsLawful (entered P s) = subst (λ (ps : List PartAt). IsLawful (record s { tree = t; version = P.version; history = s.history ++ []; parts = planned_parts [] ps })) (sym none) listed_all in
-    let plan : IsSettlePlan s P = record { lawful = here; held = held; next = refl; none = refl; parts = ap (planned_parts []) none; calm = calm } in
+    subst (λ (h : List Entry). IsLawful (record s { tree = t; version = record { tree = t; next = s.next; len = length s.history }; history = h; parts = ps })) (sym (append-nil s.history)) one
+
+-- the plan of settling
+pub settles : (s z : StateAt) (t : Shape) (ver : VersionAt) (logs : List LogPlan) → IsLawful s → IsSound t → contents t ≡ contents s.tree → AreAmong (numbers t) (numbers s.tree) → IsCalm 10 t → planned_parts logs s.parts ≡ []
+    → ver ≡ record { tree = t; next = s.next; len = length s.history } → s ≡ z → IsSettlePlan z (record { tree = t; next = s.next; version = ver; entry = None; logs = logs })
+settles s z t ver logs k sound held from calm none shown is =
+    let P : PlannedAt = record { tree = t; next = s.next; version = record { tree = t; next = s.next; len = length s.history }; entry = None; logs = logs } in
+    let all =
+    held_lawful s t [] k sound held (among_below s.next (numbers t) (numbers s.tree) from k.below) (left_lawful s.settings.large s.next s.next s.last s.last s.tree t s.parts [] (left_none s.parts) k.parts tt)
+    (even_clear s.settings.large t (calm_even s.settings.large t calm)) in
+    let here : IsLawful (entered P s) = subst (λ (ps : List PartAt). IsLawful (record s { tree = t; version = P.version; history = s.history ++ []; parts = ps })) (sym none) all in
+    let plan : IsSettlePlan s P = record { lawful = here; held = held; next = refl; none = refl; parts = none; calm = calm } in
     let with_version : IsSettlePlan s (record P { version = ver }) = subst (λ (x : VersionAt). IsSettlePlan s (record P { version = x })) (sym shown) plan in
     subst (λ (x : StateAt). IsSettlePlan x (record P { version = ver })) is with_version

@@ -1,7 +1,12 @@
 pub mod History
 pub mod Parts
+pub mod Logs
 pub mod Lawful
 pub mod Single
+pub mod OnePoint
+pub mod Built
 pub mod Steps
+pub mod Detach
 pub mod Draft
 pub mod StateView
+pub mod Swap

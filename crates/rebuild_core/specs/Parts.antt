@@ -1,9 +1,9 @@
 -- Detached subtrees: what a state keeps of each, and what a step leaves of them.
-use Rattle.std.specs.Prelude.{◌≡◌, ℕ, ◌+◌, ◌<◌, ◌≤◌, List, [], ◌∷◌, ◌++◌, length, map, All, Option, Some, None, ◌==◌, if◌then◌else◌}
+use Rattle.std.specs.Prelude.{◌≡◌, ℕ, ◌+◌, ◌<◌, ◌≤◌, ◌⊎◌, List, [], ◌∷◌, ◌++◌, length, map, All, Option, Some, None, ◌==◌, if◌then◌else◌}
 use Rattle.map_fold.specs.declared.item.Item.{Item}
 use Rattle.map_fold.specs.declared.op.Op.{Op}
 use Rattle.map_fold.specs.Contents.{AreContents}
-use Rattle.map_fold.specs.Ops.{Fit, numbers_put, replay}
+use Rattle.map_fold.specs.Ops.{Extends, Fit, numbers_put, replay}
 use Rattle.kd_tree.specs.Shape.{Shape}
 use Rattle.kd_tree.specs.Contents.{contents}
 use Rattle.kd_tree.specs.Apart.{AreAllApart}
@@ -53,6 +53,11 @@ HaveOwnTickets (p ∷ ps) = IsNewTicket p.ticket ps × HaveOwnTickets ps
 abbrev pub paths : List PartAt → List (List Side)
 paths ps = map (λ p. p.path) ps
 
+-- none is in another, and each has a ticket of its own
+pub record AreOwn (ps : List PartAt) : Type 0 where
+  pub apart : AreAllApart (paths ps)
+  pub tickets : HaveOwnTickets ps
+
 -- The parts of a state: each lawful, none in another, in the order of their slots, each with a ticket of its own.
 pub record AreLawfulParts (large next last : ℕ) (t : Shape) (ps : List PartAt) : Type 0 where
   pub each : AreEachLawful large next last t ps
@@ -60,20 +65,37 @@ pub record AreLawfulParts (large next last : ℕ) (t : Shape) (ps : List PartAt)
   pub slots : AreInSlots 1 ps
   pub tickets : HaveOwnTickets ps
 
--- what a plan says of the part of a ticket: the log that it is to have, or none where it is forgotten
-pub record LogPlan : Type 0 where
-  pub ticket : ℕ
-  pub log : Option (List Op)
+-- the part in the slot, if there is one
+abbrev pub part_in : ℕ → List PartAt → Option PartAt
+part_in slot [] = None
+part_in slot (p ∷ ps) = if slot == p.slot then Some p else part_in slot ps
 
-abbrev pub with_log : Option (List Op) → PartAt → List PartAt
-with_log None p = []
-with_log (Some log) p = record p { log = log } ∷ []
+-- the part of the ticket, if there is one
+abbrev pub part_of : ℕ → List PartAt → Option PartAt
+part_of ticket [] = None
+part_of ticket (p ∷ ps) = if ticket == p.ticket then Some p else part_of ticket ps
 
--- the part as the plans leave it; one that they don't name stays
-abbrev pub planned_part : List LogPlan → PartAt → List PartAt
-planned_part [] p = p ∷ []
-planned_part (x ∷ plans) p = if x.ticket == p.ticket then with_log x.log p else planned_part plans p
+-- the parts without that of the ticket
+abbrev pub without : ℕ → List PartAt → List PartAt
+without ticket [] = []
+without ticket (p ∷ ps) = if ticket == p.ticket then ps else p ∷ without ticket ps
 
-abbrev pub planned_parts : List LogPlan → List PartAt → List PartAt
-planned_parts plans [] = []
-planned_parts plans (p ∷ ps) = planned_part plans p ++ planned_parts plans ps
+-- The part of the ticket, the first of it, stands at the place.
+pub record IsPlaceOf (ticket i : ℕ) (ps : List PartAt) : Type 0 where
+  pub front : List PartAt
+  pub part : PartAt
+  pub back : List PartAt
+  pub all : ps ≡ front ++ part ∷ back
+  pub place : i ≡ length front
+  pub is : ticket ≡ part.ticket
+  pub new : IsNewTicket ticket front
+
+-- some of the parts were forgotten, and the logs of the others have grown
+abbrev pub AreLeft : List PartAt → List PartAt → Type 0
+AreLeft [] qs = qs ≡ []
+AreLeft (p ∷ ps) qs = AreLeft ps qs ⊎ ((log : List Op) × (rest : List PartAt) × (qs ≡ record p { log = log } ∷ rest) × Extends p.log log × AreLeft ps rest)
+
+-- each log has room for two operations more
+abbrev pub HaveLogRoom : List PartAt → Type 0
+HaveLogRoom [] = Unit {0}
+HaveLogRoom (p ∷ ps) = (length p.log + 2 ≤ 65536) × HaveLogRoom ps

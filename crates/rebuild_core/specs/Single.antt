@@ -6,7 +6,7 @@ use Rattle.node_labels.specs.declared.tag.Tag.{Tag}
 use Rattle.map_fold.specs.declared.op.Op.{Op}
 use Rattle.map_fold.specs.declared.op.Op.TheVariants.{Mark, Put}
 use Rattle.map_fold.specs.declared.update.Update.{Update}
-use Rattle.map_fold.specs.declared.update.Update.TheVariants.{Add, Delete, Suspend, Restore}
+use Rattle.map_fold.specs.declared.update.Update.TheVariants.{Add, Thin, Delete, Suspend, Restore}
 use Rattle.kd_tree.specs.Shape.{Shape, levels, nodes}
 use Rattle.kd_tree.specs.Walk.{tagged}
 use Rattle.kd_update.specs.Made.{entered_mark, entered_put}
@@ -24,6 +24,7 @@ abbrev pub only_op : ℕ → Update → Option Op
 only_op next (Add []) = None
 only_op next (Add (p ∷ [])) = Some (Put next p)
 only_op next (Add (p ∷ q ∷ ps)) = None
+only_op next (Thin ps) = None
 only_op next (Delete cs) = only_mark delete_tag cs
 only_op next (Suspend cs) = only_mark suspend_tag cs
 only_op next (Restore cs) = only_mark restore_tag cs

@@ -1,13 +1,14 @@
 -- What contracts see of a state.
-use Rattle.std.specs.Prelude.{◌≡◌, ℕ, ◌+◌, ◌-◌, ◌<◌, List, [], length, slice_index_or, Option, Some, None}
+use Rattle.std.specs.Prelude.{◌≡◌, ℕ, ◌+◌, ◌-◌, ◌<◌, List, length, slice_index_or, Option, Some, None}
 use Rattle.map_fold.specs.declared.entry.Entry.{Entry}
 use Rattle.rebuild_core.specs.declared.state.MapState.TheInside.{Inside}
 use Rattle.rebuild_core.specs.History.{Follows, entries_of}
 use Rattle.rebuild_core.specs.Lawful.{StateAt}
+use Rattle.rebuild_core.specs.Parts.{PartAt}
+use Rattle.rebuild_core.specs.declared.part.PartInfo.{PartInfo}
 
--- nothing is ever detached, and no ticket given
 abbrev pub state_of : Inside → StateAt
-state_of s = record { settings = s.settings; tree = s.tree; next = s.next; history = s.history.items; parts = []; last = 0; version = s.version.value }
+state_of s = record { settings = s.settings; tree = s.tree; next = s.next; history = s.history.items; parts = s.parts.items; last = s.last; version = s.version.value }
 
 abbrev pub spare_of : Inside → ℕ
 spare_of s = s.history.cap - length s.history.items
@@ -21,3 +22,8 @@ pub record AreMade (made : List ℕ) (history : List Entry) : Type 0 where
 abbrev pub IsNextOf : List Entry → Option Entry → Type 0
 IsNextOf before None = Unit {0}
 IsNextOf before (Some e) = Follows before e × (length before < 1048576)
+
+-- what is shown of a part
+abbrev pub info_of : Option PartAt → Option PartInfo
+info_of None = None
+info_of (Some p) = Some (record { ticket = p.ticket; logged = length p.log })

@@ -1,17 +1,20 @@
 -- What steps make of a state.
-use Rattle.std.specs.Prelude.{◌≡◌, ℕ, ◌+◌, ◌<◌, ◌≤◌, List, [], ◌∷◌, ◌++◌, length, Option, Some, None}
+use Rattle.std.specs.Prelude.{◌≡◌, ℕ, ◌+◌, ◌<◌, ◌≤◌, List, [], ◌∷◌, ◌++◌, length, All, Option, Some, None}
 use Rattle.map_fold.specs.Fold.{step, points_in}
 use Rattle.map_fold.specs.declared.op.Op.{Op}
 use Rattle.map_fold.specs.declared.update.Update.{Update}
-use Rattle.kd_tree.specs.Shape.{Shape}
+use Rattle.kd_tree.specs.Shape.{Shape, numbers}
 use Rattle.kd_tree.specs.Contents.{contents}
 use Rattle.kd_tree.specs.Criteria.{IsCalm}
+use Rattle.kd_update.specs.Several.{IsEvenClear}
 use Rattle.map_fold.specs.declared.entry.Entry.{Entry}
 use Rattle.rebuild_core.specs.declared.fault.StateFault.{StateFault}
 use Rattle.rebuild_core.specs.declared.fault.StateFault.TheVariants.{TooManyUpdates, TooManyPoints, NoMemory}
 use Rattle.rebuild_core.specs.History.{entry_by}
 use Rattle.rebuild_core.specs.Lawful.{IsLawful, StateAt, VersionAt, map_of}
-use Rattle.rebuild_core.specs.Parts.{LogPlan, planned_parts}
+use Rattle.rebuild_core.specs.Logs.{LogPlan, planned_parts}
+use Rattle.rebuild_core.specs.Parts.{AreLawfulParts, AreLeft, HaveLogRoom, paths}
+use Rattle.rebuild_core.specs.declared.plan.Drafted.{Drafted}
 use Rattle.rebuild_core.specs.Single.{IsQuiet, only_op}
 
 -- what a step stores
@@ -41,23 +44,34 @@ IsFault u s (TooManyUpdates len) = (length s.history ≡ 1048576) × (len ≡ le
 IsFault u s (TooManyPoints next asked) = (length s.history < 1048576) × (4194304 < s.next + points_in u) × (next ≡ s.next) × (asked ≡ points_in u)
 IsFault u s NoMemory = HasRoom u s
 
+-- The draft is the tree after the update, which is even outside the parts that are left, and they are lawful in it.
+pub record IsDrafted (u : Update) (s : StateAt) (d : Drafted) : Type 0 where
+  pub stepped : map_of d.tree (s.next + points_in u) ≡ step s.settings.voxel u (map_of s.tree s.next)
+  pub left : AreLeft s.parts (planned_parts d.logs.items s.parts)
+  pub parts : AreLawfulParts s.settings.large (s.next + points_in u) s.last d.tree (planned_parts d.logs.items s.parts)
+  pub even : IsEvenClear s.settings.large (paths (planned_parts d.logs.items s.parts)) d.tree
+  pub below : All (λ n. n < s.next + points_in u) (numbers d.tree)
+
 -- the plan is that of this caller's update
 pub record IsUpdatePlan (caller : ℕ) (u : Update) (s : StateAt) (p : PlannedAt) : Type 0 where
   pub lawful : IsLawful (entered p s)
   pub stepped : map_of p.tree p.next ≡ step s.settings.voxel u (map_of s.tree s.next)
   pub entry : p.entry ≡ Some (entry_by caller u s.history)
+  pub parts : AreLeft s.parts (planned_parts p.logs s.parts)
 
 -- the second state is the first after this caller's update
 pub record IsUpdateStep (caller : ℕ) (u : Update) (s t : StateAt) : Type 0 where
   pub settings : t.settings ≡ s.settings
   pub stepped : map_of t.tree t.next ≡ step s.settings.voxel u (map_of s.tree s.next)
   pub history : t.history ≡ s.history ++ entry_by caller u s.history ∷ []
+  pub parts : AreLeft s.parts t.parts
   pub last : t.last ≡ s.last
 
 -- the update is this one operation, and builds nothing anew
 pub record IsQuietUpdate (u : Update) (op : Op) (s : StateAt) : Type 0 where
   pub only : only_op s.next u ≡ Some op
   pub quiet : IsQuiet s.settings.large op s.tree
+  pub room : HaveLogRoom s.parts
 
 -- The plan leaves no node from 10 nodes on that breaches a criterion, no part, and what the map holds.
 pub record IsSettlePlan (s : StateAt) (p : PlannedAt) : Type 0 where

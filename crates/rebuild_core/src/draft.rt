@@ -1,117 +1,135 @@
-//! What an update makes of a tree. Nothing here knows the state that the tree is copied from.
-ghost use Rattle.std.specs.Prelude.{◌≡◌, ◌+◌, ◌*◌, ◌≤◌, ◌<◌, Some, length, IfOk};
+//! What an update makes of a tree and the subtrees that are watched in it. Nothing here knows the state that both are copied
+//! from.
+ghost use Rattle.std.specs.Prelude.{◌≡◌, ℕ, ◌+◌, ◌*◌, ◌<◌, ◌≤◌, List, [], ◌∷◌, Some, length, IfOk};
+ghost use Rattle.point_geom.specs.Place.{Place};
 ghost use Rattle.map_fold.specs.declared.op.Op.{Op};
 ghost use Rattle.map_fold.specs.declared.op.Op.TheVariants.{Put};
 ghost use Rattle.map_fold.specs.Contents.{put};
 ghost use Rattle.map_fold.specs.Fold.{add_points, mark_boxes, points_in, step};
 ghost use Rattle.kd_tree.specs.Contents.{contents};
+ghost use Rattle.kd_update.specs.Watches.{HaveRoom};
 ghost use Rattle.rebuild_core.specs.Lawful.{map_of};
-ghost use Rattle.rebuild_core.specs.Draft.{IsDraft};
+ghost use Rattle.rebuild_core.specs.Draft.{IsDraft, IsDraftLeft, IsWork};
+ghost use Rattle.rebuild_core.specs.OnePoint.{IsTurnedAway};
+ghost use Rattle.rebuild_core.specs.Parts.{PartAt};
 ghost use Rattle.rebuild_core.specs.Single.{IsQuiet, entered_nodes, only_mark, only_op, unrebuilt};
 
-use kd_tree::{Steps, Tree};
-use kd_update::{marked, put, roomy};
+use crate::scan::SCAN;
+use crate::thin::thinned;
+use crate::work::Work;
+use kd_tree::Steps;
 use map_fold::{Cuboids, NoMemory, Points, Settings, Tag, Update};
 use point_geom::Point;
 use std::alloc::Global;
 use std::sync::ledger::Ledger;
 
-// The tree after the update, where so many points were submitted before.
+// The work after the update, where so many points were submitted before.
 pub(crate) fn changed<L: Ledger>(
     alloc: Global,
-    tree: Tree,
+    work: Work,
     settings: &Settings,
     next: u32,
     update: &Update,
     steps: &mut Steps<L>,
-) -> Result<Tree, NoMemory>
-    requires draft { IsDraft settings.now.large next tree }
+) -> Result<Work, NoMemory>
+    requires draft { IsWork settings.now.large next work }
     requires few { next + points_in update.now ≤ 4194304 }
-    ensures stepped { IfOk result (λ t. map_of t (next + points_in update.now) ≡ step settings.now.voxel update.now (map_of tree next)) }
-    ensures draft { IfOk result (λ t. IsDraft settings.now.large (next + points_in update.now) t) }
-    ensures unrebuilt { (op : Op) → only_op next update.now ≡ Some op → IsQuiet settings.now.large op tree
-        → IfOk result (λ t. t ≡ unrebuilt op tree) }
-    ensures ticks { (op : Op) → only_op next update.now ≡ Some op → IsQuiet settings.now.large op tree
-        → steps.new ≤ steps.old + (5 * entered_nodes op tree + 1) }
+    ensures stepped { IfOk result (λ w. map_of w.tree (next + points_in update.now) ≡ step settings.now.voxel update.now (map_of work.tree next)) }
+    ensures draft { (last : ℕ) (ps : List PartAt) → IsDraft settings.now.large next last ps work
+        → IfOk result (IsDraftLeft settings.now.large (next + points_in update.now) last ps) }
+    ensures unrebuilt { (op : Op) → only_op next update.now ≡ Some op → HaveRoom work.watches → IsQuiet settings.now.large op work.tree
+        → IfOk result (λ w. w.tree ≡ unrebuilt op work.tree) }
+    ensures ticks { (op : Op) → only_op next update.now ≡ Some op → HaveRoom work.watches → IsQuiet settings.now.large op work.tree
+        → steps.new ≤ steps.old + (5 * entered_nodes op work.tree + 1) }
+    ensures turned_away { (p : Place) → update.now ≡ Update.Thin (p ∷ []) → IsTurnedAway settings.now.voxel (map_of work.tree next) p
+        → IfOk result (λ w. w.tree ≡ work.tree) }
+    ensures still { (p : Place) → update.now ≡ Update.Thin (p ∷ []) → IsTurnedAway settings.now.voxel (map_of work.tree next) p
+        → steps.new ≡ steps.old }
 {
     let large = settings.large();
     match update {
-        Update::Add(points) => added(alloc, tree, large, next, points, steps),
-        Update::Delete(boxes) => marked_each(alloc, tree, large, next, boxes, Tag::DELETE, steps),
-        Update::Suspend(boxes) => marked_each(alloc, tree, large, next, boxes, Tag::SUSPEND, steps),
-        Update::Restore(boxes) => marked_each(alloc, tree, large, next, boxes, Tag::RESTORE, steps),
+        Update::Add(points) => added(alloc, work, large, next, points, steps),
+        Update::Thin(points) => thinned(alloc, work, settings, next, points, steps),
+        Update::Delete(boxes) => marked_each(alloc, work, large, next, boxes, Tag::DELETE, steps),
+        Update::Suspend(boxes) => marked_each(alloc, work, large, next, boxes, Tag::SUSPEND, steps),
+        Update::Restore(boxes) => marked_each(alloc, work, large, next, boxes, Tag::RESTORE, steps),
     }
 }
 
 fn added<L: Ledger>(
     alloc: Global,
-    tree: Tree,
+    work: Work,
     large: u32,
     next: u32,
     points: &Points,
     steps: &mut Steps<L>,
-) -> Result<Tree, NoMemory>
-    requires draft { IsDraft large next tree }
+) -> Result<Work, NoMemory>
+    requires draft { IsWork large next work }
     requires few { next + length points.now ≤ 4194304 }
-    ensures stepped { IfOk result (λ t. map_of t (next + length points.now) ≡ add_points points.now (map_of tree next)) }
-    ensures draft { IfOk result (λ t. IsDraft large (next + length points.now) t) }
-    ensures unrebuilt { (op : Op) → only_op next (Update.Add points.now) ≡ Some op → IsQuiet large op tree
-        → IfOk result (λ t. t ≡ unrebuilt op tree) }
-    ensures ticks { (op : Op) → only_op next (Update.Add points.now) ≡ Some op → IsQuiet large op tree
-        → steps.new ≤ steps.old + (5 * entered_nodes op tree + 1) }
+    ensures stepped { IfOk result (λ w. map_of w.tree (next + length points.now) ≡ add_points points.now (map_of work.tree next)) }
+    ensures draft { (last : ℕ) (ps : List PartAt) → IsDraft large next last ps work
+        → IfOk result (IsDraftLeft large (next + length points.now) last ps) }
+    ensures unrebuilt { (op : Op) → only_op next (Update.Add points.now) ≡ Some op → HaveRoom work.watches → IsQuiet large op work.tree
+        → IfOk result (λ w. w.tree ≡ unrebuilt op work.tree) }
+    ensures ticks { (op : Op) → only_op next (Update.Add points.now) ≡ Some op → HaveRoom work.watches → IsQuiet large op work.tree
+        → steps.new ≤ steps.old + (5 * entered_nodes op work.tree + 1) }
 {
-    let mut tree = tree;
+    if points.len() >= SCAN && work.watches.len() == 0 {
+        return work.put_scan(alloc, large, next, points.as_slice(), steps);
+    }
+    let mut work = work;
     let mut next = next;
     for point in points.as_slice() {
-        tree = added_one(alloc, tree, large, next, *point, steps)?;
+        work = added_one(alloc, work, large, next, *point, steps)?;
         next += 1;
     }
-    Ok(tree)
+    Ok(work)
 }
 
-// The tree with the point under the next number. A full tree is built anew before.
-fn added_one<L: Ledger>(
+// The work with the point under the next number.
+pub(crate) fn added_one<L: Ledger>(
     alloc: Global,
-    tree: Tree,
+    work: Work,
     large: u32,
     next: u32,
     point: Point,
     steps: &mut Steps<L>,
-) -> Result<Tree, NoMemory>
-    requires draft { IsDraft large next tree }
+) -> Result<Work, NoMemory>
+    requires draft { IsWork large next work }
     requires few { next < 4194304 }
-    ensures contents { IfOk result (λ t. contents t ≡ put (contents tree) next point) }
-    ensures draft { IfOk result (λ t. IsDraft large (next + 1) t) }
-    ensures unrebuilt { IsQuiet large (Put next point) tree
-        → IfOk result (λ t. t ≡ unrebuilt (Put next point) tree) }
-    ensures ticks { IsQuiet large (Put next point) tree
-        → steps.new ≤ steps.old + (5 * entered_nodes (Put next point) tree + 1) }
+    ensures contents { IfOk result (λ w. contents w.tree ≡ put (contents work.tree) next point) }
+    ensures draft { (last : ℕ) (ps : List PartAt) → IsDraft large next last ps work
+        → IfOk result (IsDraftLeft large (next + 1) last ps) }
+    ensures unrebuilt { HaveRoom work.watches → IsQuiet large (Put next point) work.tree
+        → IfOk result (λ w. w.tree ≡ unrebuilt (Put next point) work.tree) }
+    ensures ticks { HaveRoom work.watches → IsQuiet large (Put next point) work.tree
+        → steps.new ≤ steps.old + (5 * entered_nodes (Put next point) work.tree + 1) }
 {
-    let _size = tree.size();
-    let tree = roomy(alloc, tree, steps)?;
-    put(alloc, tree, large, next, point, steps)
+    let _size = work.tree.size();
+    work.put(alloc, large, next, point, steps)
 }
 
 fn marked_each<L: Ledger>(
     alloc: Global,
-    tree: Tree,
+    work: Work,
     large: u32,
     next: u32,
     boxes: &Cuboids,
     tag: Tag,
     steps: &mut Steps<L>,
-) -> Result<Tree, NoMemory>
-    requires draft { IsDraft large next tree }
-    ensures stepped { IfOk result (λ t. map_of t next ≡ mark_boxes tag boxes.now (map_of tree next)) }
-    ensures draft { IfOk result (λ t. IsDraft large next t) }
-    ensures unrebuilt { (op : Op) → only_mark tag boxes.now ≡ Some op → IsQuiet large op tree
-        → IfOk result (λ t. t ≡ unrebuilt op tree) }
-    ensures ticks { (op : Op) → only_mark tag boxes.now ≡ Some op → IsQuiet large op tree
-        → steps.new ≤ steps.old + (5 * entered_nodes op tree + 1) }
+) -> Result<Work, NoMemory>
+    requires draft { IsWork large next work }
+    ensures stepped { IfOk result (λ w. map_of w.tree next ≡ mark_boxes tag boxes.now (map_of work.tree next)) }
+    ensures draft { (last : ℕ) (ps : List PartAt) → IsDraft large next last ps work
+        → IfOk result (IsDraftLeft large next last ps) }
+    ensures unrebuilt { (op : Op) → only_mark tag boxes.now ≡ Some op → HaveRoom work.watches → IsQuiet large op work.tree
+        → IfOk result (λ w. w.tree ≡ unrebuilt op work.tree) }
+    ensures ticks { (op : Op) → only_mark tag boxes.now ≡ Some op → HaveRoom work.watches → IsQuiet large op work.tree
+        → steps.new ≤ steps.old + (5 * entered_nodes op work.tree + 1) }
 {
-    let mut tree = tree;
+    let mut work = work;
     for cuboid in boxes.as_slice() {
-        tree = marked(alloc, tree, large, cuboid, tag, steps)?;
+        work = work.marked(alloc, large, cuboid, tag, steps)?;
     }
-    Ok(tree)
+    Ok(work)
 }

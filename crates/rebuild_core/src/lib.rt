@@ -1,16 +1,31 @@
 //! The state of a map: its tree, its history, and the version that queries see. A step is planned first, and then entered.
 #![tactic(auto)]
 
+mod built;
+mod detach;
 mod draft;
+mod enter;
+mod even;
 mod fault;
+mod job;
+mod logs;
+mod part;
 mod plan;
 mod planned;
+mod scan;
 mod state;
+mod swap;
 #[cfg(test)]
 mod tests;
+mod thin;
 mod version;
+mod work;
 
-pub use fault::StateFault;
+pub use built::{Built, BuiltLeft};
+pub use fault::{LogAsk, StateFault, SwapFault};
+pub use job::{Job, JobLeft};
+pub use part::PartInfo;
 pub use planned::Planned;
 pub use state::MapState;
+pub use swap::SwapLeft;
 pub use version::Version;

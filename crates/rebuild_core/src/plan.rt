@@ -1,14 +1,18 @@
 //! Steps of a state: worked out by a plan, which may be refused, and then entered, which may not.
-ghost use Rattle.std.specs.Prelude.{◌≡◌, ◌+◌, ◌*◌, ◌<◌, ◌≤◌, true, ◌++◌, length, is_some, IfOk, IfErr, OnOk, OnErr};
+ghost use Rattle.std.specs.Prelude.{◌≡◌, ◌+◌, ◌*◌, ◌<◌, ◌≤◌, [], ◌∷◌, length, IfOk, IfErr, OnOk, OnErr};
+ghost use Rattle.point_geom.specs.Place.{Place};
 ghost use Rattle.map_fold.specs.declared.op.Op.{Op};
-ghost use Rattle.rebuild_core.specs.Lawful.{IsLawful};
+ghost use Rattle.map_fold.specs.Fold.{points_in};
+ghost use Rattle.rebuild_core.specs.OnePoint.{IsThinnedFrom, IsTurnedAwayFrom};
 ghost use Rattle.rebuild_core.specs.Single.{entered_nodes, unrebuilt};
-ghost use Rattle.rebuild_core.specs.StateView.{AreMade, IsNextOf};
-ghost use Rattle.rebuild_core.specs.Steps.{HasRoom, IsFault, IsQuietUpdate, IsSettlePlan, IsSettleStep, IsUpdatePlan, IsUpdateStep, entered, listed};
+ghost use Rattle.rebuild_core.specs.Steps.{HasRoom, IsDrafted, IsFault, IsQuietUpdate, IsSettlePlan, IsSettleStep, IsUpdatePlan, IsUpdateStep};
 
 use crate::draft::changed;
+use crate::logs::{PartLog, forgotten, logs_of};
+use crate::part::watched;
+use crate::work::Work;
 use crate::{MapState, Planned, StateFault, Version};
-use kd_tree::Steps;
+use kd_tree::{Steps, Tree};
 use kd_update::settled;
 use map_fold::{Entry, NoMemory, Update};
 use std::alloc::Global;
@@ -19,9 +23,21 @@ const MOST_UPDATES: u64 = 1_048_576;
 
 const MOST_POINTS: u64 = 4_194_304;
 
+// A tree after an update, and what becomes of the logs of the parts.
+#[derive(Drop)]
+struct Drafted {
+    tree: Tree,
+    logs: Vec<PartLog>,
+}
+
 impl MapState {
     /// Makes one more update of this caller, and answers how many entries the history has then. A refusal lets go of the
-    /// update. The time is that of the update's operations on the tree: nothing walks the tree or the history.
+    /// update. The time is that of the update's operations on the tree, and of copying the logs of detached subtrees: nothing
+    /// walks the tree or the history.
+    ///
+    /// What crosses a detached subtree is logged for it, and no node above it, at its top or in it is built anew. Before a
+    /// point is put into a full tree, the whole tree is built anew and all detached subtrees are forgotten; otherwise, before
+    /// each operation, those whose logs have no room for two operations are built anew where they stand, and forgotten.
     pub fn update<L: Ledger>(
         &mut self,
         alloc: Global,
@@ -43,6 +59,12 @@ impl MapState {
             → OnOk result (self.new.state.tree ≡ unrebuilt op self.old.state.tree) }
         ensures ticks { (op : Op) → IsQuietUpdate update op self.old.state
             → steps.new ≤ steps.old + (5 * entered_nodes op self.old.state.tree + 1) }
+
+        // What is left where one point thins its voxel, said without the way it is made. One that is turned away makes no node.
+        ensures thinned { (p : Place) → update ≡ Update.Thin (p ∷ []) → OnOk result (IsThinnedFrom self.old.state p self.new.state.tree) }
+        ensures turned_away { (p : Place) → update ≡ Update.Thin (p ∷ []) → IsTurnedAwayFrom self.old.state p
+            → OnOk result (self.new.state.tree ≡ self.old.state.tree) }
+        ensures still { (p : Place) → update ≡ Update.Thin (p ∷ []) → IsTurnedAwayFrom self.old.state p → steps.new ≡ steps.old }
     {
         let planned = self.plan_update(alloc, caller, update, steps)?;
         Ok(self.enter_step(planned))
@@ -71,6 +93,10 @@ impl MapState {
             → IfOk result (λ p. p.tree ≡ unrebuilt op self.old.state.tree) }
         ensures ticks { (op : Op) → IsQuietUpdate update op self.old.state
             → steps.new ≤ steps.old + (5 * entered_nodes op self.old.state.tree + 1) }
+        ensures thinned { (p : Place) → update ≡ Update.Thin (p ∷ []) → IfOk result (λ q. IsThinnedFrom self.old.state p q.tree) }
+        ensures turned_away { (p : Place) → update ≡ Update.Thin (p ∷ []) → IsTurnedAwayFrom self.old.state p
+            → IfOk result (λ q. q.tree ≡ self.old.state.tree) }
+        ensures still { (p : Place) → update ≡ Update.Thin (p ∷ []) → IsTurnedAwayFrom self.old.state p → steps.new ≡ steps.old }
     {
         let len = self.history.len() as u64;
         if len == MOST_UPDATES {
@@ -81,10 +107,9 @@ impl MapState {
         if MOST_POINTS - (next as u64) < asked {
             return Err(StateFault::TooManyPoints { next, asked });
         }
-        self.history.reserve(1)?;
-        let tree = self.tree.copy(alloc, steps)?;
-        let tree = changed(alloc, tree, &self.settings, next, &update, steps)?;
+        let Drafted { tree, logs } = self.drafted(alloc, &update, steps)?;
         let _size = tree.size();
+        self.history.reserve(1)?;
         let next = next + asked as u32;
         let version = Version::shared(alloc, &tree, next, len + 1, steps)?;
         let seq = self.made[caller as usize - 1];
@@ -98,10 +123,39 @@ impl MapState {
             next,
             version,
             entry,
+            logs,
         })
     }
 
-    /// Builds anew what breaches a criterion, however large, as `settled` does. What the map holds stays.
+    // A copy of the tree after the update.
+    fn drafted<L: Ledger>(
+        &self,
+        alloc: Global,
+        update: &Update,
+        steps: &mut Steps<L>,
+    ) -> Result<Drafted, NoMemory>
+        requires few { self.now.state.next + points_in update.now ≤ 4194304 }
+        ensures drafted { IfOk result (IsDrafted update.now self.now.state) }
+        ensures unrebuilt { (op : Op) → IsQuietUpdate update.now op self.now.state
+            → IfOk result (λ d. d.tree ≡ unrebuilt op self.now.state.tree) }
+        ensures ticks { (op : Op) → IsQuietUpdate update.now op self.now.state
+            → steps.new ≤ steps.old + (5 * entered_nodes op self.now.state.tree + 1) }
+        ensures turned_away { (p : Place) → update.now ≡ Update.Thin (p ∷ []) → IsTurnedAwayFrom self.now.state p
+            → IfOk result (λ d. d.tree ≡ self.now.state.tree) }
+        ensures still { (p : Place) → update.now ≡ Update.Thin (p ∷ []) → IsTurnedAwayFrom self.now.state p → steps.new ≡ steps.old }
+    {
+        let parts = self.parts.as_slice();
+        let tree = self.tree.copy(alloc, steps)?;
+        let watches = watched(alloc, parts)?;
+        let work = Work { tree, watches };
+        let work = changed(alloc, work, &self.settings, self.next, update, steps)?;
+        let Work { tree, watches } = work;
+        let logs = logs_of(alloc, parts, watches)?;
+        Ok(Drafted { tree, logs })
+    }
+
+    /// Builds anew what breaches a criterion, however large, as `settled` does, and forgets all detached subtrees. What the map
+    /// holds stays.
     pub fn settle(&mut self, alloc: Global) -> Result<(), NoMemory>
         ensures settled { OnOk result (IsSettleStep self.old.state self.new.state) }
         ensures same { OnErr result (self.new.state ≡ self.old.state) }
@@ -132,47 +186,14 @@ impl MapState {
         let tree = settled(alloc, tree)?;
         let _size = tree.size();
         let len = self.history.len() as u64;
+        let logs = forgotten(alloc, self.parts.as_slice())?;
         let version = Version::shared(alloc, &tree, next, len, &mut steps)?;
         Ok(Planned {
             tree,
             next,
             version,
             entry: None,
+            logs,
         })
     }
-
-    /// Puts in what was planned, and answers how many entries the history has then. It takes no memory.
-    pub fn enter_step(&mut self, planned: Planned) -> u64
-        requires lawful { IsLawful (entered planned self.old.state) }
-        requires room { is_some planned.entry ≡ true → 1 ≤ self.old.spare }
-        ensures state { self.new.state ≡ entered planned self.old.state }
-        ensures len { result ≡ length self.new.state.history }
-    {
-        let Planned {
-            tree,
-            next,
-            version,
-            entry,
-        } = planned;
-        list(&mut self.history, &mut self.made, entry);
-        self.tree = tree;
-        self.next = next;
-        self.version = version;
-        self.history.len() as u64
-    }
-}
-
-// One more entry, if there is one, and one more of its caller.
-fn list(history: &mut Vec<Entry>, made: &mut [u32; 8], entry: Option<Entry>)
-    requires next { IsNextOf history.old.items entry }
-    requires made { AreMade made.old history.old.items }
-    requires room { is_some entry ≡ true → length history.old.items < history.old.cap }
-    ensures items { history.new.items ≡ history.old.items ++ listed entry }
-    ensures made { AreMade made.new history.new.items }
-{
-    let Some(entry) = entry else {
-        return;
-    };
-    made[entry.caller as usize - 1] += 1;
-    history.push_reserved(entry);
 }

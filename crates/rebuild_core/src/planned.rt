@@ -2,6 +2,7 @@
 ghost use Rattle.std.specs.Prelude.{◌≡◌};
 
 use crate::Version;
+use crate::logs::PartLog;
 use kd_tree::Tree;
 use map_fold::Entry;
 use std::marker::Model;
@@ -14,10 +15,10 @@ pub struct Planned {
     pub(crate) next: u32,
     pub(crate) version: Arc<Version>,
     pub(crate) entry: Option<Entry>,
+    pub(crate) logs: Vec<PartLog>,
 }
 
 impl Model for Planned {
-    ghost use Rattle.std.specs.Prelude.{[]};
     ghost use Rattle.rebuild_core.specs.Steps.{PlannedAt};
 
     ghost Value = { PlannedAt };
@@ -27,7 +28,7 @@ impl Model for Planned {
 
     ghost coded = { Prim.hlevel (codes, coded_shape) };
 
-    ghost view = { λ p. record { tree = p.tree; next = p.next; version = p.version.value; entry = p.entry; logs = [] } };
+    ghost view = { λ p. record { tree = p.tree; next = p.next; version = p.version.value; entry = p.entry; logs = p.logs.items } };
 }
 
 impl Planned {

@@ -1,8 +1,11 @@
 //! The state of a map.
 ghost use Rattle.std.specs.Prelude.{◌≡◌, IfOk};
 ghost use Rattle.rebuild_core.specs.Lawful.{IsLawful, new_state};
+ghost use Rattle.rebuild_core.specs.Parts.{part_in};
+ghost use Rattle.rebuild_core.specs.StateView.{info_of};
 
-use crate::Version;
+use crate::part::{Part, part_in};
+use crate::{PartInfo, Version};
 use kd_tree::Tree;
 use map_fold::{Entry, NoMemory, Settings};
 use std::alloc::Global;
@@ -19,6 +22,10 @@ pub struct MapState {
     pub(crate) version: Arc<Version>,
     // How many entries each caller has, the first caller's first, so that no step reads the history.
     pub(crate) made: [u32; 8],
+    // In the order of their slots.
+    pub(crate) parts: Vec<Part>,
+    // The last ticket that was given, or 0.
+    pub(crate) last: u64,
 }
 
 impl Model for MapState {
@@ -51,6 +58,8 @@ impl MapState {
             history: Vec::new(alloc),
             version,
             made: [0; 8],
+            parts: Vec::new(alloc),
+            last: 0,
         })
     }
 
@@ -81,6 +90,17 @@ impl MapState {
         ensures { result.now ≡ self.now.state.settings }
     {
         &self.settings
+    }
+
+    /// What can be seen of the detached subtree in this slot, from 1 to 4, if there is one.
+    pub fn part(&self, slot: u8) -> Option<PartInfo>
+        ensures { result ≡ info_of (part_in slot self.now.state.parts) }
+    {
+        let part = part_in(self.parts.as_slice(), slot)?;
+        Some(PartInfo {
+            ticket: part.ticket,
+            logged: part.log.len(),
+        })
     }
 }
 

@@ -1,13 +1,18 @@
 //! States beside the plain map, and where they refuse.
 ghost use Rattle.std.specs.Prelude.{◌≡◌, ◌≤◌, ◌<◌, ◌^◌};
 
-use crate::{MapState, StateFault};
-use kd_search::nearest;
+mod parts;
+mod rows;
+mod thinning;
+
+use crate::{MapState, StateFault, Version};
+use kd_search::{count_in, in_cuboid, nearest};
 use kd_tree::Steps;
 use map_fold::{Cuboids, PlainMap, Points, Settings, Update};
 use point_geom::{Corner, Cuboid, Point};
 use std::alloc::Global;
 use std::marker::Brand;
+use std::process::Abort;
 use std::sync::ledger::{Blank, Ledger};
 use std::test::Fail;
 
@@ -56,28 +61,32 @@ impl Draws {
         self.state / 65_536 % bound
     }
 
-    // A place of a small grid, so that points tie and are equal.
+    // A place of a small grid round the origin, so that points tie and are equal.
     fn point(&mut self) -> Result<Point, Fail> {
         let (x, y, z) = (self.below(16), self.below(8), self.below(4));
-        Ok(Point::new(x as i64, y as i64, z as i64)?)
+        Ok(Point::new(x as i64 - 8, y as i64 - 4, z as i64 - 2)?)
+    }
+
+    fn cuboid(&mut self) -> Result<Cuboid, Fail> {
+        let lo = self.point()?;
+        let lo = Corner {
+            x: lo.x(),
+            y: lo.y(),
+            z: lo.z(),
+        };
+        let (x, y, z) = (self.below(9), self.below(9), self.below(9));
+        let hi = Corner {
+            x: lo.x + x as i64,
+            y: lo.y + y as i64,
+            z: lo.z + z as i64,
+        };
+        Ok(Cuboid::new(lo, hi)?)
     }
 
     fn boxes(&mut self, alloc: Global) -> Result<Cuboids, Fail> {
         let mut boxes = Cuboids::new(alloc);
         for _ in 0..self.below(3) {
-            let lo = self.point()?;
-            let lo = Corner {
-                x: lo.x(),
-                y: lo.y(),
-                z: lo.z(),
-            };
-            let (x, y, z) = (self.below(9), self.below(9), self.below(9));
-            let hi = Corner {
-                x: lo.x + x as i64,
-                y: lo.y + y as i64,
-                z: lo.z + z as i64,
-            };
-            boxes.push(Cuboid::new(lo, hi)?)?;
+            boxes.push(self.cuboid()?)?;
         }
         Ok(boxes)
     }
@@ -95,41 +104,72 @@ impl Draws {
             0 => Ok(Update::Delete(self.boxes(alloc)?)),
             1 => Ok(Update::Suspend(self.boxes(alloc)?)),
             2 => Ok(Update::Restore(self.boxes(alloc)?)),
+            3 | 4 => Ok(Update::Thin(self.points(alloc)?)),
             _ => Ok(Update::Add(self.points(alloc)?)),
         }
     }
 }
 
-#[test]
-fn the_version_answers_as_the_plain_map_does(rt: HostRuntime) -> Result<(), Fail> {
-    let alloc = rt.alloc();
-    let settings = Settings::new(200, 64);
+// A drawn history, with the version beside the plain map after each update. Answers how many are live and suspended then.
+fn compared(
+    rt: &impl Abort,
+    alloc: Global,
+    settings: Settings,
+    turns: u64,
+) -> Result<(u32, u32), Fail> {
     let mut draws = Draws { state: 1 };
     let mut state = MapState::new(alloc, settings)?;
     let mut plain = PlainMap::new(alloc);
-    for turn in 0..300u64 {
+    for _ in 0..turns {
         let update = draws.update(alloc)?;
         assert!(rt; update.points() < 9);
         assert!(rt; plain.next() <= 4_000_000);
         plain = plain.apply(&settings, &update)?;
         let caller = 1 + draws.below(8) as u8;
         let mark = updated(alloc, &mut state, caller, update)?;
-        assert_eq!(rt; mark, turn + 1);
+        assert_eq!(rt; mark, state.version().len());
         if draws.below(16) == 0 {
             state.settle(alloc)?;
         }
-        let version = state.version();
-        assert_eq!(rt; version.len(), mark);
-        assert_eq!(rt; version.next(), plain.next());
-        assert!(rt; version.counts() == plain.counts());
-        let q = draws.point()?;
-        let found = nearest(alloc, version.tree(), 5, &q, None)?;
-        let want = plain.nearest(alloc, 5, &q, None)?;
-        assert!(rt; found.as_slice() == want.as_slice());
+        compare(rt, alloc, state.version(), &plain, &mut draws)?;
     }
-    // The comparison was one of more than a handful.
-    assert!(rt; plain.counts().live > 20);
-    assert!(rt; plain.counts().suspended > 20);
+    assert_eq!(rt; state.history().len() as u64, turns);
+    let counts = plain.counts();
+    Ok((counts.live, counts.suspended))
+}
+
+fn compare(
+    rt: &impl Abort,
+    alloc: Global,
+    version: &Version,
+    plain: &PlainMap,
+    draws: &mut Draws,
+) -> Result<(), Fail> {
+    assert_eq!(rt; version.next(), plain.next());
+    assert!(rt; version.counts() == plain.counts());
+    let q = draws.point()?;
+    let found = nearest(alloc, version.tree(), 5, &q, Some(6))?;
+    let want = plain.nearest(alloc, 5, &q, Some(6))?;
+    assert!(rt; found.as_slice() == want.as_slice());
+    let cuboid = draws.cuboid()?;
+    let found = in_cuboid(alloc, version.tree(), &cuboid, 7)?;
+    let want = plain.in_cuboid(alloc, &cuboid, 7)?;
+    assert!(rt; found.as_slice() == want.as_slice());
+    let all = plain.in_cuboid(alloc, &cuboid, 256)?;
+    let count = count_in(version.tree(), &cuboid) as usize;
+    assert_eq!(rt; count.min(256), all.len());
+    Ok(())
+}
+
+#[test]
+fn the_version_answers_as_the_plain_map_does(rt: HostRuntime) -> Result<(), Fail> {
+    let alloc = rt.alloc();
+    for large in [16, 1_500] {
+        let (live, suspended) = compared(&rt, alloc, Settings::new(3, large), 2_000)?;
+        // The comparison was one of more than a handful.
+        assert!(rt; live > 20);
+        assert!(rt; suspended > 20);
+    }
     Ok(())
 }
 

@@ -1,9 +1,19 @@
-use Rattle.std.proofs.Common.{◌≡◌, ◌∷◌, ◌+◌, Some, arith, drop}
+use Rattle.std.proofs.Common.{◌≡◌, ◌∷◌, ◌+◌, Some, ap, arith, drop, refl, subst, sym}
 use Rattle.map_fold.proofs.Numbered.{drop-at}
 use Rattle.map_fold.specs.declared.op.Op.TheVariants.{Mark}
-use Rattle.kd_tree.specs.Shape.{numbers}
-use Rattle.rebuild_core.proofs.Drafts.{among_below, first_box, only_box, quiet_shape, quiet_ticks}
+use Rattle.kd_update.specs.Watches.{HaveRoom}
+use Rattle.rebuild_core.specs.declared.work.Work.{Work}
+use Rattle.rebuild_core.proofs.Detached.{left_itself, left_trans}
+use Rattle.rebuild_core.proofs.Drafts.{first_box, only_box, quiet_shape, quiet_ticks}
 use Rattle.rebuild_core.proofs.draft.marked_each.Goals as goal
+
+pub loop-cuboid-init : goal.loop-cuboid-init
+loop-cuboid-init g c = record {
+  draft = λ last ps d. (ps, left_itself ps, d);
+  rest = refl;
+  first = λ e. (refl, refl);
+  second = λ e. absurd (omega (arith, e));
+}
 
 pub loop-cuboid-preserved : goal.loop-cuboid-preserved
 loop-cuboid-preserved g c =
@@ -12,23 +22,25 @@ loop-cuboid-preserved g c =
     let i = c.loop-cuboid.cuboid-index in
     let cut : drop i cs ≡ box ∷ drop (i + 1) cs = drop-at cs _ i box (omega arith) (rw c.as_slice-cuboid-items.ensures at c.loop-cuboid-test.true) (rw c.as_slice-cuboid-items.ensures at c.cuboid-item.is) in
     record {
-      draft = record {
-        below = among_below c.args.next (numbers c.in_ok-tree.tree) (numbers c.loop-cuboid.tree) c.in_ok-tree.ensures.numbers c.loop-cuboid.invariant.draft.below;
-        even = c.in_ok-tree.ensures.balance c.loop-cuboid.invariant.draft.even;
-      };
-      rest = rw c.in_ok-tree.ensures.contents (rw cut at c.loop-cuboid.invariant.rest);
+      draft = λ last ps d.
+          let k = c.loop-cuboid.invariant.draft last ps d in
+          let l = c.in_ok-work.ensures.draft c.args.next last k.0 k.2 in
+          (l.0, left_trans ps k.0 l.0 k.1 l.1, l.2);
+      rest = rw c.in_ok-work.ensures.contents (rw cut at c.loop-cuboid.invariant.rest);
       first = λ e. absurd (omega arith);
-      second = λ e op only quiet.
+      second = λ e op only room quiet.
           let none : i ≡ 0 = omega arith in
           let start = c.loop-cuboid.invariant.first none in
+          let same = ap (λ (w : Work). w.tree) start.0 in
+          let roomy = subst (λ (w : Work). HaveRoom w.watches) (sym start.0) room in
           let is = first_box c.args.tag i cs box op cut none only in (
-            quiet_shape c.args.large (Mark (Some box) c.args.tag) op c.loop-cuboid.tree c.args.tree c.in_ok-tree.tree is start.0 (λ q. c.in_ok-tree.ensures.unrebuilt q.calm) quiet,
-            quiet_ticks c.args.large (Mark (Some box) c.args.tag) op c.loop-cuboid.tree c.args.tree c.loop-cuboid.steps c.args.steps.now c.marked.new.steps is start.0 start.1 (λ q. let h = c.in_ok-tree.ensures.ticks q.calm in omega (arith, h)) quiet,
+            quiet_shape c.args.large (Mark (Some box) c.args.tag) op c.loop-cuboid.work.tree c.args.work.tree c.in_ok-work.work.tree is same (c.in_ok-work.ensures.unrebuilt roomy) quiet,
+            quiet_ticks c.args.large (Mark (Some box) c.args.tag) op c.loop-cuboid.work.tree c.args.work.tree c.loop-cuboid.steps c.args.steps.now c.marked.new.steps is same start.1 (c.in_ok-work.ensures.ticks roomy) quiet,
           );
     }
 
-pub returns-in_err-tree-clause-ticks : goal.returns-in_err-tree-clause-ticks
-returns-in_err-tree-clause-ticks g c = λ op only quiet.
+pub returns-in_err-work-clause-ticks : goal.returns-in_err-work-clause-ticks
+returns-in_err-work-clause-ticks g c = λ op only room quiet.
     let box = c.cuboid-item.result in
     let cs = c.args.boxes.now in
     let i = c.loop-cuboid.cuboid-index in
@@ -37,18 +49,19 @@ returns-in_err-tree-clause-ticks g c = λ op only quiet.
     let none : i ≡ 0 = omega (arith, below, only_box c.args.tag cs op only) in
     let start = c.loop-cuboid.invariant.first none in
     let is = first_box c.args.tag i cs box op cut none only in
-    quiet_ticks c.args.large (Mark (Some box) c.args.tag) op c.loop-cuboid.tree c.args.tree c.loop-cuboid.steps c.args.steps.now c.marked.new.steps is start.0 start.1 (λ q. let h = c.in_err-tree.ensures.ticks q.calm in omega (arith, h)) quiet
+    let roomy = subst (λ (w : Work). HaveRoom w.watches) (sym start.0) room in
+    quiet_ticks c.args.large (Mark (Some box) c.args.tag) op c.loop-cuboid.work.tree c.args.work.tree c.loop-cuboid.steps c.args.steps.now c.marked.new.steps is (ap (λ (w : Work). w.tree) start.0) start.1 (c.in_err-work.ensures.ticks roomy) quiet
 
 pub returns-clause-unrebuilt : goal.returns-clause-unrebuilt
-returns-clause-unrebuilt g c = λ op only quiet.
+returns-clause-unrebuilt g c = λ op only room quiet.
     let one = only_box c.args.tag c.args.boxes.now op only in
     let all = rw c.as_slice-cuboid-items.ensures at c.loop-cuboid-test.false in
     let most = rw c.as_slice-cuboid-items.ensures at c.loop-cuboid.auto.cuboid-index-end in
-    (c.loop-cuboid.invariant.second (omega (arith, one, all, most)) op only quiet).0
+    (c.loop-cuboid.invariant.second (omega (arith, one, all, most)) op only room quiet).0
 
 pub returns-clause-ticks : goal.returns-clause-ticks
-returns-clause-ticks g c = λ op only quiet.
+returns-clause-ticks g c = λ op only room quiet.
     let one = only_box c.args.tag c.args.boxes.now op only in
     let all = rw c.as_slice-cuboid-items.ensures at c.loop-cuboid-test.false in
     let most = rw c.as_slice-cuboid-items.ensures at c.loop-cuboid.auto.cuboid-index-end in
-    (c.loop-cuboid.invariant.second (omega (arith, one, all, most)) op only quiet).1
+    (c.loop-cuboid.invariant.second (omega (arith, one, all, most)) op only room quiet).1

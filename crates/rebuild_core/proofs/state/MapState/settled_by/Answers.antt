@@ -1,4 +1,4 @@
-use Rattle.std.proofs.Common.{◌≡◌, ℕ, refl, ap, ◌∙◌, arith, length, subst}
+use Rattle.std.proofs.Common.{◌≡◌, ℕ, ap, ◌∙◌, arith, length, subst}
 use Rattle.kd_tree.specs.Shape.{Shape, numbers}
 use Rattle.kd_tree.specs.Contents.{contents}
 use Rattle.kd_update.specs.Refresh.{AreAmong}
@@ -14,5 +14,6 @@ returns g c =
     let V : ℕ → VersionAt = λ n. record { tree = t; next = s.next; len = n } in
     let same : c.in_ok-tree.tree ≡ s.tree = c.in_ok-tree.ensures.shape in
     let shown : c.in_ok-version.version.value ≡ V (length s.history) = c.in_ok-version.ensures.shown ∙ ap V (omega (arith, c.len-len.ensures, c.self.inside.history.ok)) in
-    settles s c.args.self.now.state t t c.in_ok-version.version.value refl c.self.invariant.0 c.size-size.ensures.sound (c.in_ok-tree-2.ensures.contents ∙ ap contents same)
-    (subst (λ (u : Shape). AreAmong (numbers t) (numbers u)) same c.in_ok-tree-2.ensures.numbers) c.in_ok-tree-2.ensures.calm refl shown (ap (λ (x : Stored). x.state) c.self.view_is)
+    let none = rw c.as_slice.ensures.value at c.in_ok-logs.ensures in
+    settles s c.args.self.now.state t c.in_ok-version.version.value c.in_ok-logs.logs.items c.self.invariant.0 c.size-size.ensures.sound (c.in_ok-tree-2.ensures.contents ∙ ap contents same)
+    (subst (λ (u : Shape). AreAmong (numbers t) (numbers u)) same c.in_ok-tree-2.ensures.numbers) c.in_ok-tree-2.ensures.calm none shown (ap (λ (x : Stored). x.state) c.self.view_is)

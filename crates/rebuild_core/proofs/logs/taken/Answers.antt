@@ -1,0 +1,18 @@
+use Rattle.std.proofs.Common.{◌≡◌, List, [], ◌∷◌, ap, sym, ◌∙◌}
+use Rattle.std.specs.List.{remove}
+use Rattle.kd_tree.specs.declared.path.Side.{Side}
+use Rattle.kd_update.specs.declared.watch.Watch.{Watch}
+use Rattle.rebuild_core.proofs.PartLogs.{first_taken}
+use Rattle.rebuild_core.proofs.logs.taken.Goals as goal
+
+pub returns-then-not-is_same-clause-other : goal.returns-then-not-is_same-clause-other
+returns-then-not-is_same-clause-other c = λ w ws none all same.
+    let both : c.in_ok-first.first.now ∷ c.in_ok-first._rest.now ≡ w ∷ ws = sym (sym c.deref.ensures.value ∙ c.in_ok-first.ensures.cases.0) ∙ all in
+    let first : c.in_ok-first.first.now ≡ w = cc in
+    let e = c.is_same.ensures.1 (ap (λ (v : Watch). v.path) first ∙ same) in
+    absurd cc
+
+pub returns-clause-some : goal.returns-clause-some
+returns-clause-some c =
+    first_taken c.args.watches.now.items c.remove-log.new.self.items c.in_ok-first._rest.now c.in_ok-first.first.now c.remove-log.result c.args.path.now (sym c.deref.ensures.value ∙ c.in_ok-first.ensures.cases.0)
+    (c.is_same.ensures.0 c.if-not-is_same.false) c.remove-log.ensures.value c.remove-log.ensures.items

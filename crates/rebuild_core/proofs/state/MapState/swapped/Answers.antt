@@ -1,0 +1,101 @@
+use Rattle.std.proofs.Common.{◌≡◌, ℕ, ◌<◌, List, [], ◌∷◌, ◌++◌, true, false, length, ap, ◌∙◌, sym, subst, arith}
+use Rattle.std.specs.Prelude.{All, ◌↔◌}
+use Rattle.map_fold.specs.declared.op.Op.{Op}
+use Rattle.map_fold.specs.Ops.{numbers_put, replay}
+use Rattle.kd_tree.specs.Shape.{Shape, numbers}
+use Rattle.kd_tree.specs.Contents.{contents}
+use Rattle.kd_tree.specs.Apart.{IsClear}
+use Rattle.kd_tree.specs.declared.path.Side.{Side}
+use Rattle.kd_update.specs.Refresh.{AreAmong}
+use Rattle.kd_update.specs.Replace.{HasRoomAt, StandsFor}
+use Rattle.kd_update.specs.Several.{AreLargeAt, AreSameAt, IsEvenClear}
+use Rattle.rebuild_core.specs.Lawful.{IsLawful, Stored, VersionAt}
+use Rattle.rebuild_core.specs.Logs.{planned_parts}
+use Rattle.rebuild_core.specs.Parts.{PartAt, paths, without}
+use Rattle.rebuild_core.proofs.OtherParts.{part_among}
+use Rattle.rebuild_core.proofs.Swapping.{below_both, swap_below, swap_clear, swap_outside, swap_stands, swap_there, swaps}
+use Rattle.rebuild_core.proofs.state.MapState.swapped.Goals as goal
+
+pub replaced-requires-clause-stands : goal.replaced-requires-clause-stands
+replaced-requires-clause-stands g c =
+    let s = c.args.self.now.state in
+    let b = c.args.built.now in
+    let p = c.args.part.now in
+    let lawful = subst (λ (x : Stored). IsLawful x.state) c.self.view_is c.self.invariant.0 in
+    let tree : c.in_ok-tree.tree ≡ s.tree = c.in_ok-tree.ensures.shape ∙ ap (λ (x : Stored). x.state.tree) c.self.view_is in
+    let path = ap (λ (x : PartAt). x.path) c.part.view_is in
+    let held = c.in_ok-with.ensures.contents ∙ ap (replay (contents b.tree)) c.requires.undone in
+    subst (λ (q : List Side). StandsFor q c.in_ok-tree.tree c.in_ok-with.with) (sym path) (subst (λ (t : Shape). StandsFor p.path t c.in_ok-with.with) (sym tree) (swap_stands s b p c.in_ok-with.with lawful c.in_ok-with.ensures.lawful c.requires.of held))
+
+pub replaced-requires-clause-there : goal.replaced-requires-clause-there
+replaced-requires-clause-there g c =
+    let s = c.args.self.now.state in
+    let b = c.args.built.now in
+    let p = c.args.part.now in
+    let lawful = subst (λ (x : Stored). IsLawful x.state) c.self.view_is c.self.invariant.0 in
+    let tree : c.in_ok-tree.tree ≡ s.tree = c.in_ok-tree.ensures.shape ∙ ap (λ (x : Stored). x.state.tree) c.self.view_is in
+    let path = ap (λ (x : PartAt). x.path) c.part.view_is in
+    let large = c.large-large.ensures.value ∙ ap (λ (x : Stored). x.state.settings.large) c.self.view_is in
+    let parts = c.as_slice-parts.ensures.value ∙ ap (λ (x : Stored). x.state.parts) c.self.view_is in
+    let ticket = ap (λ (x : PartAt). x.ticket) c.part.view_is ∙ sym (part_among b.ticket s.parts p c.requires.of.found).is in
+    let others : c.as_slice.result.now ≡ paths (without b.ticket s.parts) =
+    c.as_slice.ensures.value ∙ c.in_ok-others.ensures ∙ ap (λ n. paths (without n c.as_slice-parts.result.now)) ticket ∙ ap (λ (ps : List PartAt). paths (without b.ticket ps)) parts in
+    let at = subst (λ (t : Shape). AreLargeAt s.settings.large (paths (without b.ticket s.parts)) t) (sym tree) (swap_there s b p lawful c.requires.of) in
+    subst (λ n. AreLargeAt n c.as_slice.result.now c.in_ok-tree.tree) (sym large) (subst (λ (qs : List (List Side)). AreLargeAt s.settings.large qs c.in_ok-tree.tree) (sym others) at)
+
+pub replaced-requires-clause-apart : goal.replaced-requires-clause-apart
+replaced-requires-clause-apart g c =
+    let s = c.args.self.now.state in
+    let b = c.args.built.now in
+    let p = c.args.part.now in
+    let lawful = subst (λ (x : Stored). IsLawful x.state) c.self.view_is c.self.invariant.0 in
+    let tree : c.in_ok-tree.tree ≡ s.tree = c.in_ok-tree.ensures.shape ∙ ap (λ (x : Stored). x.state.tree) c.self.view_is in
+    let path = ap (λ (x : PartAt). x.path) c.part.view_is in
+    let large = c.large-large.ensures.value ∙ ap (λ (x : Stored). x.state.settings.large) c.self.view_is in
+    let parts = c.as_slice-parts.ensures.value ∙ ap (λ (x : Stored). x.state.parts) c.self.view_is in
+    let ticket = ap (λ (x : PartAt). x.ticket) c.part.view_is ∙ sym (part_among b.ticket s.parts p c.requires.of.found).is in
+    let others : c.as_slice.result.now ≡ paths (without b.ticket s.parts) =
+    c.as_slice.ensures.value ∙ c.in_ok-others.ensures ∙ ap (λ n. paths (without n c.as_slice-parts.result.now)) ticket ∙ ap (λ (ps : List PartAt). paths (without b.ticket ps)) parts in
+    subst (λ (q : List Side). IsClear q c.as_slice.result.now) (sym path) (subst (IsClear p.path) (sym others) (swap_clear s b p lawful c.requires.of))
+
+pub returns-clause-planned : goal.returns-clause-planned
+returns-clause-planned g c =
+    let s = c.args.self.now.state in
+    let b = c.args.built.now in
+    let p = c.args.part.now in
+    let lawful = subst (λ (x : Stored). IsLawful x.state) c.self.view_is c.self.invariant.0 in
+    let tree : c.in_ok-tree.tree ≡ s.tree = c.in_ok-tree.ensures.shape ∙ ap (λ (x : Stored). x.state.tree) c.self.view_is in
+    let path = ap (λ (x : PartAt). x.path) c.part.view_is in
+    let large = c.large-large.ensures.value ∙ ap (λ (x : Stored). x.state.settings.large) c.self.view_is in
+    let parts = c.as_slice-parts.ensures.value ∙ ap (λ (x : Stored). x.state.parts) c.self.view_is in
+    let ticket = ap (λ (x : PartAt). x.ticket) c.part.view_is ∙ sym (part_among b.ticket s.parts p c.requires.of.found).is in
+    let others : c.as_slice.result.now ≡ paths (without b.ticket s.parts) =
+    c.as_slice.ensures.value ∙ c.in_ok-others.ensures ∙ ap (λ n. paths (without n c.as_slice-parts.result.now)) ticket ∙ ap (λ (ps : List PartAt). paths (without b.ticket ps)) parts in
+    let with = c.in_ok-with.with in
+    let t = c.in_ok-tree-2.field-0.tree in
+    let anew = c.in_ok-tree-2.field-0.anew in
+    let caught = c.in_ok-with.ensures.contents ∙ ap (replay (contents b.tree)) c.requires.undone in
+    let among = subst (λ (ops : List Op). AreAmong (numbers with) (numbers_put ops ++ numbers b.tree)) c.requires.undone c.in_ok-with.ensures.numbers in
+    let below : All (λ n. n < s.next) (numbers with) = swap_below s b p with lawful c.in_ok-with.ensures.lawful c.requires.of among in
+    let from : AreAmong (numbers t) (numbers with ++ numbers s.tree) = subst (λ (x : Shape). AreAmong (numbers t) (numbers with ++ numbers x)) tree c.in_ok-tree-2.ensures.numbers in
+    let held : contents t ≡ contents s.tree = c.in_ok-tree-2.ensures.contents ∙ ap contents tree in
+    let room : (anew ≡ false) ↔ HasRoomAt p.path with s.tree =
+    subst (λ (q : List Side). (anew ≡ false) ↔ HasRoomAt q with s.tree) path (subst (λ (x : Shape). (anew ≡ false) ↔ HasRoomAt c.part.inside.path with x) tree c.in_ok-tree-2.ensures.anew) in
+    let outside = swap_outside s b p lawful c.requires.of in
+    let outside_here : IsEvenClear c.large-large.result (c.part.inside.path ∷ c.as_slice.result.now) c.in_ok-tree.tree =
+    subst (λ n. IsEvenClear n (c.part.inside.path ∷ c.as_slice.result.now) c.in_ok-tree.tree) (sym large)
+    (subst (λ (q : List Side). IsEvenClear s.settings.large (q ∷ c.as_slice.result.now) c.in_ok-tree.tree) (sym path)
+    (subst (λ (qs : List (List Side)). IsEvenClear s.settings.large (p.path ∷ qs) c.in_ok-tree.tree) (sym others) (subst (λ (x : Shape). IsEvenClear s.settings.large (p.path ∷ paths (without b.ticket s.parts)) x) (sym tree) outside))) in
+    let even : IsEvenClear s.settings.large (paths (without b.ticket s.parts)) t =
+    subst (λ n. IsEvenClear n (paths (without b.ticket s.parts)) t) large (subst (λ (qs : List (List Side)). IsEvenClear c.large-large.result qs t) others (c.in_ok-tree-2.ensures.balance outside_here c.in_ok-with.ensures.balance)) in
+    let same : anew ≡ false → AreSameAt (paths (without b.ticket s.parts)) t s.tree =
+    λ e. subst (λ (qs : List (List Side)). AreSameAt qs t s.tree) others (subst (λ (x : Shape). AreSameAt c.as_slice.result.now t x) tree (c.in_ok-tree-2.ensures.others e)) in
+    let V : ℕ → ℕ → VersionAt = λ n m. record { tree = t; next = n; len = m } in
+    let next = ap (λ (x : Stored). x.state.next) c.self.view_is in
+    let len : c.len.result ≡ length s.history = omega (arith, c.len.ensures, c.self.inside.history.ok, ap (λ (x : Stored). length x.state.history) c.self.view_is) in
+    let shown : c.in_ok-version.version.value ≡ V s.next (length s.history) = c.in_ok-version.ensures.shown ∙ ap (λ n. V n c.len.result) next ∙ ap (V s.next) len in
+    let none : anew ≡ true → planned_parts c.in_ok-logs.logs.items s.parts ≡ [] = λ e. ap (planned_parts c.in_ok-logs.logs.items) (sym parts) ∙ c.in_ok-logs.ensures.all e in
+    let one : anew ≡ false → planned_parts c.in_ok-logs.logs.items s.parts ≡ without b.ticket s.parts =
+    λ e. ap (planned_parts c.in_ok-logs.logs.items) (sym parts) ∙ c.in_ok-logs.ensures.one e ∙ ap (λ n. without n c.as_slice-parts.result.now) ticket ∙ ap (without b.ticket) parts in
+    swaps s b p with t anew c.self.inside.next c.in_ok-version.version.value c.in_ok-logs.logs.items lawful c.requires.of c.size-size.ensures.sound caught held (below_both s.next (numbers t) (numbers with) (numbers s.tree) from below lawful.below) room
+    c.in_ok-tree-2.ensures.calm same even none one shown next

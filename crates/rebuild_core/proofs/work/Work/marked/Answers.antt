@@ -1,0 +1,16 @@
+use Rattle.rebuild_core.proofs.Working.{draft_large, draft_marked, draft_on}
+use Rattle.rebuild_core.proofs.work.Work.marked.Goals as goal
+
+pub marked_watched-requires-clause-there : goal.marked_watched-requires-clause-there
+marked_watched-requires-clause-there g c =
+    let r = c.requires.draft in
+    let k = c.in_ok-work.ensures.draft r.0 r.1.0 r.1.1 r.1.2 in
+    draft_large c.args.large r.0 r.1.0 k.0 c.in_ok-work.work k.2
+
+pub returns-clause-draft : goal.returns-clause-draft
+returns-clause-draft g c = λ next last ps d.
+    let k = c.in_ok-work.ensures.draft next last ps d in
+    let u = c.in_ok-tree.tree in
+    let vs = c.marked_watched.new.watches in
+    draft_on c.args.large next last ps k.0 _ k.1
+    (draft_marked c.args.large next last c.args.within.now c.args.tag c.in_ok-work.work u vs k.0 k.2 c.in_ok-work.ensures.room c.in_ok-tree.ensures.logged c.in_ok-tree.ensures.numbers c.in_ok-tree.ensures.balance c.in_ok-tree.ensures.watched)

@@ -1,0 +1,60 @@
+-- What swapping a built subtree in does to a state.
+use Rattle.std.specs.Prelude.{◌≡◌, ℕ, ◌<◌, ◌≤◌, ◌⊎◌, Bool, false, List, [], ◌++◌, length, None}
+use Rattle.map_fold.specs.Ops.{replay}
+use Rattle.kd_tree.specs.Shape.{Shape}
+use Rattle.kd_tree.specs.Contents.{contents}
+use Rattle.kd_tree.specs.Parts.{replaced_at}
+use Rattle.kd_update.specs.Replace.{HasRoomAt, IsCalmAbove}
+use Rattle.kd_update.specs.Update.{IsEven}
+use Rattle.rebuild_core.specs.declared.fault.SwapFault.{SwapFault}
+use Rattle.rebuild_core.specs.declared.fault.SwapFault.TheVariants.{Stale, Behind, NoMemory}
+use Rattle.rebuild_core.specs.Built.{BuiltAt, IsPartOf, IsStale, undone}
+use Rattle.rebuild_core.specs.Lawful.{IsLawful, StateAt}
+use Rattle.rebuild_core.specs.Logs.{planned_parts}
+use Rattle.rebuild_core.specs.Parts.{PartAt, without}
+use Rattle.rebuild_core.specs.Steps.{PlannedAt, entered}
+
+-- the value is of one of the parts, and where the swap isn't forced it is at most 64 operations behind
+abbrev pub MaySwap : BuiltAt → Bool → StateAt → Type 0
+MaySwap b force s = (p : PartAt) × IsPartOf b s.parts p × (force ≡ false → length (undone b p) ≤ 64)
+
+-- why a value isn't swapped in
+abbrev pub IsSwapFault : BuiltAt → Bool → StateAt → SwapFault → Type 0
+IsSwapFault b force s (Stale ticket) = (ticket ≡ b.ticket) × IsStale b s.parts
+IsSwapFault b force s (Behind n) = (force ≡ false) × (p : PartAt) × IsPartOf b s.parts p × (n ≡ length (undone b p)) × (64 < n)
+IsSwapFault b force s NoMemory = MaySwap b force s
+
+-- What is left of the parts. A tree that holds what the undone operations make of the value was put in the place of its part's
+-- subtree: then the others stay. Where there was no room for it, none is left.
+pub record IsLeftBySwap (b : BuiltAt) (s : StateAt) (ps : List PartAt) : Type 0 where
+  pub part : PartAt
+  pub of : IsPartOf b s.parts part
+  pub with : Shape
+  pub caught : contents with ≡ replay (contents b.tree) (undone b part)
+  pub left : (HasRoomAt part.path with s.tree × (ps ≡ without b.ticket s.parts)) ⊎ ((HasRoomAt part.path with s.tree → ⊥) × (ps ≡ []))
+
+-- The plan swaps the value in: what the map holds stays.
+pub record IsSwapPlan (b : BuiltAt) (s : StateAt) (p : PlannedAt) : Type 0 where
+  pub lawful : IsLawful (entered p s)
+  pub held : contents p.tree ≡ contents s.tree
+  pub next : p.next ≡ s.next
+  pub none : p.entry ≡ None
+  pub parts : IsLeftBySwap b s (planned_parts p.logs s.parts)
+
+-- the second state is the first with the value swapped in
+pub record IsSwapStep (b : BuiltAt) (s t : StateAt) : Type 0 where
+  pub settings : t.settings ≡ s.settings
+  pub held : contents t.tree ≡ contents s.tree
+  pub next : t.next ≡ s.next
+  pub history : t.history ≡ s.history
+  pub parts : IsLeftBySwap b s t.parts
+  pub last : t.last ≡ s.last
+
+-- The swap builds nothing anew: the value's part has no operation left for it, its tree is even, there is room for it, and no node
+-- above it is to be built anew.
+pub record IsQuietSwap (b : BuiltAt) (p : PartAt) (s : StateAt) : Type 0 where
+  pub of : IsPartOf b s.parts p
+  pub done : undone b p ≡ []
+  pub even : IsEven s.settings.large b.tree
+  pub room : HasRoomAt p.path b.tree s.tree
+  pub calm : IsCalmAbove s.settings.large p.path (replaced_at p.path b.tree s.tree)

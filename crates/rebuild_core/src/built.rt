@@ -1,0 +1,207 @@
+//! Detached subtrees that were built anew, and are brought up to date. Nothing here knows the state that they come from.
+ghost use Rattle.std.specs.Prelude.{◌≡◌, [], ◌++◌, IfErr, IfOk};
+ghost use Rattle.map_fold.specs.Ops.{Fit, numbers_put, replay};
+ghost use Rattle.kd_tree.specs.Shape.{numbers};
+ghost use Rattle.kd_tree.specs.Contents.{contents};
+ghost use Rattle.kd_tree.specs.Criteria.{IsCalm};
+ghost use Rattle.kd_update.specs.Refresh.{AreAmong};
+ghost use Rattle.kd_update.specs.Update.{IsEven};
+ghost use Rattle.rebuild_core.specs.Built.{AreNumbersOf, IsLawfulBuilt, IsReplayOf};
+
+use crate::even::is_even;
+use kd_tree::{Steps, Tree};
+use kd_update::{rebuilt, replayed};
+use map_fold::{Item, Items, NoMemory, Op};
+use std::alloc::Global;
+use std::marker::{Brand, Model};
+use std::sync::Arc;
+use std::sync::ledger::{Blank, Ledger};
+
+/// A tree that was built of a detached subtree's items, with some operations done on it since.
+#[derive(Debug, Drop)]
+pub struct Built {
+    pub(crate) ticket: u64,
+    pub(crate) items: Arc<Items>,
+    pub(crate) done: Vec<Op>,
+    pub(crate) tree: Tree,
+    // Each node of 10 nodes and more, and fewer than these, meets the balance criterion.
+    pub(crate) large: u32,
+}
+
+impl Model for Built {
+    ghost use Rattle.rebuild_core.specs.Built.{BuiltAt, IsLawfulBuilt};
+    ghost use Rattle.kd_update.specs.Update.{IsEven};
+
+    ghost Value = { BuiltAt };
+
+    ghost use Rattle.std.specs.Coded.{codes};
+    ghost use Rattle.kd_tree.specs.ShapeCode.{coded_shape};
+
+    ghost coded = { Prim.hlevel (codes, coded_shape) };
+
+    ghost view = { λ b. record { ticket = b.ticket; items = b.items.value; done = b.done.items; tree = b.tree } };
+
+    ghost invariant = { λ b. IsLawfulBuilt (record { ticket = b.ticket; items = b.items.value; done = b.done.items; tree = b.tree }) × IsEven b.large b.tree };
+}
+
+/// A value on which nothing more was done for want of memory.
+#[derive(Debug, Drop)]
+pub struct BuiltLeft {
+    pub built: Built,
+}
+
+impl Built {
+    // A tree of the items, with nothing done on it.
+    pub(crate) fn new(
+        alloc: Global,
+        ticket: u64,
+        items: Arc<Items>,
+        large: u32,
+        tree: Tree,
+    ) -> Built
+        requires held { contents tree ≡ items.value }
+        requires numbers { AreNumbersOf items.value tree }
+        requires calm { IsCalm 10 tree }
+        ensures { result ≡ record { ticket = ticket; items = items.value; done = []; tree = tree } }
+    {
+        Built {
+            ticket,
+            items,
+            done: Vec::new(alloc),
+            tree,
+            large,
+        }
+    }
+
+    /// The ticket of the subtree.
+    pub fn ticket(&self) -> u64
+        ensures { result ≡ self.now.ticket }
+    {
+        self.ticket
+    }
+
+    /// What the subtree held, by itself, when it was detached.
+    pub fn items(&self) -> &[Item]
+        ensures { result.now ≡ self.now.items }
+    {
+        self.items.as_slice()
+    }
+
+    /// The operations that were done since, in order.
+    pub fn done(&self) -> &[Op]
+        ensures value { result.now ≡ self.now.done }
+        ensures lawful { IsLawfulBuilt self.now }
+    {
+        self.done.as_slice()
+    }
+
+    /// The tree, which holds what the operations make of the items.
+    pub fn tree(&self) -> &Tree
+        ensures value { result.now ≡ self.now.tree }
+        ensures lawful { IsLawfulBuilt self.now }
+    {
+        &self.tree
+    }
+
+    /// The value with these operations done too, one after the other, as `replayed` does them. Where its tree is out of balance
+    /// for this `large`, since it was built with another, it is built anew by medians before. Where memory is wanting, the value
+    /// is handed back as it was.
+    pub fn replay(self, alloc: Global, large: u32, ops: &[Op]) -> Result<Built, BuiltLeft>
+        requires { Fit (contents self.tree) ops.now }
+        ensures replayed { IfOk result (IsReplayOf self ops.now) }
+        ensures left { IfErr result (λ l. l.built ≡ self) }
+    {
+        match self.replayed_by::<Brand>(alloc, large, ops, Blank::new(1)) {
+            Err(_) => Err(BuiltLeft { built: self }),
+            Ok(tree) => self.advanced(large, ops, tree),
+        }
+    }
+
+    // The tree after the operations, with a counter that nothing looks at.
+    fn replayed_by<L: Ledger>(
+        &self,
+        alloc: Global,
+        large: u32,
+        ops: &[Op],
+        blank: Blank,
+    ) -> Result<Tree, NoMemory>
+        requires name { blank.name ≡ L.name }
+        requires parts { blank.parts ≡ L.parts }
+        requires some { blank.parts ≡ 1 }
+        requires fit { Fit (contents self.now.tree) ops.now }
+        ensures contents { IfOk result (λ t. contents t ≡ replay (contents self.now.tree) ops.now) }
+        ensures numbers { IfOk result (λ t. AreAmong (numbers t) (numbers_put ops.now ++ numbers self.now.tree)) }
+        ensures balance { IfOk result (λ t. IsEven large t) }
+    {
+        let mut steps: Steps<L> = Steps::new(blank);
+        self.caught_up(alloc, large, ops, &mut steps)
+    }
+
+    // The tree after the operations. It is even for this `large`, for which it is built anew before where it isn't.
+    pub(crate) fn caught_up<L: Ledger>(
+        &self,
+        alloc: Global,
+        large: u32,
+        ops: &[Op],
+        steps: &mut Steps<L>,
+    ) -> Result<Tree, NoMemory>
+        requires fit { Fit (contents self.now.tree) ops.now }
+        ensures lawful { IsLawfulBuilt self.now }
+        ensures contents { IfOk result (λ t. contents t ≡ replay (contents self.now.tree) ops.now) }
+        ensures numbers { IfOk result (λ t. AreAmong (numbers t) (numbers_put ops.now ++ numbers self.now.tree)) }
+        ensures balance { IfOk result (λ t. IsEven large t) }
+        // An even tree stays where nothing is to be done, and no node is made.
+        ensures same { ops.now ≡ [] → IsEven large self.now.tree → IfOk result (λ t. t ≡ self.now.tree) }
+        ensures still { ops.now ≡ [] → IsEven large self.now.tree → steps.new ≡ steps.old }
+    {
+        let _done = self.done();
+        let tree = self.evened(alloc, large, steps)?;
+        if ops.is_empty() {
+            return Ok(tree);
+        }
+        replayed(alloc, tree, large, ops)
+    }
+
+    // The tree, built anew where it isn't even for this `large`. Only where the value was made with another is it looked at.
+    fn evened<L: Ledger>(
+        &self,
+        alloc: Global,
+        large: u32,
+        steps: &mut Steps<L>,
+    ) -> Result<Tree, NoMemory>
+        ensures contents { IfOk result (λ t. contents t ≡ contents self.now.tree) }
+        ensures numbers { IfOk result (λ t. AreAmong (numbers t) (numbers self.now.tree)) }
+        ensures balance { IfOk result (λ t. IsEven large t) }
+        ensures same { IsEven large self.now.tree → IfOk result (λ t. t ≡ self.now.tree) }
+        ensures still { IsEven large self.now.tree → steps.new ≡ steps.old }
+    {
+        let tree = self.tree.copy(alloc, steps)?;
+        if self.large == large {
+            return Ok(tree);
+        }
+        if is_even(&tree, large) {
+            return Ok(tree);
+        }
+        rebuilt(alloc, tree, steps)
+    }
+
+    // The value with this tree, in which the operations are done.
+    fn advanced(self, large: u32, ops: &[Op], tree: Tree) -> Result<Built, BuiltLeft>
+        requires fit { Fit (contents self.tree) ops.now }
+        requires replayed { contents tree ≡ replay (contents self.tree) ops.now }
+        requires numbers { AreAmong (numbers tree) (numbers_put ops.now ++ numbers self.tree) }
+        requires even { IsEven large tree }
+        ensures replayed { IfOk result (IsReplayOf self ops.now) }
+        ensures left { IfErr result (λ l. l.built ≡ self) }
+    {
+        let mut built = self;
+        match built.done.extend_from_slice(ops) {
+            Err(_) => Err(BuiltLeft { built }),
+            Ok(()) => {
+                built.tree = tree;
+                built.large = large;
+                Ok(built)
+            }
+        }
+    }
+}

@@ -1,0 +1,174 @@
+//! Subtrees, detached to be built anew elsewhere, and what they have met since.
+ghost use Rattle.std.specs.Prelude.{◌≡◌, ◌+◌, ◌<◌, ◌≤◌, ◌↔◌, true, length, slice_set, IfErr, IfOk, IfSome, IsNone, OnErr, OnOk};
+ghost use Rattle.std.specs.List.{insert};
+ghost use Rattle.map_fold.specs.Ops.{Fit};
+ghost use Rattle.kd_tree.specs.Contents.{contents};
+ghost use Rattle.rebuild_core.specs.Built.{IsPartOf, IsStale, undone};
+ghost use Rattle.rebuild_core.specs.Detach.{IsDetachStep, IsDetachedAt, IsLogAfter, IsLogFault, IsNoDetach, IsNoneToDetach, with_part};
+ghost use Rattle.rebuild_core.specs.Parts.{PartAt, part_in};
+
+use crate::part::{Part, part_in, part_of, paths_of};
+use crate::{Built, Job, LogAsk, MapState};
+use kd_tree::{Path, Tree};
+use map_fold::{Item, Items, NoMemory, Op, Ops};
+use op_logger::OpLog;
+use std::alloc::Global;
+use std::sync::Arc;
+
+impl MapState {
+    /// Detaches a subtree into the slot: that of the slot's part afresh, where there is one, and else that of the first node, in
+    /// the order node, left, right, that has at least `large` nodes, breaches a criterion, and is neither above a detached
+    /// subtree nor in one. None where there is no such node, or all tickets were given. n items take time in the order of
+    /// n log n, since they are sorted by number.
+    pub fn detach(&mut self, alloc: Global, slot: u8) -> Result<Option<Job>, NoMemory>
+        requires slot_from { 1 ≤ slot }
+        requires slot_to { slot ≤ 4 }
+        ensures none { IfOk result (λ o. IsNone o ↔ IsNoDetach slot self.old.state) }
+        ensures detached { IfOk result (λ o. IfSome o (λ job. IsDetachStep slot self.old.state job self.new.state)) }
+        ensures stays { IfOk result (λ o. IsNone o → self.new.state ≡ self.old.state) }
+
+        ensures same { OnErr result (self.new.state ≡ self.old.state) }
+    {
+        let last = self.last;
+        if last == u64::MAX {
+            return Ok(None);
+        }
+        let Some(path) = self.detach_path(alloc, slot)? else {
+            return Ok(None);
+        };
+        let Some(node) = self.tree.subtree_at(&path) else {
+            return Ok(None);
+        };
+        let _size = node.size();
+        let (items, twin) = items_of(alloc, node)?;
+        let ticket = last + 1;
+        let part = Part {
+            slot,
+            path,
+            ticket,
+            items,
+            log: OpLog::new(alloc),
+        };
+        put_in_slot(&mut self.parts, part)?;
+        self.last = ticket;
+        Ok(Some(Job {
+            ticket,
+            items: twin,
+        }))
+    }
+
+    // Where a subtree is detached into the slot.
+    fn detach_path(&self, alloc: Global, slot: u8) -> Result<Option<Path>, NoMemory>
+        ensures none { IfOk result (λ o. IsNone o ↔ IsNoneToDetach (part_in slot self.now.state.parts) self.now.state) }
+        ensures some { IfOk result (λ o. IfSome o (IsDetachedAt (part_in slot self.now.state.parts) self.now.state)) }
+    {
+        let parts = self.parts.as_slice();
+        if let Some(part) = part_in(parts, slot) {
+            return Ok(Some(part.path));
+        }
+        let paths = paths_of(alloc, parts)?;
+        let large = self.settings.large();
+        Ok(self.tree.first_free_breach(large, paths.as_slice()))
+    }
+
+    /// The operations that a built value hasn't done, in order: it is brought up to date by them.
+    pub fn log_after(&self, alloc: Global, built: &Built) -> Result<Ops, LogAsk>
+        ensures after { IfOk result (IsLogAfter built.now self.now.state) }
+        ensures fit { IfOk result (Fit (contents built.now.tree)) }
+
+        ensures refused { IfErr result (IsLogFault built.now self.now.state) }
+    {
+        let Some((_part, ops)) = self.part_built(built) else {
+            return Err(LogAsk::Stale {
+                ticket: built.ticket,
+            });
+        };
+        let ops = Vec::from_slice(alloc, ops)?;
+        Ok(Ops::from(ops))
+    }
+
+    // The part that the value is of, and the operations that the value hasn't done.
+    pub(crate) fn part_built(&self, built: &Built) -> Option<(&Part, &[Op])>
+        ensures none { IsNone result → IsStale built.now self.now.state.parts }
+        ensures some { IfSome result (λ r. IsPartOf built.now self.now.state.parts r.0.now) }
+        ensures undone { IfSome result (λ r. r.1.now ≡ undone built.now r.0.now) }
+        ensures fit { IfSome result (λ r. Fit (contents built.now.tree) r.1.now) }
+        ensures few { IfSome result (λ r. length r.1.now ≤ 65536) }
+    {
+        let part = self.part_like(built)?;
+        let _history = self.history();
+        let _done = built.done();
+        let _few = part.log.len();
+        let done = built.done.len() as u32;
+        Some((part, part.log.after(done)))
+    }
+
+    // The part that the value is of. It costs a step for each item and for each operation that is done.
+    fn part_like(&self, built: &Built) -> Option<&Part>
+        ensures none { IsNone result → IsStale built.now self.now.state.parts }
+        ensures some { IfSome result (λ p. IsPartOf built.now self.now.state.parts p.now) }
+    {
+        let part = part_of(self.parts.as_slice(), built.ticket)?;
+        if !are_same(part.items.as_slice(), built.items.as_slice()) {
+            return None;
+        }
+        if !part.log.begins_with(built.done.as_slice()) {
+            return None;
+        }
+        Some(part)
+    }
+}
+
+// What the subtree holds by itself, as a list that two hold.
+fn items_of(alloc: Global, node: &Tree) -> Result<(Arc<Items>, Arc<Items>), NoMemory>
+    ensures first { IfOk result (λ r. r.0.value ≡ contents node.now) }
+    ensures second { IfOk result (λ r. r.1.value ≡ contents node.now) }
+{
+    let items = Arc::new(alloc, node.flatten(alloc)?)?;
+    let twin = items.clone()?;
+    Ok((items, twin))
+}
+
+fn are_same(items: &[Item], others: &[Item]) -> bool
+    ensures { result ≡ true ↔ (items.now ≡ others.now) }
+{
+    items == others
+}
+
+fn put_in_slot(parts: &mut Vec<Part>, part: Part) -> Result<(), NoMemory>
+    ensures ok { OnOk result (parts.new.items ≡ with_part part parts.old.items) }
+    ensures err { OnErr result (parts.new.items ≡ parts.old.items) }
+{
+    match place_in(parts.as_slice(), part.slot) {
+        Ok(place) => {
+            parts[place] = part;
+            Ok(())
+        }
+        Err(place) => {
+            parts.insert(place, part)?;
+            Ok(())
+        }
+    }
+}
+
+// Where the part in the slot stands, or else where one would come to stand.
+fn place_in(parts: &[Part], slot: u8) -> Result<usize, usize>
+    ensures taken_low { IfOk result (λ i. i < length parts.now) }
+    ensures taken { IfOk result (λ i. (q : PartAt) → q.slot ≡ slot → with_part q parts.now ≡ slice_set parts.now i q) }
+    ensures free_low { IfErr result (λ i. i ≤ length parts.now) }
+    ensures free { IfErr result (λ i. (q : PartAt) → q.slot ≡ slot → with_part q parts.now ≡ insert parts.now i q) }
+{
+    let Some((first, rest)) = parts.split_first() else {
+        return Err(0);
+    };
+    if slot == first.slot {
+        return Ok(0);
+    }
+    if slot < first.slot {
+        return Err(0);
+    }
+    match place_in(rest, slot) {
+        Ok(place) => Ok(place + 1),
+        Err(place) => Err(place + 1),
+    }
+}

@@ -1,0 +1,48 @@
+//! Planned steps, entered. Nothing here takes memory.
+ghost use Rattle.std.specs.Prelude.{◌≡◌, ◌<◌, ◌≤◌, true, ◌++◌, length, is_some};
+ghost use Rattle.rebuild_core.specs.Lawful.{IsLawful};
+ghost use Rattle.rebuild_core.specs.StateView.{AreMade, IsNextOf};
+ghost use Rattle.rebuild_core.specs.Steps.{entered, listed};
+
+use crate::logs::relog_all;
+use crate::{MapState, Planned};
+use map_fold::Entry;
+
+impl MapState {
+    /// Puts in what was planned, and answers how many entries the history has then. It takes no memory.
+    pub fn enter_step(&mut self, planned: Planned) -> u64
+        requires lawful { IsLawful (entered planned self.old.state) }
+        requires room { is_some planned.entry ≡ true → 1 ≤ self.old.spare }
+        ensures state { self.new.state ≡ entered planned self.old.state }
+        ensures len { result ≡ length self.new.state.history }
+    {
+        let Planned {
+            tree,
+            next,
+            version,
+            entry,
+            logs,
+        } = planned;
+        list(&mut self.history, &mut self.made, entry);
+        relog_all(&mut self.parts, logs);
+        self.tree = tree;
+        self.next = next;
+        self.version = version;
+        self.history.len() as u64
+    }
+}
+
+// One more entry, if there is one, and one more of its caller.
+fn list(history: &mut Vec<Entry>, made: &mut [u32; 8], entry: Option<Entry>)
+    requires next { IsNextOf history.old.items entry }
+    requires made { AreMade made.old history.old.items }
+    requires room { is_some entry ≡ true → length history.old.items < history.old.cap }
+    ensures items { history.new.items ≡ history.old.items ++ listed entry }
+    ensures made { AreMade made.new history.new.items }
+{
+    let Some(entry) = entry else {
+        return;
+    };
+    made[entry.caller as usize - 1] += 1;
+    history.push_reserved(entry);
+}

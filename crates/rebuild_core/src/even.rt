@@ -1,0 +1,33 @@
+//! Whether trees are in balance.
+ghost use Rattle.std.specs.Prelude.{◌≡◌, ◌↔◌, true};
+ghost use Rattle.kd_tree.specs.Criteria.{IsBalanced};
+ghost use Rattle.kd_update.specs.Update.{IsEven};
+
+use kd_tree::Tree;
+
+// Whether each node of 10 nodes and more, and fewer than these, meets the balance criterion. A subtree of fewer nodes isn't
+// looked into.
+pub(crate) fn is_even(tree: &Tree, large: u32) -> bool
+    ensures { result ≡ true ↔ IsEven large tree.now }
+{
+    let size = tree.size();
+    if size < 10 {
+        return true;
+    }
+    let Some(top) = tree.top() else {
+        return true;
+    };
+    if size < large && !is_balanced(top.left, top.right) {
+        return false;
+    }
+    is_even(top.left, large) && is_even(top.right, large)
+}
+
+// Whether each son has fewer than three fifths of the nodes below the top.
+fn is_balanced(left: &Tree, right: &Tree) -> bool
+    ensures { result ≡ true ↔ IsBalanced left.now right.now }
+{
+    let (left, right) = (left.size(), right.size());
+    let most = 3 * (left + right);
+    5 * left < most && 5 * right < most
+}

@@ -1,0 +1,81 @@
+//! Detached subtrees, handed out to be built anew. Nothing here knows the state that they come from.
+ghost use Rattle.std.specs.Prelude.{◌≡◌, IfErr, IfOk};
+ghost use Rattle.kd_tree.specs.Contents.{contents};
+ghost use Rattle.kd_tree.specs.Criteria.{IsCalm};
+ghost use Rattle.rebuild_core.specs.Built.{AreNumbersOf, IsBuiltOf};
+
+use crate::Built;
+use kd_tree::{Steps, Tree};
+use map_fold::{Item, Items, NoMemory};
+use std::alloc::Global;
+use std::marker::{Brand, Model};
+use std::sync::Arc;
+use std::sync::ledger::{Blank, Ledger};
+
+/// The items of a detached subtree, which its state holds as well.
+#[derive(Debug, Drop)]
+pub struct Job {
+    pub(crate) ticket: u64,
+    pub(crate) items: Arc<Items>,
+}
+
+impl Model for Job {
+    ghost use Rattle.map_fold.specs.Contents.{AreContents};
+    ghost use Rattle.rebuild_core.specs.Built.{JobAt};
+
+    ghost Value = { JobAt };
+
+    ghost view = { λ j. record { ticket = j.ticket; items = j.items.value } };
+
+    ghost invariant = { λ j. AreContents 0 4194304 j.items.value };
+}
+
+/// A job that wasn't done for want of memory.
+#[derive(Debug, Drop)]
+pub struct JobLeft {
+    pub job: Job,
+}
+
+impl Job {
+    /// The ticket of the subtree.
+    pub fn ticket(&self) -> u64
+        ensures { result ≡ self.now.ticket }
+    {
+        self.ticket
+    }
+
+    /// What the subtree held, by itself, when it was detached.
+    pub fn items(&self) -> &[Item]
+        ensures { result.now ≡ self.now.items }
+    {
+        self.items.as_slice()
+    }
+
+    /// A tree of the items, built by medians, with nothing done on it yet. n items take time in the order of n log n. Where
+    /// memory is wanting, the job is handed back. The value is best swapped into a state with the same `large`.
+    pub fn build(self, alloc: Global, large: u32) -> Result<Built, JobLeft>
+        ensures built { IfOk result (IsBuiltOf self) }
+        ensures left { IfErr result (λ l. l.job ≡ self) }
+    {
+        match self.tree_by::<Brand>(alloc, Blank::new(1)) {
+            Err(_) => Err(JobLeft { job: self }),
+            Ok(tree) => {
+                let Job { ticket, items } = self;
+                Ok(Built::new(alloc, ticket, items, large, tree))
+            }
+        }
+    }
+
+    // The tree, with a counter that nothing looks at.
+    fn tree_by<L: Ledger>(&self, alloc: Global, blank: Blank) -> Result<Tree, NoMemory>
+        requires name { blank.name ≡ L.name }
+        requires parts { blank.parts ≡ L.parts }
+        requires some { blank.parts ≡ 1 }
+        ensures contents { IfOk result (λ t. contents t ≡ self.now.items) }
+        ensures calm { IfOk result (λ t. IsCalm 10 t) }
+        ensures numbers { IfOk result (λ t. AreNumbersOf self.now.items t) }
+    {
+        let mut steps: Steps<L> = Steps::new(blank);
+        Tree::build(alloc, self.items.as_slice(), &mut steps)
+    }
+}

@@ -1,0 +1,115 @@
+//! Detached subtrees, as a state keeps them.
+ghost use Rattle.std.specs.Prelude.{◌≡◌, ◌≤◌, length, None, Some, IfOk, IfSome, IsNone};
+ghost use Rattle.rebuild_core.specs.Draft.{watches_of};
+ghost use Rattle.rebuild_core.specs.Parts.{IsNewTicket, IsPlaceOf, part_in, part_of, paths, without};
+
+use kd_tree::Path;
+use kd_update::{Watch, Watches};
+use map_fold::{Items, NoMemory};
+use op_logger::OpLog;
+use std::alloc::Global;
+use std::marker::Model;
+use std::sync::Arc;
+
+/// What can be seen of a detached subtree.
+#[derive(Clone, Copy, Debug, PartialEq, Eq)]
+pub struct PartInfo {
+    /// The ticket that it was detached with.
+    pub ticket: u64,
+    /// How many operations were logged since.
+    pub logged: u32,
+}
+
+// A detached subtree: its items are shared with the job that was made of it.
+#[derive(Debug, Drop)]
+pub(crate) struct Part {
+    pub(crate) slot: u8,
+    pub(crate) path: Path,
+    pub(crate) ticket: u64,
+    pub(crate) items: Arc<Items>,
+    pub(crate) log: OpLog,
+}
+
+impl Model for Part {
+    ghost use Rattle.rebuild_core.specs.Parts.{PartAt};
+
+    ghost Value = { PartAt };
+
+    ghost view = { λ p. record { slot = p.slot; path = p.path; ticket = p.ticket; items = p.items.value; log = p.log } };
+}
+
+// The parts as they are watched, each log with memory of its own.
+pub(crate) fn watched(alloc: Global, parts: &[Part]) -> Result<Watches, NoMemory>
+    requires { length parts.now ≤ 4 }
+    ensures { IfOk result (λ w. w ≡ watches_of parts.now) }
+{
+    let mut watches = Watches::new(alloc);
+    for part in parts {
+        let log = part.log.copy(alloc)?;
+        watches.push(Watch {
+            path: part.path,
+            log,
+        })?;
+    }
+    Ok(watches)
+}
+
+// The part in the slot.
+pub(crate) fn part_in(parts: &[Part], slot: u8) -> Option<&Part>
+    ensures none { IsNone result → part_in slot parts.now ≡ None }
+    ensures some { IfSome result (λ p. part_in slot parts.now ≡ Some p.now) }
+{
+    let (first, rest) = parts.split_first()?;
+    if slot == first.slot {
+        return Some(first);
+    }
+    part_in(rest, slot)
+}
+
+// The part of the ticket.
+pub(crate) fn part_of(parts: &[Part], ticket: u64) -> Option<&Part>
+    ensures none { IsNone result → part_of ticket parts.now ≡ None }
+    ensures some { IfSome result (λ p. part_of ticket parts.now ≡ Some p.now) }
+{
+    let (first, rest) = parts.split_first()?;
+    if ticket == first.ticket {
+        return Some(first);
+    }
+    part_of(rest, ticket)
+}
+
+// Where the parts stand, but for that of the ticket.
+pub(crate) fn others_of(alloc: Global, parts: &[Part], ticket: u64) -> Result<Vec<Path>, NoMemory>
+    ensures { IfOk result (λ v. v.items ≡ paths (without ticket parts.now)) }
+{
+    let mut paths = paths_of(alloc, parts)?;
+    let Some(place) = place_of(parts, ticket) else {
+        return Ok(paths);
+    };
+    let _path = paths.remove(place);
+    Ok(paths)
+}
+
+// Where the parts stand.
+pub(crate) fn paths_of(alloc: Global, parts: &[Part]) -> Result<Vec<Path>, NoMemory>
+    ensures { IfOk result (λ v. v.items ≡ paths parts.now) }
+{
+    let mut paths = Vec::new(alloc);
+    for part in parts {
+        paths.push(part.path)?;
+    }
+    Ok(paths)
+}
+
+// Where the part of the ticket stands.
+pub(crate) fn place_of(parts: &[Part], ticket: u64) -> Option<usize>
+    ensures none { IsNone result → IsNewTicket ticket parts.now }
+    ensures some { IfSome result (λ i. IsPlaceOf ticket i parts.now) }
+{
+    let (first, rest) = parts.split_first()?;
+    if first.ticket == ticket {
+        return Some(0);
+    }
+    let place = place_of(rest, ticket)?;
+    Some(place + 1)
+}

@@ -1,0 +1,42 @@
+//! A scan put by an update, where no subtree is watched.
+ghost use Rattle.std.specs.Prelude.{◌≡◌, ℕ, ◌+◌, ◌≤◌, List, [], length, IfOk};
+ghost use Rattle.map_fold.specs.Fold.{add_points};
+ghost use Rattle.rebuild_core.specs.Lawful.{map_of};
+ghost use Rattle.rebuild_core.specs.Draft.{IsDraft, IsDraftLeft, IsWork};
+ghost use Rattle.rebuild_core.specs.Parts.{PartAt};
+
+use crate::work::Work;
+use kd_tree::Steps;
+use kd_update::put_points;
+use map_fold::NoMemory;
+use point_geom::Point;
+use std::alloc::Global;
+use std::sync::ledger::Ledger;
+
+// From so many points on an update is put in one pass. Of fewer each has most of its way to itself, so that a pass would
+// save little, and one by one they leave every node where the last of them alone would.
+pub(crate) const SCAN: usize = 64;
+
+impl Work {
+    // The work with these points put under the numbers from `next` on.
+    pub(crate) fn put_scan<L: Ledger>(
+        self,
+        alloc: Global,
+        large: u32,
+        next: u32,
+        points: &[Point],
+        steps: &mut Steps<L>,
+    ) -> Result<Work, NoMemory>
+        requires draft { IsWork large next self }
+        requires few { next + length points.now ≤ 4194304 }
+        requires free { self.watches ≡ [] }
+        ensures stepped { IfOk result (λ w. map_of w.tree (next + length points.now) ≡ add_points points.now (map_of self.tree next)) }
+        ensures draft { (last : ℕ) (ps : List PartAt) → IsDraft large next last ps self
+            → IfOk result (IsDraftLeft large (next + length points.now) last ps) }
+    {
+        let Work { tree, watches } = self;
+        let _size = tree.size();
+        let tree = put_points(alloc, tree, large, next, points, steps)?;
+        Ok(Work { tree, watches })
+    }
+}

@@ -1,0 +1,139 @@
+//! Built subtrees, swapped in.
+ghost use Rattle.std.specs.Prelude.{◌≡◌, ◌+◌, ◌≤◌, length, IfErr, IfOk, OnErr, OnOk};
+ghost use Rattle.map_fold.specs.Ops.{Fit};
+ghost use Rattle.kd_tree.specs.Contents.{contents};
+ghost use Rattle.kd_tree.specs.Parts.{replaced_at};
+ghost use Rattle.rebuild_core.specs.Built.{IsPartOf, undone};
+ghost use Rattle.rebuild_core.specs.Parts.{PartAt};
+ghost use Rattle.rebuild_core.specs.Swap.{IsQuietSwap, IsSwapFault, IsSwapPlan, IsSwapStep, MaySwap};
+
+use crate::logs::forgotten_for;
+use crate::part::{Part, others_of};
+use crate::{Built, MapState, Planned, SwapFault, Version};
+use kd_tree::Steps;
+use kd_update::{Replaced, replaced};
+use map_fold::{NoMemory, Op};
+use std::alloc::Global;
+use std::sync::ledger::Ledger;
+
+// As many operations are done at most in a swap that isn't forced.
+const MOST_LEFT: u32 = 64;
+
+/// A built value that wasn't swapped in, as it was.
+#[derive(Debug, Drop)]
+pub struct SwapLeft {
+    pub built: Built,
+    pub fault: SwapFault,
+}
+
+impl MapState {
+    /// Puts the built value's tree in the place of its detached subtree, after the operations that the value hasn't done, and
+    /// forgets that subtree. What the map holds stays. The time is that of these operations, of comparing the items, and of the
+    /// nodes above the subtree: it is not built anew, unless the value was made with another `large` and is out of balance.
+    ///
+    /// Without force it is refused where more than 64 operations are left. Where the tree would have more than 512 levels or
+    /// 4,194,304 nodes, the whole tree is built anew and all detached subtrees are forgotten.
+    pub fn swap<L: Ledger>(
+        &mut self,
+        alloc: Global,
+        built: Built,
+        force: bool,
+        steps: &mut Steps<L>,
+    ) -> Result<(), SwapLeft>
+        ensures swapped { OnOk result (IsSwapStep built self.old.state self.new.state) }
+        ensures may { OnOk result (MaySwap built force self.old.state) }
+
+        ensures refused { IfErr result (λ l. IsSwapFault built force self.old.state l.fault) }
+        ensures same { OnErr result (self.new.state ≡ self.old.state) }
+        ensures left { IfErr result (λ l. l.built ≡ built) }
+
+        // A swap that builds nothing anew makes at most a node for each side of the path, whatever the call answers.
+        ensures unrebuilt { (p : PartAt) → IsQuietSwap built p self.old.state
+            → OnOk result (self.new.state.tree ≡ replaced_at p.path built.tree self.old.state.tree) }
+        ensures ticks { (p : PartAt) → IsQuietSwap built p self.old.state → steps.new ≤ steps.old + length p.path }
+    {
+        match self.plan_swap(alloc, &built, force, steps) {
+            Err(fault) => Err(SwapLeft { built, fault }),
+            Ok(planned) => {
+                self.enter_step(planned);
+                Ok(())
+            }
+        }
+    }
+
+    /// Works that out. The state stays as it was.
+    pub fn plan_swap<L: Ledger>(
+        &mut self,
+        alloc: Global,
+        built: &Built,
+        force: bool,
+        steps: &mut Steps<L>,
+    ) -> Result<Planned, SwapFault>
+        ensures same { self.new.state ≡ self.old.state }
+        ensures planned { IfOk result (IsSwapPlan built.now self.old.state) }
+        ensures may { OnOk result (MaySwap built.now force self.old.state) }
+
+        ensures refused { IfErr result (IsSwapFault built.now force self.old.state) }
+
+        // As of `swap`.
+        ensures unrebuilt { (p : PartAt) → IsQuietSwap built.now p self.old.state
+            → IfOk result (λ x. x.tree ≡ replaced_at p.path built.now.tree self.old.state.tree) }
+        ensures ticks { (p : PartAt) → IsQuietSwap built.now p self.old.state → steps.new ≤ steps.old + length p.path }
+    {
+        let Some((part, ops)) = self.part_built(built) else {
+            return Err(SwapFault::Stale {
+                ticket: built.ticket,
+            });
+        };
+        let left = ops.len() as u32;
+        if !force && MOST_LEFT < left {
+            return Err(SwapFault::Behind { left });
+        }
+        let planned = self.swapped(alloc, built, part, ops, steps)?;
+        Ok(planned)
+    }
+
+    // The plan, where the value is of this part, and these are the operations that it hasn't done.
+    fn swapped<L: Ledger>(
+        &self,
+        alloc: Global,
+        built: &Built,
+        part: &Part,
+        ops: &[Op],
+        steps: &mut Steps<L>,
+    ) -> Result<Planned, NoMemory>
+        requires of { IsPartOf built.now self.now.state.parts part.now }
+        requires undone { ops.now ≡ undone built.now part.now }
+        requires fit { Fit (contents built.now.tree) ops.now }
+        ensures planned { IfOk result (IsSwapPlan built.now self.now.state) }
+        ensures unrebuilt { IsQuietSwap built.now part.now self.now.state
+            → IfOk result (λ x. x.tree ≡ replaced_at part.now.path built.now.tree self.now.state.tree) }
+        ensures ticks { IsQuietSwap built.now part.now self.now.state → steps.new ≤ steps.old + length part.now.path }
+    {
+        let large = self.settings.large();
+        let parts = self.parts.as_slice();
+        let with = built.caught_up(alloc, large, ops, steps)?;
+        let others = others_of(alloc, parts, part.ticket)?;
+        let tree = self.tree.copy(alloc, steps)?;
+        let Replaced { tree, anew } = replaced(
+            alloc,
+            tree,
+            large,
+            &part.path,
+            with,
+            others.as_slice(),
+            steps,
+        )?;
+        let _size = tree.size();
+        let logs = forgotten_for(alloc, parts, part.ticket, anew)?;
+        let (next, len) = (self.next, self.history.len() as u64);
+        let version = Version::shared(alloc, &tree, next, len, steps)?;
+        Ok(Planned {
+            tree,
+            next,
+            version,
+            entry: None,
+            logs,
+        })
+    }
+}

@@ -1,0 +1,182 @@
+//! Detached subtrees.
+ghost use Rattle.std.specs.Prelude.{◌≡◌};
+
+use super::updated;
+use crate::swap::SwapLeft;
+use crate::{Built, Job, LogAsk, MapState, SwapFault};
+use kd_tree::Steps;
+use map_fold::{Cuboids, Points, Settings, Update};
+use point_geom::{Corner, Cuboid, Point};
+use std::alloc::Global;
+use std::marker::Brand;
+use std::sync::ledger::{Blank, Ledger};
+use std::test::Fail;
+
+fn swapped(alloc: Global, state: &mut MapState, built: Built, force: bool) -> Result<(), SwapLeft> {
+    swapped_by::<Brand>(alloc, state, built, force, Blank::new(1))
+}
+
+fn swapped_by<L: Ledger>(
+    alloc: Global,
+    state: &mut MapState,
+    built: Built,
+    force: bool,
+    blank: Blank,
+) -> Result<(), SwapLeft>
+    requires name { blank.name ≡ L.name }
+    requires parts { blank.parts ≡ L.parts }
+    requires some { blank.parts ≡ 1 }
+{
+    let mut steps: Steps<L> = Steps::new(blank);
+    state.swap(alloc, built, force, &mut steps)
+}
+
+// Why the value isn't swapped in, if it isn't.
+fn refused(alloc: Global, state: &mut MapState, built: Built, force: bool) -> Option<SwapFault> {
+    match swapped(alloc, state, built, force) {
+        Ok(()) => None,
+        Err(left) => Some(left.fault),
+    }
+}
+
+// The points (x, 0, 0), from the first on and before the last.
+fn row(alloc: Global, first: i64, last: i64) -> Result<Points, Fail> {
+    let mut points = Points::new(alloc);
+    for x in first..last {
+        points.push(Point::new(x, 0, 0)?)?;
+    }
+    Ok(points)
+}
+
+// The box that holds them.
+fn across(alloc: Global, first: i64, last: i64) -> Result<Cuboids, Fail> {
+    let lo = Corner {
+        x: first,
+        y: 0,
+        z: 0,
+    };
+    let hi = Corner {
+        x: last,
+        y: 1,
+        z: 1,
+    };
+    let mut boxes = Cuboids::new(alloc);
+    boxes.push(Cuboid::new(lo, hi)?)?;
+    Ok(boxes)
+}
+
+fn with_row(alloc: Global, last: i64) -> Result<MapState, Fail> {
+    let mut state = MapState::new(alloc, Settings::new(200, 16))?;
+    updated(alloc, &mut state, 1, Update::Add(row(alloc, 1, last)?))?;
+    Ok(state)
+}
+
+fn detached(alloc: Global, state: &mut MapState) -> Result<Job, Fail> {
+    match state.detach(alloc, 1)? {
+        Some(job) => Ok(job),
+        None => Err(Fail::new("nothing was detached")),
+    }
+}
+
+fn built(alloc: Global, job: Job) -> Result<Built, Fail> {
+    match job.build(alloc, 16) {
+        Ok(built) => Ok(built),
+        Err(_) => Err(Fail::new("nothing was built")),
+    }
+}
+
+fn logged(state: &MapState) -> Option<u32> {
+    let part = state.part(1)?;
+    Some(part.logged)
+}
+
+#[test]
+fn an_action_that_is_pushed_into_a_detached_subtree_is_logged(rt: HostRuntime) -> Result<(), Fail> {
+    let alloc = rt.alloc();
+    let mut state = with_row(alloc, 41)?;
+    state.settle(alloc)?;
+    // The right son has 9 nodes on its left and 14 on its right now.
+    updated(alloc, &mut state, 1, Update::Add(row(alloc, 41, 45)?))?;
+    let job = detached(alloc, &mut state)?;
+    assert_eq!(rt; job.ticket(), 1);
+    assert_eq!(rt; job.items().len(), 24);
+    let all = across(alloc, 0, 100)?;
+    updated(alloc, &mut state, 1, Update::Suspend(all))?;
+    assert_eq!(rt; logged(&state), Some(0));
+    let three = across(alloc, 30, 33)?;
+    updated(alloc, &mut state, 1, Update::Restore(three))?;
+    assert_eq!(rt; logged(&state), Some(2));
+    let built = built(alloc, job)?;
+    assert_eq!(rt; refused(alloc, &mut state, built, true), None);
+    assert_eq!(rt; state.version().counts().live, 3);
+    assert_eq!(rt; state.version().counts().suspended, 41);
+    assert!(rt; state.detach(alloc, 1)?.is_none());
+    Ok(())
+}
+
+#[test]
+fn a_value_that_is_behind_catches_up_and_a_stale_one_is_refused(
+    rt: HostRuntime,
+) -> Result<(), Fail> {
+    let alloc = rt.alloc();
+    let mut state = MapState::new(alloc, Settings::new(200, 16))?;
+    assert!(rt; state.detach(alloc, 1)?.is_none());
+    updated(alloc, &mut state, 1, Update::Add(row(alloc, 1, 41)?))?;
+    let job = detached(alloc, &mut state)?;
+    assert_eq!(rt; job.ticket(), 1);
+    let first = built(alloc, job)?;
+    updated(alloc, &mut state, 1, Update::Add(row(alloc, 41, 106)?))?;
+    let first = match swapped(alloc, &mut state, first, false) {
+        Ok(()) => return Err(Fail::new("65 operations are left")),
+        Err(left) => {
+            assert_eq!(rt; left.fault, SwapFault::Behind { left: 65 });
+            left.built
+        }
+    };
+    let ops = match state.log_after(alloc, &first) {
+        Ok(ops) => ops,
+        Err(_) => return Err(Fail::new("the value is of the part")),
+    };
+    assert_eq!(rt; ops.len(), 65);
+    let first = match first.replay(alloc, 16, ops.as_slice()) {
+        Ok(built) => built,
+        Err(_) => return Err(Fail::new("nothing was replayed")),
+    };
+    assert_eq!(rt; refused(alloc, &mut state, first, false), None);
+    assert_eq!(rt; state.version().counts().live, 105);
+
+    // A part that is detached afresh has a new ticket and an empty log.
+    updated(alloc, &mut state, 1, Update::Add(row(alloc, 106, 160)?))?;
+    let second = detached(alloc, &mut state)?;
+    assert_eq!(rt; second.ticket(), 2);
+    assert_eq!(rt; detached(alloc, &mut state)?.ticket(), 3);
+    assert_eq!(rt; logged(&state), Some(0));
+    let second = built(alloc, second)?;
+    assert_eq!(rt;
+        state.log_after(alloc, &second).err(),
+        Some(LogAsk::Stale { ticket: 2 })
+    );
+    assert_eq!(rt;
+        refused(alloc, &mut state, second, true),
+        Some(SwapFault::Stale { ticket: 2 })
+    );
+    Ok(())
+}
+
+#[test]
+fn a_deep_tree_is_built_anew_and_its_detached_subtree_forgotten(
+    rt: HostRuntime,
+) -> Result<(), Fail> {
+    let alloc = rt.alloc();
+    let mut state = with_row(alloc, 41)?;
+    let job = detached(alloc, &mut state)?;
+    updated(alloc, &mut state, 1, Update::Add(row(alloc, 41, 641)?))?;
+    assert_eq!(rt; logged(&state), None);
+    let built = built(alloc, job)?;
+    assert_eq!(rt;
+        refused(alloc, &mut state, built, true),
+        Some(SwapFault::Stale { ticket: 1 })
+    );
+    assert_eq!(rt; state.version().counts().live, 640);
+    Ok(())
+}

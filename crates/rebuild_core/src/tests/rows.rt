@@ -1,0 +1,28 @@
+//! Points in a row.
+use super::updated;
+use crate::MapState;
+use kd_search::count_in;
+use map_fold::{Points, Settings, Update};
+use point_geom::{Corner, Cuboid, Point};
+use std::test::Fail;
+
+#[test]
+fn a_rising_row_that_fills_all_levels_is_found_whole(rt: HostRuntime) -> Result<(), Fail> {
+    let alloc = rt.alloc();
+    let mut state = MapState::new(alloc, Settings::new(200, 16))?;
+    let mut most_levels = 0;
+    for x in 0..4_000 {
+        let mut points = Points::new(alloc);
+        points.push(Point::new(x, 0, 0)?)?;
+        updated(alloc, &mut state, 1, Update::Add(points))?;
+        most_levels = state.version().tree().levels().max(most_levels);
+    }
+    // No tree is higher, so this one was built anew on the way.
+    assert_eq!(rt; most_levels, 512);
+    let lo = Corner { x: 0, y: 0, z: 0 };
+    for (x, want) in [(4_000, 4_000), (3_999, 3_999), (1, 1), (0, 0)] {
+        let row = Cuboid::new(lo, Corner { x, y: 1, z: 1 })?;
+        assert_eq!(rt; count_in(state.version().tree(), &row), want);
+    }
+    Ok(())
+}
