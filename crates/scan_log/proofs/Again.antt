@@ -1,141 +1,158 @@
 -- What is spelled so is read.
-use Rattle.std.proofs.Common.{◌≡◌, ℕ, ◌+◌, ◌<◌, ◌≤◌, true, ◌⊎◌, inl, inr, ℤ, pos, List, [], ◌∷◌, map, length, refl, ap, ◌∙◌, arith, None, Some, nat_lt}
-use lib.IntN.{negsuc}
-use Rattle.std.specs.Prelude.{codes, decimal, nat_le}
+use Rattle.std.proofs.Common.{◌≡◌, ℕ, ◌+◌, ◌*◌, ◌/◌, ◌%◌, ◌<◌, ◌≤◌, true, false, inl, inr, List, [], ◌∷◌, map, length, min, refl, sym, ap, ◌∙◌, arith, None, Some, Ok}
+use Rattle.std.specs.Prelude.{◌++◌, codes, decimal, nat_eq, nat_le, int_le}
 use Rattle.std.specs.List.{flat_map, AllByRecursion}
-use Rattle.std.specs.Str.{bytes_eq}
 use Rattle.std.specs.Fmt.{signed_decimal}
+use Rattle.std.specs.declared.option.Option.{Option}
 use Rattle.std.proofs.lemmas.Bool.Decides.{nat_tests}
 use Rattle.std.proofs.lemmas.Int.{ints}
-use Rattle.std.proofs.lemmas.Slice.Eq.{bytes_eq-Decides}
 use Rattle.std.proofs.lemmas.Fmt.{decimal_digit}
-use Rattle.point_geom.specs.Place.{Place, Bounds, IsPlace}
+use Rattle.point_geom.specs.Place.{Place, Bounds, IsPlace, IsBelow}
 use Rattle.point_geom.specs.Boxes.{unit_box}
 use Rattle.point_geom.specs.Corners.{corner_at}
 use Rattle.map_fold.specs.Sizes.{Sizes, AreSizes}
-use Rattle.map_fold.specs.declared.update.Update.TheVariants.{Add, Delete, Suspend, Restore}
+use Rattle.map_fold.specs.declared.update.Update.{Update}
+use Rattle.map_fold.specs.declared.update.Update.TheVariants.{Add, Thin, Delete, Suspend, Restore}
 use Rattle.scan_log.specs.declared.command.Command.{Command}
-use Rattle.scan_log.specs.declared.command.Command.TheVariants.{Change, Near}
-use Rattle.scan_log.specs.Lines.{fields_of}
-use Rattle.scan_log.specs.Numbers.{corner_number}
-use Rattle.scan_log.specs.Reading.{place_of, places_of, few_places_of, corner_of, box_of, boxes_of, few_boxes_of, if_few, units_of, update_of, near, command_of, sizes_of, commands_after, script_of}
-use Rattle.scan_log.specs.Scripts.{ScriptAt, ArePoints, AreBoxes, IsBoxNumber, IsBoxCorner, IsCallerBox, IsScript, IsCommand, IsBuilt, points_of}
-use Rattle.scan_log.specs.Spelling.{header_fields, point_fields, box_fields, caller_field, command_fields, SpelledAsErase, LinesSpell, SpellsLines}
-use Rattle.scan_log.proofs.NumbersAgain.{number_in-signed_decimal, natural_in-decimal, coordinate-signed_decimal}
-use Rattle.scan_log.proofs.Corners.{cuboid_of-caller}
+use Rattle.scan_log.specs.declared.command.Command.TheVariants.{Change, Near, Inside, Sync}
+use Rattle.scan_log.specs.Reading.{place_of, places_of, corner_of, is_upright, box_of, boxes_of, groups_of, few_places_of, few_boxes_of, units_of, update_of, near_of, inside_of, called_of, digit_caller, caller_of, after_caller, command_of, sizes_of}
+use Rattle.scan_log.specs.Scripts.{IsCaller, ArePoints, AreBoxes, IsBoxCorner, IsCallerBox, IsCommand, submitted}
+use Rattle.scan_log.specs.Spelling.{header_fields, point_fields, box_fields, within_fields, caller_field, update_fields, command_fields}
+use Rattle.scan_log.proofs.NumbersAgain.{natural_in-decimal, coordinate-signed_decimal, corner_number-signed_decimal}
+use Rattle.scan_log.proofs.Takes.{length-point_fields, length-box_fields}
+use Rattle.scan_log.proofs.TakesCommand.{FieldsSpell}
 
 place_of-signed_decimal : (p : Place) → IsPlace p
-    → place_of (signed_decimal p.x) (signed_decimal p.y) (signed_decimal p.z) ≡ Some p
+    → place_of (signed_decimal p.x) (signed_decimal p.y) (signed_decimal p.z) ≡ Ok p
 unfolding place_of
 place_of-signed_decimal p h =
     rw (coordinate-signed_decimal p.x h.0, coordinate-signed_decimal p.y h.1, coordinate-signed_decimal p.z h.2) refl
 
-places_of-flat_map : (ps : List Place) → AllByRecursion IsPlace ps → places_of (flat_map point_fields ps) ≡ Some ps
+places_of-flat_map : (ps : List Place) → AllByRecursion IsPlace ps → places_of (flat_map point_fields ps) ≡ Ok ps
 places_of-flat_map [] h = refl
 places_of-flat_map (p ∷ ps) h = rw (place_of-signed_decimal p h.0, places_of-flat_map ps h.1) refl
 
-bytes_eq-same : (xs : List ℕ) → bytes_eq xs xs ≡ true
-bytes_eq-same xs = (bytes_eq-Decides xs xs).1 refl
-
-decimal-one : decimal 1 ≡ 49 ∷ []
-decimal-one = decimal_digit 1 (omega arith)
-
-if_few-all : {A : Type 0} (xs : List A) → 0 < length xs → length xs ≤ 262144 → if_few xs ≡ Some xs
-if_few-all xs some few =
-    let e : nat_le 1 (length xs) ≡ true = grind (arith, nat_tests) in
-    let f : nat_le (length xs) 262144 ≡ true = grind (arith, nat_tests) in
-    rw (e, f) refl
-
-few_places_of-flat_map : (ps : List Place) → ArePoints ps → few_places_of (flat_map point_fields ps) ≡ Some ps
-few_places_of-flat_map ps h = rw (places_of-flat_map ps h.2) (if_few-all ps h.0 h.1)
-
-corner_number-signed_decimal : (n : ℤ) → IsBoxNumber n → corner_number (signed_decimal n) ≡ Some n
-corner_number-signed_decimal n h =
-    number_in-signed_decimal (negsuc 999999999) (pos 1000000001) n (grind (arith, ints, h.0, h.1)) h.0 h.1
-
 corner_of-signed_decimal : (p : Place) → IsBoxCorner p
-    → corner_of (signed_decimal p.x) (signed_decimal p.y) (signed_decimal p.z) ≡ Some (corner_at p)
+    → corner_of (signed_decimal p.x) (signed_decimal p.y) (signed_decimal p.z) ≡ Ok (corner_at p)
 unfolding corner_of
 corner_of-signed_decimal p h =
     rw (corner_number-signed_decimal p.x h.0, corner_number-signed_decimal p.y h.1, corner_number-signed_decimal p.z h.2) refl
 
+upright : (lo hi : Place) → IsBelow lo hi → is_upright (corner_at lo) (corner_at hi) ≡ true
+upright lo hi h =
+    let x : int_le lo.x hi.x ≡ true = grind (arith, ints, h.x) in
+    let y : int_le lo.y hi.y ≡ true = grind (arith, ints, h.y) in
+    let z : int_le lo.z hi.z ≡ true = grind (arith, ints, h.z) in rw (x, y, z) refl
+
 box_of-signed_decimal : (c : Bounds) → IsCallerBox c
     → box_of (signed_decimal c.lo.x) (signed_decimal c.lo.y) (signed_decimal c.lo.z)
-    (signed_decimal c.hi.x) (signed_decimal c.hi.y) (signed_decimal c.hi.z) ≡ Some c
+    (signed_decimal c.hi.x) (signed_decimal c.hi.y) (signed_decimal c.hi.z) ≡ Ok c
 unfolding box_of
 box_of-signed_decimal c h =
-    rw (corner_of-signed_decimal c.lo h.lo, corner_of-signed_decimal c.hi h.hi) (cuboid_of-caller c h)
+    rw (corner_of-signed_decimal c.lo h.lo, corner_of-signed_decimal c.hi h.hi, upright c.lo c.hi h.below) refl
 
-boxes_of-flat_map : (cs : List Bounds) → AllByRecursion IsCallerBox cs → boxes_of (flat_map box_fields cs) ≡ Some cs
+boxes_of-flat_map : (cs : List Bounds) → AllByRecursion IsCallerBox cs → boxes_of (flat_map box_fields cs) ≡ Ok cs
 boxes_of-flat_map [] h = refl
 boxes_of-flat_map (c ∷ cs) h = rw (box_of-signed_decimal c h.0, boxes_of-flat_map cs h.1) refl
 
-few_boxes_of-flat_map : (cs : List Bounds) → AreBoxes cs → few_boxes_of (flat_map box_fields cs) ≡ Some cs
-few_boxes_of-flat_map cs h = rw (boxes_of-flat_map cs h.2) (if_few-all cs h.0 h.1)
+-- arguments that stand in groups, one or more, and few enough
+groups_of-many : (size most n : ℕ) (args : List (List ℕ)) → length args ≡ n * size → length args % size ≡ 0 → length args / size ≡ n → 0 < length args → n ≤ most
+    → groups_of size most args ≡ Ok n
+unfolding groups_of
+groups_of-many size most n args count whole is some few =
+    let e : nat_eq (length args) 0 ≡ false = grind (arith, nat_tests) in
+    let f : nat_eq (length args % size) 0 ≡ true = grind (arith, nat_tests) in
+    let g : nat_le n most ≡ true = grind (arith, nat_tests) in
+    rw (e, f, is, g) refl
 
-units_of-flat_map : (ps : List Place) → ArePoints ps → units_of (flat_map point_fields ps) ≡ Some (map unit_box ps)
+few_places_of-flat_map : (most : ℕ) (ps : List Place) → 0 < length ps → length ps ≤ most → AllByRecursion IsPlace ps
+    → few_places_of most (flat_map point_fields ps) ≡ Ok ps
+unfolding few_places_of
+few_places_of-flat_map most ps some few each =
+    let count = length-point_fields ps in
+    rw (groups_of-many 3 most (length ps) (flat_map point_fields ps) count (omega (arith, count)) (omega (arith, count)) (omega (arith, count)) few)
+    (places_of-flat_map ps each)
+
+few_boxes_of-flat_map : (cs : List Bounds) → AreBoxes cs → few_boxes_of (flat_map box_fields cs) ≡ Ok cs
+unfolding few_boxes_of
+few_boxes_of-flat_map cs h =
+    let count = length-box_fields cs in
+    let some : 0 < length cs = h.0 in
+    rw (groups_of-many 6 262144 (length cs) (flat_map box_fields cs) count (omega (arith, count)) (omega (arith, count)) (omega (arith, count)) h.1)
+    (boxes_of-flat_map cs h.2)
+
+units_of-flat_map : (ps : List Place) → ArePoints ps → units_of (flat_map point_fields ps) ≡ Ok (map unit_box ps)
 unfolding units_of
-units_of-flat_map ps h = rw (few_places_of-flat_map ps h) refl
+units_of-flat_map ps h = rw (few_places_of-flat_map 262144 ps h.0 h.1 h.2) refl
 
-near-point_fields : (k : ℕ) (p : Place) → 1 ≤ k → k ≤ 256 → IsPlace p
-    → near (decimal k ∷ point_fields p) ≡ Some (Near 1 k p None)
-unfolding near
-near-point_fields k p from to h = rw (natural_in-decimal 1 256 k (omega arith) from to, place_of-signed_decimal p h) refl
+-- the points have room
+points_again : (room : ℕ) (ps : List Place) → ArePoints ps → length ps ≤ room → few_places_of (min 262144 room) (flat_map point_fields ps) ≡ Ok ps
+points_again room ps h fits =
+    let few : length ps ≤ 262144 = h.1 in few_places_of-flat_map (min 262144 room) ps h.0 (omega (arith, few, fits)) h.2
 
-command_of-command_fields : (c : Command) → IsCommand c → IsBuilt c → command_of (command_fields c) ≡ Some c
-unfolding command_of update_of
-command_of-command_fields (Change caller (Add ps)) h b = rw (b, decimal-one, few_places_of-flat_map ps h.1) refl
-command_of-command_fields (Change caller (Delete cs)) h b = rw (b, decimal-one, few_boxes_of-flat_map cs h.1) refl
-command_of-command_fields (Change caller (Suspend cs)) h b = rw (b, decimal-one, few_boxes_of-flat_map cs h.1) refl
-command_of-command_fields (Change caller (Restore cs)) h b = rw (b, decimal-one, few_boxes_of-flat_map cs h.1) refl
-command_of-command_fields (Near caller k p within) h b = rw (b.0, b.1, decimal-one) (near-point_fields k p h.1 h.2 h.3)
+near_of-point_fields : (caller k : ℕ) (p : Place) (within : Option ℕ) → IsCommand (Near caller k p within)
+    → near_of caller (decimal k ∷ (point_fields p ++ within_fields within)) ≡ Ok (Near caller k p within)
+unfolding near_of
+near_of-point_fields caller k p None h =
+    rw (natural_in-decimal 1 256 k (omega arith) h.1 h.2, place_of-signed_decimal p h.3) refl
+near_of-point_fields caller k p (Some r) h =
+    rw (natural_in-decimal 1 256 k (omega arith) h.1 h.2, place_of-signed_decimal p h.3, natural_in-decimal 0 4000000000 r (omega arith) (omega arith) (h.4 r refl)) refl
 
-command_of-erasure : (ps : List Place) → ArePoints ps
-    → command_of (caller_field 1 ∷ codes "erase" ∷ flat_map point_fields ps) ≡ Some (Change 1 (Delete (map unit_box ps)))
-unfolding command_of update_of
-command_of-erasure ps h = rw (decimal-one, units_of-flat_map ps h) refl
+inside_of-box_fields : (caller k : ℕ) (c : Bounds) → IsCommand (Inside caller k c)
+    → inside_of caller (decimal k ∷ box_fields c) ≡ Ok (Inside caller k c)
+unfolding inside_of
+inside_of-box_fields caller k c h =
+    rw (natural_in-decimal 1 256 k (omega arith) h.1 h.2, box_of-signed_decimal c h.3) refl
+
+digit_caller-decimal : (caller : ℕ) → IsCaller caller → digit_caller (decimal caller) ≡ Ok caller
+digit_caller-decimal caller h =
+    let from : 1 ≤ caller = h.0 in
+    let to : caller ≤ 8 = h.1 in
+    let low : nat_le 49 (48 + caller) ≡ true = grind (arith, nat_tests) in
+    let high : nat_le (48 + caller) 56 ≡ true = grind (arith, nat_tests) in
+    rw (decimal_digit caller (omega arith), low, high) (ap Ok (omega arith))
+
+-- a line of a caller
+called_again : (room caller : ℕ) (fields : List (List ℕ)) → IsCaller caller
+    → command_of room (caller_field caller ∷ fields) ≡ after_caller room caller fields
+unfolding command_of caller_of
+called_again room caller fields h = rw (digit_caller-decimal caller h) refl
+
+update_again : (room caller : ℕ) (u : Update) → IsCommand (Change caller u) → submitted (Change caller u) ≤ room
+    → after_caller room caller (update_fields u) ≡ Ok (Change caller u)
+unfolding called_of update_of
+update_again room caller (Add ps) h fits = rw (points_again room ps h.1 fits) refl
+update_again room caller (Thin ps) h fits = rw (points_again room ps h.1 fits) refl
+update_again room caller (Delete cs) h fits = rw (few_boxes_of-flat_map cs h.1) refl
+update_again room caller (Suspend cs) h fits = rw (few_boxes_of-flat_map cs h.1) refl
+update_again room caller (Restore cs) h fits = rw (few_boxes_of-flat_map cs h.1) refl
+
+command_of-command_fields : (room : ℕ) (c : Command) → IsCommand c → submitted c ≤ room → command_of room (command_fields c) ≡ Ok c
+unfolding command_of called_of
+command_of-command_fields room (Change caller u) h fits = called_again room caller (update_fields u) h.0 ∙ update_again room caller u h fits
+command_of-command_fields room (Near caller k p within) h fits =
+    called_again room caller (codes "near" ∷ decimal k ∷ (point_fields p ++ within_fields within)) h.0 ∙ near_of-point_fields caller k p within h
+command_of-command_fields room (Inside caller k c) h fits =
+    called_again room caller (codes "box" ∷ decimal k ∷ box_fields c) h.0 ∙ inside_of-box_fields caller k c h
+command_of-command_fields room Sync h fits = refl
+
+command_of-erasure : (room caller : ℕ) (ps : List Place) → IsCaller caller → ArePoints ps
+    → command_of room (caller_field caller ∷ codes "erase" ∷ flat_map point_fields ps) ≡ Ok (Change caller (Delete (map unit_box ps)))
+unfolding called_of update_of
+command_of-erasure room caller ps from h =
+    called_again room caller (codes "erase" ∷ flat_map point_fields ps) from ∙ rw (units_of-flat_map ps h) refl
 
 -- a command is read where the fields spell it, in either way
-command_of-spelled : (fs : List (List ℕ)) (c : Command) → (fs ≡ command_fields c) ⊎ SpelledAsErase fs c → IsCommand c → IsBuilt c
-    → command_of fs ≡ Some c
-command_of-spelled fs c (inl text) is built = ap command_of text ∙ command_of-command_fields c is built
-command_of-spelled fs c (inr e) is built =
-    let first : e.caller ≡ 1 = rw e.command at built in
-    let text : fs ≡ caller_field 1 ∷ codes "erase" ∷ flat_map point_fields e.points = rw first at e.text in
-    let same : c ≡ Change 1 (Delete (map unit_box e.points)) = rw first at e.command in
-    rw (text, same) (command_of-erasure e.points e.limits)
+pub command_of-spelled : (room : ℕ) (fields : List (List ℕ)) (c : Command) → FieldsSpell fields c → IsCommand c → submitted c ≤ room
+    → command_of room fields ≡ Ok c
+command_of-spelled room fields c (inl text) is fits = ap (command_of room) text ∙ command_of-command_fields room c is fits
+command_of-spelled room fields c (inr e) is fits =
+    let from : IsCaller e.caller = (rw e.command at is).0 in
+    ap (command_of room) e.text ∙ command_of-erasure room e.caller e.points from e.limits ∙ ap Ok (sym e.command)
 
-sizes_of-header_fields : (s : Sizes) → AreSizes s → sizes_of (header_fields s) ≡ Some s
+pub sizes_of-header_fields : (s : Sizes) → AreSizes s → sizes_of (header_fields s) ≡ Ok s
 unfolding sizes_of
 sizes_of-header_fields s h =
     let voxel = natural_in-decimal 1 1000000 s.voxel (omega arith) h.voxel_from h.voxel_to in
     let large = natural_in-decimal 16 1000000 s.large (omega arith) h.large_from h.large_to in
     rw (voxel, large) refl
-
-points_of-cons : (c : Command) (cs : List Command) → points_of (c ∷ cs) ≡ points_of (c ∷ []) + points_of cs
-points_of-cons (Change caller u) cs = omega arith
-points_of-cons (Near caller k p within) cs = omega arith
-
-commands_after-spelled : (n p : ℕ) (lines : List (List ℕ)) (cs : List Command) → LinesSpell lines cs
-    → AllByRecursion IsCommand cs → AllByRecursion IsBuilt cs
-    → n + length cs ≤ 65536 → p + points_of cs ≤ 4194304 → commands_after n p lines ≡ Some cs
-commands_after-spelled n p [] [] spell each built few room = refl
-commands_after-spelled n p [] (c ∷ cs) spell each built few room = absurd spell
-commands_after-spelled n p (line ∷ lines) [] spell each built few room = absurd spell
-commands_after-spelled n p (line ∷ lines) (c ∷ cs) spell each built few room =
-    let split = points_of-cons c cs in
-    let e : nat_lt n 65536 ≡ true = grind (arith, nat_tests) in
-    let f : nat_le (p + points_of (c ∷ [])) 4194304 ≡ true =
-    (let k : p + points_of (c ∷ []) ≤ 4194304 = omega (arith, split) in grind (arith, nat_tests)) in
-    let here : command_of (fields_of line) ≡ Some c = command_of-spelled (fields_of line) c spell.0 each.0 built.0 in
-    let later = commands_after-spelled (n + 1) (p + points_of (c ∷ [])) lines cs spell.1 each.1 built.1 (omega arith) (omega (arith, split)) in
-    rw (e, here, f, later) refl
-
--- a script is read where it is spelled
-pub script_of-spelled : (lines : List (List ℕ)) (s : ScriptAt) → SpellsLines lines s → IsScript s
-    → AllByRecursion IsBuilt s.commands → script_of lines ≡ Some s
-unfolding script_of
-script_of-spelled [] s spell is built = absurd spell
-script_of-spelled (header ∷ lines) s spell is built =
-    let here : sizes_of (fields_of header) ≡ Some s.sizes = ap sizes_of spell.0 ∙ sizes_of-header_fields s.sizes is.sizes in
-    rw (here, commands_after-spelled 0 0 lines s.commands spell.1 is.each built (omega (arith, is.few)) (omega (arith, is.room))) refl

@@ -1,12 +1,22 @@
 pub mod StepLemmas
 pub mod Digits
-pub mod Cuts
+pub mod Caps
 pub mod Numerals
 pub mod Spelled
-pub mod Takes
 pub mod NumbersAgain
+pub mod FieldFaults
+pub mod Made
+pub mod Fronts
+pub mod Units
+pub mod Takes
+pub mod TakesCommand
 pub mod Again
-pub mod Places
-pub mod Corners
+pub mod Logs
+pub mod Either
 pub mod Growth
+pub mod Cuts
+pub mod Serial
+pub mod WrittenLines
+pub mod WrittenFields
+pub mod WrittenScripts
 mod Vectors

@@ -1,5 +1,5 @@
 -- A number in its one spelling is read.
-use Rattle.std.proofs.Common.{◌≡◌, ℕ, zero, suc, ◌<◌, ◌≤◌, ◌^◌, Bool, true, false, List, [], ◌∷◌, get_or, refl, ap, ◌∙◌, arith, ℤ, pos, ◌≤ℤ◌, Some, FitsSigned, w64, nat_eq}
+use Rattle.std.proofs.Common.{◌≡◌, ℕ, zero, suc, ◌<◌, ◌≤◌, ◌^◌, Bool, true, false, List, [], ◌∷◌, get_or, refl, ap, ◌∙◌, arith, ℤ, pos, ◌≤ℤ◌, Ok, FitsSigned, w64, nat_eq}
 use lib.IntN.{negsuc}
 use Rattle.std.specs.Prelude.{◌||◌, decimal, neg_ℤ, nat_le, int_le}
 use Rattle.std.specs.Str.{all_ascii_digits}
@@ -9,8 +9,8 @@ use Rattle.std.proofs.lemmas.Bool.Decides.{nat_tests}
 use Rattle.std.proofs.lemmas.Int.{ints}
 use Rattle.std.proofs.lemmas.Fmt.{decimal_digit, digits_decimal, digits_value-decimal, first_decimal}
 use Rattle.point_geom.specs.Place.{IsCoordinate}
-use Rattle.scan_log.specs.Numbers.{is_numeral, is_positive_numeral, number_in}
-use Rattle.scan_log.specs.Numbers.{coordinate, natural_in}
+use Rattle.scan_log.specs.Numbers.{is_numeral, is_positive_numeral, number_in, natural_in, coordinate, corner_number}
+use Rattle.scan_log.specs.Scripts.{IsBoxNumber}
 use Rattle.scan_log.proofs.Numerals.{own}
 use Rattle.scan_log.proofs.StepLemmas.{both}
 
@@ -67,18 +67,23 @@ again (negsuc n) h =
 
 -- a number in the range is read where it is spelled
 pub number_in-signed_decimal : (low high n : ℤ) → FitsSigned w64 n → low ≤ℤ n → n ≤ℤ high
-    → number_in low high (signed_decimal n) ≡ Some n
+    → number_in low high (signed_decimal n) ≡ Ok n
 number_in-signed_decimal low high n fits from to =
     let a = again n fits in
     let e : int_le low n ≡ true = grind (arith, ints) in
     let f : int_le n high ≡ true = grind (arith, ints) in
     rw (a.numeral, a.value, e, f) refl
 
-pub natural_in-decimal : (low high n : ℕ) → high < 2 ^ 63 → low ≤ n → n ≤ high → natural_in low high (decimal n) ≡ Some n
+pub natural_in-decimal : (low high n : ℕ) → high < 2 ^ 63 → low ≤ n → n ≤ high → natural_in low high (decimal n) ≡ Ok n
 natural_in-decimal low high n fits from to =
     let low_is : pos low ≤ℤ pos n = grind (arith, ints) in
     let high_is : pos n ≤ℤ pos high = grind (arith, ints) in
     rw (number_in-signed_decimal (pos low) (pos high) (pos n) (record { sfits = omega arith }) low_is high_is) refl
 
-pub coordinate-signed_decimal : (n : ℤ) → IsCoordinate n → coordinate (signed_decimal n) ≡ Some n
+-- a coordinate, and a number of a box's corner, are read where they are spelled
+pub coordinate-signed_decimal : (n : ℤ) → IsCoordinate n → coordinate (signed_decimal n) ≡ Ok n
 coordinate-signed_decimal n h = number_in-signed_decimal (negsuc 999999999) (pos 1000000000) n (grind (arith, ints, h.0, h.1)) h.0 h.1
+
+pub corner_number-signed_decimal : (n : ℤ) → IsBoxNumber n → corner_number (signed_decimal n) ≡ Ok n
+corner_number-signed_decimal n h =
+    number_in-signed_decimal (negsuc 999999999) (pos 1000000001) n (grind (arith, ints, h.0, h.1)) h.0 h.1

@@ -1,5 +1,5 @@
 -- What is read as a number is its one spelling.
-use Rattle.std.proofs.Common.{◌≡◌, ℕ, zero, suc, ◌<◌, ◌≤◌, ◌^◌, Bool, true, false, cond, nat_eq, List, [], ◌∷◌, get_or, refl, sym, ap, ◌∙◌, arith, ℤ, pos, ◌≤ℤ◌, Some, FitsSigned, w64}
+use Rattle.std.proofs.Common.{◌≡◌, ℕ, zero, suc, ◌<◌, ◌≤◌, ◌^◌, Bool, true, false, cond, nat_eq, List, [], ◌∷◌, get_or, refl, sym, ap, ◌∙◌, arith, ℤ, pos, ◌≤ℤ◌, Ok, FitsSigned, w64}
 use lib.IntN.{negsuc}
 use Rattle.std.specs.Prelude.{◌&&◌, ◌||◌, int_le, decimal, neg_ℤ, unsigned_abs}
 use Rattle.std.specs.Fmt.{signed_decimal}
@@ -7,7 +7,8 @@ use Rattle.std.specs.Str.Parse.{digits_value, signed_digits_value}
 use Rattle.std.proofs.lemmas.Bool.Decides.{nat_tests}
 use Rattle.std.proofs.lemmas.Int.{ints}
 use Rattle.std.proofs.lemmas.Fmt.{decimal-digits_value, decimal_digit}
-use Rattle.scan_log.specs.Numbers.{is_numeral, is_positive_numeral, number_of, in_range, number_in, natural_in}
+use Rattle.scan_log.specs.declared.fault.LogCause.TheVariants.{BadNumber, OutOfRange}
+use Rattle.scan_log.specs.Numbers.{is_numeral, is_positive_numeral, in_range, number_in, natural_in}
 use Rattle.scan_log.proofs.Numerals.{own, IsPlain, positive_is, zero_plain}
 use Rattle.scan_log.proofs.StepLemmas.{both, passed, bound}
 
@@ -73,28 +74,33 @@ pub record Takes (low high : ℤ) (f : List ℕ) (n : ℤ) : Type 0 where
   pub to : n ≤ℤ high
 
 pub number_takes : (low high : ℤ) (f : List ℕ) (n : ℤ) → FitsSigned w64 low → FitsSigned w64 high
-    → number_in low high f ≡ Some n → Takes low high f n
+    → number_in low high f ≡ Ok n → Takes low high f n
 number_takes low high f n l h e =
     let v = signed_digits_value 10 f in
-    let x = bound (number_of f) (in_range low high) n e in
-    let p = passed (is_numeral f) (Some v) x.0 x.1 in
-    let q = passed (int_le low x.0 && int_le x.0 high) (Some x.0) n x.2 in
-    let r = both _ (int_le x.0 high) q.0 in
-    let is : v ≡ n = cc (p.1, q.1) in
-    let same : x.0 ≡ n = cc q.1 in
-    let from : low ≤ℤ n = rw (← same) (grind (arith, ints, r.0)) in
-    let to : n ≤ℤ high = rw (← same) (grind (arith, ints, r.1)) in
+    let p = passed (is_numeral f) BadNumber (in_range low high v) n e in
+    let q = passed (int_le low v && int_le v high) OutOfRange (Ok v) n p.1 in
+    let r = both _ (int_le v high) q.0 in
+    let is : v ≡ n = cc q.1 in
+    let from : low ≤ℤ n = rw (← is) (grind (arith, ints, r.0)) in
+    let to : n ≤ℤ high = rw (← is) (grind (arith, ints, r.1)) in
     let fits : FitsSigned w64 v = rw is (grind (arith, ints, from, to)) in
     record { text = spelled f p.0 fits ∙ ap signed_decimal is; from = from; to = to }
 
-natural_text : (z : ℤ) (low n : ℕ) (f : List ℕ) → pos low ≤ℤ z → f ≡ signed_decimal z → unsigned_abs z ≡ n → f ≡ decimal n
-natural_text (pos k) low n f h e is = e ∙ ap decimal is
-natural_text (negsuc k) low n f h e is = absurd (grind (arith, ints))
+-- the same of a number that is not below 0
+pub record TakesNatural (low high : ℕ) (f : List ℕ) (n : ℕ) : Type 0 where
+  pub text : f ≡ decimal n
+  pub from : low ≤ n
+  pub to : n ≤ high
 
--- the same for a number that is not below 0
-pub natural_takes : (low high : ℕ) (f : List ℕ) (n : ℕ) → low < 2 ^ 63 → high < 2 ^ 63 → natural_in low high f ≡ Some n
-    → f ≡ decimal n
+natural : (z : ℤ) (low high n : ℕ) (f : List ℕ) → Takes (pos low) (pos high) f z → unsigned_abs z ≡ n → TakesNatural low high f n
+natural (pos k) low high n f t is =
+    let from : pos low ≤ℤ pos k = t.from in
+    let to : pos k ≤ℤ pos high = t.to in
+    rw (← is) (record { text = t.text; from = omega (arith, ints); to = omega (arith, ints) })
+natural (negsuc k) low high n f t is = absurd (let from : pos low ≤ℤ negsuc k = t.from in grind (arith, ints))
+
+pub natural_takes : (low high : ℕ) (f : List ℕ) (n : ℕ) → low < 2 ^ 63 → high < 2 ^ 63 → natural_in low high f ≡ Ok n
+    → TakesNatural low high f n
 natural_takes low high f n l h e =
     let r = bound (number_in (pos low) (pos high) f) _ n e in
-    let t = number_takes (pos low) (pos high) f r.0 (record { sfits = l }) (record { sfits = h }) r.1 in
-    natural_text r.0 low n f t.from t.text cc
+    natural r.0 low high n f (number_takes (pos low) (pos high) f r.0 (record { sfits = l }) (record { sfits = h }) r.1) cc

@@ -1,18 +1,21 @@
 -- Worked examples, by computation.
-use Rattle.std.proofs.Common.{◌≡◌, refl, inr, rules, ℤ, pos, List, ℕ, [], ◌∷◌}
+use Rattle.std.proofs.Common.{◌≡◌, refl, inr, rules, ℤ, pos, List, ℕ, [], ◌∷◌, Ok, Err}
 use lib.IntN.{negsuc}
 use Rattle.std.specs.Prelude.{codes}
 use Rattle.std.specs.Fmt.{digits}
 use Rattle.std.specs.declared.option.Option.TheVariants.{None, Some}
 use Rattle.point_geom.specs.Place.{Place, Bounds}
 use Rattle.point_geom.specs.Boxes.{unit_box}
-use Rattle.map_fold.specs.declared.update.Update.TheVariants.{Add, Delete, Suspend, Restore}
-use Rattle.scan_log.specs.declared.command.Command.TheVariants.{Change, Near}
+use Rattle.map_fold.specs.declared.update.Update.TheVariants.{Add, Thin, Delete, Suspend, Restore}
+use Rattle.scan_log.specs.declared.command.Command.TheVariants.{Change, Near, Inside, Sync}
+use Rattle.scan_log.specs.declared.fault.LogCause.{LogCause}
+use Rattle.scan_log.specs.declared.fault.LogCause.TheVariants.{NoHeader, UnknownCommand, BadCaller, BadNumber, OutOfRange, WrongCount, InvertedBox, TooManyPoints, TooManyCommands}
 use Rattle.scan_log.specs.Lines.{lines_of, kept_lines, fields_of}
-use Rattle.scan_log.specs.Numbers.{number_of, natural_in, coordinate, corner_number}
+use Rattle.scan_log.specs.Numbers.{number_in}
+use Rattle.scan_log.specs.Faults.{FaultAt, command_fault, first_fault, fault_text}
 use Rattle.scan_log.specs.Scripts.{ScriptAt}
 use Rattle.scan_log.specs.Spelling.{header_fields, command_fields, LineSpells}
-use Rattle.scan_log.specs.Reading.{script_of, sizes_of, command_of, update_of, units_of, place_of, corner_of, box_of, near}
+use Rattle.scan_log.specs.Reading.{place_of, corner_of, box_of, groups_of, few_places_of, few_boxes_of, units_of, update_of, near_of, inside_of, called_of, caller_of, command_of, sizes_of, log_of}
 use Rattle.scan_log.specs.Transcript.{text, serial_marks}
 
 abbrev at : ℤ → ℤ → ℤ → Place
@@ -28,13 +31,33 @@ script = record {
 abbrev log : List ℕ
 log = codes "ikdmap 1 voxel 200 large 1500\n@1 add 1 2 3\n@1 near 1 0 0 0\n"
 
-log_read : script_of (lines_of log) ≡ Some script
-unfolding script_of sizes_of command_of update_of place_of near
+log_read : log_of log ≡ Ok script
+unfolding log_of sizes_of command_of caller_of called_of update_of few_places_of groups_of place_of near_of
 log_read = refl
 
 script_told : text script (serial_marks script) ≡ codes "@1 ok 1\n@1 near 1 | 0 1 2 3 14\nend 1 live 1 suspended 0\n"
 unfolding digits
 script_told = refl
+
+-- from -1, 0, 1 to 2, 3, 4
+abbrev box : Bounds
+box = record { lo = at (negsuc 0) (pos 0) (pos 1); hi = at (pos 2) (pos 3) (pos 4) }
+
+-- each kind of command, with lines that are skipped
+abbrev all_kinds : ScriptAt
+all_kinds = record {
+  sizes = record { voxel = 1; large = 16 };
+  commands = Change 8 (Thin (at (negsuc 6) (pos 0) (pos 12) ∷ [])) ∷ Change 2 (Suspend (box ∷ [])) ∷ Change 3 (Restore (box ∷ []))
+      ∷ Change 4 (Delete (box ∷ [])) ∷ Change 5 (Delete (unit_box (at (pos 1) (pos 2) (pos 3)) ∷ [])) ∷ Sync
+      ∷ Near 6 256 (at (pos 0) (pos 0) (pos 0)) (Some 4000000000) ∷ Inside 7 1 box ∷ [];
+}
+
+abbrev log_of_all_kinds : List ℕ
+log_of_all_kinds = codes "# a map\n\nikdmap 1 voxel 1 large 16\n@8 thin -7 0 12\n@2 suspend -1 0 1 2 3 4\n\n@3 restore -1 0 1 2 3 4\n#\n@4 delete -1 0 1 2 3 4\n@5 erase 1 2 3\nsync\n@6 near 256 0 0 0 within 4000000000\n@7 box 1 -1 0 1 2 3 4"
+
+all_kinds_read : log_of log_of_all_kinds ≡ Ok all_kinds
+unfolding log_of sizes_of command_of caller_of called_of update_of few_places_of few_boxes_of groups_of place_of corner_of box_of units_of near_of inside_of
+all_kinds_read = refl
 
 header_spelled : fields_of (codes "ikdmap 1 voxel 200 large 1500") ≡ header_fields script.sizes
 unfolding digits
@@ -45,22 +68,14 @@ near_spelled : fields_of (codes "@8 near 256 -1 0 1000000000 within 4000000000")
 unfolding digits
 near_spelled = refl
 
--- from -1, 0, 1 to 2, 3, 4
-abbrev box : Bounds
-box = record { lo = at (negsuc 0) (pos 0) (pos 1); hi = at (pos 2) (pos 3) (pos 4) }
-
 -- two boxes, of which the second holds no point
 deletion_spelled : fields_of (codes "@1 delete -1 0 1 2 3 4 5 5 5 5 5 5") ≡ command_fields (Change 1 (Delete (box ∷ record { lo = at (pos 5) (pos 5) (pos 5); hi = at (pos 5) (pos 5) (pos 5) } ∷ [])))
 unfolding digits
 deletion_spelled = refl
 
-suspension_spelled : fields_of (codes "@8 suspend -1 0 1 2 3 4") ≡ command_fields (Change 8 (Suspend (box ∷ [])))
+box_spelled : fields_of (codes "@8 box 12 -1 0 1 2 3 4") ≡ command_fields (Inside 8 12 box)
 unfolding digits
-suspension_spelled = refl
-
-restoration_spelled : fields_of (codes "@8 restore -1 0 1 2 3 4") ≡ command_fields (Change 8 (Restore (box ∷ [])))
-unfolding digits
-restoration_spelled = refl
+box_spelled = refl
 
 -- the box of a point, by its corners
 erased_box : unit_box (at (pos 1) (pos 2) (pos 3)) ≡ record { lo = at (pos 1) (pos 2) (pos 3); hi = at (pos 2) (pos 3) (pos 4) }
@@ -77,22 +92,6 @@ erasure_spelled = inr (record {
   text = refl;
 })
 
-erasure_read : command_of (fields_of (codes "@1 erase 1 2 3")) ≡ Some (Change 1 (Delete (unit_box (at (pos 1) (pos 2) (pos 3)) ∷ [])))
-unfolding command_of update_of units_of place_of
-erasure_read = refl
-
-restoration_read : command_of (fields_of (codes "@1 restore -1 0 1 2 3 4")) ≡ Some (Change 1 (Restore (box ∷ [])))
-unfolding command_of update_of corner_of box_of
-restoration_read = refl
-
-inverted : command_of (fields_of (codes "@1 suspend 0 5 0 9 4 9")) ≡ None
-unfolding command_of update_of corner_of box_of
-inverted = refl
-
-five_numbers : command_of (fields_of (codes "@1 delete 0 0 0 1 1")) ≡ None
-unfolding command_of update_of corner_of box_of
-five_numbers = refl
-
 no_line : lines_of [] ≡ []
 no_line = refl
 
@@ -105,62 +104,71 @@ skipped = refl
 empty_fields : fields_of (codes " a  b ") ≡ [] ∷ codes "a" ∷ [] ∷ codes "b" ∷ [] ∷ []
 empty_fields = refl
 
-zero : number_of (codes "0") ≡ Some (pos 0)
+zero : number_in (negsuc 9) (pos 9) (codes "0") ≡ Ok (pos 0)
 zero = refl
 
-below_zero : number_of (codes "-12") ≡ Some (negsuc 11)
-below_zero = refl
+lowest : number_in (negsuc 9) (pos 9) (codes "-10") ≡ Ok (negsuc 9)
+lowest = refl
 
-no_plus : number_of (codes "+5") ≡ None
+below_the_lowest : number_in (negsuc 9) (pos 9) (codes "-11") ≡ Err OutOfRange
+below_the_lowest = refl
+
+above_the_highest : number_in (negsuc 9) (pos 9) (codes "10") ≡ Err OutOfRange
+above_the_highest = refl
+
+no_plus : number_in (negsuc 9) (pos 9) (codes "+5") ≡ Err BadNumber
 no_plus = refl
 
-no_leading_zero : number_of (codes "007") ≡ None
+no_leading_zero : number_in (negsuc 9) (pos 9) (codes "007") ≡ Err BadNumber
 no_leading_zero = refl
 
-no_minus_zero : number_of (codes "-0") ≡ None
+no_minus_zero : number_in (negsuc 9) (pos 9) (codes "-0") ≡ Err BadNumber
 no_minus_zero = refl
 
-no_lone_minus : number_of (codes "-") ≡ None
+no_lone_minus : number_in (negsuc 9) (pos 9) (codes "-") ≡ Err BadNumber
 no_lone_minus = refl
 
-no_empty_number : number_of [] ≡ None
+no_empty_number : number_in (negsuc 9) (pos 9) [] ≡ Err BadNumber
 no_empty_number = refl
 
-no_carriage_return : number_of (codes "3\r") ≡ None
+no_carriage_return : number_in (negsuc 9) (pos 9) (codes "3\r") ≡ Err BadNumber
 no_carriage_return = refl
 
-last_coordinate : coordinate (codes "1000000000") ≡ Some (pos 1000000000)
-last_coordinate = refl
+abbrev fault_on : ℕ → LogCause → FaultAt
+fault_on n c = record { line = n; cause = c }
 
-past_the_last : coordinate (codes "1000000001") ≡ None
-past_the_last = refl
+no_header : first_fault [] ≡ Some (fault_on 1 NoHeader)
+no_header = refl
 
-first_coordinate : coordinate (codes "-1000000000") ≡ Some (negsuc 999999999)
-first_coordinate = refl
+-- comments alone, of which the last has no line feed
+comments_alone : first_fault (codes "# a\n# b") ≡ Some (fault_on 2 NoHeader)
+comments_alone = refl
 
-before_the_first : coordinate (codes "-1000000001") ≡ None
-before_the_first = refl
+-- the lines that are skipped are counted
+skipped_lines_count : first_fault (codes "ikdmap 1 voxel 200 large 1500\n# scan\n\n@9 add 1 2 3\n") ≡ Some (fault_on 4 BadCaller)
+skipped_lines_count = refl
 
-least_k : natural_in 1 256 (codes "0") ≡ None
-least_k = refl
+-- the first of two
+first_of_two : first_fault (codes "ikdmap 1 voxel 200 large 1500\n@1 add 1 2\n@9 add 1 2 3\n") ≡ Some (fault_on 2 WrongCount)
+first_of_two = refl
 
-most_k : natural_in 1 256 (codes "257") ≡ None
-most_k = refl
+-- a count is looked at before the numbers
+count_before_numbers : command_fault 0 0 (fields_of (codes "@1 add +1 2 3 4")) ≡ Some WrongCount
+count_before_numbers = refl
 
-carriage_return : command_of (fields_of (codes "@1 add 1 2 3\r")) ≡ None
-unfolding command_of update_of place_of
-carriage_return = refl
+-- the numbers of a box before its corners, and its corners before the next box
+box_by_box : command_fault 0 0 (fields_of (codes "@1 delete 0 0 0 -1 0 0 + 0 0 0 0 0")) ≡ Some InvertedBox
+box_by_box = refl
 
-two_spaces : command_of (fields_of (codes "@1 add 1  2 3")) ≡ None
-unfolding command_of update_of place_of
-two_spaces = refl
+too_many_points : command_fault 0 4194304 (fields_of (codes "@1 thin 1 2 x")) ≡ Some TooManyPoints
+too_many_points = refl
 
-no_point : command_of (fields_of (codes "@1 add")) ≡ None
-unfolding command_of update_of place_of
-no_point = refl
+too_many_commands : command_fault 65536 0 (fields_of (codes "what")) ≡ Some TooManyCommands
+too_many_commands = refl
 
-last_corner : corner_number (codes "1000000001") ≡ Some (pos 1000000001)
-last_corner = refl
+unknown : command_fault 0 0 (fields_of (codes "@1 sync")) ≡ Some UnknownCommand
+unknown = refl
 
-past_the_last_corner : corner_number (codes "1000000002") ≡ None
-past_the_last_corner = refl
+fault_told : fault_text (fault_on 12 WrongCount) ≡ codes "line 12: wrong count"
+unfolding digits
+fault_told = refl

@@ -3,5 +3,10 @@ pub mod Steps
 pub mod Numbers
 pub mod Scripts
 pub mod Spelling
+pub mod Faults
+pub mod Refusal
 pub mod Reading
+pub mod Outcomes
 pub mod Transcript
+pub mod Legal
+pub mod Written

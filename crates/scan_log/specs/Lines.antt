@@ -1,5 +1,5 @@
 -- The lines of a log, and the fields of a line.
-use Rattle.std.specs.Prelude.{ℕ, Bool, false, not, ◌==◌, List, [], ◌∷◌, filter, if◌then◌else◌}
+use Rattle.std.specs.Prelude.{ℕ, ◌+◌, Bool, false, not, ◌==◌, List, [], ◌∷◌, filter, if◌then◌else◌}
 use Rattle.std.specs.List.{onto_first, slice_split}
 
 -- what stands before each line feed, and after the last one where that isn't empty
@@ -11,6 +11,11 @@ lines_of (b ∷ bytes) = if b == 10 then [] ∷ lines_of bytes else onto_first b
 abbrev pub is_kept : List ℕ → Bool
 is_kept [] = false
 is_kept (b ∷ bytes) = not (b == 35)
+
+-- the lines that are kept, each with its number, where the first has the number n
+abbrev pub kept_from : ℕ → List (List ℕ) → List (ℕ × List ℕ)
+kept_from n [] = []
+kept_from n (line ∷ lines) = if is_kept line then (n, line) ∷ kept_from (n + 1) lines else kept_from (n + 1) lines
 
 -- the lines that are kept
 abbrev pub kept_lines : List ℕ → List (List ℕ)

@@ -1,9 +1,11 @@
 -- Numbers in their one spelling.
-use Rattle.std.specs.Prelude.{ℕ, ℤ, pos, negsuc, unsigned_abs, Bool, false, ◌&&◌, ◌||◌, ◌==◌, List, [], ◌∷◌, nat_le, int_le, if◌then◌else◌}
-use Rattle.std.specs.declared.option.Option.{Option}
-use Rattle.std.specs.declared.option.Option.TheVariants.{Some}
+use Rattle.std.specs.Prelude.{ℕ, ℤ, pos, negsuc, unsigned_abs, Bool, false, ◌&&◌, ◌||◌, ◌==◌, List, [], ◌∷◌, min, nat_le, int_le, if◌then◌else◌}
+use Rattle.std.specs.declared.result.Result.{Result}
+use Rattle.std.specs.declared.result.Result.TheVariants.{Ok}
 use Rattle.std.specs.Str.{all_ascii_digits}
 use Rattle.std.specs.Str.Parse.{signed_digits_value}
+use Rattle.scan_log.specs.declared.fault.LogCause.{LogCause}
+use Rattle.scan_log.specs.declared.fault.LogCause.TheVariants.{BadNumber, OutOfRange}
 use Rattle.scan_log.specs.Steps.{◌>>=◌, given}
 
 -- a digit from 1 to 9, and further digits
@@ -17,28 +19,29 @@ is_numeral [] = false
 is_numeral (c ∷ []) = c == 48 || is_positive_numeral (c ∷ [])
 is_numeral (c ∷ d ∷ cs) = if c == 45 then is_positive_numeral (d ∷ cs) else is_positive_numeral (c ∷ d ∷ cs)
 
--- the number that a field spells
-abbrev pub number_of : List ℕ → Option ℤ
-number_of field = given (is_numeral field) (Some (signed_digits_value 10 field))
+-- a number, or the farthest one that is told from those beyond it
+abbrev pub capped : ℤ → ℤ
+capped (pos n) = pos (min n 1000000000000000000)
+capped (negsuc n) = negsuc (min n 999999999999999999)
 
 -- a number from low to high
-abbrev pub in_range : ℤ → ℤ → ℤ → Option ℤ
-in_range low high n = given (int_le low n && int_le n high) (Some n)
+abbrev pub in_range : ℤ → ℤ → ℤ → Result ℤ LogCause
+in_range low high n = given (int_le low n && int_le n high) OutOfRange (Ok n)
 
 -- the number that a field spells, from low to high
-abbrev pub number_in : ℤ → ℤ → List ℕ → Option ℤ
-number_in low high field = number_of field >>= in_range low high
+abbrev pub number_in : ℤ → ℤ → List ℕ → Result ℤ LogCause
+number_in low high field = given (is_numeral field) BadNumber (in_range low high (signed_digits_value 10 field))
 
 -- the same, where it isn't below 0
-abbrev pub natural_in : ℕ → ℕ → List ℕ → Option ℕ
+abbrev pub natural_in : ℕ → ℕ → List ℕ → Result ℕ LogCause
 natural_in low high field = do
   n ← number_in (pos low) (pos high) field
-  Some (unsigned_abs n)
+  Ok (unsigned_abs n)
 
 -- a coordinate of a point
-abbrev pub coordinate : List ℕ → Option ℤ
+abbrev pub coordinate : List ℕ → Result ℤ LogCause
 coordinate field = number_in (negsuc 999999999) (pos 1000000000) field
 
 -- a number of a box's corner
-abbrev pub corner_number : List ℕ → Option ℤ
+abbrev pub corner_number : List ℕ → Result ℤ LogCause
 corner_number field = number_in (negsuc 999999999) (pos 1000000001) field

@@ -1,151 +1,190 @@
 -- Reading a log line by line, and a line field by field.
-use Rattle.std.specs.Prelude.{ℕ, ◌≡◌, ◌+◌, ◌&&◌, List, [], ◌∷◌, length, map, codes, nat_le, nat_lt, if◌then◌else◌}
+use Rattle.std.specs.Prelude.{ℕ, ◌+◌, ◌-◌, ◌/◌, Bool, ◌&&◌, ◌==◌, List, [], ◌∷◌, length, map, codes, min, nat_le, nat_lt, int_le, if◌then◌else◌}
 use Rattle.std.specs.Str.{bytes_eq}
-use Rattle.std.specs.declared.option.Option.{Option}
 use Rattle.std.specs.declared.option.Option.TheVariants.{None, Some}
 use Rattle.std.specs.declared.result.Result.{Result}
 use Rattle.std.specs.declared.result.Result.TheVariants.{Ok, Err}
-use Rattle.std.specs.Result.{result_ok}
 use Rattle.point_geom.specs.Place.{Place, Bounds}
 use Rattle.point_geom.specs.Boxes.{unit_box}
 use Rattle.point_geom.specs.Corners.{corner_place}
-use Rattle.point_geom.specs.Refusals.{cuboid_of}
 use Rattle.point_geom.specs.declared.cuboid.Corner.{Corner}
 use Rattle.map_fold.specs.Sizes.{Sizes}
 use Rattle.map_fold.specs.declared.update.Update.{Update}
-use Rattle.map_fold.specs.declared.update.Update.TheVariants.{Add, Delete, Suspend, Restore}
+use Rattle.map_fold.specs.declared.update.Update.TheVariants.{Add, Thin, Delete, Suspend, Restore}
 use Rattle.scan_log.specs.declared.command.Command.{Command}
-use Rattle.scan_log.specs.declared.command.Command.TheVariants.{Change, Near}
-use Rattle.scan_log.specs.declared.fault.ParseFault.{ParseFault}
-use Rattle.scan_log.specs.declared.fault.ParseFault.TheVariants.{Unread, NoMemory}
+use Rattle.scan_log.specs.declared.command.Command.TheVariants.{Change, Near, Inside, Sync}
+use Rattle.scan_log.specs.declared.fault.LogCause.{LogCause}
+use Rattle.scan_log.specs.declared.fault.LogCause.TheVariants.{NoHeader, UnknownCommand, BadCaller, WrongCount, InvertedBox, TooManyPoints, TooManyCommands}
 use Rattle.scan_log.specs.Steps.{◌>>=◌, given}
-use Rattle.scan_log.specs.Lines.{fields_of}
+use Rattle.scan_log.specs.Lines.{lines_of, kept_from, fields_of}
 use Rattle.scan_log.specs.Numbers.{coordinate, corner_number, natural_in}
-use Rattle.scan_log.specs.Scripts.{ScriptAt, points_of}
-
--- the fault comes where reading gives this
-abbrev pub Fails : {A : Type 0} → ParseFault → Option A → Type 0
-Fails Unread read = read ≡ None
-Fails NoMemory read = Unit {0}
-
--- what was returned is what reading gives, unless memory ran out
-abbrev pub Gives : {A : Type 0} → Result A ParseFault → Option A → Type 0
-Gives (Ok x) read = read ≡ Some x
-Gives (Err fault) read = Fails fault read
+use Rattle.scan_log.specs.Faults.{FaultAt, are_groups, line_feeds}
+use Rattle.scan_log.specs.Scripts.{ScriptAt, submitted}
 
 -- a point of three fields
-unfoldable pub place_of : List ℕ → List ℕ → List ℕ → Option Place
+unfoldable pub place_of : List ℕ → List ℕ → List ℕ → Result Place LogCause
 place_of f g h = do
   x ← coordinate f
   y ← coordinate g
   z ← coordinate h
-  Some (record { x = x; y = y; z = z })
+  Ok (record { x = x; y = y; z = z })
 
 -- a point for each three fields
-abbrev pub places_of : List (List ℕ) → Option (List Place)
-places_of [] = Some []
-places_of (f ∷ []) = None
-places_of (f ∷ g ∷ []) = None
+abbrev pub places_of : List (List ℕ) → Result (List Place) LogCause
+places_of [] = Ok []
+places_of (f ∷ []) = Err WrongCount
+places_of (f ∷ g ∷ []) = Err WrongCount
 places_of (f ∷ g ∷ h ∷ rest) = do
   p ← place_of f g h
   ps ← places_of rest
-  Some (p ∷ ps)
+  Ok (p ∷ ps)
 
 -- a corner of three fields
-unfoldable pub corner_of : List ℕ → List ℕ → List ℕ → Option Corner
+unfoldable pub corner_of : List ℕ → List ℕ → List ℕ → Result Corner LogCause
 corner_of f g h = do
   x ← corner_number f
   y ← corner_number g
   z ← corner_number h
-  Some (record { x = x; y = y; z = z })
+  Ok (record { x = x; y = y; z = z })
+
+-- no number of the first is above the second's
+abbrev pub is_upright : Corner → Corner → Bool
+is_upright lo hi = int_le lo.x hi.x && int_le lo.y hi.y && int_le lo.z hi.z
 
 -- a box of six fields
-unfoldable pub box_of : List ℕ → List ℕ → List ℕ → List ℕ → List ℕ → List ℕ → Option Bounds
+unfoldable pub box_of : List ℕ → List ℕ → List ℕ → List ℕ → List ℕ → List ℕ → Result Bounds LogCause
 box_of a b c d e f = do
   lo ← corner_of a b c
   hi ← corner_of d e f
-  result_ok (cuboid_of (corner_place lo) (corner_place hi))
+  given (is_upright lo hi) InvertedBox (Ok (record { lo = corner_place lo; hi = corner_place hi }))
 
 -- a box for each six fields
-abbrev pub boxes_of : List (List ℕ) → Option (List Bounds)
-boxes_of [] = Some []
+abbrev pub boxes_of : List (List ℕ) → Result (List Bounds) LogCause
+boxes_of [] = Ok []
 boxes_of (a ∷ b ∷ c ∷ d ∷ e ∷ f ∷ rest) = do
   box ← box_of a b c d e f
   boxes ← boxes_of rest
-  Some (box ∷ boxes)
-boxes_of fields = None
+  Ok (box ∷ boxes)
+boxes_of fields = Err WrongCount
 
--- one point or box or more, and no more than a command may have
-abbrev pub if_few : {A : Type 0} → List A → Option (List A)
-if_few xs = given (nat_le 1 (length xs) && nat_le (length xs) 262144) (Some xs)
+-- how many groups of so many fields there are: one or more, and no more than allowed
+unfoldable pub groups_of : ℕ → ℕ → List (List ℕ) → Result ℕ LogCause
+groups_of size most args =
+    given (are_groups size args) WrongCount (given (nat_le (length args / size) most) TooManyPoints (Ok (length args / size)))
 
--- the points of a command
-abbrev pub few_places_of : List (List ℕ) → Option (List Place)
-few_places_of fields = places_of fields >>= if_few
+-- the points of a command, at most so many
+unfoldable pub few_places_of : ℕ → List (List ℕ) → Result (List Place) LogCause
+few_places_of most args = groups_of 3 most args >>= λ count. places_of args
 
 -- the boxes of a command
-abbrev pub few_boxes_of : List (List ℕ) → Option (List Bounds)
-few_boxes_of fields = boxes_of fields >>= if_few
+unfoldable pub few_boxes_of : List (List ℕ) → Result (List Bounds) LogCause
+few_boxes_of args = groups_of 6 262144 args >>= λ count. boxes_of args
 
 -- the unit cuboids of the points of a command
-unfoldable pub units_of : List (List ℕ) → Option (List Bounds)
-units_of fields = do
-  ps ← few_places_of fields
-  Some (map unit_box ps)
+unfoldable pub units_of : List (List ℕ) → Result (List Bounds) LogCause
+units_of args = do
+  ps ← few_places_of 262144 args
+  Ok (map unit_box ps)
 
--- the update of a word and its arguments
-unfoldable pub update_of : List ℕ → List (List ℕ) → Option Update
-update_of word args =
-    if bytes_eq word (codes "add") then (few_places_of args >>= λ ps. Some (Add ps)) else
-    (if bytes_eq word (codes "delete") then (few_boxes_of args >>= λ cs. Some (Delete cs)) else
-    (if bytes_eq word (codes "erase") then (units_of args >>= λ cs. Some (Delete cs)) else
-    (if bytes_eq word (codes "suspend") then (few_boxes_of args >>= λ cs. Some (Suspend cs)) else
-    given (bytes_eq word (codes "restore")) (few_boxes_of args >>= λ cs. Some (Restore cs)))))
+-- the update of a word and its arguments, where the log has room for so many points
+unfoldable pub update_of : ℕ → List ℕ → List (List ℕ) → Result Update LogCause
+update_of room word args =
+    if bytes_eq word (codes "add") then (few_places_of (min 262144 room) args >>= λ ps. Ok (Add ps)) else
+    (if bytes_eq word (codes "thin") then (few_places_of (min 262144 room) args >>= λ ps. Ok (Thin ps)) else
+    (if bytes_eq word (codes "erase") then (units_of args >>= λ cs. Ok (Delete cs)) else
+    (if bytes_eq word (codes "delete") then (few_boxes_of args >>= λ cs. Ok (Delete cs)) else
+    (if bytes_eq word (codes "suspend") then (few_boxes_of args >>= λ cs. Ok (Suspend cs)) else
+    (if bytes_eq word (codes "restore") then (few_boxes_of args >>= λ cs. Ok (Restore cs)) else Err UnknownCommand)))))
 
--- near, and its four arguments
-unfoldable pub near : List (List ℕ) → Option Command
-near (count ∷ x ∷ y ∷ z ∷ []) = do
+-- near, with four arguments, or with the word within and a greatest distance
+unfoldable pub near_of : ℕ → List (List ℕ) → Result Command LogCause
+near_of caller (count ∷ x ∷ y ∷ z ∷ []) = do
   k ← natural_in 1 256 count
   p ← place_of x y z
-  Some (Near 1 k p None)
-near args = None
+  Ok (Near caller k p None)
+near_of caller (count ∷ x ∷ y ∷ z ∷ word ∷ distance ∷ []) =
+    given (bytes_eq word (codes "within")) WrongCount (do
+      k ← natural_in 1 256 count
+      p ← place_of x y z
+      r ← natural_in 0 4000000000 distance
+      Ok (Near caller k p (Some r)))
+near_of caller args = Err WrongCount
 
--- the command of a line's fields
-unfoldable pub command_of : List (List ℕ) → Option Command
-command_of (who ∷ word ∷ args) =
-    given (bytes_eq who (codes "@1"))
-    (if bytes_eq word (codes "near") then near args else (update_of word args >>= λ u. Some (Change 1 u)))
-command_of fields = None
+-- box, and its seven arguments
+unfoldable pub inside_of : ℕ → List (List ℕ) → Result Command LogCause
+inside_of caller (count ∷ a ∷ b ∷ c ∷ d ∷ e ∷ f ∷ []) = do
+  k ← natural_in 1 256 count
+  box ← box_of a b c d e f
+  Ok (Inside caller k box)
+inside_of caller args = Err WrongCount
+
+-- the command of a word and its arguments
+unfoldable pub called_of : ℕ → ℕ → List ℕ → List (List ℕ) → Result Command LogCause
+called_of room caller word args =
+    if bytes_eq word (codes "near") then near_of caller args else
+    (if bytes_eq word (codes "box") then inside_of caller args else (update_of room word args >>= λ u. Ok (Change caller u)))
+
+-- the caller of one digit from 1 to 8
+abbrev pub digit_caller : List ℕ → Result ℕ LogCause
+digit_caller (c ∷ []) = given (nat_le 49 c && nat_le c 56) BadCaller (Ok (c - 48))
+digit_caller digits = Err BadCaller
+
+-- the caller after an @
+unfoldable pub caller_of : List ℕ → Result ℕ LogCause
+caller_of (c ∷ digits) = given (c == 64) UnknownCommand (digit_caller digits)
+caller_of [] = Err UnknownCommand
+
+-- a word and its arguments
+abbrev pub after_caller : ℕ → ℕ → List (List ℕ) → Result Command LogCause
+after_caller room caller (word ∷ args) = called_of room caller word args
+after_caller room caller [] = Err UnknownCommand
+
+-- the command of a line's fields, where the log has room for so many points
+unfoldable pub command_of : ℕ → List (List ℕ) → Result Command LogCause
+command_of room (first ∷ fields) =
+    if bytes_eq first (codes "sync") then given (length fields == 0) WrongCount (Ok Sync) else
+    (caller_of first >>= λ caller. after_caller room caller fields)
+command_of room [] = Err UnknownCommand
 
 -- the settings of the header's fields
-unfoldable pub sizes_of : List (List ℕ) → Option Sizes
+unfoldable pub sizes_of : List (List ℕ) → Result Sizes LogCause
 sizes_of (a ∷ b ∷ c ∷ voxel ∷ d ∷ large ∷ []) =
-    given (bytes_eq a (codes "ikdmap")) (given (bytes_eq b (codes "1"))
-    (given (bytes_eq c (codes "voxel")) (given (bytes_eq d (codes "large")) (do
+    given (bytes_eq a (codes "ikdmap") && bytes_eq b (codes "1") && bytes_eq c (codes "voxel") && bytes_eq d (codes "large")) NoHeader (do
       v ← natural_in 1 1000000 voxel
       l ← natural_in 16 1000000 large
-      Some (record { voxel = v; large = l })))))
-sizes_of fields = None
+      Ok (record { voxel = v; large = l }))
+sizes_of fields = Err NoHeader
 
--- the commands of the lines, where so many commands and points stand before them
-abbrev pub commands_after : ℕ → ℕ → List (List ℕ) → Option (List Command)
-commands_after count points [] = Some []
-commands_after count points (line ∷ lines) =
-    given (nat_lt count 65536) (do
-      c ← command_of (fields_of line)
-      given (nat_le (points + points_of (c ∷ [])) 4194304) (do
-        cs ← commands_after (count + 1) (points + points_of (c ∷ [])) lines
-        Some (c ∷ cs)))
+-- what is read of a line, or its fault with its number
+abbrev pub on_line : {A : Type 0} → ℕ → Result A LogCause → Result A FaultAt
+on_line n (Ok x) = Ok x
+on_line n (Err c) = Err (record { line = n; cause = c })
 
--- the lines after the header
-abbrev pub body_of : Sizes → List (List ℕ) → Option ScriptAt
+-- the command of a line, where so many commands stand before it, and the log has room for so many points
+abbrev pub line_command : ℕ → ℕ → List ℕ → Result Command LogCause
+line_command before room line = given (nat_lt before 65536) TooManyCommands (command_of room (fields_of line))
+
+-- the commands of the lines, where so many commands stand before them, and the log has room for so many points
+abbrev pub commands_of : ℕ → ℕ → List (ℕ × List ℕ) → Result (List Command) FaultAt
+commands_of before room [] = Ok []
+commands_of before room ((n, line) ∷ lines) = do
+  c ← on_line n (line_command before room line)
+  cs ← commands_of (before + 1) (room - submitted c) lines
+  Ok (c ∷ cs)
+
+-- the script of these settings, and of the lines after the header
+abbrev pub body_of : Sizes → List (ℕ × List ℕ) → Result ScriptAt FaultAt
 body_of sizes lines = do
-  cs ← commands_after 0 0 lines
-  Some (record { sizes = sizes; commands = cs })
+  cs ← commands_of 0 4194304 lines
+  Ok (record { sizes = sizes; commands = cs })
 
--- the script of the lines
-unfoldable pub script_of : List (List ℕ) → Option ScriptAt
-script_of [] = None
-script_of (header ∷ lines) = do
-  sizes ← sizes_of (fields_of header)
+-- the script of the kept lines, where the log has so many line feeds
+abbrev pub script_of : ℕ → List (ℕ × List ℕ) → Result ScriptAt FaultAt
+script_of feeds [] = Err (record { line = feeds + 1; cause = NoHeader })
+script_of feeds ((n, header) ∷ lines) = do
+  sizes ← on_line n (sizes_of (fields_of header))
   body_of sizes lines
+
+-- the script of a log, or its first fault
+unfoldable pub log_of : List ℕ → Result ScriptAt FaultAt
+log_of bytes = script_of (line_feeds bytes) (kept_from 1 (lines_of bytes))

@@ -1,15 +1,14 @@
 -- Scripts, and their limits.
-use Rattle.std.specs.Prelude.{ℕ, ◌+◌, ◌≤◌, ◌<◌, ◌≡◌, ℤ, pos, negsuc, ◌≤ℤ◌, List, [], ◌∷◌, ◌++◌, length}
+use Rattle.std.specs.Prelude.{ℕ, ◌+◌, ◌≤◌, ◌<◌, ℤ, pos, negsuc, ◌≤ℤ◌, List, [], ◌∷◌, ◌++◌, length}
 use Rattle.std.specs.List.{AllByRecursion}
 use Rattle.std.specs.Option.{ForSome}
-use Rattle.std.specs.declared.option.Option.TheVariants.{None}
 use Rattle.point_geom.specs.Place.{Place, Bounds, IsPlace, IsBelow}
 use Rattle.map_fold.specs.Sizes.{Sizes, AreSizes}
 use Rattle.map_fold.specs.Fold.{points_in}
 use Rattle.map_fold.specs.declared.update.Update.{Update}
-use Rattle.map_fold.specs.declared.update.Update.TheVariants.{Add, Delete, Suspend, Restore}
+use Rattle.map_fold.specs.declared.update.Update.TheVariants.{Add, Thin, Delete, Suspend, Restore}
 use Rattle.scan_log.specs.declared.command.Command.{Command}
-use Rattle.scan_log.specs.declared.command.Command.TheVariants.{Change, Near}
+use Rattle.scan_log.specs.declared.command.Command.TheVariants.{Change, Near, Inside, Sync}
 
 -- what a log says: the settings, and the commands in order
 pub record ScriptAt : Type 0 where
@@ -48,6 +47,7 @@ AreBoxes cs = (0 < length cs) × (length cs ≤ 262144) × AllByRecursion IsCall
 -- an update has one point or box or more, and no more than a command may have
 abbrev pub IsUpdate : Update → Type 0
 IsUpdate (Add ps) = ArePoints ps
+IsUpdate (Thin ps) = ArePoints ps
 IsUpdate (Delete cs) = AreBoxes cs
 IsUpdate (Suspend cs) = AreBoxes cs
 IsUpdate (Restore cs) = AreBoxes cs
@@ -57,12 +57,20 @@ abbrev pub IsCommand : Command → Type 0
 IsCommand (Change caller u) = IsCaller caller × IsUpdate u
 IsCommand (Near caller k p within) =
     IsCaller caller × (1 ≤ k) × (k ≤ 256) × IsPlace p × ForSome within (λ r. r ≤ 4000000000)
+IsCommand (Inside caller k c) = IsCaller caller × (1 ≤ k) × (k ≤ 256) × IsCallerBox c
+IsCommand Sync = Unit {0}
+
+-- how many points a command submits
+abbrev pub submitted : Command → ℕ
+submitted (Change caller u) = points_in u
+submitted (Near caller k p within) = 0
+submitted (Inside caller k c) = 0
+submitted Sync = 0
 
 -- how many points the commands submit
 abbrev pub points_of : List Command → ℕ
 points_of [] = 0
-points_of (Change caller u ∷ cs) = points_in u + points_of cs
-points_of (Near caller k p within ∷ cs) = points_of cs
+points_of (c ∷ cs) = submitted c + points_of cs
 
 -- the settings and each command are in their limits, and there are few enough commands and points
 pub record IsScript (s : ScriptAt) : Type 0 where
@@ -70,8 +78,3 @@ pub record IsScript (s : ScriptAt) : Type 0 where
   pub each : AllByRecursion IsCommand s.commands
   pub few : length s.commands ≤ 65536
   pub room : points_of s.commands ≤ 4194304
-
--- the commands that are built: one caller, and searches without a greatest distance
-abbrev pub IsBuilt : Command → Type 0
-IsBuilt (Change caller u) = caller ≡ 1
-IsBuilt (Near caller k p within) = (caller ≡ 1) × (within ≡ None)

@@ -1,6 +1,6 @@
 -- How a script is spelled in a log.
 use Rattle.std.specs.Prelude.{ℕ, ◌≡◌, ◌⊎◌, List, [], ◌∷◌, ◌++◌, map, codes, decimal}
-use Rattle.std.specs.List.{flat_map, AllByRecursion}
+use Rattle.std.specs.List.{flat_map}
 use Rattle.std.specs.Fmt.{signed_decimal}
 use Rattle.std.specs.declared.option.Option.{Option}
 use Rattle.std.specs.declared.option.Option.TheVariants.{None, Some}
@@ -8,11 +8,11 @@ use Rattle.point_geom.specs.Place.{Place, Bounds}
 use Rattle.point_geom.specs.Boxes.{unit_box}
 use Rattle.map_fold.specs.Sizes.{Sizes}
 use Rattle.map_fold.specs.declared.update.Update.{Update}
-use Rattle.map_fold.specs.declared.update.Update.TheVariants.{Add, Delete, Suspend, Restore}
+use Rattle.map_fold.specs.declared.update.Update.TheVariants.{Add, Thin, Delete, Suspend, Restore}
 use Rattle.scan_log.specs.declared.command.Command.{Command}
-use Rattle.scan_log.specs.declared.command.Command.TheVariants.{Change, Near}
-use Rattle.scan_log.specs.Lines.{lines_of, kept_lines, fields_of}
-use Rattle.scan_log.specs.Scripts.{ScriptAt, ArePoints, IsScript, IsBuilt}
+use Rattle.scan_log.specs.declared.command.Command.TheVariants.{Change, Near, Inside, Sync}
+use Rattle.scan_log.specs.Lines.{kept_lines, fields_of}
+use Rattle.scan_log.specs.Scripts.{ScriptAt, ArePoints, IsScript}
 
 -- ikdmap 1 voxel L large N
 abbrev pub header_fields : Sizes → List (List ℕ)
@@ -30,6 +30,7 @@ box_fields c = point_fields c.lo ++ point_fields c.hi
 -- the word of an update, and its arguments
 abbrev pub update_fields : Update → List (List ℕ)
 update_fields (Add ps) = codes "add" ∷ flat_map point_fields ps
+update_fields (Thin ps) = codes "thin" ∷ flat_map point_fields ps
 update_fields (Delete cs) = codes "delete" ∷ flat_map box_fields cs
 update_fields (Suspend cs) = codes "suspend" ∷ flat_map box_fields cs
 update_fields (Restore cs) = codes "restore" ∷ flat_map box_fields cs
@@ -48,6 +49,8 @@ abbrev pub command_fields : Command → List (List ℕ)
 command_fields (Change caller u) = caller_field caller ∷ update_fields u
 command_fields (Near caller k p within) =
     caller_field caller ∷ codes "near" ∷ decimal k ∷ (point_fields p ++ within_fields within)
+command_fields (Inside caller k c) = caller_field caller ∷ codes "box" ∷ decimal k ∷ box_fields c
+command_fields Sync = codes "sync" ∷ []
 
 -- A deletion of points, each by its unit cuboid, may be spelled by the points alone.
 pub record SpelledAsErase (fields : List (List ℕ)) (c : Command) : Type 0 where
@@ -76,7 +79,3 @@ SpellsLines (header ∷ lines) s = (fields_of header ≡ header_fields s.sizes) 
 -- the bytes are a log, and the script is what it says
 abbrev pub Spells : List ℕ → ScriptAt → Type 0
 Spells bytes s = SpellsLines (kept_lines bytes) s × IsScript s
-
--- the same, with no skipped line and the commands that are built
-abbrev pub SpellsBuilt : List ℕ → ScriptAt → Type 0
-SpellsBuilt bytes s = SpellsLines (lines_of bytes) s × IsScript s × AllByRecursion IsBuilt s.commands

@@ -1,14 +1,14 @@
--- Steps that may give nothing.
+-- Steps that may be refused.
 use Rattle.std.specs.Prelude.{Bool, if◌then◌else◌}
-use Rattle.std.specs.declared.option.Option.{Option}
-use Rattle.std.specs.declared.option.Option.TheVariants.{None, Some}
+use Rattle.std.specs.declared.result.Result.{Result}
+use Rattle.std.specs.declared.result.Result.TheVariants.{Ok, Err}
 
 -- a step, and then one that takes its value
 infixl 10 ◌>>=◌
-abbrev pub ◌>>=◌ : {A B : Type 0} → Option A → (A → Option B) → Option B
-None >>= next = None
-(Some x) >>= next = next x
+abbrev pub ◌>>=◌ : {A B E : Type 0} → Result A E → (A → Result B E) → Result B E
+(Ok x) >>= next = next x
+(Err e) >>= next = Err e
 
--- nothing, unless the test passes
-abbrev pub given : {A : Type 0} → Bool → Option A → Option A
-given test step = if test then step else None
+-- a step that is refused for this cause, unless the test passes
+abbrev pub given : {A E : Type 0} → Bool → E → Result A E → Result A E
+given test cause step = if test then step else Err cause

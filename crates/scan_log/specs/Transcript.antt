@@ -1,22 +1,30 @@
 -- The replies to a script, and their text.
 use Rattle.std.specs.Prelude.{ℕ, ◌+◌, List, [], ◌∷◌, ◌++◌, map, take, codes, decimal, nat_lt, if◌then◌else◌}
 use Rattle.std.specs.List.{flat_map}
-use Rattle.std.specs.Fmt.{signed_decimal}
 use Rattle.std.specs.declared.option.Option.{Option}
 use Rattle.std.specs.declared.option.Option.TheVariants.{None, Some}
 use Rattle.point_geom.specs.Place.{Place}
 use Rattle.map_fold.specs.declared.hits.Hit.{Hit}
 use Rattle.map_fold.specs.declared.item.Item.{Item}
 use Rattle.map_fold.specs.declared.reply.NearReply.{NearReply}
+use Rattle.map_fold.specs.declared.reply.BoxReply.{BoxReply}
 use Rattle.map_fold.specs.declared.update.Update.{Update}
-use Rattle.map_fold.specs.Answers.{nearest, live_count, suspended_count}
+use Rattle.map_fold.specs.Answers.{nearest, inside, count, live_count, suspended_count}
 use Rattle.map_fold.specs.Fold.{fold}
 use Rattle.scan_log.specs.declared.command.Command.{Command}
-use Rattle.scan_log.specs.declared.command.Command.TheVariants.{Change, Near}
+use Rattle.scan_log.specs.declared.command.Command.TheVariants.{Change, Near, Inside, Sync}
 use Rattle.scan_log.specs.declared.reply.Reply.{Reply}
 use Rattle.scan_log.specs.declared.reply.Reply.TheVariants as reply
 use Rattle.scan_log.specs.Scripts.{ScriptAt}
-use Rattle.scan_log.specs.Spelling.{caller_field}
+use Rattle.scan_log.specs.Spelling.{caller_field, point_fields}
+
+-- how many of the commands are updates
+abbrev pub updates_in : List Command → ℕ
+updates_in [] = 0
+updates_in (Change caller u ∷ cs) = 1 + updates_in cs
+updates_in (Near caller k p within ∷ cs) = updates_in cs
+updates_in (Inside caller k c ∷ cs) = updates_in cs
+updates_in (Sync ∷ cs) = updates_in cs
 
 -- an update before the first whose mark is greater
 abbrev pub put_update : ℕ → Update → List (ℕ × Update) → List (ℕ × Update)
@@ -27,6 +35,8 @@ put_update m u (h ∷ hs) = if nat_lt h.0 m then h ∷ put_update m u hs else (m
 abbrev pub marked_updates : List Command → List ℕ → List (ℕ × Update)
 marked_updates (Change caller u ∷ cs) (m ∷ marks) = put_update m u (marked_updates cs marks)
 marked_updates (Near caller k p within ∷ cs) (m ∷ marks) = marked_updates cs marks
+marked_updates (Inside caller k c ∷ cs) (m ∷ marks) = marked_updates cs marks
+marked_updates (Sync ∷ cs) (m ∷ marks) = marked_updates cs marks
 marked_updates [] marks = []
 marked_updates cs [] = []
 
@@ -38,30 +48,41 @@ history cs marks = map (λ h. h.1) (marked_updates cs marks)
 abbrev pub held_at : ℕ → List Update → ℕ → List Item
 held_at voxel h m = (fold voxel (take m h)).items
 
+-- how many items are live and how many suspended, where the mark is m
+abbrev pub totals_reply : ℕ → List Update → ℕ → Reply
+totals_reply voxel h m = reply.Totals m (live_count (held_at voxel h m)) (suspended_count (held_at voxel h m))
+
 -- the reply to a command, where its mark is m
 abbrev pub reply_to : ℕ → List Update → Command → ℕ → Reply
 reply_to voxel h (Change caller u) m = reply.Done m
 reply_to voxel h (Near caller k p within) m = reply.Near (record { mark = m; hits = nearest (held_at voxel h m) k p within })
-
--- the reply at the end, where the mark is m
-abbrev pub end_reply : ℕ → List Update → ℕ → Reply
-end_reply voxel h m = reply.Totals m (live_count (held_at voxel h m)) (suspended_count (held_at voxel h m))
+reply_to voxel h (Inside caller k c) m = reply.Inside (record { mark = m; count = count (held_at voxel h m) c; items = inside (held_at voxel h m) c k })
+reply_to voxel h Sync m = totals_reply voxel h m
 
 -- one reply for each command, and one for the end
 abbrev pub replies_from : ℕ → List Update → List Command → List ℕ → List Reply
 replies_from voxel h (c ∷ cs) (m ∷ marks) = reply_to voxel h c m ∷ replies_from voxel h cs marks
-replies_from voxel h [] (m ∷ marks) = end_reply voxel h m ∷ []
+replies_from voxel h [] (m ∷ marks) = totals_reply voxel h m ∷ []
 replies_from voxel h cs [] = []
 
 -- the replies to a script under these marks
 abbrev pub replies : ScriptAt → List ℕ → List Reply
 replies s marks = replies_from s.sizes.voxel (history s.commands marks) s.commands marks
 
+-- the mark that a reply carries
+abbrev pub mark_of : Reply → ℕ
+mark_of (reply.Done m) = m
+mark_of (reply.Near r) = r.mark
+mark_of (reply.Inside r) = r.mark
+mark_of (reply.Totals m live suspended) = m
+
 -- the marks of a run in the log's order, where n updates stand before
 abbrev pub serial_marks_from : ℕ → List Command → List ℕ
 serial_marks_from n [] = n ∷ []
 serial_marks_from n (Change caller u ∷ cs) = (n + 1) ∷ serial_marks_from (n + 1) cs
 serial_marks_from n (Near caller k p within ∷ cs) = n ∷ serial_marks_from n cs
+serial_marks_from n (Inside caller k c ∷ cs) = n ∷ serial_marks_from n cs
+serial_marks_from n (Sync ∷ cs) = n ∷ serial_marks_from n cs
 
 -- the marks of a script that runs in the log's order
 abbrev pub serial_marks : ScriptAt → List ℕ
@@ -71,13 +92,21 @@ serial_marks s = serial_marks_from 0 s.commands
 abbrev pub spaced : List ℕ → List ℕ
 spaced field = 32 ∷ field
 
+-- each field after a space
+abbrev pub all_spaced : List (List ℕ) → List ℕ
+all_spaced fields = flat_map spaced fields
+
 -- x y z, each after a space
 abbrev pub point_text : Place → List ℕ
-point_text p = spaced (signed_decimal p.x) ++ spaced (signed_decimal p.y) ++ spaced (signed_decimal p.z)
+point_text p = all_spaced (point_fields p)
 
 -- n x y z d, after a bar
 abbrev pub hit_text : Hit → List ℕ
 hit_text h = codes " | " ++ decimal h.number ++ point_text h.point ++ spaced (decimal h.dist2)
+
+-- n x y z, after a bar
+abbrev pub item_text : Item → List ℕ
+item_text i = codes " | " ++ decimal i.number ++ point_text i.point
 
 -- @c ok M
 abbrev pub done_text : ℕ → ℕ → List ℕ
@@ -87,16 +116,26 @@ done_text caller mark = caller_field caller ++ codes " ok " ++ decimal mark ++ 1
 abbrev pub near_text : ℕ → NearReply → List ℕ
 near_text caller r = caller_field caller ++ codes " near " ++ decimal r.mark ++ flat_map hit_text r.hits ++ 10 ∷ []
 
--- end M live A suspended B
-abbrev pub totals_text : ℕ → ℕ → ℕ → List ℕ
-totals_text mark live suspended =
-    codes "end " ++ decimal mark ++ codes " live " ++ decimal live ++ codes " suspended " ++ decimal suspended ++ 10 ∷ []
+-- @c box M C, and the items
+abbrev pub box_text : ℕ → BoxReply → List ℕ
+box_text caller r =
+    caller_field caller ++ codes " box " ++ decimal r.mark ++ spaced (decimal r.count) ++ flat_map item_text r.items ++ 10 ∷ []
+
+-- live A suspended B
+abbrev pub counts_text : ℕ → ℕ → List ℕ
+counts_text live suspended = codes " live " ++ decimal live ++ codes " suspended " ++ decimal suspended ++ 10 ∷ []
+
+-- the word, M, and the counts
+abbrev pub totals_text : List ℕ → ℕ → ℕ → ℕ → List ℕ
+totals_text word mark live suspended = word ++ spaced (decimal mark) ++ counts_text live suspended
 
 -- the line of a reply to a command, or without one at the end
 abbrev pub reply_text : Option Command → Reply → List ℕ
 reply_text (Some (Change caller u)) (reply.Done mark) = done_text caller mark
 reply_text (Some (Near caller k p within)) (reply.Near r) = near_text caller r
-reply_text None (reply.Totals mark live suspended) = totals_text mark live suspended
+reply_text (Some (Inside caller k c)) (reply.Inside r) = box_text caller r
+reply_text (Some Sync) (reply.Totals mark live suspended) = totals_text (codes "sync") mark live suspended
+reply_text None (reply.Totals mark live suspended) = totals_text (codes "end") mark live suspended
 reply_text c r = []
 
 -- the lines of the replies, one after another

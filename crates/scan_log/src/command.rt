@@ -1,6 +1,6 @@
 //! Commands.
 use map_fold::Update;
-use point_geom::Point;
+use point_geom::{Cuboid, Point};
 
 /// A command of a log.
 #[derive(Debug, Drop)]
@@ -21,19 +21,29 @@ pub enum Command {
         /// The greatest distance, in millimetres, up to 4,000,000,000.
         within: Option<u64>,
     },
+    /// A search for the points of a box.
+    Inside {
+        /// From 1 to 8.
+        caller: u8,
+        /// How many points are listed at most, from 1 to 256.
+        k: u32,
+        cuboid: Cuboid,
+    },
+    /// A barrier: what stands after it comes after what stands before it.
+    Sync,
 }
 
 impl Command {
-    ghost use Rattle.std.specs.Prelude.{◌≡◌, [], ◌∷◌};
-    ghost use Rattle.scan_log.specs.Scripts.{points_of};
+    ghost use Rattle.std.specs.Prelude.{◌≡◌};
+    ghost use Rattle.scan_log.specs.Scripts.{submitted};
 
     /// How many points it submits.
     pub fn points(&self) -> usize
-        ensures { result ≡ points_of (self.now ∷ []) }
+        ensures { result ≡ submitted self.now }
     {
         match self {
             Command::Change { update, .. } => update.points(),
-            Command::Near { .. } => 0,
+            Command::Near { .. } | Command::Inside { .. } | Command::Sync => 0,
         }
     }
 }

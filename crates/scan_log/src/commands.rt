@@ -1,49 +1,101 @@
 //! Reading the command of a line.
-ghost use Rattle.std.specs.Prelude.{◌≡◌, IfOk, IfSome};
+ghost use Rattle.std.specs.Prelude.{◌≡◌};
+ghost use Rattle.scan_log.specs.Outcomes.{Gives};
 ghost use Rattle.scan_log.specs.Lines.{fields_of};
-ghost use Rattle.scan_log.specs.Reading.{Gives, command_of, near, update_of};
-ghost use Rattle.scan_log.specs.Scripts.{IsCommand, IsUpdate};
+ghost use Rattle.scan_log.specs.Reading.{called_of, caller_of, command_of, digit_caller, line_command, update_of};
 
 use crate::boxes::{boxes, units};
 use crate::fields::Fields;
-use crate::number::natural_in;
-use crate::points::{point, points};
-use crate::{Command, ParseFault};
+use crate::line_fault::LineFault;
+use crate::points::points;
+use crate::queries::{inside, near};
+use crate::{Command, LogCause};
 use map_fold::Update;
 use std::alloc::Global;
 
-/// The command that the line spells.
-#[tactic(auto, unfolding(crate::specs::Reading::command_of))]
-pub fn command(alloc: Global, line: &[u8]) -> Result<Command, ParseFault>
-    ensures value { Gives result (command_of (fields_of line.now)) }
-    ensures limits { IfOk result IsCommand }
+const MAX_COMMANDS: usize = 65_536;
+
+const MAX_POINTS_OF_COMMAND: usize = 262_144;
+
+/// The command that the line spells, where so many commands stand before it, and the log has room for so many points.
+pub fn line_command(
+    alloc: Global,
+    before: usize,
+    room: usize,
+    line: &[u8],
+) -> Result<Command, LineFault>
+    ensures { Gives result (line_command before room line.now) }
 {
-    let mut fields = Fields::new(line);
-    let caller = fields.next().ok_or(ParseFault::Unread)?;
-    let word = fields.next().ok_or(ParseFault::Unread)?;
-    if caller != b"@1".as_slice() {
-        return Err(ParseFault::Unread);
+    if before >= MAX_COMMANDS {
+        return Err(LineFault::Bad(LogCause::TooManyCommands));
     }
+    command(alloc, room, Fields::new(line))
+}
+
+#[tactic(auto, unfolding(crate::specs::Reading::command_of))]
+fn command(alloc: Global, room: usize, fields: Fields) -> Result<Command, LineFault>
+    ensures { Gives result (command_of room fields.entry) }
+{
+    let mut fields = fields;
+    let first = fields.next().ok_or(LogCause::UnknownCommand)?;
+    if first == b"sync".as_slice() {
+        if fields.next().is_some() {
+            return Err(LineFault::Bad(LogCause::WrongCount));
+        }
+        return Ok(Command::Sync);
+    }
+    let caller = caller(first)?;
+    let word = fields.next().ok_or(LogCause::UnknownCommand)?;
+    called(alloc, room, caller, word, fields)
+}
+
+#[tactic(auto, unfolding(crate::specs::Reading::caller_of))]
+fn caller(field: &[u8]) -> Result<u8, LogCause>
+    ensures { result ≡ caller_of field.now }
+{
+    match field {
+        [b'@', digit] if b'1' <= *digit && *digit <= b'8' => Ok(*digit - b'0'),
+        [b'@', ..] => Err(LogCause::BadCaller),
+        _ => Err(LogCause::UnknownCommand),
+    }
+}
+
+#[tactic(auto, unfolding(crate::specs::Reading::called_of))]
+fn called(
+    alloc: Global,
+    room: usize,
+    caller: u8,
+    word: &[u8],
+    fields: Fields,
+) -> Result<Command, LineFault>
+    ensures { Gives result (called_of room caller word.now fields.entry) }
+{
     if word == b"near".as_slice() {
-        return near(fields).ok_or(ParseFault::Unread);
+        return Ok(near(caller, fields)?);
     }
-    let update = update(alloc, word, fields)?;
-    Ok(Command::Change { caller: 1, update })
+    if word == b"box".as_slice() {
+        return Ok(inside(caller, fields)?);
+    }
+    let update = update(alloc, room, word, fields)?;
+    Ok(Command::Change { caller, update })
 }
 
 #[tactic(auto, unfolding(crate::specs::Reading::update_of))]
-fn update(alloc: Global, word: &[u8], fields: Fields) -> Result<Update, ParseFault>
-    ensures value { Gives result (update_of word.now fields.entry) }
-    ensures limits { IfOk result IsUpdate }
+fn update(alloc: Global, room: usize, word: &[u8], fields: Fields) -> Result<Update, LineFault>
+    ensures { Gives result (update_of room word.now fields.entry) }
 {
+    let most = room.min(MAX_POINTS_OF_COMMAND);
     if word == b"add".as_slice() {
-        return Ok(Update::Add(points(alloc, fields)?));
+        return Ok(Update::Add(points(alloc, most, fields)?));
     }
-    if word == b"delete".as_slice() {
-        return Ok(Update::Delete(boxes(alloc, fields)?));
+    if word == b"thin".as_slice() {
+        return Ok(Update::Thin(points(alloc, most, fields)?));
     }
     if word == b"erase".as_slice() {
         return Ok(Update::Delete(units(alloc, fields)?));
+    }
+    if word == b"delete".as_slice() {
+        return Ok(Update::Delete(boxes(alloc, fields)?));
     }
     if word == b"suspend".as_slice() {
         return Ok(Update::Suspend(boxes(alloc, fields)?));
@@ -51,26 +103,5 @@ fn update(alloc: Global, word: &[u8], fields: Fields) -> Result<Update, ParseFau
     if word == b"restore".as_slice() {
         return Ok(Update::Restore(boxes(alloc, fields)?));
     }
-    Err(ParseFault::Unread)
-}
-
-#[tactic(auto, unfolding(crate::specs::Reading::near))]
-fn near(fields: Fields) -> Option<Command>
-    ensures value { result ≡ near fields.entry }
-    ensures limits { IfSome result IsCommand }
-{
-    let mut fields = fields;
-    let k = fields.next()?;
-    let x = fields.next()?;
-    let y = fields.next()?;
-    let z = fields.next()?;
-    if fields.next().is_some() {
-        return None;
-    }
-    Some(Command::Near {
-        caller: 1,
-        k: natural_in(1, 256, k)?,
-        point: point(x, y, z)?,
-        within: None,
-    })
+    Err(LineFault::Bad(LogCause::UnknownCommand))
 }

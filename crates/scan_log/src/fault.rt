@@ -1,11 +1,59 @@
 //! Why a log is not read.
 use map_fold::NoMemory;
 
+/// What is wrong with a line of a log.
+#[derive(Clone, Copy, Debug, PartialEq, Eq)]
+pub enum LogCause {
+    NoHeader,
+    UnknownCommand,
+    BadCaller,
+    BadNumber,
+    OutOfRange,
+    WrongCount,
+    InvertedBox,
+    TooManyPoints,
+    TooManyCommands,
+}
+
+impl LogCause {
+    ghost use Rattle.std.specs.Prelude.{◌≡◌};
+    ghost use Rattle.scan_log.specs.Faults.{cause_text, is_limit};
+
+    /// What is told of it.
+    pub fn text(self) -> &'static [u8]
+        ensures { result.now ≡ cause_text self }
+    {
+        match self {
+            LogCause::NoHeader => b"no header",
+            LogCause::UnknownCommand => b"unknown command",
+            LogCause::BadCaller => b"bad caller",
+            LogCause::BadNumber => b"bad number",
+            LogCause::OutOfRange => b"out of range",
+            LogCause::WrongCount => b"wrong count",
+            LogCause::InvertedBox => b"inverted box",
+            LogCause::TooManyPoints => b"too many points",
+            LogCause::TooManyCommands => b"too many commands",
+        }
+    }
+
+    /// Whether the log is refused for its length alone.
+    pub fn is_limit(self) -> bool
+        ensures { result ≡ is_limit self }
+    {
+        matches!(self, LogCause::TooManyPoints | LogCause::TooManyCommands)
+    }
+}
+
 /// Why bytes were not read as a script.
 #[derive(Clone, Copy, Debug, PartialEq, Eq)]
 pub enum ParseFault {
-    /// They spell no script that is read so far.
-    Unread,
+    /// They are no log.
+    Bad {
+        /// The first faulty line, counted from 1.
+        line: u32,
+        /// The first fault in it.
+        cause: LogCause,
+    },
     /// There was no memory.
     NoMemory,
 }

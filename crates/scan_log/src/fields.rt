@@ -1,8 +1,8 @@
 //! The fields of a line.
-ghost use Rattle.std.specs.Prelude.{◌≡◌, [], ◌∷◌};
+ghost use Rattle.std.specs.Prelude.{◌≡◌, [], ◌∷◌, length};
 ghost use Rattle.std.specs.Option.{MatchOption};
 
-use crate::piece::place_of;
+use crate::piece::{count_of, place_of};
 use std::marker::Model;
 
 /// The fields that are left.
@@ -31,6 +31,17 @@ impl<'a> Fields<'a> {
         Fields {
             rest: line,
             more: true,
+        }
+    }
+
+    /// How many there are. Costs the length of all.
+    pub fn len(&self) -> usize
+        ensures { result ≡ length self.now }
+    {
+        if self.more {
+            count_of(b' ', self.rest) + 1
+        } else {
+            0
         }
     }
 

@@ -7,20 +7,27 @@ mod commands;
 mod fault;
 mod fields;
 mod header;
+mod line_fault;
 mod lines;
 mod number;
 mod parsing;
 mod piece;
 mod points;
 mod printing;
+mod putting;
+mod queries;
 mod reply;
 mod script;
 #[cfg(test)]
 mod tests;
+mod writing;
+#[cfg(test)]
+mod written_tests;
 
 pub use command::Command;
-pub use fault::ParseFault;
+pub use fault::{LogCause, ParseFault};
 pub use parsing::parse;
 pub use printing::reply_line;
 pub use reply::Reply;
 pub use script::Script;
+pub use writing::write_script;

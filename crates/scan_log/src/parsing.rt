@@ -1,61 +1,75 @@
 //! Reading a log.
-ghost use Rattle.std.specs.Prelude.{◌≡◌, IfOk, IsErrOf, Some};
-ghost use Rattle.scan_log.specs.Lines.{lines_of};
-ghost use Rattle.scan_log.specs.Reading.{Gives, body_of, script_of};
+ghost use Rattle.std.specs.Prelude.{◌≡◌, ◌≤◌, None, IfOk, IfErr, OnOk};
+ghost use Rattle.scan_log.specs.Faults.{first_fault, line_feeds};
+ghost use Rattle.scan_log.specs.Outcomes.{LogGives};
+ghost use Rattle.scan_log.specs.Reading.{body_of, log_of};
+ghost use Rattle.scan_log.specs.Refusal.{IsParseFault, IsSpelledOrFaulty};
 ghost use Rattle.scan_log.specs.Scripts.{IsScript, ScriptAt};
-ghost use Rattle.scan_log.specs.Spelling.{SpellsBuilt};
+ghost use Rattle.scan_log.specs.Spelling.{Spells};
 
-use crate::commands::command;
+use crate::commands::line_command;
 use crate::header::settings;
 use crate::lines::Lines;
-use crate::{ParseFault, Script};
+use crate::piece::count_of;
+use crate::{LogCause, ParseFault, Script};
 use map_fold::Settings;
 use std::alloc::Global;
 
-const MAX_COMMANDS: usize = 65_536;
-
 const MAX_POINTS: usize = 4_194_304;
 
-/// The script that the log spells. Costs time by the log's length, and memory by the points and commands read.
+/// The script that the log spells, or the first fault of the first faulty line. Costs time by the log's length, and memory
+/// by the points and commands read.
 pub fn parse(alloc: Global, log: &[u8]) -> Result<Script, ParseFault>
-    // What is read is spelled so.
-    ensures found { IfOk result (λ s. SpellsBuilt log.now s) }
-    ensures limits { IfOk result IsScript }
+    requires lines { line_feeds log.now ≤ 4294967294 }
 
-    // What is spelled so is read, unless memory runs out.
-    ensures only { (s : ScriptAt) → SpellsBuilt log.now s → Gives result (Some s) }
-    ensures unread { IsErrOf result ParseFault.Unread → (s : ScriptAt) → SpellsBuilt log.now s → ⊥ }
+    // What is read is spelled so, and nothing else is.
+    ensures found { IfOk result (Spells log.now) }
+    ensures only { IfOk result (λ s. (t : ScriptAt) → Spells log.now t → t ≡ s) }
+    ensures sound { OnOk result (first_fault log.now ≡ None) }
+
+    // The fault is the first one, and nothing is spelled then.
+    ensures fault { IfErr result (IsParseFault log.now) }
+
+    // So it is with all bytes, also where memory is wanting.
+    ensures either { IsSpelledOrFaulty log.now }
 {
-    script(alloc, log)
+    read(alloc, log)
 }
 
-#[tactic(auto, unfolding(crate::specs::Reading::script_of))]
-fn script(alloc: Global, log: &[u8]) -> Result<Script, ParseFault>
-    ensures value { Gives result (script_of (lines_of log.now)) }
-    ensures limits { IfOk result IsScript }
+#[tactic(auto, unfolding(crate::specs::Reading::log_of))]
+fn read(alloc: Global, log: &[u8]) -> Result<Script, ParseFault>
+    requires { line_feeds log.now ≤ 4294967294 }
+    ensures { LogGives result (log_of log.now) }
 {
     let mut lines = Lines::new(log);
-    let header = lines.next().ok_or(ParseFault::Unread)?;
-    let settings = settings(header).ok_or(ParseFault::Unread)?;
-    body(alloc, settings, lines)
+    let Some((number, header)) = lines.next() else {
+        return Err(ParseFault::Bad {
+            line: count_of(b'\n', log) as u32 + 1,
+            cause: LogCause::NoHeader,
+        });
+    };
+    match settings(header) {
+        Ok(settings) => body(alloc, settings, lines),
+        Err(cause) => Err(ParseFault::Bad {
+            line: number,
+            cause,
+        }),
+    }
 }
 
 fn body(alloc: Global, settings: Settings, lines: Lines) -> Result<Script, ParseFault>
-    ensures value { Gives result (body_of settings lines.entry) }
-    ensures limits { IfOk result IsScript }
+    ensures { LogGives result (body_of settings lines.entry) }
 {
-    let mut script = Script::new(alloc, settings);
     let mut lines = lines;
-    let mut points = 0;
-    while let Some(line) = lines.next() {
-        if script.commands().len() == MAX_COMMANDS {
-            return Err(ParseFault::Unread);
-        }
-        let command = command(alloc, line)?;
-        points += command.points();
-        if points > MAX_POINTS {
-            return Err(ParseFault::Unread);
-        }
+    let mut script = Script::new(alloc, settings);
+    let mut room = MAX_POINTS;
+    while let Some((number, line)) = lines.next() {
+        let before = script.commands().len();
+        let command = match line_command(alloc, before, room, line) {
+            Ok(command) => command,
+            Err(fault) => return Err(fault.on_line(number)),
+        };
+        room -= command.points();
         script.push(command)?;
     }
     Ok(script)

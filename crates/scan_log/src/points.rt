@@ -1,50 +1,66 @@
 //! Reading points.
-ghost use Rattle.std.specs.Prelude.{◌≡◌, IfOk, IfSome};
-ghost use Rattle.std.specs.List.{AllByRecursion};
-ghost use Rattle.point_geom.specs.Place.{IsPlace};
-ghost use Rattle.scan_log.specs.Reading.{Gives, few_places_of, place_of};
-ghost use Rattle.scan_log.specs.Scripts.{ArePoints};
+ghost use Rattle.std.specs.Prelude.{◌≡◌, ◌<◌};
+ghost use Rattle.scan_log.specs.Outcomes.{Gives};
+ghost use Rattle.scan_log.specs.Reading.{few_places_of, groups_of, place_of, places_of};
 
-use crate::ParseFault;
+use crate::LogCause;
 use crate::fields::Fields;
+use crate::line_fault::LineFault;
 use crate::number::coordinate;
 use map_fold::Points;
 use point_geom::Point;
 use std::alloc::Global;
 
-const MAX_POINTS_OF_COMMAND: usize = 262_144;
+/// How many groups of so many fields are left: one or more, and no more than allowed.
+#[tactic(auto, unfolding(crate::specs::Reading::groups_of))]
+pub fn groups(fields: &Fields, size: usize, most: usize) -> Result<usize, LogCause>
+    requires { 0 < size }
+    ensures { result ≡ groups_of size most fields.now }
+{
+    let count = fields.len();
+    if count == 0 || count % size != 0 {
+        return Err(LogCause::WrongCount);
+    }
+    if count / size > most {
+        return Err(LogCause::TooManyPoints);
+    }
+    Ok(count / size)
+}
 
-/// The points that the fields spell, one or more, up to the limit of a command. Stops at the first point
-/// beyond that.
-pub fn points(alloc: Global, fields: Fields) -> Result<Points, ParseFault>
-    ensures value { Gives result (few_places_of fields.entry) }
-    ensures limits { IfOk result ArePoints }
+/// The points that the fields spell, one or more, and at most so many.
+#[tactic(auto, unfolding(crate::specs::Reading::few_places_of))]
+pub fn points(alloc: Global, most: usize, fields: Fields) -> Result<Points, LineFault>
+    ensures { Gives result (few_places_of most fields.entry) }
+{
+    let count = groups(&fields, 3, most)?;
+    all_points(alloc, count, fields)
+}
+
+// Takes memory for so many at once.
+fn all_points(alloc: Global, count: usize, fields: Fields) -> Result<Points, LineFault>
+    ensures { Gives result (places_of fields.entry) }
 {
     let mut fields = fields;
-    let mut points = Points::new(alloc);
+    let mut points = Vec::with_capacity(alloc, count)?;
     while let Some(x) = fields.next() {
-        let y = fields.next().ok_or(ParseFault::Unread)?;
-        let z = fields.next().ok_or(ParseFault::Unread)?;
-        let point = point(x, y, z).ok_or(ParseFault::Unread)?;
-        if points.len() == MAX_POINTS_OF_COMMAND {
-            return Err(ParseFault::Unread);
-        }
+        let y = fields.next().ok_or(LogCause::WrongCount)?;
+        let z = fields.next().ok_or(LogCause::WrongCount)?;
+        let point = point(x, y, z)?;
         points.push(point)?;
     }
-    if points.len() == 0 {
-        return Err(ParseFault::Unread);
-    }
-    Ok(points)
+    Ok(Points::from(points))
 }
 
 /// The point of three coordinates.
 #[tactic(auto, unfolding(crate::specs::Reading::place_of))]
-pub fn point(x: &[u8], y: &[u8], z: &[u8]) -> Option<Point>
-    ensures value { result ≡ place_of x.now y.now z.now }
-    ensures limits { IfSome result IsPlace }
+pub fn point(x: &[u8], y: &[u8], z: &[u8]) -> Result<Point, LogCause>
+    ensures { result ≡ place_of x.now y.now z.now }
 {
     let x = coordinate(x)?;
     let y = coordinate(y)?;
     let z = coordinate(z)?;
-    Point::new(x, y, z).ok()
+    match Point::new(x, y, z) {
+        Ok(point) => Ok(point),
+        Err(_) => Err(LogCause::OutOfRange),
+    }
 }

@@ -2,13 +2,11 @@
 ghost use Rattle.std.specs.Prelude.{◌≡◌, ◌++◌, OnOk, OnErr};
 ghost use Rattle.std.specs.List.{flat_map};
 ghost use Rattle.std.specs.Option.{option_copied};
-ghost use Rattle.scan_log.specs.Spelling.{caller_field};
-ghost use Rattle.scan_log.specs.Transcript.{done_text, hit_text, near_text, point_text, reply_text, spaced, totals_text};
+ghost use Rattle.scan_log.specs.Transcript.{box_text, counts_text, done_text, hit_text, item_text, near_text, reply_text, totals_text};
 
+use crate::putting::{put, put_caller, put_number, put_point, put_spaced};
 use crate::{Command, Reply};
-use itoa::{Buffer, Integer};
-use map_fold::{Hit, NearReply, NoMemory};
-use point_geom::Point;
+use map_fold::{BoxReply, Hit, Item, NearReply, NoMemory};
 
 /// Puts the line of a reply at the end. No command stands for the end of the log. A reply that isn't of the command's kind
 /// has no line. Where memory runs out, nothing is put. The line takes memory of its own while it is made.
@@ -35,6 +33,17 @@ fn put_reply(out: &mut Vec<u8>, command: Option<&Command>, reply: &Reply) -> Res
             put_done(out, *caller, *mark)
         }
         (Some(Command::Near { caller, .. }), Reply::Near(near)) => put_near(out, *caller, near),
+        (Some(Command::Inside { caller, .. }), Reply::Inside(inside)) => {
+            put_box(out, *caller, inside)
+        }
+        (
+            Some(Command::Sync),
+            Reply::Totals {
+                mark,
+                live,
+                suspended,
+            },
+        ) => put_totals(out, b"sync", *mark, *live, *suspended),
         (
             None,
             Reply::Totals {
@@ -42,7 +51,7 @@ fn put_reply(out: &mut Vec<u8>, command: Option<&Command>, reply: &Reply) -> Res
                 live,
                 suspended,
             },
-        ) => put_totals(out, *mark, *live, *suspended),
+        ) => put_totals(out, b"end", *mark, *live, *suspended),
         _ => Ok(()),
     }
 }
@@ -66,23 +75,39 @@ fn put_near(out: &mut Vec<u8>, caller: u8, near: &NearReply) -> Result<(), NoMem
     put(out, b"\n")
 }
 
-fn put_totals(out: &mut Vec<u8>, mark: u64, live: u32, suspended: u32) -> Result<(), NoMemory>
-    ensures { OnOk result (out.new.items ≡ out.old.items ++ totals_text mark live suspended) }
+fn put_box(out: &mut Vec<u8>, caller: u8, inside: &BoxReply) -> Result<(), NoMemory>
+    ensures { OnOk result (out.new.items ≡ out.old.items ++ box_text caller inside.now) }
 {
-    put(out, b"end ")?;
-    put_number(out, mark)?;
+    put_caller(out, caller)?;
+    put(out, b" box ")?;
+    put_number(out, inside.mark)?;
+    put_spaced(out, inside.count)?;
+    put_items(out, inside.items.as_slice())?;
+    put(out, b"\n")
+}
+
+fn put_totals(
+    out: &mut Vec<u8>,
+    word: &[u8],
+    mark: u64,
+    live: u32,
+    suspended: u32,
+) -> Result<(), NoMemory>
+    ensures { OnOk result (out.new.items ≡ out.old.items ++ totals_text word.now mark live suspended) }
+{
+    put(out, word)?;
+    put_spaced(out, mark)?;
+    put_counts(out, live, suspended)
+}
+
+fn put_counts(out: &mut Vec<u8>, live: u32, suspended: u32) -> Result<(), NoMemory>
+    ensures { OnOk result (out.new.items ≡ out.old.items ++ counts_text live suspended) }
+{
     put(out, b" live ")?;
     put_number(out, live)?;
     put(out, b" suspended ")?;
     put_number(out, suspended)?;
     put(out, b"\n")
-}
-
-fn put_caller(out: &mut Vec<u8>, caller: u8) -> Result<(), NoMemory>
-    ensures { OnOk result (out.new.items ≡ out.old.items ++ caller_field caller) }
-{
-    put(out, b"@")?;
-    put_number(out, caller)
 }
 
 fn put_hits(out: &mut Vec<u8>, hits: &[Hit]) -> Result<(), NoMemory>
@@ -103,32 +128,19 @@ fn put_hit(out: &mut Vec<u8>, hit: &Hit) -> Result<(), NoMemory>
     put_spaced(out, hit.dist2)
 }
 
-fn put_point(out: &mut Vec<u8>, point: &Point) -> Result<(), NoMemory>
-    ensures { OnOk result (out.new.items ≡ out.old.items ++ point_text point.now) }
+fn put_items(out: &mut Vec<u8>, items: &[Item]) -> Result<(), NoMemory>
+    ensures { OnOk result (out.new.items ≡ out.old.items ++ flat_map item_text items.now) }
 {
-    put_spaced(out, point.x())?;
-    put_spaced(out, point.y())?;
-    put_spaced(out, point.z())
-}
-
-fn put_spaced<I: Integer>(out: &mut Vec<u8>, number: I) -> Result<(), NoMemory>
-    ensures { OnOk result (out.new.items ≡ out.old.items ++ spaced (I.text number)) }
-{
-    put(out, b" ")?;
-    put_number(out, number)
-}
-
-fn put_number<I: Integer>(out: &mut Vec<u8>, number: I) -> Result<(), NoMemory>
-    ensures { OnOk result (out.new.items ≡ out.old.items ++ I.text number) }
-{
-    let mut buffer = Buffer::new();
-    put(out, buffer.format(number).as_bytes())
-}
-
-fn put(out: &mut Vec<u8>, bytes: &[u8]) -> Result<(), NoMemory>
-    ensures ok { OnOk result (out.new.items ≡ out.old.items ++ bytes.now) }
-    ensures err { OnErr result (out.new.items ≡ out.old.items) }
-{
-    out.extend_from_slice(bytes)?;
+    for item in items {
+        put_item(out, item)?;
+    }
     Ok(())
+}
+
+fn put_item(out: &mut Vec<u8>, item: &Item) -> Result<(), NoMemory>
+    ensures { OnOk result (out.new.items ≡ out.old.items ++ item_text item.now) }
+{
+    put(out, b" | ")?;
+    put_number(out, item.number)?;
+    put_point(out, &item.point)
 }

@@ -1,5 +1,5 @@
 //! Replies.
-use map_fold::NearReply;
+use map_fold::{BoxReply, NearReply};
 
 /// The reply to a command, or the one at the end.
 #[derive(Debug, Drop)]
@@ -9,8 +9,10 @@ pub enum Reply {
         /// Its place among the changes, from 1.
         mark: u64,
     },
-    /// What a search found.
+    /// What a search for the nearest points found.
     Near(NearReply),
+    /// What a search of a box found.
+    Inside(BoxReply),
     /// How many points are held.
     Totals {
         /// The number of changes of the log that stand before it.

@@ -1,8 +1,9 @@
 //! Logs and lines, by hand.
-use crate::{Command, ParseFault, Reply, Script, parse, reply_line};
-use map_fold::{Hit, Hits, NearReply, Settings};
+use crate::{Command, LogCause, ParseFault, Reply, Script, parse, reply_line};
+use map_fold::{Hit, Hits, NearReply, Settings, Update};
 use point_geom::Point;
 use std::alloc::{AllocError, Global};
+use std::process::Abort;
 use std::test::Fail;
 
 const HEADER: &[u8] = b"ikdmap 1 voxel 200 large 1500\n";
@@ -13,127 +14,330 @@ fn log_of(alloc: Global, lines: &[u8]) -> Result<Vec<u8>, AllocError> {
     Ok(log)
 }
 
+// No log of these tests is longer.
+fn read(alloc: Global, log: &[u8]) -> Result<Script, ParseFault> {
+    if log.len() > 100_000_000 {
+        return Err(ParseFault::NoMemory);
+    }
+    parse(alloc, log)
+}
+
+fn fault_of(alloc: Global, log: &[u8]) -> Option<ParseFault> {
+    read(alloc, log).err()
+}
+
+// Each of these lines after the header has this fault, in the line of this number.
+fn assert_faults(
+    rt: &impl Abort,
+    alloc: Global,
+    line: u32,
+    cause: LogCause,
+    logs: &[&[u8]],
+) -> Result<(), AllocError> {
+    for lines in logs {
+        let log = log_of(alloc, lines)?;
+        let fault = fault_of(alloc, log.as_slice());
+        assert_eq!(rt; fault, Some(ParseFault::Bad { line, cause }), "{lines:?}");
+    }
+    Ok(())
+}
+
 #[test]
-fn a_header_is_read_in_one_spelling(rt: HostRuntime) {
-    for header in [
-        b"".as_slice(),
-        b"\n".as_slice(),
-        b"ikdmap 2 voxel 200 large 1500\n".as_slice(),
-        b"ikdmap 1 voxel 0 large 1500\n".as_slice(),
-        b"ikdmap 1 voxel 1000001 large 1500\n".as_slice(),
-        b"ikdmap 1 voxel 200 large 15\n".as_slice(),
-        b"ikdmap 1 voxel 200 large 1500 \n".as_slice(),
-        b"ikdmap 1  voxel 200 large 1500\n".as_slice(),
-        b"ikdmap 1 voxel 200 large 1500\r\n".as_slice(),
-        b"ikdmap 1 voxel 200\n".as_slice(),
-        b"# a map\nikdmap 1 voxel 200 large 1500\n".as_slice(),
+fn a_log_without_its_header_is_refused_where_it_would_stand(rt: HostRuntime) {
+    for (line, log) in [
+        (1, b"".as_slice()),
+        (2, b"\n".as_slice()),
+        (1, b"# a map".as_slice()),
+        (3, b"# a map\n\n".as_slice()),
+        (1, b"ikdmap 2 voxel 200 large 1500\n".as_slice()),
+        (1, b"ikdmap 1 voxel 200 large 1500 \n".as_slice()),
+        (1, b"ikdmap 1  voxel 200 large 1500\n".as_slice()),
+        (1, b"ikdmap 1 voxel 200\n".as_slice()),
+        (3, b"# a map\n\nikdmap 1 voxel 200 big 1500\n".as_slice()),
     ] {
         assert_eq!(rt;
-            parse(rt.alloc(), header).err(),
-            Some(ParseFault::Unread),
-            "{header:?}"
+            fault_of(rt.alloc(), log),
+            Some(ParseFault::Bad {
+                line,
+                cause: LogCause::NoHeader
+            }),
+            "{log:?}"
         );
-    }
-    for header in [
-        b"ikdmap 1 voxel 1 large 16".as_slice(),
-        b"ikdmap 1 voxel 1000000 large 1000000\n".as_slice(),
-    ] {
-        assert_eq!(rt; parse(rt.alloc(), header).err(), None, "{header:?}");
     }
 }
 
 #[test]
-fn a_command_is_read_in_one_spelling(rt: HostRuntime) -> Result<(), Fail> {
-    for lines in [
-        b"@1 add +5 0 0\n".as_slice(),
-        b"@1 add 007 0 0\n".as_slice(),
-        b"@1 add -0 0 0\n".as_slice(),
-        b"@1 add - 0 0\n".as_slice(),
-        b"@1 add 1  2 3\n".as_slice(),
-        b"@1 add 1 2 3 \n".as_slice(),
-        b" @1 add 1 2 3\n".as_slice(),
-        b"@1 add 1 2 3\r\n".as_slice(),
-        b"@1\tadd 1 2 3\n".as_slice(),
-        b"@1 add\n".as_slice(),
-        b"@1 add 1 2 3 4\n".as_slice(),
-        b"@1 add 1000000001 0 0\n".as_slice(),
-        b"@1 add 0 0 -1000000001\n".as_slice(),
-        b"@1 delete\n".as_slice(),
-        b"@1 delete 0 0 0 1 1\n".as_slice(),
-        b"@1 delete 0 0 0 1 1 1 2\n".as_slice(),
-        b"@1 delete 0 5 0 9 4 9\n".as_slice(),
-        b"@1 suspend 0 0 0 1 1 1000000002\n".as_slice(),
-        b"@1 restore -1000000001 0 0 1 1 1\n".as_slice(),
-        b"@1 restore 0 0 0 1 1 +1\n".as_slice(),
-        b"@1 erase\n".as_slice(),
-        b"@1 erase 1 2\n".as_slice(),
-        b"@1 erase 1000000001 0 0\n".as_slice(),
-        b"@2 erase 1 2 3\n".as_slice(),
-        b"@1 near 0 1 2 3\n".as_slice(),
-        b"@1 near 257 1 2 3\n".as_slice(),
-        b"@1 near 1 2 3\n".as_slice(),
-        b"@1 near 1 1 2 3 within 5\n".as_slice(),
-        b"@2 add 1 2 3\n".as_slice(),
-        b"@1 drop 1 2 3\n".as_slice(),
-        b"sync\n".as_slice(),
-        b"\n".as_slice(),
-        b"# a comment\n".as_slice(),
-        b"@1 add 1 2 3\n\n".as_slice(),
+fn a_header_has_its_limits(rt: HostRuntime) {
+    for (cause, log) in [
+        (
+            LogCause::OutOfRange,
+            b"ikdmap 1 voxel 0 large 1500".as_slice(),
+        ),
+        (
+            LogCause::OutOfRange,
+            b"ikdmap 1 voxel 1000001 large 15".as_slice(),
+        ),
+        (
+            LogCause::OutOfRange,
+            b"ikdmap 1 voxel 200 large 15".as_slice(),
+        ),
+        (
+            LogCause::OutOfRange,
+            b"ikdmap 1 voxel 200 large 1000001".as_slice(),
+        ),
+        (
+            LogCause::BadNumber,
+            b"ikdmap 1 voxel 200 large 1500\r\n".as_slice(),
+        ),
+        (
+            LogCause::BadNumber,
+            b"ikdmap 1 voxel 0200 large 15\n".as_slice(),
+        ),
     ] {
-        let log = log_of(rt.alloc(), lines)?;
         assert_eq!(rt;
-            parse(rt.alloc(), log.as_slice()).err(),
-            Some(ParseFault::Unread),
-            "{lines:?}"
+            fault_of(rt.alloc(), log),
+            Some(ParseFault::Bad { line: 1, cause }),
+            "{log:?}"
         );
     }
+    for log in [
+        b"ikdmap 1 voxel 1 large 16".as_slice(),
+        b"\n# the coarsest\nikdmap 1 voxel 1000000 large 1000000\n".as_slice(),
+    ] {
+        assert_eq!(rt; fault_of(rt.alloc(), log), None, "{log:?}");
+    }
+}
+
+#[test]
+fn a_line_has_its_first_fault(rt: HostRuntime) -> Result<(), Fail> {
+    let alloc = rt.alloc();
+    assert_faults(
+        &rt,
+        alloc,
+        2,
+        LogCause::UnknownCommand,
+        &[
+            b"\0\0\0\0\n".as_slice(),
+            b"sync\r\n".as_slice(),
+            b" @1 add 1 2 3\n".as_slice(),
+            b"add 1 2 3\n".as_slice(),
+            b"@1\n".as_slice(),
+            b"@1 sync\n".as_slice(),
+            b"@1  add 1 2 3\n".as_slice(),
+            b"@1 Add 1 2 3\n".as_slice(),
+            b"@8 near5 0\n".as_slice(),
+        ],
+    )?;
+    assert_faults(
+        &rt,
+        alloc,
+        2,
+        LogCause::BadCaller,
+        &[
+            b"@ add 1 2 3\n".as_slice(),
+            b"@0 add 1 2 3\n".as_slice(),
+            b"@9 what\n".as_slice(),
+            b"@11 add 1 2 3\n".as_slice(),
+            b"@1\tadd 1 2 3\n".as_slice(),
+        ],
+    )?;
+    assert_faults(
+        &rt,
+        alloc,
+        2,
+        LogCause::WrongCount,
+        &[
+            b"sync now\n".as_slice(),
+            b"sync \n".as_slice(),
+            b"@1 add\n".as_slice(),
+            b"@1 add 1  2 3\n".as_slice(),
+            b"@1 add 1 2 3 \n".as_slice(),
+            b"@1 thin +1 2 3 4\n".as_slice(),
+            b"@1 erase 1 2\n".as_slice(),
+            b"@1 delete 9 9 9 1 1\n".as_slice(),
+            b"@1 suspend 0 0 0 1 1 1 2\n".as_slice(),
+            b"@1 restore\n".as_slice(),
+            b"@1 near 0 1 2\n".as_slice(),
+            b"@1 near x 0 0 0 within\n".as_slice(),
+            b"@1 near 1 0 0 0 upto 5\n".as_slice(),
+            b"@1 near 1 0 0 0 within 5 \n".as_slice(),
+            b"@1 box 5 0 0 0 9 9\n".as_slice(),
+            b"@1 box 5 0 0 0 9 9 9 9\n".as_slice(),
+        ],
+    )?;
+    assert_faults(
+        &rt,
+        alloc,
+        2,
+        LogCause::BadNumber,
+        &[
+            b"@1 add +5 0 0\n".as_slice(),
+            b"@1 add 007 0 0\n".as_slice(),
+            b"@1 add -0 0 0\n".as_slice(),
+            b"@1 add 1 2 -\n".as_slice(),
+            b"@1 add 1 2 --3\n".as_slice(),
+            b"@1 add 1 2 3\r\n".as_slice(),
+            b"@1 thin 1 2 3 4  6\n".as_slice(),
+            b"@1 erase 1e3 2000000000 0\n".as_slice(),
+            b"@1 near 0x1 0 0 0\n".as_slice(),
+            b"@1 near 1 0 0 0 within -0\n".as_slice(),
+            b"@1 box 1 0 0 0 -1 0 .5\n".as_slice(),
+        ],
+    )?;
+    assert_faults(
+        &rt,
+        alloc,
+        2,
+        LogCause::OutOfRange,
+        &[
+            b"@1 add 1000000001 0 0\n".as_slice(),
+            b"@1 thin 0 0 -1000000001 0 0 x\n".as_slice(),
+            b"@1 erase 0 1000000001 0\n".as_slice(),
+            b"@1 delete 0 0 0 9 9 1000000002\n".as_slice(),
+            b"@1 restore -1000000001 0 0 1 1 1\n".as_slice(),
+            b"@1 near 0 0 0 0\n".as_slice(),
+            b"@1 near 257 0 0 0\n".as_slice(),
+            b"@1 near 5 0 0 0 within -1\n".as_slice(),
+            b"@1 near 5 0 0 0 within 4000000001\n".as_slice(),
+            b"@1 box 0 0 0 0 9 9 9\n".as_slice(),
+        ],
+    )?;
+    assert_faults(
+        &rt,
+        alloc,
+        2,
+        LogCause::InvertedBox,
+        &[
+            b"@1 box 5 0 0 0 -1 9 9\n".as_slice(),
+            b"@1 delete 0 5 0 9 4 9\n".as_slice(),
+            b"@1 suspend 0 0 9 9 9 8 x 0 0 1 1 1\n".as_slice(),
+        ],
+    )?;
+    Ok(())
+}
+
+#[test]
+fn the_first_faulty_line_is_named_and_all_lines_count(rt: HostRuntime) -> Result<(), Fail> {
+    let alloc = rt.alloc();
+    assert_faults(
+        &rt,
+        alloc,
+        4,
+        LogCause::BadCaller,
+        &[
+            b"# scan\n\n@9 add 1 2 3\n".as_slice(),
+            b"@1 add 1 2 3\nsync\n@9 add 1 2 3\n@1 add\n".as_slice(),
+            b"\n\n@0".as_slice(),
+        ],
+    )?;
+    let log = log_of(alloc, b"# one\n@1 add 1 2 3\n\n#\nsync\n# two")?;
+    assert_eq!(rt; fault_of(alloc, log.as_slice()), None);
+    Ok(())
+}
+
+#[test]
+fn each_command_is_read(rt: HostRuntime) -> Result<(), Fail> {
     for lines in [
         b"".as_slice(),
         b"@1 add 1 2 3".as_slice(),
-        b"@1 add 1 2 3 -4 0 1000000000\n@1 near 256 -1000000000 0 7\n".as_slice(),
-        b"@1 delete 0 0 0 9 9 9\n@1 suspend 0 0 0 9 9 9\n@1 restore 0 0 0 9 9 9\n".as_slice(),
-        b"@1 delete 4 5 6 4 5 6\n".as_slice(),
-        b"@1 delete 1 2 3 4 5 6 -1000000000 0 0 1000000001 1000000001 1000000001\n".as_slice(),
-        b"@1 erase 1 2 3 1000000000 -1000000000 0\n".as_slice(),
+        b"@2 thin 1 2 3 -4 0 1000000000\n".as_slice(),
+        b"@3 delete 1 2 3 4 5 6 -1000000000 0 0 1000000001 1000000001 1000000001\n".as_slice(),
+        b"@4 suspend 4 5 6 4 5 6\n@4 restore 0 0 0 9 9 9\n".as_slice(),
+        b"@5 erase 1 2 3 1000000000 -1000000000 0\n".as_slice(),
+        b"@6 near 256 -1000000000 0 7\n@6 near 1 0 0 0 within 0\n".as_slice(),
+        b"@7 near 1 0 0 0 within 4000000000\n".as_slice(),
+        b"@8 box 256 0 0 0 9 9 9\nsync\n".as_slice(),
     ] {
         let log = log_of(rt.alloc(), lines)?;
-        assert_eq!(rt; parse(rt.alloc(), log.as_slice()).err(), None, "{lines:?}");
+        assert_eq!(rt; fault_of(rt.alloc(), log.as_slice()), None, "{lines:?}");
     }
     Ok(())
 }
 
 #[test]
-fn a_number_of_a_million_digits_is_out_of_range(rt: HostRuntime) -> Result<(), Fail> {
-    let mut log = log_of(rt.alloc(), b"@1 add 1 2 ")?;
+fn a_number_is_read_to_its_end_however_long(rt: HostRuntime) -> Result<(), Fail> {
+    let alloc = rt.alloc();
+    let mut log = log_of(alloc, b"@1 add 1 2 ")?;
     for _ in 0..1_000_000 {
         log.push(b'9')?;
     }
-    assert_eq!(rt;
-        parse(rt.alloc(), log.as_slice()).err(),
-        Some(ParseFault::Unread)
-    );
+    let far = Some(ParseFault::Bad {
+        line: 2,
+        cause: LogCause::OutOfRange,
+    });
+    assert_eq!(rt; fault_of(alloc, log.as_slice()), far);
+    log.push(b'x')?;
+    let bad = Some(ParseFault::Bad {
+        line: 2,
+        cause: LogCause::BadNumber,
+    });
+    assert_eq!(rt; fault_of(alloc, log.as_slice()), bad);
     Ok(())
+}
+
+// The header, and the line so many times.
+fn repeated(alloc: Global, line: &[u8], times: u32) -> Result<Vec<u8>, AllocError> {
+    let mut log = log_of(alloc, b"")?;
+    for _ in 0..times {
+        log.extend_from_slice(line)?;
+    }
+    Ok(log)
 }
 
 #[test]
 fn a_command_has_at_most_262144_points_or_boxes(rt: HostRuntime) -> Result<(), Fail> {
+    let alloc = rt.alloc();
     for (word, one) in [
         (b"@1 add".as_slice(), b" 1 2 3".as_slice()),
         (b"@1 erase".as_slice(), b" 1 2 3".as_slice()),
-        (b"@1 delete".as_slice(), b" 1 2 3 4 5 6".as_slice()),
+        (b"@1 suspend".as_slice(), b" 0 0 0 0 0 0".as_slice()),
     ] {
-        let mut log = log_of(rt.alloc(), word)?;
+        let mut log = log_of(alloc, word)?;
         for _ in 0..262_144 {
             log.extend_from_slice(one)?;
         }
-        assert_eq!(rt; parse(rt.alloc(), log.as_slice()).err(), None, "{word:?}");
+        assert_eq!(rt; fault_of(alloc, log.as_slice()), None, "{word:?}");
         log.extend_from_slice(one)?;
-        assert_eq!(rt;
-            parse(rt.alloc(), log.as_slice()).err(),
-            Some(ParseFault::Unread),
-            "{word:?}"
-        );
+        let many = Some(ParseFault::Bad {
+            line: 2,
+            cause: LogCause::TooManyPoints,
+        });
+        assert_eq!(rt; fault_of(alloc, log.as_slice()), many, "{word:?}");
     }
+    Ok(())
+}
+
+#[test]
+fn a_log_has_at_most_4194304_points(rt: HostRuntime) -> Result<(), Fail> {
+    let alloc = rt.alloc();
+    let mut line = Vec::from_slice(alloc, b"@1 add")?;
+    for _ in 0..262_144 {
+        line.extend_from_slice(b" 0 0 0")?;
+    }
+    line.push(b'\n')?;
+    let mut log = repeated(alloc, line.as_slice(), 16)?;
+    log.extend_from_slice(b"@1 erase 0 0 0\n")?;
+    assert_eq!(rt; fault_of(alloc, log.as_slice()), None);
+    log.extend_from_slice(b"@1 thin 0 0 x\n")?;
+    let many = Some(ParseFault::Bad {
+        line: 19,
+        cause: LogCause::TooManyPoints,
+    });
+    assert_eq!(rt; fault_of(alloc, log.as_slice()), many);
+    Ok(())
+}
+
+#[test]
+fn a_log_has_at_most_65536_commands(rt: HostRuntime) -> Result<(), Fail> {
+    let alloc = rt.alloc();
+    let mut log = repeated(alloc, b"sync\n", 65_536)?;
+    assert_eq!(rt; fault_of(alloc, log.as_slice()), None);
+    log.extend_from_slice(b"# what\nwhat\n")?;
+    let many = Some(ParseFault::Bad {
+        line: 65_539,
+        cause: LogCause::TooManyCommands,
+    });
+    assert_eq!(rt; fault_of(alloc, log.as_slice()), many);
     Ok(())
 }
 
@@ -141,7 +345,7 @@ fn a_command_has_at_most_262144_points_or_boxes(rt: HostRuntime) -> Result<(), F
 fn the_smallest_run_is_read_and_told(rt: HostRuntime) -> Result<(), Fail> {
     let alloc = rt.alloc();
     let log = log_of(alloc, b"@1 add 1 2 3\n@1 near 1 0 0 0\n")?;
-    let script = parse(alloc, log.as_slice())?;
+    let script = read(alloc, log.as_slice())?;
     assert_eq!(rt; script.settings(), &Settings::new(200, 1500));
     assert_eq!(rt; script.commands().len(), 2);
     assert_eq!(rt; script.commands()[0].points(), 1);

@@ -1,15 +1,16 @@
-use Rattle.std.proofs.Common.{◌≡◌, true, sym}
-use Rattle.std.proofs.lemmas.Str.{IsUtf8-from_ascii}
-use Rattle.scan_log.specs.Numbers.{is_numeral}
-use Rattle.scan_log.proofs.Numerals.{numeral_signed, number_none}
+use Rattle.std.proofs.Common.{◌≡◌, ◌∙◌, refl, rules, FitsSigned, w64}
+use Rattle.std.proofs.lemmas.Int.{to_z-of_z}
+use Rattle.scan_log.specs.Numbers.{in_range}
+use Rattle.scan_log.proofs.Caps.{in_range-numeral}
 use Rattle.scan_log.proofs.number.number_in.Goals as goal
 
-pub returns-in-Err-clause-value : goal.returns-in-Err-clause-value
-returns-in-Err-clause-value c =
-    let is : is_numeral c.args.field.now ≡ true = sym c.if-not-is_numeral.ensures in
-    absurd (c.in-Err.ensures.cases.0 (IsUtf8-from_ascii _ (numeral_signed c.args.field.now is).ascii))
-
-pub returns-in-Err-parse-clause-value : goal.returns-in-Err-parse-clause-value
-returns-in-Err-parse-clause-value c =
-    let is : is_numeral c.args.field.now ≡ true = sym c.if-not-is_numeral.ensures in
-    number_none c.args.low c.args.high c.args.field.now c.ranges.low c.ranges.high is (rw c.in-Ok.ensures.cases.0 at c.in-Err-parse.ensures.value.0)
+pub returns-clause-value : goal.returns-clause-value
+returns-clause-value c =
+    let low = c.args.low in
+    let high = c.args.high in
+    let n = c.in_ok-number.number in
+    let fits : FitsSigned w64 n = search rules in
+    let told : c.in_range.result ≡ in_range low high n =
+    c.in_range.ensures.value ∙ rw (to_z-of_z w64 low c.ranges.low, to_z-of_z w64 high c.ranges.high, to_z-of_z w64 n fits) refl in
+    let read = rw c.in_ok-number.ensures.ok_part at c.numeral.ensures in
+    told ∙ in_range-numeral low high n c.args.field.now c.requires.low c.requires.high read.0 read.1

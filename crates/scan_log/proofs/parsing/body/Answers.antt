@@ -1,31 +1,21 @@
-use Rattle.std.proofs.Common.{◌≤◌, ◌<◌, ◌+◌, ◌∷◌, [], arith, length}
 use Rattle.scan_log.specs.Reading.{body_of}
-use Rattle.scan_log.specs.Scripts.{points_of}
-use Rattle.scan_log.proofs.Growth.{ReadSoFar, read_start, read_more, script_push}
+use Rattle.scan_log.proofs.Growth.{ReadOneMore, read_more}
 use Rattle.scan_log.proofs.parsing.body.Goals as goal
+use Rattle.scan_log.proofs.parsing.body.Goals.{After-points-room}
 
-pub loop-line-init : goal.loop-line-init
-loop-line-init c =
-    rw c.new-script.ensures.value (read_start c.args.settings c.args.lines (rw c.new-script.ensures.value at c.new-script.ensures.limits))
+-- the line's command was read
+more : (c : After-points-room) → ReadOneMore c.loop-number.script c.loop-number.room c.next.new.self (body_of c.args.settings c.args.lines) c.in-Ok.command
+more c =
+    let here = rw c.in-Some.ensures at c.loop-number.invariant in
+    let read = rw c.commands-before.ensures.all at c.in-Ok.ensures in
+    read_more c.loop-number.script c.loop-number.room c.in-Some.number c.in-Some.line.now c.next.new.self _ c.in-Ok.command here read
+
+pub overflow_sub-room : goal.overflow_sub-room
+overflow_sub-room c = rw c.points-room.ensures (more (goal.at.overflow_sub-room c).After-points-room).fits
 
 pub push-requires : goal.push-requires
-push-requires c =
-    let s = c.loop-line.script in
-    let command = c.in_ok-command.command in
-    let more = rw c.commands.ensures.all at c.if-commands-eq-MAX_COMMANDS.false in
-    let few : length s.commands < 65536 = omega (arith, c.commands.ensures.limits.few, more) in
-    let room : points_of s.commands + points_of (command ∷ []) ≤ 4194304 = omega (arith, c.loop-line.invariant.counted, c.points-points.ensures) in
-    script_push s command c.loop-line.invariant.limits c.in_ok-command.ensures.limits few room
+push-requires c = (more (goal.at.push-requires c).After-points-room).limits
 
-pub loop-line-preserved : goal.loop-line-preserved
-loop-line-preserved c =
-    let s = c.loop-line.script in
-    let command = c.in_ok-command.command in
-    let more = rw c.commands.ensures.all at c.if-commands-eq-MAX_COMMANDS.false in
-    let few : length s.commands < 65536 = omega (arith, c.commands.ensures.limits.few, more) in
-    let room : c.loop-line.points + points_of (command ∷ []) ≤ 4194304 = omega (arith, c.points-points.ensures) in
-    let here : ReadSoFar s c.loop-line.points (c.in-Some.line.now ∷ c.next.new.self) (body_of c.args.settings c.args.lines) =
-    rw c.in-Some.ensures at c.loop-line.invariant in
-    let read = c.in_ok-command.ensures in
-    rw (c.in_ok-push.ensures.ok, c.points-points.ensures)
-    (read_more s c.loop-line.points _ _ _ command here read.value read.limits few room)
+pub loop-number-preserved : goal.loop-number-preserved
+loop-number-preserved c =
+    rw (c.in_ok-push.ensures.ok, c.points-room.ensures) (more (goal.at.loop-number-preserved c).After-points-room).after

@@ -3,8 +3,8 @@ use Rattle.scan_log.specs.Reading.{body_of}
 use Rattle.scan_log.proofs.Growth.{ReadSoFar}
 use Rattle.scan_log.proofs.parsing.body.Given as goal
 
-abbrev pub invariant-loop-line : goal.invariant-loop-line
-invariant-loop-line l = ReadSoFar l.script l.points l.lines (body_of l.fn.settings l.fn.lines)
+abbrev pub invariant-loop-number : goal.invariant-loop-number
+invariant-loop-number l = ReadSoFar l.script l.room l.lines (body_of l.fn.settings l.fn.lines)
 
-abbrev pub decreases-loop-line : goal.decreases-loop-line
-decreases-loop-line l = length l.lines
+abbrev pub decreases-loop-number : goal.decreases-loop-number
+decreases-loop-number l = length l.lines

@@ -1,0 +1,172 @@
+-- The first fault of a log, in the order of the checks.
+use Rattle.std.specs.Prelude.{ℕ, ◌+◌, ◌/◌, ◌%◌, ℤ, pos, negsuc, Bool, true, false, not, ◌&&◌, ◌||◌, ◌==◌, nat_lt, nat_le, int_le, List, [], ◌∷◌, ◌++◌, count_by, length, codes, decimal, if◌then◌else◌}
+use Rattle.std.specs.Str.{bytes_eq}
+use Rattle.std.specs.Str.Parse.{signed_digits_value}
+use Rattle.std.specs.declared.option.Option.{Option}
+use Rattle.std.specs.declared.option.Option.TheVariants.{None, Some}
+use Rattle.scan_log.specs.declared.fault.LogCause.{LogCause}
+use Rattle.scan_log.specs.declared.fault.LogCause.TheVariants.{NoHeader, UnknownCommand, BadCaller, BadNumber, OutOfRange, WrongCount, InvertedBox, TooManyPoints, TooManyCommands}
+use Rattle.scan_log.specs.Lines.{lines_of, kept_from, fields_of}
+use Rattle.scan_log.specs.Numbers.{is_numeral}
+
+-- a fault, and the number of the line that has it
+pub record FaultAt : Type 0 where
+  pub line : ℕ
+  pub cause : LogCause
+
+abbrev pub cause_text : LogCause → List ℕ
+cause_text NoHeader = codes "no header"
+cause_text UnknownCommand = codes "unknown command"
+cause_text BadCaller = codes "bad caller"
+cause_text BadNumber = codes "bad number"
+cause_text OutOfRange = codes "out of range"
+cause_text WrongCount = codes "wrong count"
+cause_text InvertedBox = codes "inverted box"
+cause_text TooManyPoints = codes "too many points"
+cause_text TooManyCommands = codes "too many commands"
+
+-- the log is refused for its length alone
+abbrev pub is_limit : LogCause → Bool
+is_limit NoHeader = false
+is_limit UnknownCommand = false
+is_limit BadCaller = false
+is_limit BadNumber = false
+is_limit OutOfRange = false
+is_limit WrongCount = false
+is_limit InvertedBox = false
+is_limit TooManyPoints = true
+is_limit TooManyCommands = true
+
+-- the first of two checks that fails
+infixl 10 ◌orelse◌
+abbrev pub ◌orelse◌ : {X : Type 0} → Option X → Option X → Option X
+None orelse d = d
+(Some c) orelse d = Some c
+
+-- the cause, unless the test passes
+abbrev pub check : Bool → LogCause → Option LogCause
+check true c = None
+check false c = Some c
+
+-- the number that a numeral spells
+abbrev pub value : List ℕ → ℤ
+value f = signed_digits_value 10 f
+
+-- a number is to be from low to high
+abbrev pub number_fault : ℤ → ℤ → List ℕ → Option LogCause
+number_fault low high f = check (is_numeral f) BadNumber orelse check (int_le low (value f) && int_le (value f) high) OutOfRange
+
+-- each is to be a coordinate of a point
+abbrev pub coordinates_fault : List (List ℕ) → Option LogCause
+coordinates_fault [] = None
+coordinates_fault (f ∷ fs) = number_fault (negsuc 999999999) (pos 1000000000) f orelse coordinates_fault fs
+
+-- a number of a box's corner
+abbrev pub corner_fault : List ℕ → Option LogCause
+corner_fault f = number_fault (negsuc 999999999) (pos 1000000001) f
+
+-- six numbers, of which no upper one is below its lower one, and then the next box
+abbrev pub boxes_fault : List (List ℕ) → Option LogCause
+boxes_fault (a ∷ b ∷ c ∷ d ∷ e ∷ f ∷ rest) =
+    corner_fault a orelse corner_fault b orelse corner_fault c orelse corner_fault d orelse corner_fault e orelse corner_fault f
+    orelse check (int_le (value a) (value d) && int_le (value b) (value e) && int_le (value c) (value f)) InvertedBox
+    orelse boxes_fault rest
+boxes_fault fields = None
+
+-- the arguments stand in groups of n, and there is at least one
+abbrev pub are_groups : ℕ → List (List ℕ) → Bool
+are_groups n args = not (length args == 0) && (length args % n == 0)
+
+-- the points of add and thin, where so many were submitted before
+abbrev pub points_fault : ℕ → List (List ℕ) → Option LogCause
+points_fault before args =
+    check (are_groups 3 args) WrongCount
+    orelse check (nat_le (length args / 3) 262144 && nat_le (before + length args / 3) 4194304) TooManyPoints
+    orelse coordinates_fault args
+
+abbrev pub erase_fault : List (List ℕ) → Option LogCause
+erase_fault args = check (are_groups 3 args) WrongCount orelse check (nat_le (length args / 3) 262144) TooManyPoints orelse coordinates_fault args
+
+-- the boxes of delete, suspend and restore
+abbrev pub marks_fault : List (List ℕ) → Option LogCause
+marks_fault args = check (are_groups 6 args) WrongCount orelse check (nat_le (length args / 6) 262144) TooManyPoints orelse boxes_fault args
+
+abbrev pub k_fault : List ℕ → Option LogCause
+k_fault f = number_fault (pos 1) (pos 256) f
+
+abbrev pub near_fault : List (List ℕ) → Option LogCause
+near_fault (k ∷ x ∷ y ∷ z ∷ []) = k_fault k orelse coordinates_fault (x ∷ y ∷ z ∷ [])
+near_fault (k ∷ x ∷ y ∷ z ∷ word ∷ r ∷ []) =
+    check (bytes_eq word (codes "within")) WrongCount orelse k_fault k orelse coordinates_fault (x ∷ y ∷ z ∷ []) orelse number_fault (pos 0) (pos 4000000000) r
+near_fault args = Some WrongCount
+
+abbrev pub box_fault : List (List ℕ) → Option LogCause
+box_fault (k ∷ a ∷ b ∷ c ∷ d ∷ e ∷ f ∷ []) = k_fault k orelse boxes_fault (a ∷ b ∷ c ∷ d ∷ e ∷ f ∷ [])
+box_fault args = Some WrongCount
+
+-- a command of this word and these arguments, where so many points were submitted before
+abbrev pub word_fault : ℕ → List ℕ → List (List ℕ) → Option LogCause
+word_fault before word args =
+    if bytes_eq word (codes "add") || bytes_eq word (codes "thin") then points_fault before args else (
+    if bytes_eq word (codes "erase") then erase_fault args else (
+    if bytes_eq word (codes "delete") || bytes_eq word (codes "suspend") || bytes_eq word (codes "restore") then marks_fault args else (
+    if bytes_eq word (codes "near") then near_fault args else (
+    if bytes_eq word (codes "box") then box_fault args else Some UnknownCommand))))
+
+-- one digit from 1 to 8
+abbrev pub is_caller : List ℕ → Bool
+is_caller (c ∷ []) = nat_le 49 c && nat_le c 56
+is_caller digits = false
+
+-- a command of a caller
+abbrev pub called_fault : ℕ → List ℕ → List (List ℕ) → Option LogCause
+called_fault before (c ∷ digits) (word ∷ args) = check (c == 64) UnknownCommand orelse check (is_caller digits) BadCaller orelse word_fault before word args
+called_fault before (c ∷ digits) [] = check (c == 64) UnknownCommand orelse check (is_caller digits) BadCaller orelse Some UnknownCommand
+called_fault before [] fields = Some UnknownCommand
+
+-- the fault of a command's fields, where so many commands and points stand before it
+abbrev pub command_fault : ℕ → ℕ → List (List ℕ) → Option LogCause
+command_fault commands points (first ∷ fields) =
+    check (nat_lt commands 65536) TooManyCommands
+    orelse (if bytes_eq first (codes "sync") then check (length fields == 0) WrongCount else called_fault points first fields)
+command_fault commands points [] = Some UnknownCommand
+
+-- how many points the fields of a good command submit
+abbrev pub fields_points : List (List ℕ) → ℕ
+fields_points (caller ∷ word ∷ args) = if bytes_eq word (codes "add") || bytes_eq word (codes "thin") then length args / 3 else 0
+fields_points fields = 0
+
+-- the fault of the header's fields
+abbrev pub header_fault : List (List ℕ) → Option LogCause
+header_fault (a ∷ b ∷ c ∷ edge ∷ d ∷ large ∷ []) =
+    check (bytes_eq a (codes "ikdmap") && bytes_eq b (codes "1") && bytes_eq c (codes "voxel") && bytes_eq d (codes "large")) NoHeader
+    orelse number_fault (pos 1) (pos 1000000) edge orelse number_fault (pos 16) (pos 1000000) large
+header_fault fields = Some NoHeader
+
+-- a line's fault
+abbrev pub at_line : ℕ → Option LogCause → Option FaultAt
+at_line n None = None
+at_line n (Some c) = Some (record { line = n; cause = c })
+
+-- the first fault of the commands' lines, where so many commands and points stand before them
+abbrev pub commands_fault : ℕ → ℕ → List (ℕ × List ℕ) → Option FaultAt
+commands_fault commands points [] = None
+commands_fault commands points ((n, line) ∷ lines) =
+    at_line n (command_fault commands points (fields_of line))
+    orelse commands_fault (commands + 1) (points + fields_points (fields_of line)) lines
+
+-- the first fault of the kept lines, where the log has so many line feeds
+abbrev pub lines_fault : ℕ → List (ℕ × List ℕ) → Option FaultAt
+lines_fault feeds [] = Some (record { line = feeds + 1; cause = NoHeader })
+lines_fault feeds ((n, header) ∷ lines) = at_line n (header_fault (fields_of header)) orelse commands_fault 0 0 lines
+
+abbrev pub line_feeds : List ℕ → ℕ
+line_feeds bytes = count_by (λ b. b == 10) bytes
+
+-- the first fault of a log
+abbrev pub first_fault : List ℕ → Option FaultAt
+first_fault bytes = lines_fault (line_feeds bytes) (kept_from 1 (lines_of bytes))
+
+-- line N: and the cause's text
+abbrev pub fault_text : FaultAt → List ℕ
+fault_text f = codes "line " ++ decimal f.line ++ codes ": " ++ cause_text f.cause

@@ -1,0 +1,71 @@
+-- Which marks the replies to a script may carry.
+use Rattle.std.specs.Prelude.{◌≡◌, ℕ, zero, suc, ◌+◌, ◌<◌, ◌≤◌, List, [], ◌∷◌, map, length, slice_get, Some}
+use Rattle.std.specs.List.{AllByRecursion}
+use Rattle.scan_log.specs.declared.command.Command.{Command}
+use Rattle.scan_log.specs.declared.command.Command.TheVariants.{Change, Near, Inside, Sync}
+use Rattle.scan_log.specs.declared.reply.Reply.{Reply}
+use Rattle.scan_log.specs.Scripts.{ScriptAt}
+use Rattle.scan_log.specs.Spelling.{Spells}
+use Rattle.scan_log.specs.Transcript.{updates_in, marked_updates, replies, mark_of, lines_text}
+
+-- so many numbers from n on
+abbrev pub counted : ℕ → ℕ → List ℕ
+counted n zero = []
+counted n (suc k) = n ∷ counted (n + 1) k
+
+-- the command is this caller's, or a barrier
+abbrev pub Concerns : ℕ → Command → Type 0
+Concerns x (Change caller u) = caller ≡ x
+Concerns x (Near caller k p within) = caller ≡ x
+Concerns x (Inside caller k c) = caller ≡ x
+Concerns x Sync = Unit {0}
+
+-- a later mark isn't below, and that of an update is above
+abbrev pub IsLater : ℕ → Command → ℕ → Type 0
+IsLater m (Change caller u) n = m < n
+IsLater m (Near caller k p within) n = m ≤ n
+IsLater m (Inside caller k c) n = m ≤ n
+IsLater m Sync n = m ≤ n
+
+-- after a caller's command with the mark m may come one with the mark n; after a barrier every command is asked
+abbrev pub MayFollow : Command → ℕ → Command → ℕ → Type 0
+MayFollow (Change caller u) m d n = Concerns caller d → IsLater m d n
+MayFollow (Near caller k p within) m d n = Concerns caller d → IsLater m d n
+MayFollow (Inside caller k c) m d n = Concerns caller d → IsLater m d n
+MayFollow Sync m d n = IsLater m d n
+
+-- all these commands may come after it
+abbrev pub AllFollow : Command → ℕ → List Command → List ℕ → Type 0
+AllFollow c m (d ∷ ds) (n ∷ marks) = MayFollow c m d n × AllFollow c m ds marks
+AllFollow c m [] marks = Unit {0}
+AllFollow c m (d ∷ ds) [] = Unit {0}
+
+-- each command may come after those before it
+abbrev pub AreInOrder : List Command → List ℕ → Type 0
+AreInOrder (c ∷ cs) (m ∷ marks) = AllFollow c m cs marks × AreInOrder cs marks
+AreInOrder [] marks = Unit {0}
+AreInOrder (c ∷ cs) [] = Unit {0}
+
+pub record IsLegal (cs : List Command) (marks : List ℕ) : Type 0 where
+  -- one for each command and one for the end
+  pub many : length marks ≡ length cs + 1
+  -- those of the updates are the numbers from 1 on, each once
+  pub each_once : map (λ h. h.0) (marked_updates cs marks) ≡ counted 1 (updates_in cs)
+  -- a caller's never fall, and none passes a barrier
+  pub in_order : AreInOrder cs marks
+  -- none is above the number of all updates, which is the end's
+  pub none_above : AllByRecursion (λ m. m ≤ updates_in cs) marks
+  pub at_end : slice_get marks (length cs) ≡ Some (updates_in cs)
+
+-- the replies are those under the marks that they carry, which are legal
+pub record AreLegalReplies (s : ScriptAt) (rs : List Reply) : Type 0 where
+  pub legal : IsLegal s.commands (map mark_of rs)
+  pub replies : rs ≡ replies s (map mark_of rs)
+
+-- the text is a legal transcript of the log
+pub record IsLegalTranscript (log out : List ℕ) : Type 0 where
+  pub script : ScriptAt
+  pub spelled : Spells log script
+  pub told : List Reply
+  pub legal : AreLegalReplies script told
+  pub lines : out ≡ lines_text script.commands told

@@ -1,0 +1,58 @@
+//! Why a line is not read.
+use crate::{LogCause, ParseFault};
+use std::alloc::{AllocError, AllocFailed};
+
+/// Why the command of a line was not read.
+#[derive(Clone, Copy, Debug, PartialEq, Eq)]
+pub enum LineFault {
+    Bad(LogCause),
+    NoMemory,
+}
+
+impl LineFault {
+    ghost use Rattle.std.specs.Prelude.{◌≡◌};
+    ghost use Rattle.scan_log.specs.Outcomes.{fault_on};
+
+    /// The fault of the log whose line of this number it is.
+    pub fn on_line(self, line: u32) -> ParseFault
+        ensures { result ≡ fault_on line self }
+    {
+        match self {
+            LineFault::Bad(cause) => ParseFault::Bad { line, cause },
+            LineFault::NoMemory => ParseFault::NoMemory,
+        }
+    }
+}
+
+impl From<LogCause> for LineFault {
+    ghost use Rattle.std.specs.Prelude.{◌≡◌};
+    ghost use Rattle.scan_log.specs.declared.line_fault.LineFault.TheVariants.{Bad};
+
+    ghost from_gives = { λ cause fault. fault ≡ Bad cause };
+
+    fn from(cause: LogCause) -> LineFault {
+        LineFault::Bad(cause)
+    }
+}
+
+impl From<AllocError> for LineFault {
+    ghost use Rattle.std.specs.Prelude.{◌≡◌};
+    ghost use Rattle.scan_log.specs.declared.line_fault.LineFault.TheVariants.{NoMemory};
+
+    ghost from_gives = { λ _ fault. fault ≡ NoMemory };
+
+    fn from(_error: AllocError) -> LineFault {
+        LineFault::NoMemory
+    }
+}
+
+impl<T: Drop> From<AllocFailed<T>> for LineFault {
+    ghost use Rattle.std.specs.Prelude.{◌≡◌};
+    ghost use Rattle.scan_log.specs.declared.line_fault.LineFault.TheVariants.{NoMemory};
+
+    ghost from_gives = { λ _ fault. fault ≡ NoMemory };
+
+    fn from(_failed: AllocFailed<T>) -> LineFault {
+        LineFault::NoMemory
+    }
+}

@@ -1,0 +1,46 @@
+//! Putting what lines are made of, those of a transcript and those of a log. What these put where memory runs out isn't said:
+//! the line or the log is let go.
+ghost use Rattle.std.specs.Prelude.{◌≡◌, ◌++◌, OnOk, OnErr};
+ghost use Rattle.scan_log.specs.Spelling.{caller_field};
+ghost use Rattle.scan_log.specs.Transcript.{point_text, spaced};
+
+use itoa::{Buffer, Integer};
+use map_fold::NoMemory;
+use point_geom::Point;
+
+pub(crate) fn put_caller(out: &mut Vec<u8>, caller: u8) -> Result<(), NoMemory>
+    ensures { OnOk result (out.new.items ≡ out.old.items ++ caller_field caller) }
+{
+    put(out, b"@")?;
+    put_number(out, caller)
+}
+
+pub(crate) fn put_point(out: &mut Vec<u8>, point: &Point) -> Result<(), NoMemory>
+    ensures { OnOk result (out.new.items ≡ out.old.items ++ point_text point.now) }
+{
+    put_spaced(out, point.x())?;
+    put_spaced(out, point.y())?;
+    put_spaced(out, point.z())
+}
+
+pub(crate) fn put_spaced<I: Integer>(out: &mut Vec<u8>, number: I) -> Result<(), NoMemory>
+    ensures { OnOk result (out.new.items ≡ out.old.items ++ spaced (I.text number)) }
+{
+    put(out, b" ")?;
+    put_number(out, number)
+}
+
+pub(crate) fn put_number<I: Integer>(out: &mut Vec<u8>, number: I) -> Result<(), NoMemory>
+    ensures { OnOk result (out.new.items ≡ out.old.items ++ I.text number) }
+{
+    let mut buffer = Buffer::new();
+    put(out, buffer.format(number).as_bytes())
+}
+
+pub(crate) fn put(out: &mut Vec<u8>, bytes: &[u8]) -> Result<(), NoMemory>
+    ensures ok { OnOk result (out.new.items ≡ out.old.items ++ bytes.now) }
+    ensures err { OnErr result (out.new.items ≡ out.old.items) }
+{
+    out.extend_from_slice(bytes)?;
+    Ok(())
+}

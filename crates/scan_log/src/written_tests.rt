@@ -1,0 +1,253 @@
+//! What is written, by hand: logs, and the lines of replies.
+ghost use Rattle.std.specs.Prelude.{◌≡◌, ◌≤◌, IfOk, IfErr};
+ghost use Rattle.scan_log.specs.Scripts.{ArePoints, AreBoxes, IsCallerBox, IsCommand, submitted};
+ghost use Rattle.scan_log.specs.declared.fault.ParseFault.TheVariants.{NoMemory as want};
+
+use crate::{Command, ParseFault, Reply, Script, parse, reply_line, write_script};
+use map_fold::{
+    BoxReply, Cuboids, Hit, Hits, Item, Items, Label, NearReply, Points, Settings, Update,
+};
+use point_geom::{Corner, Cuboid, Point};
+use std::alloc::Global;
+use std::test::Fail;
+
+// The log of this one command.
+fn log_of(alloc: Global, command: Command) -> Result<Vec<u8>, Fail>
+    requires limits { IsCommand command }
+    requires room { submitted command ≤ 262144 }
+{
+    let mut script = Script::new(alloc, Settings::new(200, 1500));
+    script.push(command)?;
+    Ok(write_script(alloc, &script)?)
+}
+
+fn points(alloc: Global) -> Result<Points, Fail>
+    ensures { IfOk result ArePoints }
+{
+    let mut points = Points::new(alloc);
+    points.push(Point::new(1, -2, 3)?)?;
+    points.push(Point::new(1_000_000_000, 0, -1_000_000_000)?)?;
+    Ok(points)
+}
+
+fn cuboid() -> Result<Cuboid, Fail>
+    ensures { IfOk result IsCallerBox }
+{
+    let lo = Corner { x: 4, y: -5, z: 6 };
+    let hi = Corner {
+        x: 1_000_000_001,
+        y: -5,
+        z: 7,
+    };
+    Ok(Cuboid::new(lo, hi)?)
+}
+
+fn boxes(alloc: Global) -> Result<Cuboids, Fail>
+    ensures { IfOk result AreBoxes }
+{
+    let mut boxes = Cuboids::new(alloc);
+    boxes.push(Cuboid::unit(&Point::new(1, -2, 3)?))?;
+    boxes.push(cuboid()?)?;
+    Ok(boxes)
+}
+
+#[test]
+fn an_update_has_one_line_with_all_its_numbers(rt: HostRuntime) -> Result<(), Fail> {
+    let alloc = rt.alloc();
+    let update = Update::Add(points(alloc)?);
+    assert_eq!(rt;
+        log_of(alloc, Command::Change { caller: 1, update })?.as_slice(),
+        b"ikdmap 1 voxel 200 large 1500\n@1 add 1 -2 3 1000000000 0 -1000000000\n".as_slice()
+    );
+    let update = Update::Thin(points(alloc)?);
+    assert_eq!(rt;
+        log_of(alloc, Command::Change { caller: 2, update })?.as_slice(),
+        b"ikdmap 1 voxel 200 large 1500\n@2 thin 1 -2 3 1000000000 0 -1000000000\n".as_slice()
+    );
+    let update = Update::Delete(boxes(alloc)?);
+    assert_eq!(rt;
+        log_of(alloc, Command::Change { caller: 3, update })?.as_slice(),
+        b"ikdmap 1 voxel 200 large 1500\n@3 delete 1 -2 3 2 -1 4 4 -5 6 1000000001 -5 7\n".as_slice()
+    );
+    let update = Update::Suspend(boxes(alloc)?);
+    assert_eq!(rt;
+        log_of(alloc, Command::Change { caller: 4, update })?.as_slice(),
+        b"ikdmap 1 voxel 200 large 1500\n@4 suspend 1 -2 3 2 -1 4 4 -5 6 1000000001 -5 7\n".as_slice()
+    );
+    let update = Update::Restore(boxes(alloc)?);
+    assert_eq!(rt;
+        log_of(alloc, Command::Change { caller: 5, update })?.as_slice(),
+        b"ikdmap 1 voxel 200 large 1500\n@5 restore 1 -2 3 2 -1 4 4 -5 6 1000000001 -5 7\n".as_slice()
+    );
+    Ok(())
+}
+
+#[test]
+fn a_search_has_its_distance_where_one_is_given(rt: HostRuntime) -> Result<(), Fail> {
+    let alloc = rt.alloc();
+    let point = Point::new(1, -2, 3)?;
+    let (caller, k) = (8, 256);
+    assert_eq!(rt;
+        log_of(
+            alloc,
+            Command::Near {
+                caller,
+                k,
+                point,
+                within: None
+            }
+        )?
+        .as_slice(),
+        b"ikdmap 1 voxel 200 large 1500\n@8 near 256 1 -2 3\n".as_slice()
+    );
+    assert_eq!(rt;
+        log_of(
+            alloc,
+            Command::Near {
+                caller,
+                k,
+                point,
+                within: Some(0)
+            }
+        )?
+        .as_slice(),
+        b"ikdmap 1 voxel 200 large 1500\n@8 near 256 1 -2 3 within 0\n".as_slice()
+    );
+    let cuboid = cuboid()?;
+    assert_eq!(rt;
+        log_of(alloc, Command::Inside { caller, k, cuboid })?.as_slice(),
+        b"ikdmap 1 voxel 200 large 1500\n@8 box 256 4 -5 6 1000000001 -5 7\n".as_slice()
+    );
+    Ok(())
+}
+
+// What is written is read as an equal script, or memory is wanting.
+fn again(alloc: Global, script: &Script) -> Result<Script, ParseFault>
+    ensures same { IfOk result (λ again. again ≡ script.now) }
+    ensures fault { IfErr result (λ fault. fault ≡ want) }
+{
+    let log = write_script(alloc, script)?;
+    parse(alloc, log.as_slice())
+}
+
+#[test]
+fn what_is_written_is_read_as_the_same_script(rt: HostRuntime) -> Result<(), Fail> {
+    let alloc = rt.alloc();
+    let script = parse(
+        alloc,
+        b"# by hand\nikdmap 1 voxel 200 large 1500\n\n@1 erase 1 2 3\nsync\n@8 near 2 0 0 0 within 7".as_slice(),
+    )?;
+    let log =
+        b"ikdmap 1 voxel 200 large 1500\n@1 delete 1 2 3 2 3 4\nsync\n@8 near 2 0 0 0 within 7\n".as_slice();
+    assert_eq!(rt; write_script(alloc, &script)?.as_slice(), log);
+    assert_eq!(rt;
+        write_script(alloc, &again(alloc, &script)?)?.as_slice(),
+        log
+    );
+    Ok(())
+}
+
+// The line of this reply.
+fn line_of(alloc: Global, command: Option<&Command>, reply: &Reply) -> Result<Vec<u8>, Fail> {
+    let mut line = Vec::new(alloc);
+    reply_line(&mut line, command, reply)?;
+    Ok(line)
+}
+
+#[test]
+fn an_update_is_told_by_its_place(rt: HostRuntime) -> Result<(), Fail> {
+    let alloc = rt.alloc();
+    let update = Update::Add(Points::new(alloc));
+    let change = Command::Change { caller: 8, update };
+    let line = line_of(alloc, Some(&change), &Reply::Done { mark: 65_536 })?;
+    assert_eq!(rt; line.as_slice(), b"@8 ok 65536\n".as_slice());
+    Ok(())
+}
+
+#[test]
+fn each_hit_is_told_with_its_distance(rt: HostRuntime) -> Result<(), Fail> {
+    let alloc = rt.alloc();
+    let point = Point::new(1, -2, 3)?;
+    let near = Command::Near {
+        caller: 7,
+        k: 2,
+        point,
+        within: None,
+    };
+    let mut hits = Hits::new(alloc);
+    hits.push(Hit {
+        number: 5,
+        point,
+        dist2: 0,
+    })?;
+    hits.push(Hit {
+        number: 0,
+        point,
+        dist2: 12_000_000_000_000_000_000,
+    })?;
+    let line = line_of(
+        alloc,
+        Some(&near),
+        &Reply::Near(NearReply { mark: 9, hits }),
+    )?;
+    assert_eq!(rt;
+        line.as_slice(),
+        b"@7 near 9 | 5 1 -2 3 0 | 0 1 -2 3 12000000000000000000\n".as_slice()
+    );
+    Ok(())
+}
+
+#[test]
+fn what_is_found_in_a_box_is_told_after_its_number(rt: HostRuntime) -> Result<(), Fail> {
+    let alloc = rt.alloc();
+    let inside = Command::Inside {
+        caller: 2,
+        k: 1,
+        cuboid: cuboid()?,
+    };
+    let mut items = Items::new(alloc);
+    items.push(Item {
+        number: 4_194_303,
+        point: Point::new(1, -2, 3)?,
+        label: Label::Live,
+    })?;
+    let line = line_of(
+        alloc,
+        Some(&inside),
+        &Reply::Inside(BoxReply {
+            mark: 9,
+            count: 7,
+            items,
+        }),
+    )?;
+    assert_eq!(rt;
+        line.as_slice(),
+        b"@2 box 9 7 | 4194303 1 -2 3\n".as_slice()
+    );
+    let done = line_of(alloc, Some(&inside), &Reply::Done { mark: 1 })?;
+    assert_eq!(rt;
+        done.as_slice(),
+        b"".as_slice(),
+        "a reply of another kind has no line"
+    );
+    Ok(())
+}
+
+#[test]
+fn a_barrier_and_the_end_tell_how_many_are_held(rt: HostRuntime) -> Result<(), Fail> {
+    let alloc = rt.alloc();
+    let totals = Reply::Totals {
+        mark: 3,
+        live: 2,
+        suspended: 1,
+    };
+    assert_eq!(rt;
+        line_of(alloc, Some(&Command::Sync), &totals)?.as_slice(),
+        b"sync 3 live 2 suspended 1\n".as_slice()
+    );
+    assert_eq!(rt;
+        line_of(alloc, None, &totals)?.as_slice(),
+        b"end 3 live 2 suspended 1\n".as_slice()
+    );
+    Ok(())
+}
