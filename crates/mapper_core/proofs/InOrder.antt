@@ -1,22 +1,22 @@
 -- A script that runs in the log's order.
-use Rattle.std.proofs.Common.{◌≡◌, ℕ, zero, suc, ◌+◌, ◌<◌, ◌≤◌, false, List, [], ◌∷◌, ◌++◌, length, take, drop, refl, sym, ap, ◌∙◌, arith, nat_lt, append_assoc, add-one}
+use Rattle.std.proofs.Common.{◌≡◌, ℕ, ◌+◌, ◌<◌, ◌≤◌, false, List, [], ◌∷◌, ◌++◌, length, take, refl, sym, ap, ◌∙◌, arith, nat_lt, append_assoc, length-append}
 use Rattle.std.proofs.lemmas.Bool.Decides.{nat_tests}
+use Rattle.std.proofs.lemmas.List.{length-map, take-append-le}
 use Rattle.std.specs.List.{AllByRecursion}
+use Rattle.map_fold.specs.declared.entry.Entry.{Entry}
 use Rattle.map_fold.specs.declared.update.Update.{Update}
-use Rattle.map_fold.specs.Fold.{MapAt, step, fold, no_points}
-use Rattle.map_fold.proofs.Folds.{step_next, fold_from-push}
+use Rattle.map_fold.specs.Answers.{nearest, inside, count, live_count, suspended_count}
+use Rattle.map_fold.specs.Fold.{fold}
+use Rattle.map_fold.specs.Sizes.{Sizes}
+use Rattle.rebuild_core.specs.History.{updates}
+use Rattle.rebuild_core.specs.Lawful.{StateAt, new_state}
 use Rattle.scan_log.specs.declared.command.Command.{Command}
-use Rattle.scan_log.specs.declared.command.Command.TheVariants.{Change, Near}
+use Rattle.scan_log.specs.declared.command.Command.TheVariants.{Change, Near, Inside, Sync}
 use Rattle.scan_log.specs.declared.reply.Reply.{Reply}
 use Rattle.scan_log.specs.declared.reply.Reply.TheVariants as reply
 use Rattle.scan_log.specs.Scripts.{ScriptAt, IsScript, points_of}
-use Rattle.scan_log.specs.Transcript.{history, marked_updates, put_update, serial_marks_from, replies_from, reply_to}
-
--- the updates of the commands, in order
-abbrev pub updates : List Command → List Update
-updates [] = []
-updates (Change caller u ∷ cs) = u ∷ updates cs
-updates (Near caller k p within ∷ cs) = updates cs
+use Rattle.scan_log.specs.Transcript.{history, marked_updates, put_update, serial_marks, serial_marks_from, replies, replies_from, reply_to}
+use Rattle.mapper_core.specs.Turns.{Follows, reply_of, updates_of}
 
 -- each mark is above n
 abbrev Above : ℕ → List (ℕ × Update) → Type 0
@@ -35,67 +35,86 @@ serial_above n [] = tt
 serial_above n (Change caller u ∷ cs) =
     rw (put_first (n + 1) u _ (serial_above (n + 1) cs)) (omega arith, higher (n + 1) n _ (omega arith) (serial_above (n + 1) cs))
 serial_above n (Near caller k p within ∷ cs) = serial_above n cs
+serial_above n (Inside caller k c ∷ cs) = serial_above n cs
+serial_above n (Sync ∷ cs) = serial_above n cs
 
 -- the history of a run in the log's order is its updates in order
-pub serial_history : (n : ℕ) (cs : List Command) → history cs (serial_marks_from n cs) ≡ updates cs
+pub serial_history : (n : ℕ) (cs : List Command) → history cs (serial_marks_from n cs) ≡ updates_of cs
 serial_history n [] = refl
 serial_history n (Change caller u ∷ cs) = rw (put_first (n + 1) u _ (serial_above (n + 1) cs)) (ap (λ us. u ∷ us) (serial_history (n + 1) cs))
 serial_history n (Near caller k p within ∷ cs) = serial_history n cs
+serial_history n (Inside caller k c ∷ cs) = serial_history n cs
+serial_history n (Sync ∷ cs) = serial_history n cs
 
--- one more of a list of which so many are taken
-take_next : {X : Type 0} (n : ℕ) (xs rest : List X) (x : X) → drop n xs ≡ x ∷ rest → (take (suc n) xs ≡ take n xs ++ x ∷ []) × (drop (suc n) xs ≡ rest)
-take_next zero [] rest x e = cc
-take_next zero (y ∷ xs) rest x e = (cc, cc)
-take_next (suc n) [] rest x e = cc
-take_next (suc n) (y ∷ xs) rest x e =
-    let p = take_next n xs rest x e in
-    (ap (λ ys. y ∷ ys) p.0, p.1)
+-- the first command's update stands before the others
+updates_cons : (c : Command) (cs : List Command) → updates_of (c ∷ cs) ≡ updates_of (c ∷ []) ++ updates_of cs
+updates_cons (Change caller u) cs = refl
+updates_cons (Near caller k p within) cs = refl
+updates_cons (Inside caller k b) cs = refl
+updates_cons Sync cs = refl
 
--- how far a run has come: what is held, the mark, the replies so far, and the commands that are left
-pub record Ran (s : ScriptAt) (left : List Command) (m : MapAt) (mark : ℕ) (replies : List Reply) : Type 0 where
-  pub held : m ≡ fold s.sizes.voxel (take mark (history s.commands (serial_marks_from 0 s.commands)))
-  pub rest : drop mark (history s.commands (serial_marks_from 0 s.commands)) ≡ updates left
-  pub marks : mark + length left ≤ 65536
-  pub room : m.next + points_of left ≤ 4194304
-  pub told : replies ++ replies_from s.sizes.voxel (history s.commands (serial_marks_from 0 s.commands)) left (serial_marks_from mark left)
-      ≡ replies_from s.sizes.voxel (history s.commands (serial_marks_from 0 s.commands)) s.commands (serial_marks_from 0 s.commands)
+-- a command has one update at most
+at_most_one : (c : Command) → length (updates_of (c ∷ [])) ≤ 1
+at_most_one (Change caller u) = omega arith
+at_most_one (Near caller k p within) = omega arith
+at_most_one (Inside caller k b) = omega arith
+at_most_one Sync = omega arith
 
-pub ran_start : (s : ScriptAt) → IsScript s → Ran s s.commands no_points 0 []
-ran_start s h = record { held = refl; rest = serial_history 0 s.commands; marks = omega (arith, h.few); room = omega (arith, h.room); told = refl }
+-- the first mark counts the first command's update, and the others go on from there
+marks_cons : (n m : ℕ) (c : Command) (cs : List Command) → m ≡ n + length (updates_of (c ∷ [])) → serial_marks_from n (c ∷ cs) ≡ m ∷ serial_marks_from m cs
+marks_cons n m (Change caller u) cs e = ap (λ k. k ∷ serial_marks_from k cs) (sym e)
+marks_cons n m (Near caller k p within) cs e = let same : n ≡ m = omega (arith, e) in ap (λ k. k ∷ serial_marks_from k cs) same
+marks_cons n m (Inside caller k b) cs e = let same : n ≡ m = omega (arith, e) in ap (λ k. k ∷ serial_marks_from k cs) same
+marks_cons n m Sync cs e = let same : n ≡ m = omega (arith, e) in ap (λ k. k ∷ serial_marks_from k cs) same
 
--- what a command makes of what is held and of the mark
-abbrev pub Follows : Command → ℕ → MapAt → ℕ → MapAt → ℕ → Type 0
-Follows (Change caller u) voxel m n after mark = (after ≡ step voxel u m) × (mark ≡ n + 1)
-Follows (Near caller k p within) voxel m n after mark = (after ≡ m) × (mark ≡ n)
+-- what comes after the first updates doesn't matter to a reply at their number
+reply_early : (voxel n : ℕ) (us vs : List Update) (c : Command) → length us ≡ n → reply_to voxel (us ++ vs) c n ≡ reply_to voxel us c n
+reply_early voxel n us vs c long =
+    let le : n ≤ length us = omega (arith, long) in
+    let early : take n (us ++ vs) ≡ take n us = take-append-le n us vs le in
+    same c early
+  where
+    same : (c : Command) → take n (us ++ vs) ≡ take n us → reply_to voxel (us ++ vs) c n ≡ reply_to voxel us c n
+    same (Change caller u) e = refl
+    same (Near caller k p within) e = ap (λ ts. reply.Near (record { mark = n; hits = nearest (fold voxel ts).items k p within })) e
+    same (Inside caller k b) e = ap (λ ts. reply.Inside (record { mark = n; count = count (fold voxel ts).items b; items = inside (fold voxel ts).items b k })) e
+    same Sync e = ap (λ ts. reply.Totals n (live_count (fold voxel ts).items) (suspended_count (fold voxel ts).items)) e
 
--- the reply is that of a map that holds so many updates of a history
-abbrev pub Answers : Command → MapAt → ℕ → Reply → Type 0
-Answers c m mark r = (voxel : ℕ) (h : List Update) → m ≡ fold voxel (take mark h) → r ≡ reply_to voxel h c mark
+-- How far a run has come: the updates that were made and those of the commands that are left are the script's, and the
+-- replies so far and those to the commands that are left are all.
+pub record Ran (s : ScriptAt) (left : List Command) (t : StateAt) (rs : List Reply) : Type 0 where
+  pub settings : t.settings ≡ s.sizes
+  pub made : updates t.history ++ updates_of left ≡ updates_of s.commands
+  pub few : length t.history + length left ≤ 65536
+  pub room : t.next + points_of left ≤ 4194304
+  pub told : rs ++ replies_from s.sizes.voxel (updates_of s.commands) left (serial_marks_from (length t.history) left) ≡ replies s (serial_marks s)
 
-pub ran_next : (c : Command) (s : ScriptAt) (left : List Command) (m : MapAt) (n : ℕ) (after : MapAt) (mark : ℕ) (rs : List Reply) (r : Reply)
-    → Ran s (c ∷ left) m n rs → Follows c s.sizes.voxel m n after mark → Answers c after mark r → Ran s left after mark (rs ++ r ∷ [])
-ran_next (Change caller u) s left m n after mark rs r ran follows answers =
-    let h = history s.commands (serial_marks_from 0 s.commands) in
-    let p = take_next n h (updates left) u ran.rest in
-    let more : take (n + 1) h ≡ take n h ++ u ∷ [] = rw add-one p.0 in
-    let held : after ≡ fold s.sizes.voxel (take (n + 1) h) =
-    follows.0 ∙ ap (step s.sizes.voxel u) ran.held ∙ sym (fold_from-push s.sizes.voxel (take n h) u no_points) ∙ ap (fold s.sizes.voxel) (sym more) in
-    let reply : r ≡ reply.Done (n + 1) = rw follows.1 at (answers s.sizes.voxel h (rw follows.1 held)) in
-    rw follows.1 (record {
-      held = held;
-      rest = rw add-one p.1;
-      marks = omega (arith, ran.marks);
-      room = rw follows.0 (omega (arith, step_next s.sizes.voxel u m, ran.room));
-      told = append_assoc rs (r ∷ []) _ ∙ rw reply ran.told;
-    })
-ran_next (Near caller k p within) s left m n after mark rs r ran follows answers =
-    let h = history s.commands (serial_marks_from 0 s.commands) in
-    let held : after ≡ fold s.sizes.voxel (take n h) = follows.0 ∙ ran.held in
-    let reply : r ≡ reply_to s.sizes.voxel h (Near caller k p within) n = rw follows.1 at (answers s.sizes.voxel h (rw follows.1 held)) in
-    rw follows.1 (record {
-      held = held;
-      rest = ran.rest;
-      marks = omega (arith, ran.marks);
-      room = rw follows.0 ran.room;
-      told = append_assoc rs (r ∷ []) _ ∙ rw reply ran.told;
-    })
+pub ran_start : (s : ScriptAt) (t : StateAt) → IsScript s → t ≡ new_state s.sizes → Ran s s.commands t []
+ran_start s t h e = rw e (record {
+  settings = refl;
+  made = refl;
+  few = omega (arith, h.few);
+  room = omega (arith, h.room);
+  told = ap (λ us. replies_from s.sizes.voxel us s.commands (serial_marks s)) (sym (serial_history 0 s.commands));
+})
+
+pub ran_next : (c : Command) (s : ScriptAt) (left : List Command) (t u : StateAt) (rs : List Reply) (r : Reply)
+    → Ran s (c ∷ left) t rs → Follows c t u → r ≡ reply_of u c → Ran s left u (rs ++ r ∷ [])
+ran_next c s left t u rs r ran follows answered =
+    let h = updates_of s.commands in
+    let n = length u.history in
+    let own = updates_of (c ∷ []) in
+    let long : length (updates u.history) ≡ n = length-map u.history (λ (e : Entry). e.update) in
+    let made : updates u.history ++ updates_of left ≡ h =
+    ap (λ us. us ++ updates_of left) follows.made ∙ append_assoc (updates t.history) own (updates_of left) ∙ ap (λ us. updates t.history ++ us) (sym (updates_cons c left)) ∙ ran.made in
+    let grown : n ≡ length t.history + length own =
+    sym long ∙ ap length follows.made ∙ length-append (updates t.history) own ∙ ap (λ k. k + length own) (length-map t.history (λ (e : Entry). e.update)) in
+    let replied : r ≡ reply_to s.sizes.voxel h c n =
+    answered ∙ ap (λ (z : Sizes). reply_to z.voxel (updates u.history) c n) (follows.settings ∙ ran.settings) ∙ sym (reply_early s.sizes.voxel n (updates u.history) (updates_of left) c long) ∙ ap (λ us. reply_to s.sizes.voxel us c n) made in
+    record {
+      settings = follows.settings ∙ ran.settings;
+      made = made;
+      few = omega (arith, grown, at_most_one c, ran.few);
+      room = omega (arith, follows.next, ran.room);
+      told = append_assoc rs (r ∷ []) _ ∙ ap (λ x. rs ++ x ∷ replies_from s.sizes.voxel h left (serial_marks_from n left)) replied ∙ ap (λ ms. rs ++ replies_from s.sizes.voxel h (c ∷ left) ms) (sym (marks_cons (length t.history) n c left grown)) ∙ ran.told;
+    }

@@ -1,4 +1,6 @@
+pub mod FewWords
 pub mod InOrder
-pub mod OneWord
 pub mod Pieces
-pub mod Trees
+pub mod Printed
+pub mod Turns
+pub mod Ways

@@ -1,13 +1,19 @@
--- Why a run ends with each status, and what it has read and written by then.
-use Rattle.std.specs.Prelude.{◌≡◌, ◌≤◌, ◌⊎◌, ℕ, Bool, false, true, List, [], ◌∷◌, length, codes, IfSome}
+-- Why a run ends, and what it has read and written by then.
+use Rattle.std.specs.Prelude.{◌≡◌, ◌≤◌, ◌⊎◌, ℕ, Bool, false, true, None, List, length, IfSome}
 use Rattle.std.specs.declared.option.Option.{Option}
 use Rattle.std.specs.Io.KnownBytes.{Appends, Keeps}
 use Rattle.scan_log.specs.Scripts.{ScriptAt}
-use Rattle.scan_log.specs.Spelling.{SpellsBuilt}
-use Rattle.scan_log.specs.Transcript.{text, serial_marks}
+use Rattle.scan_log.specs.Spelling.{Spells}
+use Rattle.scan_log.specs.Faults.{FaultAt, first_fault}
+use Rattle.scan_log.specs.Refusal.{IsFirstFault}
+use Rattle.mapper_core.specs.declared.ending.Ending.{Ending}
+use Rattle.mapper_core.specs.declared.ending.Ending.TheVariants.{Done, Usage, ReadFault, TooLong, Bad, WriteFault, NoMemory}
 use Rattle.mapper_core.specs.declared.status.Status.{Status}
-use Rattle.mapper_core.specs.declared.status.Status.TheVariants.{Done, BadLog, Usage, ReadFault, WriteFault, NoMemory, OverLimit}
+use Rattle.mapper_core.specs.declared.words.Ask.{Ask}
+use Rattle.mapper_core.specs.Asks.{Asks, AskSomething, AskNothing}
+use Rattle.mapper_core.specs.Endings.{status_of, note_of}
 use Rattle.mapper_core.specs.Outside.{Rose, HasRead, AppendsFront}
+use Rattle.mapper_core.specs.Prints.{Prints}
 
 -- what is seen of the log: the bytes left before and after, whether the last read was the end, and the counts of faults
 pub record LogSeen : Type 0 where
@@ -29,41 +35,61 @@ pub record Seen : Type 0 where
   pub log : LogSeen
   pub out : OutSeen
 
-abbrev pub AsksRun : List (List ℕ) → Type 0
-AsksRun words = words ≡ codes "run" ∷ []
-
 -- a byte more than a log may have was read
 abbrev pub IsTooLong : LogSeen → Type 0
 IsTooLong log = HasRead log.left log.left_after (λ n. n ≡ 268435457)
 
--- the log was read to its end, and no script is spelled by it
-abbrev pub IsNoLog : LogSeen → Type 0
-IsNoLog log = (log.ended ≡ true) × IfSome log.left (λ bytes. (s : ScriptAt) → SpellsBuilt bytes s → ⊥)
+-- the log was read to its end and isn't too long, and this holds of its bytes, where they are told
+abbrev pub WasRead : LogSeen → (List ℕ → Type 0) → Type 0
+WasRead log P = (log.ended ≡ true) × IfSome log.left (λ bytes. (length bytes ≤ 268435456) × P bytes)
 
--- the log was read to its end, isn't too long, and spells this script
-abbrev pub Says : ScriptAt → LogSeen → Type 0
-Says s log = (log.ended ≡ true) × IfSome log.left (λ bytes. (length bytes ≤ 268435456) × SpellsBuilt bytes s)
+-- the log spells the script, and has no fault
+abbrev pub Says : LogSeen → ScriptAt → Type 0
+Says log s = WasRead log (λ bytes. Spells bytes s × (first_fault bytes ≡ None))
 
--- the log says a script, and its transcript has been written so far
-abbrev pub HasWritten : (List ℕ → Type 0) → LogSeen → Type 0
-HasWritten so_far log = (s : ScriptAt) × Says s log × so_far (text s (serial_marks s))
+-- it is the log's first fault, and no script is spelled
+abbrev pub HasFault : LogSeen → FaultAt → Type 0
+HasFault log f = WasRead log (λ bytes. IsFirstFault bytes f.line f.cause)
 
 -- why no script was read from the log
-abbrev pub NotRead : Status → LogSeen → Type 0
-NotRead BadLog log = IsTooLong log ⊎ IsNoLog log
-NotRead ReadFault log = (log.ended ≡ false) × Rose log.faults log.faults_after × HasRead log.left log.left_after (λ n. n ≤ 268435456)
-NotRead NoMemory log = Unit {0}
-NotRead Done log = ⊥
-NotRead Usage log = ⊥
-NotRead WriteFault log = ⊥
-NotRead OverLimit log = ⊥
+abbrev pub NotRead : LogSeen → Ending → Type 0
+NotRead log TooLong = IsTooLong log
+NotRead log (Bad line cause) = HasFault log (record { line = line; cause = cause })
+NotRead log ReadFault = (log.ended ≡ false) × Rose log.faults log.faults_after × HasRead log.left log.left_after (λ n. n ≤ 268435456)
+NotRead log NoMemory = Unit {0}
+NotRead log Done = ⊥
+NotRead log Usage = ⊥
+NotRead log WriteFault = ⊥
+
+-- The log says a script, and what the words make of it has been written so far.
+pub record HasPrinted (s : Seen) (so_far : List ℕ → Type 0) : Type 0 where
+  pub ask : Ask
+  pub asked : Asks ask s.words
+  pub script : ScriptAt
+  pub said : Says s.log script
+  pub lines : List ℕ
+  pub printed : Prints ask script lines
+  pub written : so_far lines
+
+-- no script was read, and out got nothing
+pub record HasRefused (s : Seen) (e : Ending) : Type 0 where
+  pub asked : AskSomething s.words
+  pub unread : NotRead s.log e
+  pub kept : Keeps s.out.held s.out.held_after
 
 -- why a run ended so
-abbrev pub Cause : Status → Seen → Type 0
-Cause Done s = AsksRun s.words × HasWritten (Appends s.out.held s.out.held_after) s.log
-Cause Usage s = (AsksRun s.words → ⊥) × Keeps s.log.left s.log.left_after × Keeps s.out.held s.out.held_after
-Cause BadLog s = AsksRun s.words × NotRead BadLog s.log × Keeps s.out.held s.out.held_after
-Cause ReadFault s = AsksRun s.words × NotRead ReadFault s.log × Keeps s.out.held s.out.held_after
-Cause WriteFault s = AsksRun s.words × HasWritten (AppendsFront s.out.held s.out.held_after) s.log × Rose s.out.faults s.out.faults_after
-Cause NoMemory s = AsksRun s.words × (Keeps s.out.held s.out.held_after ⊎ HasWritten (AppendsFront s.out.held s.out.held_after) s.log)
-Cause OverLimit s = ⊥
+abbrev pub Ended : Seen → Ending → Type 0
+Ended s Done = HasPrinted s (Appends s.out.held s.out.held_after)
+Ended s Usage = AskNothing s.words × Keeps s.log.left s.log.left_after × Keeps s.out.held s.out.held_after
+Ended s ReadFault = HasRefused s ReadFault
+Ended s TooLong = HasRefused s TooLong
+Ended s (Bad line cause) = HasRefused s (Bad line cause)
+Ended s WriteFault = HasPrinted s (AppendsFront s.out.held s.out.held_after) × Rose s.out.faults s.out.faults_after
+Ended s NoMemory = AskSomething s.words × (Keeps s.out.held s.out.held_after ⊎ HasPrinted s (AppendsFront s.out.held s.out.held_after))
+
+-- The run ended in one of these ways, and answers its status; notes got its line or a front of it.
+pub record Ends (s : Seen) (notes notes_after : Option (List ℕ)) (status : Status) : Type 0 where
+  pub way : Ending
+  pub answered : status ≡ status_of way
+  pub ended : Ended s way
+  pub told : AppendsFront notes notes_after (note_of way)

@@ -1,4 +1,7 @@
 pub mod Outside
 pub mod Memory
+pub mod Asks
+pub mod Endings
+pub mod Prints
 pub mod Causes
-pub mod Notes
+pub mod Turns

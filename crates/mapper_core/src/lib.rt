@@ -1,6 +1,8 @@
 //! The top call: from the bytes of a log to the bytes of its transcript.
 #![tactic(auto)]
 
+mod answering;
+mod ending;
 mod mem;
 mod notes;
 mod outside;
@@ -11,7 +13,6 @@ mod status;
 mod sure;
 #[cfg(test)]
 mod tests;
-mod tree_map;
 mod words;
 mod writing;
 

@@ -1,65 +1,29 @@
 //! A script, run in the log's order.
-ghost use Rattle.std.specs.Prelude.{◌≡◌, ℕ, List, take, IfOk};
-ghost use Rattle.map_fold.specs.declared.update.Update.{Update};
-ghost use Rattle.map_fold.specs.Fold.{fold};
-ghost use Rattle.scan_log.specs.Scripts.{IsCommand};
-ghost use Rattle.scan_log.specs.Transcript.{reply_to, end_reply, replies, serial_marks, lines_text};
+ghost use Rattle.std.specs.Prelude.{◌≡◌, IfOk};
+ghost use Rattle.scan_log.specs.Transcript.{replies, serial_marks, lines_text};
 
-use crate::tree_map::TreeMap;
-use map_fold::{NearReply, NoMemory, Sequence};
-use scan_log::{Command, Reply, Script, reply_line};
+use crate::answering::{answer, totals};
+use map_fold::{NoMemory, Sequence};
+use rebuild_core::MapState;
+use scan_log::{Reply, Script, reply_line};
 use std::alloc::Global;
 
 /// A list of replies.
 pub type Replies = Sequence<Reply>;
 
-/// The replies to the commands, each run when those before it are done, and to the end.
+/// The replies to the commands, each run when those before it are done, and to the end. The state of the map keeps its updates,
+/// so each is copied.
 pub fn serial(alloc: Global, script: &Script) -> Result<Replies, NoMemory>
     ensures { IfOk result (λ rs. rs ≡ replies script.now (serial_marks script.now)) }
 {
-    let mut map = TreeMap::new();
-    let mut mark = 0;
+    let mut state = MapState::new(alloc, *script.settings())?;
     let mut replies = Replies::new(alloc);
     for command in script.commands() {
-        if let Command::Change { update, .. } = command {
-            map = map.apply(alloc, script.settings(), update)?;
-            mark += 1;
-        }
-        replies.push(reply(alloc, &map, mark, command)?)?;
+        let reply = answer(alloc, &mut state, command)?;
+        replies.push(reply)?;
     }
-    replies.push(totals(&map, mark))?;
+    replies.push(totals(&state))?;
     Ok(replies)
-}
-
-// The reply to a command from a map that holds so many updates, its own among them.
-fn reply(alloc: Global, map: &TreeMap, mark: u64, command: &Command) -> Result<Reply, NoMemory>
-    requires { IsCommand command.now }
-    ensures { (voxel : ℕ) (h : List Update) → map.now ≡ fold voxel (take mark h) → IfOk result (λ r. r ≡ reply_to voxel h command.now mark) }
-{
-    match command {
-        Command::Change { .. } => Ok(Reply::Done { mark }),
-        Command::Near {
-            k,
-            point,
-            within,
-            ..
-        } => {
-            let hits = map.nearest(alloc, *k, point, *within)?;
-            Ok(Reply::Near(NearReply { mark, hits }))
-        }
-    }
-}
-
-// The reply at the end from a map that holds so many updates.
-fn totals(map: &TreeMap, mark: u64) -> Reply
-    ensures { (voxel : ℕ) (h : List Update) → map.now ≡ fold voxel (take mark h) → result ≡ end_reply voxel h mark }
-{
-    let counts = map.counts();
-    Reply::Totals {
-        mark,
-        live: counts.live,
-        suspended: counts.suspended,
-    }
 }
 
 /// The lines of the replies.

@@ -5,7 +5,7 @@
 pub enum Status {
     /// The whole transcript was written.
     Done,
-    /// The log is too long, or says nothing that can be run.
+    /// The log has a fault.
     BadLog,
     /// The words ask for nothing that can be done.
     Usage,
@@ -15,6 +15,6 @@ pub enum Status {
     WriteFault,
     /// There was no memory.
     NoMemory,
-    /// A limit was passed. No run ends so yet: what is past a limit is a bad log.
+    /// The log has more bytes, commands or points than a log may have.
     OverLimit,
 }

@@ -3,4 +3,4 @@ use Rattle.mapper_core.proofs.InOrder.{Ran}
 use Rattle.mapper_core.proofs.replying.serial.Given as goal
 
 abbrev pub invariant-loop-command : goal.invariant-loop-command
-invariant-loop-command l = Ran l.script (drop l.command-index l.script.commands) l.map l.mark l.replies
+invariant-loop-command l = Ran l.script (drop l.command-index l.script.commands) l.state.state l.replies

@@ -1,0 +1,19 @@
+-- What is printed of a script.
+use Rattle.std.specs.Prelude.{◌≡◌, ℕ, List}
+use Rattle.scan_log.specs.declared.reply.Reply.{Reply}
+use Rattle.scan_log.specs.Scripts.{ScriptAt}
+use Rattle.scan_log.specs.Transcript.{lines_text, text, serial_marks}
+use Rattle.scan_log.specs.Legal.{AreLegalReplies}
+use Rattle.mapper_core.specs.declared.words.Ask.{Ask}
+use Rattle.mapper_core.specs.declared.words.Ask.TheVariants.{Run, Serial}
+
+-- the lines are those of legal replies to the script
+pub record AreLegalLines (s : ScriptAt) (lines : List ℕ) : Type 0 where
+  pub told : List Reply
+  pub legal : AreLegalReplies s told
+  pub text : lines ≡ lines_text s.commands told
+
+-- a run prints the lines of legal replies, a serial one those of the replies in the log's order
+abbrev pub Prints : Ask → ScriptAt → List ℕ → Type 0
+Prints Run s lines = AreLegalLines s lines
+Prints Serial s lines = AreLegalLines s lines × (lines ≡ text s (serial_marks s))

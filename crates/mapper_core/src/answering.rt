@@ -1,0 +1,161 @@
+//! One command, on the state of a map.
+ghost use Rattle.std.specs.Prelude.{◌≡◌, ◌≤◌, ◌<◌, ◌+◌, length, IfOk, OnOk};
+ghost use Rattle.std.specs.Option.{ForSome};
+ghost use Rattle.rebuild_core.specs.Steps.{HasRoom, IsUpdateStep};
+ghost use Rattle.scan_log.specs.Scripts.{IsCommand, submitted};
+ghost use Rattle.mapper_core.specs.Turns.{Follows, IsTended, reply_of};
+
+use kd_search::{count_in, in_cuboid, nearest};
+use kd_tree::Steps;
+use map_fold::{BoxReply, NearReply, NoMemory, Update};
+use point_geom::{Cuboid, Point};
+use rebuild_core::{Built, MapState, StateFault, SwapFault};
+use scan_log::{Command, Reply};
+use std::alloc::Global;
+use std::marker::Brand;
+use std::sync::ledger::{Blank, Ledger};
+
+/// Does what the command asks for, and answers the reply. At a barrier the map is settled.
+pub fn answer(alloc: Global, state: &mut MapState, command: &Command) -> Result<Reply, NoMemory>
+    requires good { IsCommand command.now }
+    requires updates { length state.old.state.history < 1048576 }
+    requires points { state.old.state.next + submitted command.now ≤ 4194304 }
+    ensures follows { OnOk result (Follows command.now state.old.state state.new.state) }
+    ensures reply { IfOk result (λ r. r ≡ reply_of state.new.state command.now) }
+{
+    match command {
+        Command::Change { caller, update } => change(alloc, state, *caller, update),
+        Command::Near {
+            k,
+            point,
+            within,
+            ..
+        } => near(alloc, state, *k, point, *within),
+        Command::Inside { k, cuboid, .. } => inside(alloc, state, *k, cuboid),
+        Command::Sync => {
+            state.settle(alloc)?;
+            Ok(totals(state))
+        }
+    }
+}
+
+fn change(
+    alloc: Global,
+    state: &mut MapState,
+    caller: u8,
+    update: &Update,
+) -> Result<Reply, NoMemory>
+    requires caller_from { 1 ≤ caller }
+    requires caller_to { caller ≤ 8 }
+    requires room { HasRoom update.now state.old.state }
+    ensures follows { OnOk result (Follows (Command.Change caller update.now) state.old.state state.new.state) }
+    ensures reply { IfOk result (λ r. r ≡ Reply.Done (length state.new.state.history)) }
+{
+    let copy = update.copy(alloc)?;
+    let mark = updated::<Brand>(alloc, state, caller, copy, Blank::new(1))?;
+    tended(alloc, state)?;
+    Ok(Reply::Done { mark })
+}
+
+// One more update of the caller. There is room for it, so nothing but want of memory refuses it.
+fn updated<L: Ledger>(
+    alloc: Global,
+    state: &mut MapState,
+    caller: u8,
+    update: Update,
+    blank: Blank,
+) -> Result<u64, NoMemory>
+    requires caller_from { 1 ≤ caller }
+    requires caller_to { caller ≤ 8 }
+    requires room { HasRoom update state.old.state }
+    requires name { blank.name ≡ L.name }
+    requires parts { blank.parts ≡ L.parts }
+    requires some { 0 < blank.parts }
+    ensures stepped { OnOk result (IsUpdateStep caller update state.old.state state.new.state) }
+    ensures len { IfOk result (λ n. n ≡ length state.new.state.history) }
+{
+    let mut steps: Steps<L> = Steps::new(blank);
+    match state.update(alloc, caller, update, &mut steps) {
+        Ok(mark) => Ok(mark),
+        Err(StateFault::NoMemory) => Err(NoMemory),
+        Err(StateFault::TooManyUpdates { .. } | StateFault::TooManyPoints { .. }) => unreachable!(),
+    }
+}
+
+// Looks after the tree when a change was made: a large subtree that breaches a criterion is taken out, built anew and put back.
+fn tended(alloc: Global, state: &mut MapState) -> Result<(), NoMemory>
+    ensures { OnOk result (IsTended state.old.state state.new.state) }
+{
+    let large = state.settings().large();
+    let Some(job) = state.detach(alloc, 1)? else {
+        return Ok(());
+    };
+    let Ok(built) = job.build(alloc, large) else {
+        return Err(NoMemory);
+    };
+    put_back::<Brand>(alloc, state, built, Blank::new(1))
+}
+
+// A value that is refused changes nothing.
+fn put_back<L: Ledger>(
+    alloc: Global,
+    state: &mut MapState,
+    built: Built,
+    blank: Blank,
+) -> Result<(), NoMemory>
+    requires name { blank.name ≡ L.name }
+    requires parts { blank.parts ≡ L.parts }
+    requires some { blank.parts ≡ 1 }
+    ensures { OnOk result (IsTended state.old.state state.new.state) }
+{
+    let mut steps: Steps<L> = Steps::new(blank);
+    match state.swap(alloc, built, true, &mut steps) {
+        Ok(()) => Ok(()),
+        Err(left) => match left.fault {
+            SwapFault::NoMemory => Err(NoMemory),
+            SwapFault::Stale { .. } | SwapFault::Behind { .. } => Ok(()),
+        },
+    }
+}
+
+fn near(
+    alloc: Global,
+    state: &MapState,
+    k: u32,
+    point: &Point,
+    within: Option<u64>,
+) -> Result<Reply, NoMemory>
+    requires k_from { 1 ≤ k }
+    requires k_to { k ≤ 256 }
+    requires within_to { ForSome within (λ r. r ≤ 4000000000) }
+    ensures { IfOk result (λ r. r ≡ reply_of state.now.state (Command.Near 1 k point.now within)) }
+{
+    let mark = state.history().len() as u64;
+    let hits = nearest(alloc, state.version().tree(), k, point, within)?;
+    Ok(Reply::Near(NearReply { mark, hits }))
+}
+
+fn inside(alloc: Global, state: &MapState, k: u32, cuboid: &Cuboid) -> Result<Reply, NoMemory>
+    requires k_from { 1 ≤ k }
+    requires k_to { k ≤ 256 }
+    ensures { IfOk result (λ r. r ≡ reply_of state.now.state (Command.Inside 1 k cuboid.now)) }
+{
+    let mark = state.history().len() as u64;
+    let tree = state.version().tree();
+    let count = count_in(tree, cuboid);
+    let items = in_cuboid(alloc, tree, cuboid, k)?;
+    Ok(Reply::Inside(BoxReply { mark, count, items }))
+}
+
+/// How many points are held.
+pub fn totals(state: &MapState) -> Reply
+    ensures { result ≡ reply_of state.now.state Command.Sync }
+{
+    let mark = state.history().len() as u64;
+    let counts = state.version().counts();
+    Reply::Totals {
+        mark,
+        live: counts.live,
+        suspended: counts.suspended,
+    }
+}

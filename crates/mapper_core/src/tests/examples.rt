@@ -1,0 +1,131 @@
+//! The examples.
+use super::ran;
+use crate::Status;
+use std::test::Fail;
+
+// Each pair of texts is a log and its transcript in examples/.
+#[test]
+fn the_examples_give_their_transcripts(rt: HostRuntime) -> Result<(), Fail> {
+    let alloc = rt.alloc();
+    for (log, want) in [
+        (
+            "ikdmap 1 voxel 200 large 1500
+@1 add 1 2 3
+@1 near 1 0 0 0
+",
+            "@1 ok 1
+@1 near 1 | 0 1 2 3 14
+end 1 live 1 suspended 0
+",
+        ),
+        (
+            "ikdmap 1 voxel 200 large 1500
+@1 near 5 0 0 0
+@1 add 5 0 0 0 5 0 0 0 5
+@1 near 2 0 0 0
+@1 add 7 7 7 7 7 7
+@1 near 1 7 7 7
+@1 near 9 0 0 0
+",
+            "@1 near 0
+@1 ok 1
+@1 near 1 | 2 0 0 5 25 | 1 0 5 0 25
+@1 ok 2
+@1 near 2 | 3 7 7 7 0
+@1 near 2 | 2 0 0 5 25 | 1 0 5 0 25 | 0 5 0 0 25 | 3 7 7 7 147 | 4 7 7 7 147
+end 2 live 5 suspended 0
+",
+        ),
+        (
+            "ikdmap 1 voxel 1000000 large 16
+@1 add 1000000000 1000000000 1000000000
+@1 near 1 -1000000000 -1000000000 -1000000000
+@1 add -1000000000 -1000000000 -1000000000
+@1 near 1 -1000000000 -1000000000 -1000000000
+",
+            "@1 ok 1
+@1 near 1 | 0 1000000000 1000000000 1000000000 12000000000000000000
+@1 ok 2
+@1 near 2 | 1 -1000000000 -1000000000 -1000000000 0
+end 2 live 2 suspended 0
+",
+        ),
+        (
+            "ikdmap 1 voxel 200 large 16
+@1 add 1 0 0 2 0 0 3 0 0
+@1 delete 1 0 0 2 1 1
+@1 restore 0 0 0 9 9 9
+@1 suspend 0 0 0 9 9 9
+@1 near 3 0 0 0
+@1 restore 3 0 0 4 1 1
+@1 near 3 0 0 0
+@1 erase 3 0 0
+",
+            "@1 ok 1
+@1 ok 2
+@1 ok 3
+@1 ok 4
+@1 near 4
+@1 ok 5
+@1 near 5 | 2 3 0 0 9
+@1 ok 6
+end 6 live 0 suspended 1
+",
+        ),
+        (
+            "ikdmap 1 voxel 100 large 1500
+@1 thin 10 10 10 48 50 50 70 20 20
+@1 near 3 0 0 0
+@1 thin 150 50 50 -1 0 0
+@1 box 2 0 0 0 200 100 100
+@1 box 2 -100 0 0 200 100 100
+@1 near 3 50 50 50 within 99
+@1 near 3 50 50 50 within 100
+",
+            "@1 ok 1
+@1 near 1 | 1 48 50 50 7304
+@1 ok 2
+@1 box 2 2 | 1 48 50 50 | 3 150 50 50
+@1 box 2 3 | 1 48 50 50 | 3 150 50 50
+@1 near 2 | 1 48 50 50 4 | 4 -1 0 0 7601
+@1 near 2 | 1 48 50 50 4 | 4 -1 0 0 7601 | 3 150 50 50 10000
+end 2 live 3 suspended 0
+",
+        ),
+        (
+            "# Two scanners on one map. What begins with # is skipped, and so is an empty line.
+ikdmap 1 voxel 200 large 1500
+
+# Scanner 1 adds three points, and finds them at once.
+@1 add 300 0 0 0 400 0 0 0 500
+@1 near 1 0 0 0
+
+# What stands below a sync comes after all that stands above it, whoever asks.
+sync
+@2 near 2 0 0 0
+@2 delete 0 0 0 1000 1000 100
+sync
+@1 near 5 0 0 0
+@2 box 5 0 0 0 1000 1000 1000
+",
+            "@1 ok 1
+@1 near 1 | 0 300 0 0 90000
+sync 1 live 3 suspended 0
+@2 near 1 | 0 300 0 0 90000 | 1 0 400 0 160000
+@2 ok 2
+sync 2 live 1 suspended 0
+@1 near 2 | 2 0 0 500 250000
+@2 box 2 1 | 2 0 0 500
+end 2 live 1 suspended 0
+",
+        ),
+    ] {
+        for words in ["run", "run --serial"] {
+            let ran = ran(alloc, words, log.as_bytes())?;
+            assert_eq!(rt; ran.status, Status::Done, "{words}, {log}");
+            assert_eq!(rt; ran.out.bytes(), want.as_bytes(), "{words}, {log}");
+            assert_eq!(rt; ran.notes.bytes(), b"".as_slice(), "{words}, {log}");
+        }
+    }
+    Ok(())
+}

@@ -1,0 +1,76 @@
+//! What the outside may do.
+use super::{HEADER, SMALLEST, SMALLEST_OUT, words_of};
+use crate::{MemSink, MemSource, Sink, Source, Status, SureSink, SureSource, run};
+use std::test::Fail;
+
+#[test]
+fn a_failing_call_of_the_outside_ends_the_run(rt: HostRuntime) -> Result<(), Fail> {
+    let alloc = rt.alloc();
+    let words = words_of(alloc, "run")?;
+    // The piece and the failing call of the log, and those of out; how much of the transcript stands in out then.
+    for (read_piece, failing_read, write_piece, failing_write, want, written, note) in [
+        (8, 0, 10, 0, Status::Done, 56, ""),
+        (8, 1, 10, 0, Status::ReadFault, 0, "read fault\n"),
+        (8, 2, 10, 0, Status::ReadFault, 0, "read fault\n"),
+        (8, 0, 10, 1, Status::WriteFault, 0, "write fault\n"),
+        (8, 0, 10, 2, Status::WriteFault, 10, "write fault\n"),
+        // 59 reads give all bytes, and one more their end.
+        (1, 60, 10, 0, Status::ReadFault, 0, "read fault\n"),
+        (1, 61, 10, 0, Status::Done, 56, ""),
+        (8, 0, 1, 1, Status::WriteFault, 0, "write fault\n"),
+        (8, 0, 1, 56, Status::WriteFault, 55, "write fault\n"),
+        (8, 0, 1, 57, Status::Done, 56, ""),
+        // A read comes before any write.
+        (8, 1, 10, 1, Status::ReadFault, 0, "read fault\n"),
+    ] {
+        assert!(rt; 1 <= read_piece);
+        assert!(rt; 1 <= write_piece);
+        let mut log = MemSource::new(
+            SMALLEST.to_vec(alloc)?,
+            read_piece,
+            [failing_read].to_vec(alloc)?,
+        );
+        let mut out = MemSink::new(alloc, write_piece, [failing_write].to_vec(alloc)?);
+        let mut notes = SureSink::new(alloc);
+        let status = run(&rt, alloc, words.as_slice(), &mut log, &mut out, &mut notes);
+        assert_eq!(rt; status, want);
+        assert_eq!(rt; Some(out.bytes()), SMALLEST_OUT.get(..written));
+        assert_eq!(rt; notes.bytes(), note.as_bytes());
+    }
+    Ok(())
+}
+
+#[test]
+fn a_fault_of_notes_does_not_change_the_status(rt: HostRuntime) -> Result<(), Fail> {
+    let alloc = rt.alloc();
+    let log = format!(in alloc; "{HEADER}@1 add 1000000001 0 0\n")?;
+    for (line, piece, failing, want, note) in [
+        ("run", 10, 1, Status::BadLog, ""),
+        ("run", 10, 2, Status::BadLog, "line 2: ou"),
+        ("run fast", 7, 2, Status::Usage, "usage: "),
+    ] {
+        assert!(rt; 1 <= piece);
+        let words = words_of(alloc, line)?;
+        let mut log = SureSource::new(log.as_bytes().to_vec(alloc)?);
+        let mut out = SureSink::new(alloc);
+        let mut notes = MemSink::new(alloc, piece, [failing].to_vec(alloc)?);
+        let status = run(&rt, alloc, words.as_slice(), &mut log, &mut out, &mut notes);
+        assert_eq!(rt; status, want);
+        assert_eq!(rt; out.bytes(), b"".as_slice());
+        assert_eq!(rt; notes.bytes(), note.as_bytes());
+    }
+    Ok(())
+}
+
+#[test]
+fn a_piece_is_the_most_that_a_call_moves(rt: HostRuntime) -> Result<(), Fail> {
+    let alloc = rt.alloc();
+    let mut source = MemSource::new(SMALLEST.to_vec(alloc)?, 8, [2].to_vec(alloc)?);
+    let mut sink = MemSink::new(alloc, 10, [2].to_vec(alloc)?);
+    let mut buf = [0; 100];
+    for (read, written) in [(Some(8), Some(10)), (None, None), (Some(8), Some(10))] {
+        assert_eq!(rt; source.read(&mut buf).ok(), read);
+        assert_eq!(rt; sink.write(SMALLEST_OUT).ok(), written);
+    }
+    Ok(())
+}

@@ -1,0 +1,152 @@
+//! Worked logs.
+use super::{HEADER, SMALLEST, SMALLEST_OUT, ran, ran_by_bytes};
+use crate::Status;
+use crate::replying::{serial, transcript};
+use scan_log::parse;
+use std::test::Fail;
+
+#[test]
+fn worked_logs_give_their_transcripts(rt: HostRuntime) -> Result<(), Fail> {
+    let alloc = rt.alloc();
+    for (large, commands, want) in [
+        (
+            "1500",
+            "@1 add 1 2 3\n@1 near 1 0 0 0\n",
+            "@1 ok 1\n@1 near 1 | 0 1 2 3 14\nend 1 live 1 suspended 0\n",
+        ),
+        ("1500", "", "end 0 live 0 suspended 0\n"),
+        (
+            "1500",
+            "@1 near 5 0 0 0\n@1 add 10 0 0 0 0 -3\n@1 near 5 0 0 0\n",
+            "@1 near 0\n@1 ok 1\n@1 near 1 | 1 0 0 -3 9 | 0 10 0 0 100\nend 1 live 2 suspended 0\n",
+        ),
+        (
+            "1500",
+            "@1 add 5 0 0 0 5 0 0 0 5\n@1 near 2 0 0 0\n",
+            "@1 ok 1\n@1 near 1 | 2 0 0 5 25 | 1 0 5 0 25\nend 1 live 3 suspended 0\n",
+        ),
+        (
+            "1500",
+            "@1 add 7 7 7 7 7 7\n@1 near 1 7 7 7\n",
+            "@1 ok 1\n@1 near 1 | 0 7 7 7 0\nend 1 live 2 suspended 0\n",
+        ),
+        (
+            "1500",
+            "@1 add 1000000000 1000000000 1000000000\n@1 near 1 -1000000000 -1000000000 -1000000000\n",
+            "@1 ok 1\n@1 near 1 | 0 1000000000 1000000000 1000000000 12000000000000000000\nend 1 live 1 suspended 0\n",
+        ),
+        // What is deleted is gone, and what is suspended comes back.
+        (
+            "16",
+            "@1 add 1 0 0 2 0 0 3 0 0\n@1 delete 1 0 0 2 1 1\n@1 restore 0 0 0 9 9 9\n@1 suspend 0 0 0 9 9 9\n@1 near 3 0 0 0\nsync\n@1 restore 3 0 0 4 1 1\n@1 near 3 0 0 0\n",
+            "@1 ok 1\n@1 ok 2\n@1 ok 3\n@1 ok 4\n@1 near 4\nsync 4 live 0 suspended 2\n@1 ok 5\n@1 near 5 | 2 3 0 0 9\nend 5 live 1 suspended 1\n",
+        ),
+        (
+            "1500",
+            "@1 add 1 2 3 1 2 3 1 2 4\n@1 erase 1 2 3\n@1 box 5 0 0 0 9 9 9\n",
+            "@1 ok 1\n@1 ok 2\n@1 box 2 1 | 2 1 2 4\nend 2 live 1 suspended 0\n",
+        ),
+        // A box holds its lower corner and not its upper one.
+        (
+            "1500",
+            "@1 add 0 0 0 9 0 0\n@1 box 5 0 0 0 0 9 9\n@1 box 5 0 0 0 9 9 9\n@1 box 1 0 0 0 10 9 9\n",
+            "@1 ok 1\n@1 box 1 0\n@1 box 1 1 | 0 0 0 0\n@1 box 1 2 | 0 0 0 0\nend 1 live 2 suspended 0\n",
+        ),
+        // A greatest distance admits its own value.
+        (
+            "1500",
+            "@1 add 3 4 0 6 0 0\n@1 near 3 0 0 0 within 5\n@1 near 3 0 0 0 within 0\n",
+            "@1 ok 1\n@1 near 1 | 0 3 4 0 25\n@1 near 1\nend 1 live 2 suspended 0\n",
+        ),
+        // After a sync all have seen all.
+        (
+            "1500",
+            "@1 add 5 0 0\nsync\n@2 add 1 0 0\nsync\n@1 near 1 0 0 0\n@2 near 1 0 0 0\n@3 near 1 0 0 0\n",
+            "@1 ok 1\nsync 1 live 1 suspended 0\n@2 ok 2\nsync 2 live 2 suspended 0\n@1 near 2 | 1 1 0 0 1\n@2 near 2 | 1 1 0 0 1\n@3 near 2 | 1 1 0 0 1\nend 2 live 2 suspended 0\n",
+        ),
+        // The last line needs no line feed.
+        (
+            "1500",
+            "@1 add 1 2 3",
+            "@1 ok 1\nend 1 live 1 suspended 0\n",
+        ),
+    ] {
+        let log = format!(in alloc; "ikdmap 1 voxel 200 large {large}\n{commands}")?;
+        for words in ["run", "run --serial"] {
+            let ran = ran(alloc, words, log.as_bytes())?;
+            assert_eq!(rt; ran.status, Status::Done, "{words}, {commands}");
+            assert_eq!(rt; ran.out.bytes(), want.as_bytes(), "{words}, {commands}");
+            assert_eq!(rt; ran.notes.bytes(), b"".as_slice(), "{words}, {commands}");
+        }
+        let (status, out) = ran_by_bytes(alloc, "run", log.as_bytes())?;
+        assert_eq!(rt; status, Status::Done, "{commands}");
+        assert_eq!(rt; out.bytes(), want.as_bytes(), "{commands}");
+    }
+    Ok(())
+}
+
+#[test]
+fn a_voxel_keeps_the_point_nearest_to_its_centre(rt: HostRuntime) -> Result<(), Fail> {
+    let alloc = rt.alloc();
+    for (commands, want) in [
+        // The voxels of negative numbers go downwards too.
+        (
+            "@1 thin -1 0 0 -200 0 0 -201 0 0\n@1 near 3 0 0 0\n",
+            "@1 ok 1\n@1 near 1 | 0 -1 0 0 1 | 2 -201 0 0 40401\nend 1 live 2 suspended 0\n",
+        ),
+        // A point that is turned away uses up its number.
+        (
+            "@1 thin 10 10 10\n@1 thin 100 100 100\n@1 thin 150 150 150\n@1 add 1 1 1\n@1 near 2 100 100 100\n",
+            "@1 ok 1\n@1 ok 2\n@1 ok 3\n@1 ok 4\n@1 near 4 | 1 100 100 100 0 | 3 1 1 1 29403\nend 4 live 2 suspended 0\n",
+        ),
+        // One that was there before keeps its number.
+        (
+            "@1 add 100 100 100 10 10 10\n@1 thin 50 50 50\n@1 near 3 0 0 0\n",
+            "@1 ok 1\n@1 ok 2\n@1 near 2 | 0 100 100 100 30000\nend 2 live 1 suspended 0\n",
+        ),
+    ] {
+        let log = format!(in alloc; "{HEADER}{commands}")?;
+        let ran = ran(alloc, "run", log.as_bytes())?;
+        assert_eq!(rt; ran.status, Status::Done, "{commands}");
+        assert_eq!(rt; ran.out.bytes(), want.as_bytes(), "{commands}");
+    }
+    Ok(())
+}
+
+#[test]
+fn several_callers_are_answered_in_the_logs_order(rt: HostRuntime) -> Result<(), Fail> {
+    let alloc = rt.alloc();
+    let log = format!(in alloc; "{HEADER}@1 add 100 0 0\n@2 add 1 0 0\n@2 near 1 0 0 0\n")?;
+    let ran = ran(alloc, "run --serial", log.as_bytes())?;
+    assert_eq!(rt; ran.status, Status::Done);
+    assert_eq!(rt;
+        ran.out.bytes(),
+        b"@1 ok 1\n@2 ok 2\n@2 near 2 | 1 1 0 0 1\nend 2 live 2 suspended 0\n".as_slice()
+    );
+    Ok(())
+}
+
+#[test]
+fn many_equal_points_are_held_each_by_itself(rt: HostRuntime) -> Result<(), Fail> {
+    let alloc = rt.alloc();
+    let points = " 3 3 3".repeat(alloc, 5_000)?;
+    let log = format!(in alloc; "{HEADER}@1 add{points}\nsync\n@1 near 2 3 3 3\n")?;
+    let ran = ran(alloc, "run", log.as_bytes())?;
+    assert_eq!(rt; ran.status, Status::Done);
+    assert_eq!(rt;
+        ran.out.bytes(),
+        b"@1 ok 1\nsync 1 live 5000 suspended 0\n@1 near 1 | 0 3 3 3 0 | 1 3 3 3 0\nend 1 live 5000 suspended 0\n".as_slice()
+    );
+    Ok(())
+}
+
+#[test]
+fn a_script_is_answered_command_by_command_and_at_its_end(rt: HostRuntime) -> Result<(), Fail> {
+    let alloc = rt.alloc();
+    let script = parse(alloc, SMALLEST)?;
+    let replies = serial(alloc, &script)?;
+    assert_eq!(rt; replies.len(), 3);
+    let text = transcript(alloc, &script, &replies)?;
+    assert_eq!(rt; text.as_slice(), SMALLEST_OUT);
+    Ok(())
+}
