@@ -79,10 +79,13 @@ impl Node {
         }
     }
 
-    fn breaches(&self) -> bool {
+    // Whether the node is to be built anew once so many more stand on its left and on its right.
+    fn is_due(&self, large: u32, left: u32, right: u32) -> bool {
         let size = |tree: &Tree| tree.as_ref().map_or(0, |son| son.size);
-        let share = 3 * (self.size - 1);
-        5 * size(&self.left) >= share || 5 * size(&self.right) >= share || 2 * self.counts[2] >= self.size
+        let (left, right) = (size(&self.left) + left, size(&self.right) + right);
+        let share = 3 * (left + right);
+        let all = left + right + 1;
+        (10..large).contains(&all) && (5 * left >= share || 5 * right >= share || 2 * self.counts[2] >= all)
     }
 }
 
@@ -138,7 +141,7 @@ fn build(items: &mut [Item]) -> Tree {
 
 fn refreshed(tree: Tree, large: u32) -> Tree {
     match tree {
-        Some(node) if node.size >= 10 && node.size < large && node.breaches() => {
+        Some(node) if node.is_due(large, 0, 0) => {
             let mut items = Vec::with_capacity(node.size as usize);
             flatten(Some(node), KEEP, &mut items);
             build(&mut items)
@@ -171,6 +174,35 @@ fn put(tree: Tree, large: u32, number: u32, point: [i64; 3], axis: usize) -> Tre
     } else {
         node.right = put(node.right.take(), large, number, point, next);
     }
+    node.pull_up();
+    refreshed(Some(node), large)
+}
+
+// Puts the items in one pass: they are parted at each node that they meet, and what would breach is built anew with them.
+fn put_all(tree: Tree, large: u32, items: &mut [Item], axis: usize) -> Tree {
+    if let [] | [_] = items {
+        return items.iter().fold(tree, |tree, i| put(tree, large, i.number, i.point, axis));
+    }
+    let Some(mut node) = tree else { return build(items) };
+    let at = node.item.point[node.axis];
+    let mut count = 0;
+    for i in 0..items.len() {
+        if items[i].point[node.axis] < at {
+            items.swap(count, i);
+            count += 1;
+        }
+    }
+    let (left, right) = items.split_at_mut(count);
+    if node.is_due(large, left.len() as u32, right.len() as u32) {
+        let mut all = Vec::with_capacity(node.size as usize + items.len());
+        flatten(Some(node), KEEP, &mut all);
+        all.extend_from_slice(items);
+        return build(&mut all);
+    }
+    node.push_down();
+    let next = (node.axis + 1) % 3;
+    node.left = put_all(node.left.take(), large, left, next);
+    node.right = put_all(node.right.take(), large, right, next);
     node.pull_up();
     refreshed(Some(node), large)
 }
@@ -281,8 +313,8 @@ fn with(sum: u64, number: u32, dist2: u64) -> u64 {
     sum.wrapping_mul(31).wrapping_add(number as u64).wrapping_add(dist2)
 }
 
-fn numbered(points: &[[i64; 3]]) -> Vec<Item> {
-    (0..).zip(points).map(|(number, &point)| Item { number, point, label: LIVE }).collect()
+fn numbered(first: u32, points: &[[i64; 3]]) -> Vec<Item> {
+    (first..).zip(points).map(|(number, &point)| Item { number, point, label: LIVE }).collect()
 }
 
 struct Map {
@@ -308,10 +340,9 @@ impl Map {
     }
 
     fn add(&mut self, points: &[[i64; 3]]) {
-        for point in points {
-            self.tree = put(self.tree.take(), LARGE, self.next, *point, 0);
-            self.next += 1;
-        }
+        let mut items = numbered(self.next, points);
+        self.next += points.len() as u32;
+        self.tree = put_all(self.tree.take(), LARGE, &mut items, 0);
     }
 
     // Takes the scans in, after something that is done with each scan's points. After each tenth scan what lies from 30
@@ -344,7 +375,7 @@ fn main() {
     let points = draws.points(count);
     let places = draws.places(asked, count);
     let cubes: Vec<Cuboid> = places.iter().map(|lo| [*lo, lo.map(|c| c + 1000)]).collect();
-    let mut items = numbered(&points);
+    let mut items = numbered(0, &points);
     let mut map = Map { tree: None, next: 0, sum: 0 };
     match words[0].as_str() {
         "ask" | "box" => map.tree = build(&mut items),

@@ -57,6 +57,7 @@ held    the same, while the version before each scan is held. The plain tree hol
 turn    as scans, and before a scan is added each of its points is asked for its 5 nearest
 box     cubes of a metre are deleted from a tree that was built, 10,000 times
 
-Both build subtrees below 1,000,000 nodes anew in place, and leave out subtrees without a live item when they search.
+Both build subtrees below 1,000,000 nodes anew in place, put a scan in one pass, and leave out subtrees without a live item
+when they search.
 The plain tree has 8 bytes a coordinate.
 LEGEND

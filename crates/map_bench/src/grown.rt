@@ -4,9 +4,9 @@ ghost use Rattle.kd_tree.specs.Shape.{numbers};
 
 use crate::course::Scan;
 use kd_tree::{Steps, Tree};
-use kd_update::{marked, put, roomy};
+use kd_update::{marked, put_points};
 use map_fold::{NoMemory, Points, Tag};
-use point_geom::{Cuboid, Point};
+use point_geom::Cuboid;
 use std::alloc::Global;
 use std::sync::ledger::Ledger;
 
@@ -34,7 +34,7 @@ impl Grown {
         }
     }
 
-    /// The map after a scan: its points are put one by one, and then what the robot leaves is deleted.
+    /// The map after a scan: its points are put at once, and then what the robot leaves is deleted.
     pub fn after<L: Ledger>(
         self,
         alloc: Global,
@@ -48,37 +48,22 @@ impl Grown {
         }
     }
 
-    // Where all numbers are given, no more are put.
+    // Where too few numbers are left for all of them, none is put.
     fn put_all<L: Ledger>(
         self,
         alloc: Global,
         points: &Points,
         steps: &mut Steps<L>,
     ) -> Result<Grown, NoMemory> {
-        let mut map = self;
-        for point in points.as_slice() {
-            if map.next == NUMBERS {
-                return Ok(map);
-            }
-            map = map.put(alloc, *point, steps)?;
+        let points = points.as_slice();
+        if points.len() > (NUMBERS - self.next) as usize {
+            return Ok(self);
         }
-        Ok(map)
-    }
-
-    fn put<L: Ledger>(
-        self,
-        alloc: Global,
-        point: Point,
-        steps: &mut Steps<L>,
-    ) -> Result<Grown, NoMemory>
-        requires { self.next < 4194304 }
-    {
         let _size = self.tree.size();
-        let tree = roomy(alloc, self.tree, steps)?;
-        let tree = put(alloc, tree, LARGE, self.next, point, steps)?;
+        let tree = put_points(alloc, self.tree, LARGE, self.next, points, steps)?;
         Ok(Grown {
             tree,
-            next: self.next + 1,
+            next: self.next + points.len() as u32,
         })
     }
 
