@@ -13,7 +13,7 @@ use Rattle.node_labels.specs.declared.label.Label.TheVariants.{Live}
 use Rattle.map_fold.specs.declared.item.Item.{Item}
 use Rattle.map_fold.specs.Contents.{live_at, relabelled, kept}
 use Rattle.map_fold.specs.Nearest.{Member}
-use Rattle.kd_tree.specs.Shape.{Head, Shape, leaf, fork, levels, numbers}
+use Rattle.kd_tree.specs.Shape.{Head, Shape, leaf, fork, levels, nodes, numbers}
 use Rattle.kd_tree.specs.Walk.{walk, times}
 use Rattle.kd_tree.specs.Sound.{IsSound, IsSoundFork}
 use Rattle.kd_tree.specs.Contents.{AreDistinct, AreKept}
@@ -144,6 +144,19 @@ grown_built large s t is p b ns = record {
   low = built_low large s t is p b;
   from = built_from s t is ns;
 }
+
+-- Where the tree had a node, so much may be built.
+pub grown_anew : (s t : Shape) (is : List Item) → AreLive is → length (walk keep_tag s) + length is ≤ 4194304 → 1 ≤ nodes s + levels s → IsBuilt (walk keep_tag s ++ is) t → IsPermutation (map (λ i. i.number) (walk keep_tag s ++ is)) (numbers t) → IsGrown s is t
+grown_anew leaf t is live few some b ns = absurd (omega (arith, some))
+grown_anew (fork h l r) t is live few some b ns =
+    let s = fork h l r in
+    let all = walk keep_tag s ++ is in
+    record {
+      same = built_walk t all b (kept_with s is live);
+      few = omega (arith, built_nodes t all b, length-append (walk keep_tag s) is, walk_few keep_tag s);
+      low = omega (arith, built_levels t all 23 b (omega (arith, length-append (walk keep_tag s) is, few)));
+      from = built_from s t is ns;
+    }
 
 -- pieces
 

@@ -82,10 +82,10 @@ put_then large s t u xs ys f g = record {
 
 -- items that may join what a tree holds
 
-walk_distinct : (s : Shape) (is : List Item) → AreDistinct (contents s ++ is) → AreDistinct (walk keep_tag s ++ is)
+pub walk_distinct : (s : Shape) (is : List Item) → AreDistinct (contents s ++ is) → AreDistinct (walk keep_tag s ++ is)
 walk_distinct s is d = once_moved _ _ (IsPermutation-append_left is _ _ (IsPermutation-sym _ _ (by_number_moves (walk keep_tag s)))) d
 
-contents_size : (s : Shape) → length (contents s) ≡ length (walk keep_tag s)
+pub contents_size : (s : Shape) → length (contents s) ≡ length (walk keep_tag s)
 contents_size s = length_permutation (walk keep_tag s) (contents s) (by_number_moves (walk keep_tag s))
 
 pub join_piece : (large : ℕ) (s : Shape) (is : List Item) → MayJoin (contents s) is → length is < max 2 large → length is < 4194304 → levels s ≤ 490 → nodes s + length is ≤ 4194304 → IsPiece large s is

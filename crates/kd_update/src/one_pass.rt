@@ -81,8 +81,8 @@ fn built_with<L: Ledger>(
 }
 
 // What is left of the tree, node first, and the items. The tree is let go.
-fn left_with(alloc: Global, tree: Tree, items: &[Item]) -> Result<Vec<Item>, NoMemory>
-    requires { nodes tree + length items.now ≤ 4194304 }
+pub(crate) fn left_with(alloc: Global, tree: Tree, items: &[Item]) -> Result<Vec<Item>, NoMemory>
+    requires { length (walk keep_tag tree) + length items.now ≤ 4194304 }
     ensures { IfOk result (λ v. v.items ≡ walk keep_tag tree ++ items.now) }
 {
     let _size = tree.size();

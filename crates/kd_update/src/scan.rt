@@ -1,13 +1,13 @@
 //! Scans of points put into a tree, in as few passes as may be.
-ghost use Rattle.std.specs.Prelude.{◌≡◌, ◌+◌, ◌<◌, ◌≤◌, max, [], ◌∷◌, ◌++◌, length, IfOk};
-ghost use Rattle.kd_tree.specs.Shape.{nodes, numbers};
+ghost use Rattle.std.specs.Prelude.{◌≡◌, ℕ, ◌+◌, ◌<◌, ◌≤◌, max, [], ◌∷◌, ◌++◌, length, IfOk};
+ghost use Rattle.kd_tree.specs.Shape.{levels, nodes, numbers};
 ghost use Rattle.kd_tree.specs.Contents.{contents};
 ghost use Rattle.kd_update.specs.Refresh.{AreAmong};
 ghost use Rattle.kd_update.specs.Update.{IsEven};
 ghost use Rattle.kd_update.specs.Scan.{IsPut, MayJoin, numbers_in, put_each};
 
 use crate::insert::put_below;
-use crate::one_pass::put_at_once;
+use crate::one_pass::{left_with, put_at_once};
 use crate::roomy;
 use kd_tree::{Steps, Tree};
 use map_fold::{Item, NoMemory};
@@ -18,14 +18,18 @@ use std::sync::ledger::Ledger;
 // A pass adds at most 22 levels, so it begins with no more than these.
 const LOW: u32 = 490;
 
+// A tree with so many levels takes no point.
+const FULL: u32 = 512;
+
 const MOST: u32 = 4_194_304;
 
 /// The tree with these items put: each of them is live, and its number isn't held.
 ///
 /// The items are put in passes of fewer than `large`. In a pass each node that they meet is made anew once, however many of
 /// them meet it, and a subtree of fewer than `large` nodes that would breach a criterion is built anew with them at once. Near
-/// the bounds of a tree they are put one by one. The contents are those of `put`, done in turn; where nodes stand isn't. Where
-/// memory is wanting, the tree is let go.
+/// the bounds of a tree they are put one by one, and once it is full, so that it has to be built anew anyway, it is built with
+/// all that are left: so a scan builds it anew at most once, however its points lie. The contents are those of `put`, done in
+/// turn; where nodes stand isn't. Where memory is wanting, the tree is let go.
 pub fn put_all<L: Ledger>(
     alloc: Global,
     tree: Tree,
@@ -53,15 +57,45 @@ fn put_in_pieces<L: Ledger>(
     requires { MayJoin (contents tree) items.now }
     ensures { IfOk result (λ t. IsPut large tree items.now t) }
 {
-    let most = large.clamp(2, MOST) as usize - 1;
     let mut tree = tree;
     let mut rest = items;
     while !rest.is_empty() {
+        if tree.levels() >= FULL || tree.size() >= MOST {
+            return built_with_rest(alloc, tree, rest, steps);
+        }
+        let most = most_at_once(&tree, large);
         let (piece, more) = rest.split_at(most.min(rest.len()));
         tree = put_piece(alloc, tree, large, piece, steps)?;
         rest = more;
     }
     Ok(tree)
+}
+
+// How many items are put next.
+fn most_at_once(tree: &Tree, large: u32) -> usize
+    ensures some { 1 ≤ result }
+    ensures small { result < max 2 large }
+    ensures short { result < 4194304 }
+{
+    if tree.levels() > LOW {
+        return 1;
+    }
+    large.clamp(2, MOST) as usize - 1
+}
+
+// The tree is full: what is left of it and the items, built by medians. The tree is let go.
+fn built_with_rest<L: Ledger>(
+    alloc: Global,
+    tree: Tree,
+    items: &[Item],
+    steps: &mut Steps<L>,
+) -> Result<Tree, NoMemory>
+    requires fit { MayJoin (contents tree) items.now }
+    requires some { 1 ≤ nodes tree + levels tree }
+    ensures { (large : ℕ) → IfOk result (λ t. IsPut large tree items.now t) }
+{
+    let all = left_with(alloc, tree, items)?;
+    Tree::build_from(alloc, all, steps)
 }
 
 // Fewer items than large nodes are: in one pass if there is room.

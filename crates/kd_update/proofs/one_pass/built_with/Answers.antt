@@ -15,6 +15,9 @@ use Rattle.kd_update.proofs.Results.{ok_both}
 use Rattle.kd_update.proofs.Update.{calm_even}
 use Rattle.kd_update.proofs.one_pass.built_with.Goals as goal
 
+pub left_with-requires : goal.left_with-requires
+left_with-requires g c = omega (arith, walk_few keep_tag c.args.tree, c.requires.piece.few)
+
 pub build_from-requires-clause-kept : goal.build_from-requires-clause-kept
 build_from-requires-clause-kept g c = subst AreKept (sym c.in_ok-all.ensures) (kept_with c.args.tree c.args.items.now c.requires.piece.live)
 

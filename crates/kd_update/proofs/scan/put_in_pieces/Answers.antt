@@ -1,6 +1,7 @@
 use Rattle.std.proofs.Common.{◌∙◌, List, length, sym, subst}
 use Rattle.std.proofs.lemmas.Bool.{eqb-true}
 use Rattle.std.proofs.lemmas.List.{nil_from_length}
+use Rattle.std.proofs.lemmas.Result.{IfOk-weaker}
 use Rattle.map_fold.specs.declared.item.Item.{Item}
 use Rattle.kd_tree.specs.Contents.{contents}
 use Rattle.kd_update.specs.Scan.{IsPut, MayJoin}
@@ -23,6 +24,11 @@ loop-rest-preserved g c =
       fit = join_rest s t piece more (subst (λ (xs : List Item). MayJoin (contents s) xs) cut c.loop-rest.invariant.fit) c.in_ok-tree.ensures.held;
       rest = λ u k. c.loop-rest.invariant.rest u (subst (λ (xs : List Item). IsPut c.args.large s xs u) (sym cut) (put_then c.args.large s t u piece more c.in_ok-tree.ensures k));
     }
+
+pub returns-then-levels-ge-FULL : goal.returns-then-levels-ge-FULL
+returns-then-levels-ge-FULL g c =
+    IfOk-weaker c.built_with_rest.result _ (λ t. IsPut c.args.large c.args.tree c.args.items.now t)
+    c.loop-rest.invariant.rest (c.built_with_rest.ensures c.args.large)
 
 pub returns : goal.returns
 returns g c =
