@@ -12,3 +12,5 @@ pub mod Detaching
 pub mod Balance
 pub mod OtherParts
 pub mod Swapping
+pub mod Both
+pub mod AtOnce

@@ -6,7 +6,9 @@ pub mod Single
 pub mod OnePoint
 pub mod Built
 pub mod Steps
+pub mod Desk
 pub mod Detach
 pub mod Draft
 pub mod StateView
 pub mod Swap
+pub mod Waiting

@@ -2,6 +2,7 @@
 #![tactic(auto)]
 
 mod built;
+mod desk;
 mod detach;
 mod draft;
 mod enter;
@@ -19,9 +20,11 @@ mod swap;
 mod tests;
 mod thin;
 mod version;
+mod waiting;
 mod work;
 
 pub use built::{Built, BuiltLeft};
+pub use desk::Desk;
 pub use fault::{LogAsk, StateFault, SwapFault};
 pub use job::{Job, JobLeft};
 pub use part::PartInfo;

@@ -38,4 +38,11 @@ impl Planned {
     {
         &self.version
     }
+
+    /// The entry that the history is to get, if there is one.
+    pub fn entry(&self) -> &Option<Entry>
+        ensures { result.now ≡ self.now.entry }
+    {
+        &self.entry
+    }
 }

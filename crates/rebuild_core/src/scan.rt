@@ -1,14 +1,15 @@
-//! A scan put by an update, where no subtree is watched.
+//! Scans that an update puts or thins by, where no subtree is watched.
 ghost use Rattle.std.specs.Prelude.{◌≡◌, ℕ, ◌+◌, ◌≤◌, List, [], length, IfOk};
-ghost use Rattle.map_fold.specs.Fold.{add_points};
+ghost use Rattle.map_fold.specs.Fold.{add_points, thin_points};
 ghost use Rattle.rebuild_core.specs.Lawful.{map_of};
 ghost use Rattle.rebuild_core.specs.Draft.{IsDraft, IsDraftLeft, IsWork};
 ghost use Rattle.rebuild_core.specs.Parts.{PartAt};
 
+use crate::waiting::thinned_at_once;
 use crate::work::Work;
 use kd_tree::Steps;
 use kd_update::put_points;
-use map_fold::NoMemory;
+use map_fold::{NoMemory, Settings};
 use point_geom::Point;
 use std::alloc::Global;
 use std::sync::ledger::Ledger;
@@ -37,6 +38,27 @@ impl Work {
         let Work { tree, watches } = self;
         let _size = tree.size();
         let tree = put_points(alloc, tree, large, next, points, steps)?;
+        Ok(Work { tree, watches })
+    }
+
+    // The work after each of these points in turn has taken the next number and thinned its voxel.
+    pub(crate) fn thin_scan<L: Ledger>(
+        self,
+        alloc: Global,
+        settings: &Settings,
+        next: u32,
+        points: &[Point],
+        steps: &mut Steps<L>,
+    ) -> Result<Work, NoMemory>
+        requires draft { IsWork settings.now.large next self }
+        requires few { next + length points.now ≤ 4194304 }
+        requires free { self.watches ≡ [] }
+        ensures stepped { IfOk result (λ w. map_of w.tree (next + length points.now) ≡ thin_points settings.now.voxel points.now (map_of self.tree next)) }
+        ensures draft { (last : ℕ) (ps : List PartAt) → IsDraft settings.now.large next last ps self
+            → IfOk result (IsDraftLeft settings.now.large (next + length points.now) last ps) }
+    {
+        let Work { tree, watches } = self;
+        let tree = thinned_at_once(alloc, tree, settings, next, points, steps)?;
         Ok(Work { tree, watches })
     }
 }

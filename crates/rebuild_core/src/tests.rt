@@ -1,8 +1,10 @@
 //! States beside the plain map, and where they refuse.
 ghost use Rattle.std.specs.Prelude.{◌≡◌, ◌≤◌, ◌<◌, ◌^◌};
 
+mod drawn;
 mod parts;
 mod rows;
+mod schedules;
 mod thinning;
 
 use crate::{MapState, StateFault, Version};
@@ -92,8 +94,14 @@ impl Draws {
     }
 
     fn points(&mut self, alloc: Global) -> Result<Points, Fail> {
+        let count = self.below(9) as u32;
+        self.scan(alloc, count)
+    }
+
+    // So many of those places.
+    fn scan(&mut self, alloc: Global, count: u32) -> Result<Points, Fail> {
         let mut points = Points::new(alloc);
-        for _ in 0..self.below(9) {
+        for _ in 0..count {
             points.push(self.point()?)?;
         }
         Ok(points)

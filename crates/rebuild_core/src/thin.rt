@@ -13,6 +13,7 @@ ghost use Rattle.rebuild_core.specs.OnePoint.{IsTurnedAway};
 ghost use Rattle.rebuild_core.specs.Parts.{PartAt};
 
 use crate::draft::added_one;
+use crate::scan::SCAN;
 use crate::work::Work;
 use kd_search::{best_in, count_in};
 use kd_tree::Steps;
@@ -40,6 +41,9 @@ pub(crate) fn thinned<L: Ledger>(
     ensures still { (p : Place) → points.now ≡ p ∷ [] → IsTurnedAway settings.now.voxel (map_of work.tree next) p
         → steps.new ≡ steps.old }
 {
+    if points.len() >= SCAN && work.watches.len() == 0 {
+        return work.thin_scan(alloc, settings, next, points.as_slice(), steps);
+    }
     let mut work = work;
     let mut next = next;
     for point in points.as_slice() {

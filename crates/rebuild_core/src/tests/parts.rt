@@ -1,7 +1,7 @@
 //! Detached subtrees.
 ghost use Rattle.std.specs.Prelude.{◌≡◌};
 
-use super::updated;
+use super::{Draws, updated};
 use crate::swap::SwapLeft;
 use crate::{Built, Job, LogAsk, MapState, SwapFault};
 use kd_tree::Steps;
@@ -12,7 +12,12 @@ use std::marker::Brand;
 use std::sync::ledger::{Blank, Ledger};
 use std::test::Fail;
 
-fn swapped(alloc: Global, state: &mut MapState, built: Built, force: bool) -> Result<(), SwapLeft> {
+pub(crate) fn swapped(
+    alloc: Global,
+    state: &mut MapState,
+    built: Built,
+    force: bool,
+) -> Result<(), SwapLeft> {
     swapped_by::<Brand>(alloc, state, built, force, Blank::new(1))
 }
 
@@ -178,5 +183,35 @@ fn a_deep_tree_is_built_anew_and_its_detached_subtree_forgotten(
         Some(SwapFault::Stale { ticket: 1 })
     );
     assert_eq!(rt; state.version().counts().live, 640);
+    Ok(())
+}
+
+// Points of a wide hall, seen from its middle.
+fn hall(alloc: Global, count: u32) -> Result<Points, Fail> {
+    let mut draws = Draws { state: 1 };
+    let mut points = Points::new(alloc);
+    for _ in 0..count {
+        let x = draws.below(60_001) as i64 - 30_000;
+        let y = draws.below(60_001) as i64 - 30_000;
+        let z = draws.below(6_001) as i64 - 3_000;
+        points.push(Point::new(x, y, z)?)?;
+    }
+    Ok(points)
+}
+
+#[test]
+fn a_subtree_whose_log_is_full_is_built_anew_and_forgotten(rt: HostRuntime) -> Result<(), Fail> {
+    let alloc = rt.alloc();
+    let mut state = with_row(alloc, 41)?;
+    let job = detached(alloc, &mut state)?;
+    assert_eq!(rt; job.ticket(), 1);
+    updated(alloc, &mut state, 1, Update::Add(hall(alloc, 70_000)?))?;
+    assert_eq!(rt; logged(&state), None);
+    let built = built(alloc, job)?;
+    assert_eq!(rt;
+        refused(alloc, &mut state, built, true),
+        Some(SwapFault::Stale { ticket: 1 })
+    );
+    assert_eq!(rt; state.version().counts().live, 70_040);
     Ok(())
 }

@@ -1,7 +1,7 @@
-//! Points in a row.
+//! Points in a row, and points at one place.
 use super::updated;
 use crate::MapState;
-use kd_search::count_in;
+use kd_search::{count_in, nearest};
 use map_fold::{Points, Settings, Update};
 use point_geom::{Corner, Cuboid, Point};
 use std::test::Fail;
@@ -23,6 +23,29 @@ fn a_rising_row_that_fills_all_levels_is_found_whole(rt: HostRuntime) -> Result<
     for (x, want) in [(4_000, 4_000), (3_999, 3_999), (1, 1), (0, 0)] {
         let row = Cuboid::new(lo, Corner { x, y: 1, z: 1 })?;
         assert_eq!(rt; count_in(state.version().tree(), &row), want);
+    }
+    Ok(())
+}
+
+#[test]
+fn equal_points_are_settled_and_found_by_number(rt: HostRuntime) -> Result<(), Fail> {
+    let alloc = rt.alloc();
+    let mut state = MapState::new(alloc, Settings::new(200, 1_500))?;
+    let place = Point::new(3, 3, 3)?;
+    let mut points = Points::new(alloc);
+    for _ in 0..5_000 {
+        points.push(place)?;
+    }
+    updated(alloc, &mut state, 1, Update::Add(points))?;
+    state.settle(alloc)?;
+    let tree = state.version().tree();
+    assert!(rt; tree.first_breach(10).is_none());
+    assert_eq!(rt; tree.counts().live, 5_000);
+    let found = nearest(alloc, tree, 200, &place, None)?;
+    assert_eq!(rt; found.len(), 200);
+    for (hit, number) in found.as_slice().iter().zip(0..200u32) {
+        assert_eq!(rt; hit.number, number);
+        assert_eq!(rt; hit.dist2, 0);
     }
     Ok(())
 }

@@ -1,0 +1,173 @@
+-- Items that wait to be put into a tree, and what both hold.
+use Rattle.std.proofs.Common.{◌≡◌, ℕ, ◌+◌, ◌<◌, ◌≤◌, inl, Bool, true, false, not, cond, List, [], ◌∷◌, ◌++◌, Some, None, length, refl, ap, sym, ◌∙◌, subst, arith, length-append, append_assoc}
+use Rattle.std.specs.Prelude.{All, IsPermutation, count_by, filter, ◌==◌}
+use Rattle.std.specs.declared.option.Option.{Option}
+use Rattle.std.proofs.lemmas.Bool.{cases_Bool, eqb-true}
+use Rattle.std.proofs.lemmas.List.{append-nil}
+use Rattle.std.proofs.lemmas.List.Elements.{All-append, All-contains, All-contains_itself, All-cons, All-head, All-map, All-nil, All-tail, All-weaker, filter-append}
+use Rattle.std.proofs.lemmas.List.Sorted.{length_permutation, IsPermutation-sym, IsPermutation-to_front, sum_by-IsPermutation}
+use Rattle.std.proofs.lemmas.List.Sums.{sum_by-append, sum_by-cons}
+use Rattle.std.specs.Prelude.{Contains}
+use Rattle.point_geom.specs.Place.{Bounds}
+use Rattle.node_labels.specs.Labels.{thin_tag}
+use Rattle.node_labels.specs.declared.label.Label.TheVariants.{Live}
+use Rattle.map_fold.specs.declared.item.Item.{Item}
+use Rattle.map_fold.specs.Answers.{count, inside_all}
+use Rattle.map_fold.specs.Contents.{AreContents, in_box, live_at, mark, put}
+use Rattle.map_fold.specs.Ops.{IsUnheld}
+use Rattle.map_fold.proofs.Numbered.{contents_length, contents_within}
+use Rattle.map_fold.proofs.Puts.{filter_none}
+use Rattle.map_fold.proofs.Thinning.{inside_by, is_live_in, left_out, mark-thin}
+use Rattle.kd_tree.specs.Shape.{Shape, numbers}
+use Rattle.kd_tree.specs.Sound.{IsSound}
+use Rattle.kd_tree.specs.Contents.{AreDistinct, by_number, contents, insert_item}
+use Rattle.kd_tree.proofs.Held.{are_distinct, by_number-contents}
+use Rattle.kd_tree.proofs.Numbered.{by_number-filter, by_number-moved, by_number_moves, counted_in, insert-put, once_moved}
+use Rattle.kd_search.specs.Best.{best_from, best_inside, best_of}
+use Rattle.kd_search.proofs.Boxed.{count-by_number, inside-append}
+use Rattle.kd_search.proofs.Least.{best-by_number, best_from-append, best_from-none}
+use Rattle.kd_update.specs.Refresh.{AreAmong}
+use Rattle.kd_update.specs.Scan.{AreLive, MayJoin, numbers_in, put_each}
+use Rattle.kd_update.proofs.Grown.{IsLive, live_of}
+use Rattle.rebuild_core.specs.Waiting.{IsWaiting}
+use Rattle.rebuild_core.specs.declared.waiting.Waiting.{Waiting}
+
+-- what the tree holds and these items, by number
+abbrev pub both : Shape → List Item → List Item
+both t ws = by_number (contents t ++ ws)
+
+-- no number stands twice
+pub distinct_both : (next : ℕ) (t : Shape) (ws : List Item) → AreContents 0 next (both t ws) → AreDistinct (contents t ++ ws)
+distinct_both next t ws k =
+    let xs = contents t ++ ws in
+    once_moved (by_number xs) xs (IsPermutation-sym xs (by_number xs) (by_number_moves xs)) (are_distinct 0 next (by_number xs) k)
+
+-- with nothing that waits it is what the tree holds
+pub none_held : (t : Shape) → IsSound t → both t [] ≡ contents t
+none_held t sound = ap by_number (append-nil (contents t)) ∙ by_number-contents t sound
+
+-- a new number stands once
+distinct_new : (x : Item) (xs : List Item) → IsUnheld x.number xs → AreDistinct xs → AreDistinct (x ∷ xs)
+distinct_new x xs new k = record { once = λ n. cases n (n == x.number) refl }
+  where
+    cases : (n : ℕ) (b : Bool) → (n == x.number) ≡ b → count_by (λ i. n == i.number) (x ∷ xs) ≤ 1
+    cases n true e =
+        let here : n ≡ x.number = eqb-true n x.number e in
+        let one : ◌≡◌ {A = ℕ} (cond (n == x.number) 1 0) 1 = ap (λ (b : Bool). cond {A = ℕ} b 1 0) e in
+        let none : IsUnheld n xs = subst (λ (m : ℕ). IsUnheld m xs) (sym here) new in
+        omega (arith, sum_by-cons (λ (i : Item). cond (n == i.number) 1 0) x xs, none)
+    cases n false e =
+        let zero : ◌≡◌ {A = ℕ} (cond (n == x.number) 1 0) 0 = ap (λ (b : Bool). cond {A = ℕ} b 1 0) e in
+        omega (arith, sum_by-cons (λ (i : Item). cond (n == i.number) 1 0) x xs, k.once n)
+
+-- one more that waits is put
+pub with_held : (t : Shape) (ws : List Item) (x : Item) → x.label ≡ Live → AreDistinct (contents t ++ ws) → IsUnheld x.number (both t ws) → both t (ws ++ x ∷ []) ≡ put (both t ws) x.number x.point
+with_held t ws x live k new =
+    let xs = contents t ++ ws in
+    let all = contents t ++ (ws ++ x ∷ []) in
+    let f : Item → ℕ = λ i. cond (x.number == i.number) 1 0 in
+    let free : IsUnheld x.number xs = omega (arith, sum_by-IsPermutation f xs (by_number xs) (by_number_moves xs), new) in
+    let moved : IsPermutation all (x ∷ xs) = subst (λ ys. IsPermutation ys (x ∷ xs)) (append_assoc (contents t) ws (x ∷ [])) (IsPermutation-to_front xs x) in
+    let once : AreDistinct all = once_moved (x ∷ xs) all (IsPermutation-sym all (x ∷ xs) moved) (distinct_new x xs free k) in
+    by_number-moved all (x ∷ xs) moved once
+    ∙ ap (λ j. insert_item j (by_number xs)) (live_of x live)
+    ∙ insert-put (by_number xs) x.number x.point (λ i m e. absurd (omega (arith, counted_in i x.number (by_number xs) m e, new)))
+
+-- the first of what is left to be put has a number that isn't held
+first_new : (m us vs : List Item) (x : Item) → AreDistinct (m ++ (us ++ x ∷ vs)) → IsUnheld x.number (by_number (m ++ us)) × AreDistinct (m ++ us)
+first_new m us vs x k = (
+  omega (arith, sum_by-IsPermutation (f x.number) (m ++ us) (by_number (m ++ us)) (by_number_moves (m ++ us)), parts x.number, own, k.once x.number),
+  record { once = λ n. omega (arith, parts n, k.once n) },
+)
+  where
+    f : ℕ → Item → ℕ
+    f n i = cond (n == i.number) 1 0
+
+    parts : (n : ℕ) → count_by (λ i. n == i.number) (m ++ (us ++ x ∷ vs)) ≡ count_by (λ i. n == i.number) (m ++ us) + count_by (λ i. n == i.number) (x ∷ vs)
+    parts n = omega (arith, sum_by-append (f n) m (us ++ x ∷ vs), sum_by-append (f n) us (x ∷ vs), sum_by-append (f n) m us)
+
+    own : 1 ≤ count_by (λ i. x.number == i.number) (x ∷ vs)
+    own = counted_in x x.number (x ∷ vs) (inl refl) refl
+
+put_more : (t : Shape) (us vs : List Item) → AreLive vs → AreDistinct (contents t ++ (us ++ vs)) → put_each (both t us) vs ≡ both t (us ++ vs)
+put_more t us [] live k = ap (both t) (sym (append-nil us))
+put_more t us (x ∷ vs) live k =
+    let new = first_new (contents t) us vs x k in
+    let same : (us ++ x ∷ []) ++ vs ≡ us ++ x ∷ vs = append_assoc us (x ∷ []) vs in
+    ap (λ m. put_each m vs) (sym (with_held t us x (All-head IsLive x vs live) new.1 new.0))
+    ∙ put_more t (us ++ x ∷ []) vs (All-tail IsLive x vs live) (subst (λ ys. AreDistinct (contents t ++ ys)) (sym same) k)
+    ∙ ap (both t) same
+
+-- all that wait, put one after the other
+pub put_held : (next : ℕ) (t : Shape) (ws : List Item) → IsSound t → AreLive ws → AreContents 0 next (both t ws) → put_each (contents t) ws ≡ both t ws
+put_held next t ws sound live k = ap (λ m. put_each m ws) (sym (none_held t sound)) ∙ put_more t [] ws live (distinct_both next t ws k)
+
+pub may_join : (next : ℕ) (t : Shape) (ws : List Item) → next ≤ 4194304 → AreLive ws → AreContents 0 next (both t ws) → MayJoin (contents t) ws
+may_join next t ws few live k =
+    let xs = contents t ++ ws in
+    record {
+      live = live;
+      distinct = distinct_both next t ws k;
+      room = omega (arith, few, contents_length 0 next (by_number xs) (omega arith) k, length_permutation xs (by_number xs) (by_number_moves xs), length-append (contents t) ws);
+    }
+
+-- numbers that come from two lists below a bound are below it
+pub among_below : (next : ℕ) (ks ns ms : List ℕ) → AreAmong ms (ks ++ ns) → All (λ n. n < next) ks → All (λ n. n < next) ns → All (λ n. n < next) ms
+among_below next ks ns ms among first second =
+    let P : ℕ → Type 0 = λ n. n < next in
+    All-weaker (λ n. Contains ms n) P (λ n k. All-contains P (ks ++ ns) n (All-append P ks ns first second) (among n k)) ms (All-contains_itself ms)
+
+pub numbers_below : (next : ℕ) (ws : List Item) → All (λ i. i.number < next) ws → All (λ n. n < next) (numbers_in ws)
+numbers_below next ws k = All-map (λ (n : ℕ). n < next) (λ (i : Item). i.number) ws k
+
+-- where a test lets nothing through, its contrary lets all through
+all_left : (p : Item → Bool) (xs : List Item) → filter p xs ≡ [] → filter (λ x. not (p x)) xs ≡ xs
+all_left p [] e = refl
+all_left p (x ∷ xs) e = let parts = filter_none p x xs e in rw parts.0 (ap (λ ys. x ∷ ys) (all_left p xs parts.1))
+
+-- THIN changes nothing where nothing is live in the box
+pub thin_nothing : (c : Bounds) (next : ℕ) (m : List Item) → AreContents 0 next m → inside_all m c ≡ [] → m ≡ mark m (in_box c) thin_tag
+thin_nothing c next m k none = sym (mark-thin c 0 next m k ∙ all_left (is_live_in c) m (sym (inside_by c m) ∙ none))
+
+-- what is left of both without what is live in the box
+pub cleared_held : (c : Bounds) (next : ℕ) (t u : Shape) (ws : List Item) → AreContents 0 next (both t ws) → AreContents 0 next (contents t) → contents u ≡ mark (contents t) (in_box c) thin_tag
+    → both u (filter (left_out c) ws) ≡ mark (both t ws) (in_box c) thin_tag
+cleared_held c next t u ws k h e =
+    ap (λ m. by_number (m ++ filter (left_out c) ws)) (e ∙ mark-thin c 0 next (contents t) h)
+    ∙ ap by_number (sym (filter-append (left_out c) (contents t) ws))
+    ∙ by_number-filter (left_out c) (contents t ++ ws)
+    ∙ sym (mark-thin c 0 next (both t ws) k)
+
+-- the best of the tree, and then of what waits
+pub best_both : (c : Bounds) (t : Shape) (ws : List Item) → best_from c (best_inside (contents t) c) (inside_all ws c) ≡ best_inside (both t ws) c
+best_both c t ws =
+    let xs = inside_all (contents t) c in
+    let ys = inside_all ws c in
+    ap (λ b. best_from c b ys) (sym (best_from-none c xs))
+    ∙ sym (best_from-append c None xs ys)
+    ∙ best_from-none c (xs ++ ys)
+    ∙ ap (best_of c) (sym (inside-append c (contents t) ws))
+    ∙ sym (best-by_number c (contents t ++ ws))
+
+-- the best of one item more and the rest
+pub best_cons : (c : Bounds) (best : Option Item) (x : Item) (xs : List Item) → best_from c (best_from c best (inside_all (x ∷ []) c)) (inside_all xs c) ≡ best_from c best (inside_all (x ∷ xs) c)
+best_cons c best x xs =
+    sym (best_from-append c best (inside_all (x ∷ []) c) (inside_all xs c)) ∙ ap (best_from c best) (sym (inside-append c (x ∷ []) xs))
+
+-- how many of both are live in the box
+pub count_both : (c : Bounds) (t : Shape) (ws : List Item) → count (both t ws) c ≡ count (contents t) c + length (filter (is_live_in c) ws)
+count_both c t ws =
+    count-by_number c (contents t ++ ws)
+    ∙ ap length (inside-append c (contents t) ws)
+    ∙ length-append (inside_all (contents t) c) (inside_all ws c)
+    ∙ ap (λ xs. count (contents t) c + length xs) (inside_by c ws)
+
+-- what waits also waits where one more number was given
+pub waiting_more : (large next : ℕ) (w : Waiting) → IsWaiting large next w → IsWaiting large (next + 1) w
+waiting_more large next w k = record {
+  live = k.live;
+  held = contents_within 0 0 next (next + 1) (both w.tree w.items.items) (omega arith) (omega arith) k.held;
+  given = All-weaker (λ (i : Item). i.number < next) (λ (i : Item). i.number < next + 1) (λ i e. omega (arith, e)) w.items.items k.given;
+  below = All-weaker (λ (n : ℕ). n < next) (λ (n : ℕ). n < next + 1) (λ n e. omega (arith, e)) (numbers w.tree) k.below;
+  even = k.even;
+}

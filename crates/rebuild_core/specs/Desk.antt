@@ -1,0 +1,18 @@
+-- What a refusal says of the value that was handed in, where nobody sees the state.
+use Rattle.std.specs.Prelude.{◌≡◌, ◌<◌, ⊤, Bool, false}
+use Rattle.rebuild_core.specs.Built.{BuiltAt}
+use Rattle.rebuild_core.specs.declared.fault.LogAsk.{LogAsk}
+use Rattle.rebuild_core.specs.declared.fault.LogAsk.TheVariants as ask_of
+use Rattle.rebuild_core.specs.declared.fault.SwapFault.{SwapFault}
+use Rattle.rebuild_core.specs.declared.fault.SwapFault.TheVariants as fault_of
+
+-- a stale value's ticket is told
+abbrev pub IsAskCause : BuiltAt → LogAsk → Type 0
+IsAskCause b (ask_of.Stale ticket) = ticket ≡ b.ticket
+IsAskCause b ask_of.NoMemory = ⊤
+
+-- and a value is behind only where the swap isn't forced and more operations are left than are done then
+abbrev pub IsSwapCause : BuiltAt → Bool → SwapFault → Type 0
+IsSwapCause b force (fault_of.Stale ticket) = ticket ≡ b.ticket
+IsSwapCause b force (fault_of.Behind left) = (force ≡ false) × (64 < left)
+IsSwapCause b force fault_of.NoMemory = ⊤

@@ -1,0 +1,35 @@
+//! What a worker asks of a map that others use too.
+ghost use Rattle.std.specs.Prelude.{◌≡◌, ◌≤◌, IfErr, IfOk};
+ghost use Rattle.map_fold.specs.Ops.{Fit};
+ghost use Rattle.kd_tree.specs.Contents.{contents};
+ghost use Rattle.rebuild_core.specs.Desk.{IsAskCause, IsSwapCause};
+
+use crate::{Built, Job, LogAsk, SwapLeft};
+use map_fold::{NoMemory, Ops};
+use std::alloc::Global;
+use std::sync::Wait;
+
+/// A map that several threads use, as a worker sees it: each call is one step of its state, and may wait for those of others.
+/// Since the state isn't lent, no clause ties an answer to what a call found there; those of `MapState` do.
+pub trait Desk {
+    /// Detaches a subtree into the slot, from 1 to 4, as `MapState::detach` does.
+    fn detach<R: Wait>(&self, rt: &R, alloc: Global, slot: u8) -> Result<Option<Job>, NoMemory>
+        requires slot_from { 1 ≤ slot }
+        requires slot_to { slot ≤ 4 };
+
+    /// The operations that a built value hasn't done, as `MapState::log_after` answers them. A stale value's ticket is told.
+    fn log_after<R: Wait>(&self, rt: &R, alloc: Global, built: &Built) -> Result<Ops, LogAsk>
+        ensures fit { IfOk result (Fit (contents built.now.tree)) }
+        ensures refused { IfErr result (IsAskCause built.now) };
+
+    /// Swaps a built value in, as `MapState::swap` does. A refused value comes back as it was, with the cause.
+    fn swap<R: Wait>(
+        &self,
+        rt: &R,
+        alloc: Global,
+        built: Built,
+        force: bool,
+    ) -> Result<(), SwapLeft>
+        ensures left { IfErr result (λ l. l.built ≡ built) }
+        ensures refused { IfErr result (λ l. IsSwapCause built force l.fault) };
+}
