@@ -1,6 +1,9 @@
 pub mod StepLemmas
-pub mod Digits
+pub mod FirstFields
 pub mod Caps
+pub mod FrontNumbers
+pub mod FirstCoordinates
+pub mod Counts
 pub mod Numerals
 pub mod Spelled
 pub mod NumbersAgain

@@ -25,7 +25,7 @@ within_fits axis c h =
     let high : int_le c (pos 1000000000) ≡ true = grind (arith, ints, h.1) in
     rw (low, high) refl
 
-point_fits : (x y z : ℤ) → IsCoordinate x → IsCoordinate y → IsCoordinate z → point_of x y z ≡ Ok (record { x = x; y = y; z = z })
+pub point_fits : (x y z : ℤ) → IsCoordinate x → IsCoordinate y → IsCoordinate z → point_of x y z ≡ Ok (record { x = x; y = y; z = z })
 point_fits x y z p q r = rw (within_fits _ x p, within_fits _ y q, within_fits _ z r) refl
 
 -- each refusal of a point stands for one fault

@@ -1,5 +1,5 @@
 -- Reading a log line by line, and a line field by field.
-use Rattle.std.specs.Prelude.{ℕ, ◌+◌, ◌-◌, ◌/◌, Bool, ◌&&◌, ◌==◌, List, [], ◌∷◌, length, map, codes, min, nat_le, nat_lt, int_le, if◌then◌else◌}
+use Rattle.std.specs.Prelude.{ℕ, ℤ, ◌+◌, ◌-◌, ◌/◌, Bool, ◌&&◌, ◌==◌, List, [], ◌∷◌, length, map, codes, min, nat_le, nat_lt, int_le, if◌then◌else◌}
 use Rattle.std.specs.Str.{bytes_eq}
 use Rattle.std.specs.declared.option.Option.TheVariants.{None, Some}
 use Rattle.std.specs.declared.result.Result.{Result}
@@ -28,6 +28,18 @@ place_of f g h = do
   y ← coordinate g
   z ← coordinate h
   Ok (record { x = x; y = y; z = z })
+
+-- the coordinate of the first field
+abbrev pub first_coordinate : List (List ℕ) → Result ℤ LogCause
+first_coordinate [] = Err WrongCount
+first_coordinate (f ∷ fields) = coordinate f
+
+-- the point of the first three fields
+abbrev pub first_place : List (List ℕ) → Result Place LogCause
+first_place [] = Err WrongCount
+first_place (f ∷ []) = Err WrongCount
+first_place (f ∷ g ∷ []) = Err WrongCount
+first_place (f ∷ g ∷ h ∷ rest) = place_of f g h
 
 -- a point for each three fields
 abbrev pub places_of : List (List ℕ) → Result (List Place) LogCause

@@ -6,10 +6,13 @@ mod command;
 mod commands;
 mod fault;
 mod fields;
+mod front;
 mod header;
 mod line_fault;
 mod lines;
 mod number;
+#[cfg(test)]
+mod number_tests;
 mod parsing;
 mod piece;
 mod points;

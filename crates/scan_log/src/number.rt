@@ -1,15 +1,12 @@
 //! Numbers in their one spelling.
-ghost use Rattle.std.specs.Prelude.{◌≡◌, ◌≤◌, ◌<◌, ◌≤ℤ◌, IfOk, MatchOption, pos, negsuc, min, neg_ℤ, true, false};
-ghost use Rattle.std.specs.Str.{all_ascii_digits};
-ghost use Rattle.std.specs.Str.Parse.{digits_value, signed_digits_value};
+ghost use Rattle.std.specs.Prelude.{◌≡◌, ◌≤◌, ◌≤ℤ◌, IfOk, MatchOption, pos, negsuc, true, false};
+ghost use Rattle.std.specs.Str.Parse.{signed_digits_value};
 ghost use Rattle.point_geom.specs.Place.{IsCoordinate};
-ghost use Rattle.scan_log.specs.Numbers.{capped, coordinate, corner_number, in_range, is_numeral, is_positive_numeral, natural_in, number_in};
+ghost use Rattle.scan_log.specs.Numbers.{capped, coordinate, corner_number, in_range, is_numeral, natural_in, number_in};
 ghost use Rattle.scan_log.specs.Scripts.{IsBoxNumber};
 
 use crate::LogCause;
-
-// Farther than every limit, so that a number of more digits needs no more room.
-const FAR: u64 = 1_000_000_000_000_000_000;
+use crate::front::front_number;
 
 /// A coordinate of a point.
 pub fn coordinate(field: &[u8]) -> Result<i64, LogCause>
@@ -17,6 +14,14 @@ pub fn coordinate(field: &[u8]) -> Result<i64, LogCause>
     ensures range { IfOk result IsCoordinate }
 {
     number_in(-1_000_000_000, 1_000_000_000, field)
+}
+
+/// The coordinate that was read as this number, as far as it counts.
+pub fn as_coordinate(number: i64) -> Result<i64, LogCause>
+    ensures value { result ≡ in_range (negsuc 999999999) (pos 1000000000) number }
+    ensures range { IfOk result IsCoordinate }
+{
+    in_range(-1_000_000_000, 1_000_000_000, number)
 }
 
 /// A number of a box's corner.
@@ -57,47 +62,14 @@ fn in_range(low: i64, high: i64, number: i64) -> Result<i64, LogCause>
     }
 }
 
-// Looks at every byte, since also a long number may be a bad one. One that is farther than FAR is read as FAR.
 fn numeral(field: &[u8]) -> Option<i64>
     ensures { MatchOption result (is_numeral field.now ≡ false)
         (λ n. (is_numeral field.now ≡ true) × (n ≡ capped (signed_digits_value 10 field.now))) }
 {
-    match field {
-        [b'0'] => Some(0),
-        [b'-', digits @ ..] => below_zero(digits),
-        digits => magnitude(digits),
+    let number = front_number(field)?;
+    if number.len == field.len() {
+        Some(number.value)
+    } else {
+        None
     }
-}
-
-#[tactic(auto, using(crate::proofs::Caps::caps))]
-fn below_zero(digits: &[u8]) -> Option<i64>
-    ensures { MatchOption result (is_positive_numeral digits.now ≡ false)
-        (λ n. (is_positive_numeral digits.now ≡ true) × (n ≡ capped (neg_ℤ (pos (digits_value 10 digits.now))))) }
-{
-    Some(-magnitude(digits)?)
-}
-
-// What the bytes spell, if they are digits and don't begin with 0.
-fn magnitude(bytes: &[u8]) -> Option<i64>
-    ensures { MatchOption result (is_positive_numeral bytes.now ≡ false)
-        (λ n. (is_positive_numeral bytes.now ≡ true) × (n ≡ pos (min (digits_value 10 bytes.now) 1000000000000000000))) }
-{
-    match bytes {
-        [b'1'..=b'9', ..] => value_of(bytes),
-        _ => None,
-    }
-}
-
-fn value_of(bytes: &[u8]) -> Option<i64>
-    ensures { MatchOption result (all_ascii_digits bytes.now ≡ false)
-        (λ n. (all_ascii_digits bytes.now ≡ true) × (n ≡ pos (min (digits_value 10 bytes.now) 1000000000000000000))) }
-{
-    let mut value = 0;
-    for byte in bytes {
-        if !byte.is_ascii_digit() {
-            return None;
-        }
-        value = (10 * value + (*byte - b'0') as u64).min(FAR);
-    }
-    Some(value as i64)
 }

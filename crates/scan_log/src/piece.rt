@@ -1,12 +1,17 @@
 //! Where a line or a field ends.
 ghost use Rattle.std.specs.Prelude.{◌≡◌, ◌<◌, ◌≤◌, ◌==◌, count_by, length, position, IfSome};
 
+use memchr::memchr;
+
+// A count of so few bytes fits into one, so that many are compared at a time.
+const FEW: usize = 255;
+
 /// Where the byte stands first.
 pub fn place_of(byte: u8, bytes: &[u8]) -> Option<usize>
     ensures value { result ≡ position (λ b. b == byte) bytes.now }
     ensures bound { IfSome result (λ place. place < length bytes.now) }
 {
-    bytes.iter().position(|b| *b == byte)
+    memchr(byte, bytes)
 }
 
 /// How often the byte stands there.
@@ -14,5 +19,20 @@ pub fn count_of(byte: u8, bytes: &[u8]) -> usize
     ensures value { result ≡ count_by (λ b. b == byte) bytes.now }
     ensures bound { result ≤ length bytes.now }
 {
-    bytes.iter().filter(|b| **b == byte).count()
+    let mut count = 0;
+    for part in bytes.chunks(FEW) {
+        count += few_of(byte, part) as usize;
+    }
+    count
+}
+
+fn few_of(byte: u8, bytes: &[u8]) -> u8
+    requires { length bytes.now ≤ 255 }
+    ensures { result ≡ count_by (λ b. b == byte) bytes.now }
+{
+    let mut count = 0;
+    for other in bytes {
+        count += (*other == byte) as u8;
+    }
+    count
 }

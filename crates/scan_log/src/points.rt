@@ -1,7 +1,8 @@
 //! Reading points.
-ghost use Rattle.std.specs.Prelude.{◌≡◌, ◌<◌};
+ghost use Rattle.std.specs.Prelude.{◌≡◌, ◌<◌, ◌≤◌, ◌*◌, length, drop, Ok, OnOk};
+ghost use Rattle.point_geom.specs.Place.{IsCoordinate};
 ghost use Rattle.scan_log.specs.Outcomes.{Gives};
-ghost use Rattle.scan_log.specs.Reading.{few_places_of, groups_of, place_of, places_of};
+ghost use Rattle.scan_log.specs.Reading.{few_places_of, first_place, groups_of, place_of, places_of};
 
 use crate::LogCause;
 use crate::fields::Fields;
@@ -38,17 +39,28 @@ pub fn points(alloc: Global, most: usize, fields: Fields) -> Result<Points, Line
 
 // Takes memory for so many at once.
 fn all_points(alloc: Global, count: usize, fields: Fields) -> Result<Points, LineFault>
+    requires { length fields ≡ 3 * count }
     ensures { Gives result (places_of fields.entry) }
 {
     let mut fields = fields;
     let mut points = Vec::with_capacity(alloc, count)?;
-    while let Some(x) = fields.next() {
-        let y = fields.next().ok_or(LogCause::WrongCount)?;
-        let z = fields.next().ok_or(LogCause::WrongCount)?;
-        let point = point(x, y, z)?;
+    for _ in 0..count {
+        let point = next_point(&mut fields)?;
         points.push(point)?;
     }
     Ok(Points::from(points))
+}
+
+#[tactic(auto, using(crate::proofs::Fronts::first_place_is))]
+fn next_point(fields: &mut Fields) -> Result<Point, LogCause>
+    requires { 3 ≤ length fields.old }
+    ensures value { result ≡ first_place fields.old }
+    ensures rest { OnOk result (fields.new ≡ drop 3 fields.old) }
+{
+    let x = fields.coordinate()?;
+    let y = fields.coordinate()?;
+    let z = fields.coordinate()?;
+    point_at(x, y, z)
 }
 
 /// The point of three coordinates.
@@ -59,6 +71,16 @@ pub fn point(x: &[u8], y: &[u8], z: &[u8]) -> Result<Point, LogCause>
     let x = coordinate(x)?;
     let y = coordinate(y)?;
     let z = coordinate(z)?;
+    point_at(x, y, z)
+}
+
+// Nothing that was read is refused.
+fn point_at(x: i64, y: i64, z: i64) -> Result<Point, LogCause>
+    requires x { IsCoordinate x }
+    requires y { IsCoordinate y }
+    requires z { IsCoordinate z }
+    ensures { result ≡ Ok (record { x = x; y = y; z = z }) }
+{
     match Point::new(x, y, z) {
         Ok(point) => Ok(point),
         Err(_) => Err(LogCause::OutOfRange),

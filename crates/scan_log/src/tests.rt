@@ -8,26 +8,26 @@ use std::test::Fail;
 
 const HEADER: &[u8] = b"ikdmap 1 voxel 200 large 1500\n";
 
-fn log_of(alloc: Global, lines: &[u8]) -> Result<Vec<u8>, AllocError> {
+pub fn log_of(alloc: Global, lines: &[u8]) -> Result<Vec<u8>, AllocError> {
     let mut log = Vec::from_slice(alloc, HEADER)?;
     log.extend_from_slice(lines)?;
     Ok(log)
 }
 
 // No log of these tests is longer.
-fn read(alloc: Global, log: &[u8]) -> Result<Script, ParseFault> {
+pub fn read(alloc: Global, log: &[u8]) -> Result<Script, ParseFault> {
     if log.len() > 100_000_000 {
         return Err(ParseFault::NoMemory);
     }
     parse(alloc, log)
 }
 
-fn fault_of(alloc: Global, log: &[u8]) -> Option<ParseFault> {
+pub fn fault_of(alloc: Global, log: &[u8]) -> Option<ParseFault> {
     read(alloc, log).err()
 }
 
 // Each of these lines after the header has this fault, in the line of this number.
-fn assert_faults(
+pub fn assert_faults(
     rt: &impl Abort,
     alloc: Global,
     line: u32,
@@ -109,11 +109,10 @@ fn a_header_has_its_limits(rt: HostRuntime) {
 }
 
 #[test]
-fn a_line_has_its_first_fault(rt: HostRuntime) -> Result<(), Fail> {
-    let alloc = rt.alloc();
+fn what_is_no_command_is_refused(rt: HostRuntime) -> Result<(), Fail> {
     assert_faults(
         &rt,
-        alloc,
+        rt.alloc(),
         2,
         LogCause::UnknownCommand,
         &[
@@ -128,9 +127,14 @@ fn a_line_has_its_first_fault(rt: HostRuntime) -> Result<(), Fail> {
             b"@8 near5 0\n".as_slice(),
         ],
     )?;
+    Ok(())
+}
+
+#[test]
+fn a_caller_is_a_digit_from_1_to_8(rt: HostRuntime) -> Result<(), Fail> {
     assert_faults(
         &rt,
-        alloc,
+        rt.alloc(),
         2,
         LogCause::BadCaller,
         &[
@@ -141,9 +145,14 @@ fn a_line_has_its_first_fault(rt: HostRuntime) -> Result<(), Fail> {
             b"@1\tadd 1 2 3\n".as_slice(),
         ],
     )?;
+    Ok(())
+}
+
+#[test]
+fn each_command_has_its_fields(rt: HostRuntime) -> Result<(), Fail> {
     assert_faults(
         &rt,
-        alloc,
+        rt.alloc(),
         2,
         LogCause::WrongCount,
         &[
@@ -165,9 +174,14 @@ fn a_line_has_its_first_fault(rt: HostRuntime) -> Result<(), Fail> {
             b"@1 box 5 0 0 0 9 9 9 9\n".as_slice(),
         ],
     )?;
+    Ok(())
+}
+
+#[test]
+fn a_number_has_one_spelling(rt: HostRuntime) -> Result<(), Fail> {
     assert_faults(
         &rt,
-        alloc,
+        rt.alloc(),
         2,
         LogCause::BadNumber,
         &[
@@ -184,9 +198,14 @@ fn a_line_has_its_first_fault(rt: HostRuntime) -> Result<(), Fail> {
             b"@1 box 1 0 0 0 -1 0 .5\n".as_slice(),
         ],
     )?;
+    Ok(())
+}
+
+#[test]
+fn each_number_has_its_limits(rt: HostRuntime) -> Result<(), Fail> {
     assert_faults(
         &rt,
-        alloc,
+        rt.alloc(),
         2,
         LogCause::OutOfRange,
         &[
@@ -202,9 +221,14 @@ fn a_line_has_its_first_fault(rt: HostRuntime) -> Result<(), Fail> {
             b"@1 box 0 0 0 0 9 9 9\n".as_slice(),
         ],
     )?;
+    Ok(())
+}
+
+#[test]
+fn no_box_is_inverted(rt: HostRuntime) -> Result<(), Fail> {
     assert_faults(
         &rt,
-        alloc,
+        rt.alloc(),
         2,
         LogCause::InvertedBox,
         &[
@@ -251,27 +275,6 @@ fn each_command_is_read(rt: HostRuntime) -> Result<(), Fail> {
         let log = log_of(rt.alloc(), lines)?;
         assert_eq!(rt; fault_of(rt.alloc(), log.as_slice()), None, "{lines:?}");
     }
-    Ok(())
-}
-
-#[test]
-fn a_number_is_read_to_its_end_however_long(rt: HostRuntime) -> Result<(), Fail> {
-    let alloc = rt.alloc();
-    let mut log = log_of(alloc, b"@1 add 1 2 ")?;
-    for _ in 0..1_000_000 {
-        log.push(b'9')?;
-    }
-    let far = Some(ParseFault::Bad {
-        line: 2,
-        cause: LogCause::OutOfRange,
-    });
-    assert_eq!(rt; fault_of(alloc, log.as_slice()), far);
-    log.push(b'x')?;
-    let bad = Some(ParseFault::Bad {
-        line: 2,
-        cause: LogCause::BadNumber,
-    });
-    assert_eq!(rt; fault_of(alloc, log.as_slice()), bad);
     Ok(())
 }
 

@@ -1,0 +1,100 @@
+//! The number that bytes begin with.
+ghost use Rattle.std.specs.Prelude.{◌≡◌, ◌≤◌, ◌+◌, ◌-◌, ◌*◌, MatchOption, min, true, false};
+ghost use Rattle.std.specs.Str.{all_ascii_digits};
+ghost use Rattle.std.specs.Str.Parse.{signed_digits_value};
+ghost use Rattle.scan_log.specs.Numbers.{IsRead, first_field, is_numeral, is_positive_numeral, is_zero, plain_value, without_minus};
+
+// Farther than every limit, so that a number of more digits needs no more room.
+const FAR: u64 = 1_000_000_000_000_000_000;
+
+/// A number before the first space, or the end.
+#[derive(Clone, Copy)]
+pub struct FrontNumber {
+    /// One that is farther than 10^18 is read as that.
+    pub value: i64,
+    /// How many bytes spell it.
+    pub len: usize,
+}
+
+/// What the bytes before the first space spell, in one pass over them.
+pub fn front_number(bytes: &[u8]) -> Option<FrontNumber>
+    ensures { MatchOption result (is_numeral (first_field bytes.now) ≡ false)
+        (λ n. IsRead is_numeral (signed_digits_value 10) (first_field bytes.now) n.value n.len) }
+{
+    if is_zero(bytes) {
+        return Some(FrontNumber { value: 0, len: 1 });
+    }
+    // One loop serves both signs, since which it is cannot be foreseen.
+    let digits = without_minus(bytes);
+    let number = positive(digits)?;
+    if digits.len() < bytes.len() {
+        Some(FrontNumber {
+            value: -number.value,
+            len: number.len + 1,
+        })
+    } else {
+        Some(number)
+    }
+}
+
+fn is_zero(bytes: &[u8]) -> bool
+    ensures { result ≡ is_zero (first_field bytes.now) }
+{
+    matches!(bytes, [b'0'] | [b'0', b' ', ..])
+}
+
+fn without_minus(bytes: &[u8]) -> &[u8]
+    ensures { result.now ≡ without_minus bytes.now }
+{
+    match bytes {
+        [b'-', digits @ ..] => digits,
+        digits => digits,
+    }
+}
+
+fn positive(bytes: &[u8]) -> Option<FrontNumber>
+    ensures { MatchOption result (is_positive_numeral (first_field bytes.now) ≡ false)
+        (λ n. IsRead is_positive_numeral plain_value (first_field bytes.now) n.value n.len) }
+{
+    match bytes {
+        [b'1'..=b'9', ..] => digits(bytes),
+        _ => None,
+    }
+}
+
+// Looks at every byte, since also a long number may be a bad one.
+fn digits(bytes: &[u8]) -> Option<FrontNumber>
+    ensures { MatchOption result (all_ascii_digits (first_field bytes.now) ≡ false)
+        (λ n. IsRead all_ascii_digits plain_value (first_field bytes.now) n.value n.len) }
+{
+    let mut value = 0;
+    for (place, byte) in bytes.iter().enumerate() {
+        match byte {
+            b'0'..=b'9' => value = with_digit(value, *byte),
+            b' ' => {
+                return Some(FrontNumber {
+                    value: value as i64,
+                    len: place,
+                });
+            }
+            _ => return None,
+        }
+    }
+    Some(FrontNumber {
+        value: value as i64,
+        len: bytes.len(),
+    })
+}
+
+fn with_digit(value: u64, digit: u8) -> u64
+    requires value { value ≤ 1000000000000000000 }
+    requires low { 48 ≤ digit }
+    requires high { digit ≤ 57 }
+    ensures { result ≡ min (10 * value + (digit - 48)) 1000000000000000000 }
+{
+    if value < FAR / 10 {
+        10 * value + (digit - b'0') as u64
+    } else {
+        FAR
+    }
+}
