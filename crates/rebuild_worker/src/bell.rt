@@ -1,0 +1,56 @@
+//! A bell that wakes a worker.
+use crossbeam_utils::atomic::AtomicCell;
+use crossbeam_utils::sync::{Parker, Unparker};
+use map_fold::NoMemory;
+use std::alloc::Global;
+use std::sync::{Arc, Wait};
+
+/// It wakes one worker, from any thread.
+#[derive(Drop)]
+pub struct Bell {
+    unparker: Unparker,
+    stopped: Arc<AtomicCell<bool>>,
+}
+
+/// Where a worker sleeps until its bell rings.
+#[derive(Drop)]
+pub struct Rest {
+    parker: Parker,
+    stopped: Arc<AtomicCell<bool>>,
+}
+
+/// A bell and the rest that it ends.
+pub fn pair(alloc: Global) -> Result<(Bell, Rest), NoMemory> {
+    let parker = Parker::new(alloc)?;
+    let unparker = parker.unparker().clone()?;
+    let stopped = Arc::new(alloc, AtomicCell::new(false))?;
+    let twin = stopped.clone()?;
+    let bell = Bell {
+        unparker,
+        stopped: twin,
+    };
+    Ok((bell, Rest { parker, stopped }))
+}
+
+impl Bell {
+    /// Wakes the worker. One that is awake doesn't go to sleep the next time.
+    pub fn ring(&self) {
+        self.unparker.unpark();
+    }
+
+    /// Tells the worker to end, and wakes it.
+    pub fn stop(&self) {
+        self.stopped.store(true);
+        self.unparker.unpark();
+    }
+}
+
+impl Rest {
+    pub(crate) fn is_stopped(&self) -> bool {
+        self.stopped.load()
+    }
+
+    pub(crate) fn sleep<R: Wait>(&mut self, rt: &R) {
+        self.parker.park(rt);
+    }
+}

@@ -1,0 +1,117 @@
+//! A map for tests of a worker.
+ghost use Rattle.std.specs.Prelude.{◌≡◌, ◌+◌, ◌<◌, ◌↔◌, true, IfErr, OnErr, OnOk};
+ghost use Rattle.std.specs.List.{Contains};
+ghost use Rattle.rebuild_core.specs.Desk.{IsSwapCause};
+ghost use Rattle.rebuild_core.specs.Swap.{IsSwapStep};
+
+use kd_tree::Steps;
+use map_fold::{NoMemory, Ops};
+use rebuild_core::{Built, Desk, Job, LogAsk, MapState, SwapFault, SwapLeft};
+use std::alloc::Global;
+use std::marker::Brand;
+use std::sync::ledger::{Blank, Ledger};
+use std::sync::{Mutex, Wait};
+
+/// A map that counts what it is asked, from 1, and refuses some of it, so that a test sees what a worker does then. Threads may
+/// share it.
+#[derive(Drop)]
+pub struct CountDesk {
+    counted: Mutex<Counted>,
+}
+
+// What is behind the lock.
+#[derive(Drop)]
+struct Counted {
+    state: MapState,
+    calls: u32,
+    refused: Vec<u32>,
+}
+
+impl CountDesk {
+    /// A map in this state. The calls whose numbers are listed answer that memory is wanting, and change nothing; the others are
+    /// those of the state.
+    pub fn new(state: MapState, refused: Vec<u32>) -> CountDesk {
+        CountDesk {
+            counted: Mutex::new(Counted {
+                state,
+                calls: 0,
+                refused,
+            }),
+        }
+    }
+
+    /// The state, and how many calls came.
+    pub fn finish<R: Wait>(self, _rt: &R) -> (MapState, u32) {
+        let CountDesk { counted } = self;
+        let Counted { state, calls, .. } = counted.into_inner();
+        (state, calls)
+    }
+}
+
+impl Desk for CountDesk {
+    fn detach<R: Wait>(&self, rt: &R, alloc: Global, slot: u8) -> Result<Option<Job>, NoMemory> {
+        let mut counted = self.counted.lock(rt);
+        if counted.refuses() {
+            return Err(NoMemory);
+        }
+        counted.state.detach(alloc, slot)
+    }
+
+    fn log_after<R: Wait>(&self, rt: &R, alloc: Global, built: &Built) -> Result<Ops, LogAsk> {
+        let mut counted = self.counted.lock(rt);
+        if counted.refuses() {
+            return Err(LogAsk::NoMemory);
+        }
+        counted.state.log_after(alloc, built)
+    }
+
+    fn swap<R: Wait>(
+        &self,
+        rt: &R,
+        alloc: Global,
+        built: Built,
+        force: bool,
+    ) -> Result<(), SwapLeft> {
+        let mut counted = self.counted.lock(rt);
+        if counted.refuses() {
+            return Err(SwapLeft {
+                built,
+                fault: SwapFault::NoMemory,
+            });
+        }
+        swapped::<Brand>(alloc, &mut counted.state, built, force, Blank::new(1))
+    }
+}
+
+impl Counted {
+    // Counts one more call. Whether it is one of those that are refused.
+    fn refuses(&mut self) -> bool
+        ensures listed { result ≡ true ↔ Contains self.old.refused.items self.new.calls }
+        ensures counted { self.old.calls < 4294967295 → self.new.calls ≡ self.old.calls + 1 }
+        ensures same { self.new.state ≡ self.old.state }
+        ensures same_list { self.new.refused ≡ self.old.refused }
+    {
+        self.calls = self.calls.saturating_add(1);
+        self.refused.as_slice().contains(&self.calls)
+    }
+}
+
+// Swaps the value in, with a counter that nothing looks at.
+pub(crate) fn swapped<L: Ledger>(
+    alloc: Global,
+    state: &mut MapState,
+    built: Built,
+    force: bool,
+    blank: Blank,
+) -> Result<(), SwapLeft>
+    requires name { blank.name ≡ L.name }
+    requires parts { blank.parts ≡ L.parts }
+    requires some { blank.parts ≡ 1 }
+    ensures swapped { OnOk result (IsSwapStep built state.old.state state.new.state) }
+    ensures left { IfErr result (λ l. l.built ≡ built) }
+    ensures refused { IfErr result (λ l. IsSwapCause built force l.fault) }
+    ensures same { OnErr result (state.new.state ≡ state.old.state) }
+{
+    let mut steps: Steps<L> = Steps::new(blank);
+    state.swap(alloc, built, force, &mut steps)
+}

@@ -1,0 +1,21 @@
+//! The worker, which builds detached subtrees anew beside the callers; the bell that wakes it; where tests hold up threads; and a
+//! map for tests that refuses on demand.
+#![tactic(auto)]
+
+mod bell;
+mod count_desk;
+mod gate;
+mod hold_gate;
+mod meet_gate;
+mod shares;
+mod signal;
+#[cfg(test)]
+mod tests;
+mod worker;
+
+pub use bell::{Bell, Rest, pair};
+pub use count_desk::CountDesk;
+pub use gate::{FreeGate, Gate};
+pub use hold_gate::HoldGate;
+pub use meet_gate::MeetGate;
+pub use worker::work;
