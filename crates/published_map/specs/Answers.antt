@@ -1,0 +1,30 @@
+-- What a call with a pass answers, and leaves of what the pass has seen.
+use Rattle.std.specs.Prelude.{◌≡◌, ℕ, ◌+◌, ◌<◌, List, length, Option, Result, Ok, Err}
+use Rattle.point_geom.specs.Place.{Place, Bounds}
+use Rattle.map_fold.specs.declared.entry.Entry.{Entry}
+use Rattle.map_fold.specs.declared.reply.NearReply.{NearReply}
+use Rattle.map_fold.specs.declared.reply.BoxReply.{BoxReply}
+use Rattle.map_fold.specs.declared.update.Update.{Update}
+use Rattle.map_fold.specs.Answers.{nearest, inside, count}
+use Rattle.map_fold.specs.Fold.{fold, points_in}
+use Rattle.rebuild_core.specs.History.{updates}
+use Rattle.rebuild_core.specs.declared.fault.StateFault.{StateFault}
+use Rattle.rebuild_core.specs.declared.fault.StateFault.TheVariants.{TooManyUpdates, TooManyPoints, NoMemory}
+use Rattle.published_map.specs.Marks.{Seen, Grown, Added}
+use Rattle.published_map.specs.Versions.{held}
+
+-- An update ends what its pass has seen. A refusal by a limit shows the history that is full; want of memory leaves all.
+abbrev pub Updated : ℕ → Result ℕ StateFault → Seen → Seen → Update → Type 0
+Updated voxel (Ok n) p q u = Added p q u n
+Updated voxel (Err (TooManyUpdates len)) p q u = Grown p q × (len ≡ length q.seen) × (len ≡ 1048576)
+Updated voxel (Err (TooManyPoints next asked)) p q u =
+    Grown p q × (next ≡ (fold voxel (updates q.seen)).next) × (asked ≡ points_in u) × (4194304 < next + asked)
+Updated voxel (Err NoMemory) p q u = q ≡ p
+
+-- the nearest points of what the history leaves, at its length
+abbrev pub near_reply : ℕ → List Entry → ℕ → Place → Option ℕ → NearReply
+near_reply voxel h k q within = record { mark = length h; hits = nearest (held voxel h) k q within }
+
+-- what is in the box of what the history leaves, at its length
+abbrev pub box_reply : ℕ → List Entry → Bounds → ℕ → BoxReply
+box_reply voxel h c most = record { mark = length h; count = count (held voxel h) c; items = inside (held voxel h) c most }

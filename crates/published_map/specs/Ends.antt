@@ -1,0 +1,8 @@
+-- What is said of a caller at the end.
+use Rattle.std.specs.Prelude.{length}
+use Rattle.published_map.specs.declared.ended.Ended.{Ended}
+use Rattle.published_map.specs.Marks.{Seen}
+
+-- its caller, how many updates it has made, and the length of what it has seen
+abbrev pub ended_of : Seen → Ended
+ended_of p = record { caller = p.caller; updates = length p.mine; mark = length p.seen }

@@ -1,0 +1,38 @@
+-- What a pass, a map that isn't shared yet, and what lies under the lock keep true of themselves.
+use Rattle.std.specs.Prelude.{◌≡◌, ℕ, ◌≤◌, List, [], length}
+use mathlib.Core.List.{IsPrefix}
+use Rattle.logbook.specs.Pages.{Book}
+use Rattle.map_fold.specs.declared.entry.Entry.{Entry}
+use Rattle.published_map.specs.Marks.{IsMarked}
+
+-- A pass keeps the history of one version, and its reader knows that or more. The marks are the places of its caller's entries.
+-- It has one part of the share, whose amount is how many these are.
+pub record IsPass (caller : ℕ) (kept known : List Entry) (marks : List ℕ) (parts amount : ℕ) : Type 0 where
+  pub caller_from : 1 ≤ caller
+  pub caller_to : caller ≤ 8
+  pub reader : IsPrefix kept known
+  pub marked : IsMarked caller kept 0 marks
+  pub few : length marks ≤ 1048576
+  pub part : parts ≡ 1
+  pub counted : amount ≡ length marks
+
+-- a map that isn't shared yet: the book that its versions are to be marked in, its callers and its voxels' edge
+pub record OpenedAt : Type 0 where
+  pub marks : Book
+  pub callers : ℕ
+  pub voxel : ℕ
+
+-- it has 1 to 8 callers, and no entry
+pub record IsOpened (callers : ℕ) (history : List Entry) : Type 0 where
+  pub callers_from : 1 ≤ callers
+  pub callers_to : callers ≤ 8
+  pub none : history ≡ []
+
+-- Under the lock the published version is that of the stored history, which the writer knows, and all updates are counted. The
+-- purse has no part, and so nothing.
+pub record IsWhole (known shown history : List Entry) (total parts amount : ℕ) : Type 0 where
+  pub writer : known ≡ history
+  pub published : shown ≡ history
+  pub counted : total ≡ length history
+  pub no_part : parts ≡ 0
+  pub nothing : amount ≡ 0

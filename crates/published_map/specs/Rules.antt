@@ -1,0 +1,22 @@
+-- The rule, and what its steps tell. A seat's view is the list that it knows.
+use Rattle.std.specs.Prelude.{◌≡◌, ℕ, List}
+use mathlib.Core.List.{IsPrefix}
+use mathlib.Core.Option.{some}
+use lib.ListN.{get_elem?}
+use Rattle.map_fold.specs.declared.entry.Entry.{Entry}
+
+-- what is published begins with what each seat knows
+abbrev pub Keeps : List Entry → List (List Entry) → Type 0
+Keeps x views = (seat : ℕ) (v : List Entry) → get_elem? views seat ≡ some v → IsPrefix v x
+
+-- the writer knows what it published
+abbrev pub Published : List Entry → List Entry → List Entry → List Entry → Type 0
+Published v x y w = w ≡ y
+
+-- the reader knows what it gets, which begins with what it knew
+abbrev pub Entered : List Entry → List Entry → List Entry → List Entry → Type 0
+Entered v x y w = IsPrefix v x × (w ≡ x)
+
+-- the writer knows this history, and it is what is published
+abbrev pub IsAt : List Entry → List Entry → List Entry → Type 0
+IsAt v x h = (v ≡ h) × (x ≡ h)

@@ -1,0 +1,38 @@
+//! A shared map, as workers see it.
+ghost use Rattle.std.specs.Prelude.{◌≡◌};
+
+use crate::name::MapName;
+use crate::shared::Shared;
+use map_fold::{NoMemory, Ops};
+use rebuild_core::{Built, Desk, Job, LogAsk, SwapLeft};
+use std::alloc::Global;
+use std::sync::{MutexGuard, Wait};
+
+impl<L: MapName> Desk for Shared<L> {
+    fn detach<R: Wait>(&self, rt: &R, alloc: Global, slot: u8) -> Result<Option<Job>, NoMemory> {
+        let mut locked = self.lock.lock(rt);
+        let job = locked.detach(alloc, slot);
+        MutexGuard::unlock(locked);
+        job
+    }
+
+    fn log_after<R: Wait>(&self, rt: &R, alloc: Global, built: &Built) -> Result<Ops, LogAsk> {
+        let locked = self.lock.lock(rt);
+        let ops = locked.log_after(alloc, built);
+        MutexGuard::unlock(locked);
+        ops
+    }
+
+    fn swap<R: Wait>(
+        &self,
+        rt: &R,
+        alloc: Global,
+        built: Built,
+        force: bool,
+    ) -> Result<(), SwapLeft> {
+        let mut locked = self.lock.lock(rt);
+        let done = locked.swap(rt, alloc, built, force);
+        MutexGuard::unlock(locked);
+        done
+    }
+}

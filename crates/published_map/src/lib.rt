@@ -1,0 +1,33 @@
+//! The map that several callers share: updates take turns at a lock, and queries read published versions without waiting.
+//!
+//! `Shared` has the state under its lock, and publishes a version at the end of each turn that makes one. A caller's `Pass` reads
+//! published versions. What a pass has seen is always a beginning of one history, and never gets shorter.
+//!
+//! A query can't take the lock: `Pass::nearest` and `Pass::in_cuboid` are handed nothing by which they could wait, and no call
+//! waits without it.
+#![tactic(auto)]
+
+mod desk;
+mod ended;
+mod kinds;
+mod locked;
+mod mark;
+mod meet;
+mod name;
+mod opened;
+mod pass;
+mod plans;
+mod rule;
+mod shared;
+mod shown;
+mod start;
+mod story;
+#[cfg(test)]
+mod tests;
+mod turn;
+
+pub use ended::Ended;
+pub use name::MapName;
+pub use opened::Opened;
+pub use pass::Pass;
+pub use shared::Shared;

@@ -1,0 +1,207 @@
+//! What lies under the lock.
+ghost use Rattle.std.specs.Prelude.{◌≡◌, ◌≤◌, IfErr, IfOk, OnErr};
+ghost use mathlib.Core.List.{IsPrefix};
+ghost use Rattle.map_fold.specs.Ops.{Fit};
+ghost use Rattle.kd_tree.specs.Contents.{contents};
+ghost use Rattle.rebuild_core.specs.Desk.{IsAskCause, IsSwapCause};
+ghost use Rattle.rebuild_core.specs.Steps.{IsFault};
+ghost use Rattle.published_map.specs.Answers.{Updated};
+ghost use Rattle.published_map.specs.Marks.{Added, Grown, IsMade};
+
+use crate::kinds::MapWriter;
+use crate::mark::MarkList;
+use crate::name::MapName;
+use crate::pass::Pass;
+use crate::plans::{plan_swap, plan_update};
+use crate::shown::Shown;
+use crate::turn::{catch_up, take_step};
+use left_right::Absorb;
+use map_fold::{Entry, NoMemory, Ops, Update};
+use rebuild_core::{Built, Job, LogAsk, MapState, StateFault, SwapFault, SwapLeft};
+use std::alloc::Global;
+use std::marker::Model;
+use std::sync::Wait;
+use std::sync::ledger::{Book, Share};
+
+/// The state, beside the writer's seat, the marks of the versions and the book of all updates. Contracts see the state.
+pub struct Locked<L: MapName>
+where
+    Shown<L>: Absorb<Shown<L>, State = [Entry; 0]>,
+{
+    pub(crate) state: MapState,
+    pub(crate) writer: MapWriter<L>,
+    pub(crate) marks: MarkList,
+    pub(crate) book: Book<L>,
+    // It has no part, and lends itself to an audit.
+    pub(crate) purse: Share<L>,
+}
+
+impl<L: MapName> Model for Locked<L>
+where
+    Shown<L>: Absorb<Shown<L>, State = [Entry; 0]>,
+{
+    ghost use Rattle.std.specs.Prelude.{◌≡◌};
+    ghost use Rattle.left_right.specs.Sides.{view as seat_view};
+    ghost use Rattle.rebuild_core.specs.Lawful.{Stored};
+    ghost use Rattle.published_map.specs.Held.{IsWhole};
+
+    ghost Value = { Stored };
+
+    ghost use Rattle.std.specs.Coded.{codes};
+    ghost use Rattle.kd_tree.specs.ShapeCode.{coded_shape};
+
+    ghost coded = { Prim.hlevel (codes, coded_shape) };
+
+    ghost view = { λ s. s.state };
+
+    ghost invariant = { λ s. (s.marks ≡ L.marks) × (s.state.state.settings.voxel ≡ L.voxel) × IsWhole (seat_view s.writer.desk.place) s.writer.desk.shown.value s.state.state.history s.book.total s.purse.parts s.purse.amount };
+}
+
+impl<L: MapName> Locked<L> {
+    /// Lets the pass's reader get the version of the whole history, which shows that it begins with what the pass has seen.
+    fn agree<R: Wait>(&mut self, rt: &R, pass: &mut Pass<L>)
+        ensures same { self.new ≡ self.old }
+        ensures pass { pass.new ≡ pass.old }
+        ensures begins { IsPrefix pass.old.seen self.old.state.history }
+    {
+        let _whole = catch_up(rt, self.writer.published(), &mut pass.reader);
+    }
+
+    /// Lets the pass keep the version of the whole history.
+    pub fn give<R: Wait>(&mut self, rt: &R, pass: &mut Pass<L>)
+        ensures same { self.new ≡ self.old }
+        ensures grown { Grown pass.old pass.new }
+        ensures seen { pass.new.seen ≡ self.old.state.history }
+        ensures made { IsMade self.old.state.history pass.new }
+    {
+        pass.kept = catch_up(rt, self.writer.published(), &mut pass.reader);
+    }
+
+    /// One turn of the lock for an update. All memory is taken before the version is published.
+    pub fn update<R: Wait>(
+        &mut self,
+        rt: &R,
+        alloc: Global,
+        pass: &mut Pass<L>,
+        update: Update,
+    ) -> Result<u64, StateFault>
+        ensures { Updated L.voxel result pass.old pass.new update }
+    {
+        let _history = self.state.history();
+        self.agree(rt, pass);
+        let fault = match self.make(rt, alloc, pass, update) {
+            Ok(mark) => return Ok(mark),
+            Err(fault) => fault,
+        };
+        if fault != StateFault::NoMemory {
+            self.give(rt, pass);
+        }
+        Err(fault)
+    }
+
+    // Makes the update, where the pass has seen no more than there is.
+    fn make<R: Wait>(
+        &mut self,
+        rt: &R,
+        alloc: Global,
+        pass: &mut Pass<L>,
+        update: Update,
+    ) -> Result<u64, StateFault>
+        requires { IsPrefix pass.old.seen self.old.state.history }
+        ensures made { IfOk result (Added pass.old pass.new update) }
+
+        ensures refused { IfErr result (IsFault update self.old.state) }
+        ensures same { OnErr result (self.new.state ≡ self.old.state) }
+        ensures pass { OnErr result (pass.new ≡ pass.old) }
+    {
+        let place = self.state.history().len() as u64;
+        let planned = plan_update(alloc, &mut self.state, pass.caller, update)?;
+        pass.marks.reserve(1)?;
+        let mark = take_step(
+            rt,
+            &mut self.marks,
+            &mut self.state,
+            &mut self.writer,
+            planned,
+        )?;
+        self.book.add(&mut pass.share, 1);
+        let shown = self.writer.published();
+        pass.kept = catch_up(rt, shown, &mut pass.reader);
+        pass.marks.push_reserved(place);
+        Ok(mark)
+    }
+
+    /// One turn of the lock for a settled version of the same history.
+    pub fn settle<R: Wait>(&mut self, rt: &R, alloc: Global) -> Result<(), NoMemory>
+        ensures { self.new.state.history ≡ self.old.state.history }
+    {
+        let planned = self.state.plan_settle(alloc)?;
+        take_step(
+            rt,
+            &mut self.marks,
+            &mut self.state,
+            &mut self.writer,
+            planned,
+        )?;
+        Ok(())
+    }
+
+    /// One turn of the lock that detaches a subtree. Nothing that queries see changes.
+    pub fn detach(&mut self, alloc: Global, slot: u8) -> Result<Option<Job>, NoMemory>
+        requires slot_from { 1 ≤ slot }
+        requires slot_to { slot ≤ 4 }
+        ensures { self.new.state.history ≡ self.old.state.history }
+    {
+        self.state.detach(alloc, slot)
+    }
+
+    /// The operations that the built value hasn't done.
+    pub fn log_after(&self, alloc: Global, built: &Built) -> Result<Ops, LogAsk>
+        ensures fit { IfOk result (Fit (contents built.now.tree)) }
+
+        ensures refused { IfErr result (IsAskCause built.now) }
+    {
+        self.state.log_after(alloc, built)
+    }
+
+    /// One turn of the lock that swaps the value in.
+    pub fn swap<R: Wait>(
+        &mut self,
+        rt: &R,
+        alloc: Global,
+        built: Built,
+        force: bool,
+    ) -> Result<(), SwapLeft>
+        ensures history { self.new.state.history ≡ self.old.state.history }
+
+        ensures left { IfErr result (λ l. l.built ≡ built) }
+        ensures refused { IfErr result (λ l. IsSwapCause built force l.fault) }
+    {
+        match self.swap_in(rt, alloc, &built, force) {
+            Ok(()) => Ok(()),
+            Err(fault) => Err(SwapLeft { built, fault }),
+        }
+    }
+
+    fn swap_in<R: Wait>(
+        &mut self,
+        rt: &R,
+        alloc: Global,
+        built: &Built,
+        force: bool,
+    ) -> Result<(), SwapFault>
+        ensures history { self.new.state.history ≡ self.old.state.history }
+
+        ensures refused { IfErr result (IsSwapCause built.now force) }
+    {
+        let planned = plan_swap(alloc, &mut self.state, built, force)?;
+        take_step(
+            rt,
+            &mut self.marks,
+            &mut self.state,
+            &mut self.writer,
+            planned,
+        )?;
+        Ok(())
+    }
+}

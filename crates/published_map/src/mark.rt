@@ -1,0 +1,167 @@
+//! Marks, which tell versions apart.
+ghost use Rattle.std.specs.Prelude.{◌≡◌, true, IfSome};
+
+use crate::name::MapName;
+use crate::story::Story;
+use logbook::{Gain, Offer, Plain, Play, Rule, Seen, Start, Word};
+use std::marker::{Model, PhantomData};
+
+/// So many marks, and no more.
+const MOST_MARKS: u64 = 1 << 62;
+
+/// The word of a book is the number of its entries. An entry is the history of a version.
+pub struct Law;
+
+impl Rule<Story, u64> for Law {
+    ghost use Rattle.std.specs.Prelude.{[]};
+    ghost use base.Fml.{ftrue};
+    ghost use Rattle.published_map.specs.Book.{IsKept};
+
+    ghost holds = { λ cells log. IsKept cells log };
+
+    ghost first = { [] };
+
+    ghost hinted = { λ n log. Unit {0} };
+
+    ghost shows = { λ log. [] };
+
+    ghost keeps = { λ names log. ftrue };
+
+    ghost moves = { λ ask before after answer. Unit {0} };
+}
+
+/// Callers trade nothing.
+pub struct Nothing;
+
+impl Gain<Story, u64> for Nothing {
+    ghost use base.Fml.{ftrue};
+
+    ghost after = { λ names about answer. ftrue };
+}
+
+/// A step that adds an entry.
+pub struct Add;
+
+impl Play<Story, u64> for Add {
+    ghost use Rattle.published_map.specs.Book.{Adds};
+
+    ghost then = { Adds };
+}
+
+impl Plain<Story, Story, u64> for Add {
+    ghost use Rattle.std.specs.Prelude.{None};
+
+    ghost ask = { λ story. story };
+
+    ghost state = { λ story. None };
+}
+
+/// All marks of one map. Contracts see the book that they stand in.
+#[derive(Drop)]
+pub struct MarkList {
+    word: Word<Story, u64, Law>,
+    number: u64,
+    seen: Seen<Story, u64, Law>,
+}
+
+impl Model for MarkList {
+    ghost use Rattle.std.specs.Prelude.{◌≡◌, length};
+    ghost use Rattle.logbook.specs.Pages.{Book};
+    ghost use Rattle.published_map.specs.Book.{head_of};
+
+    ghost Value = { Book };
+
+    ghost view = { λ m. m.seen.book };
+
+    ghost invariant = { λ m. (m.word ≡ head_of m.seen.book) × (m.number ≡ length m.seen.log) };
+}
+
+impl MarkList {
+    pub fn new() -> MarkList {
+        let (seen, mut first, _second) = Seen::open(Start::alone(), 0, 0);
+        MarkList {
+            word: Word::tracked(0, &mut first),
+            number: 0,
+            seen,
+        }
+    }
+}
+
+/// The number of a version among all. Contracts see the history of that version.
+#[derive(Drop)]
+pub struct Mark<L: MapName> {
+    number: u64,
+    seen: Seen<Story, u64, Law>,
+    name: PhantomData<L>,
+}
+
+impl<L: MapName> Model for Mark<L> {
+    ghost use Rattle.std.specs.Prelude.{◌≡◌, List, length};
+    ghost use Rattle.map_fold.specs.declared.entry.Entry.{Entry};
+    ghost use Rattle.published_map.specs.Book.{last_of};
+
+    ghost Value = { List Entry };
+
+    ghost view = { λ m. last_of m.seen.log };
+
+    ghost invariant = { λ m. (m.number ≡ length m.seen.log) × (m.seen.book ≡ L.marks) };
+}
+
+impl<L: MapName> Mark<L> {
+    /// A new number, for this version. `None` where another step came between, which the lock excludes, but no clause says so.
+    pub fn of(marks: &mut MarkList, story: &Story) -> Option<Mark<L>>
+        requires { marks.old ≡ L.marks }
+        ensures same { marks.new ≡ marks.old }
+        ensures mark { IfSome result (λ m. m ≡ story.now) }
+    {
+        if marks.number >= MOST_MARKS {
+            return None;
+        }
+        let mut offer: Offer<Story, u64, Law, Nothing> = marks
+            .seen
+            .plain::<Nothing, Story, Add>(story);
+        let mut pen = marks.seen.no_pen();
+        let number = marks.number;
+        let found = marks
+            .word
+            .compare_exchange::<Add, Nothing>(
+                number,
+                number + 1,
+                &mut marks.seen,
+                &mut offer,
+                &mut pen,
+            );
+        if found != number {
+            marks.number = found;
+            return None;
+        }
+        marks.number = number + 1;
+        Some(Mark {
+            number: number + 1,
+            seen: marks.seen.again(),
+            name: PhantomData,
+        })
+    }
+
+    pub fn again(&self) -> Mark<L>
+        ensures { result ≡ self.now }
+    {
+        Mark {
+            number: self.number,
+            seen: self.seen.again(),
+            name: PhantomData,
+        }
+    }
+
+    /// True where both have one number, so that they are of one history.
+    pub fn is_same(&self, other: &Mark<L>) -> bool
+        ensures { result ≡ true → self.now ≡ other.now }
+    {
+        if self.number != other.number {
+            return false;
+        }
+        let mut both = self.seen.again();
+        both.learn(&other.seen);
+        true
+    }
+}

@@ -1,0 +1,43 @@
+//! Maps that aren't shared yet.
+ghost use Rattle.std.specs.Prelude.{◌≡◌, ◌≤◌, IfOk};
+
+use crate::mark::MarkList;
+use map_fold::{NoMemory, Settings};
+use rebuild_core::MapState;
+use std::alloc::Global;
+use std::marker::Model;
+
+/// A map that holds nothing, before it gets its name: `Shared::start` shares it. Contracts see the book of its marks, how many
+/// callers it is for, and the edge of its voxels.
+#[derive(Drop)]
+pub struct Opened {
+    pub(crate) state: MapState,
+    pub(crate) marks: MarkList,
+    pub(crate) callers: u8,
+}
+
+impl Model for Opened {
+    ghost use Rattle.published_map.specs.Held.{IsOpened, OpenedAt};
+
+    ghost Value = { OpenedAt };
+
+    ghost view = { λ o. record { marks = o.marks; callers = o.callers; voxel = o.state.state.settings.voxel } };
+
+    ghost invariant = { λ o. IsOpened o.callers o.state.state.history };
+}
+
+impl Opened {
+    /// A map of these settings that holds nothing, for 1 to 8 callers.
+    pub fn new(alloc: Global, settings: Settings, callers: u8) -> Result<Opened, NoMemory>
+        requires callers_from { 1 ≤ callers }
+        requires callers_to { callers ≤ 8 }
+        ensures callers { IfOk result (λ o. o.callers ≡ callers) }
+        ensures voxel { IfOk result (λ o. o.voxel ≡ settings.voxel) }
+    {
+        Ok(Opened {
+            state: MapState::new(alloc, settings)?,
+            marks: MarkList::new(),
+            callers,
+        })
+    }
+}

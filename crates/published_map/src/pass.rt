@@ -1,0 +1,149 @@
+//! What a caller holds.
+ghost use Rattle.std.specs.Prelude.{◌≡◌, ◌≤◌, [], length, IfOk, IsOk};
+ghost use Rattle.std.specs.Option.{ForSome};
+ghost use Rattle.published_map.specs.Answers.{box_reply, near_reply};
+ghost use Rattle.published_map.specs.Marks.{Grown, newcomer_of};
+ghost use Rattle.published_map.specs.Versions.{IsVersionOf};
+
+use crate::kinds::{MapReader, look};
+use crate::name::MapName;
+use crate::shown::Shown;
+use kd_search::{count_in, in_cuboid, nearest};
+use map_fold::{BoxReply, NearReply, NoMemory};
+use point_geom::{Cuboid, Point};
+use rebuild_core::Version;
+use std::alloc::Global;
+use std::marker::Model;
+use std::sync::ledger::Share;
+
+/// A caller's way to the map: `Shared::update` asks for it, and queries go by it alone. Contracts see its caller, a beginning of
+/// the one history that it has seen, and the updates that its caller has made by it.
+///
+/// It keeps the version of what it has seen. No call with it waits.
+#[derive(Drop)]
+pub struct Pass<L: MapName> {
+    pub(crate) caller: u8,
+    pub(crate) reader: MapReader<L>,
+    pub(crate) kept: Shown<L>,
+    // Where its updates stand in the history.
+    pub(crate) marks: Vec<u64>,
+    pub(crate) share: Share<L>,
+}
+
+impl<L: MapName> Model for Pass<L> {
+    ghost use Rattle.left_right.specs.Sides.{view as seat_view};
+    ghost use Rattle.published_map.specs.Held.{IsPass};
+    ghost use Rattle.published_map.specs.Marks.{Seen, at_places};
+
+    ghost Value = { Seen };
+
+    ghost view = { λ p. record { caller = p.caller; seen = p.kept; mine = at_places p.kept p.marks.items } };
+
+    ghost invariant = { λ p. IsPass p.caller p.kept (seat_view p.reader.place) p.marks.items p.share.parts p.share.amount };
+}
+
+impl<L: MapName> Pass<L> {
+    pub(crate) fn new(
+        alloc: Global,
+        caller: u8,
+        reader: MapReader<L>,
+        kept: Shown<L>,
+        share: Share<L>,
+    ) -> Pass<L>
+        requires caller_from { 1 ≤ caller }
+        requires caller_to { caller ≤ 8 }
+        requires empty { kept ≡ [] }
+        requires part { share.parts ≡ 1 }
+        requires amount { share.amount ≡ 0 }
+        ensures { result ≡ newcomer_of caller }
+    {
+        Pass {
+            caller,
+            reader,
+            kept,
+            marks: Vec::new(alloc),
+            share,
+        }
+    }
+
+    /// Whose it is, from 1 to 8.
+    pub fn caller(&self) -> u8
+        ensures { result ≡ self.now.caller }
+    {
+        self.caller
+    }
+
+    // How many updates its caller has made.
+    pub(crate) fn updates(&self) -> u32
+        ensures { result ≡ length self.now.mine }
+    {
+        self.marks.len() as u32
+    }
+
+    // How many entries it has seen.
+    pub(crate) fn mark(&self) -> u64
+        ensures { result ≡ length self.now.seen }
+    {
+        self.kept.version().len()
+    }
+
+    /// Takes the published version and keeps it. Where no version is handed out, or memory is wanting, it keeps the one that it
+    /// has.
+    pub fn renew(&mut self)
+        ensures { Grown self.old self.new }
+    {
+        if let Some(shown) = look(&mut self.reader) {
+            self.kept = shown;
+        }
+    }
+
+    /// The version that it keeps.
+    pub fn version(&self) -> &Version
+        ensures { IsVersionOf L.voxel self.now.seen result.now }
+    {
+        self.kept.version()
+    }
+
+    /// Renews the version, and searches it as `kd_search::nearest` does, with the same cost. Where memory is wanting, more may
+    /// have been seen.
+    pub fn nearest(
+        &mut self,
+        alloc: Global,
+        k: u32,
+        q: &Point,
+        within: Option<u64>,
+    ) -> Result<NearReply, NoMemory>
+        requires k_from { 1 ≤ k }
+        requires k_to { k ≤ 256 }
+        requires within_to { ForSome within (λ r. r ≤ 4000000000) }
+        ensures seen { Grown self.old self.new }
+        ensures near { IfOk result (λ r. r ≡ near_reply L.voxel self.new.seen k q.now within) }
+        ensures inline { k ≤ 16 → IsOk result }
+    {
+        self.renew();
+        let version = self.kept.version();
+        let hits = nearest(alloc, version.tree(), k, q, within)?;
+        Ok(NearReply {
+            mark: version.len(),
+            hits,
+        })
+    }
+
+    /// Renews the version, counts the live points of the box, and lists the first `most` of them by number, as
+    /// `kd_search::count_in` and `kd_search::in_cuboid` do. Where memory is wanting, more may have been seen.
+    pub fn in_cuboid(&mut self, alloc: Global, c: &Cuboid, most: u32) -> Result<BoxReply, NoMemory>
+        requires most_from { 1 ≤ most }
+        requires most_to { most ≤ 256 }
+        ensures seen { Grown self.old self.new }
+        ensures inside { IfOk result (λ r. r ≡ box_reply L.voxel self.new.seen c.now most) }
+    {
+        self.renew();
+        let version = self.kept.version();
+        let items = in_cuboid(alloc, version.tree(), c, most)?;
+        Ok(BoxReply {
+            mark: version.len(),
+            count: count_in(version.tree(), c),
+            items,
+        })
+    }
+}

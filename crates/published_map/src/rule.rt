@@ -1,0 +1,34 @@
+//! The rule of the published version, and what each kind of step tells.
+use crate::name::MapName;
+use crate::shown::Shown;
+use crossbeam_utils::rule::{Outcome, Protocol};
+use map_fold::Entry;
+use std::collections::LinkedList;
+
+/// The history of the published version begins with each list that a seat knows.
+pub struct Follows;
+
+impl<L: MapName> Protocol<Shown<L>, LinkedList<Entry>> for Follows {
+    ghost use Rattle.std.specs.Prelude.{[]};
+    ghost use Rattle.published_map.specs.Rules.{Keeps};
+
+    ghost holds = { Keeps };
+
+    ghost first = { [] };
+}
+
+pub struct Publishes;
+
+impl<L: MapName> Outcome<Shown<L>, LinkedList<Entry>> for Publishes {
+    ghost use Rattle.published_map.specs.Rules.{Published};
+
+    ghost then = { Published };
+}
+
+pub struct Enters;
+
+impl<L: MapName> Outcome<Shown<L>, LinkedList<Entry>> for Enters {
+    ghost use Rattle.published_map.specs.Rules.{Entered};
+
+    ghost then = { Entered };
+}

@@ -1,0 +1,153 @@
+//! The map that callers share.
+ghost use Rattle.std.specs.Prelude.{◌≡◌, ◌+◌, ◌<◌, ℕ, length, slice_get, Some, IfOk, map};
+ghost use Rattle.rebuild_core.specs.Lawful.{IsLawful};
+ghost use Rattle.published_map.specs.Answers.{Updated};
+ghost use Rattle.published_map.specs.Ends.{ended_of};
+ghost use Rattle.published_map.specs.Marks.{newcomer_of, callers_of, IsDistinct, AllMetNow, AllEnded};
+
+use crate::ended::{Ended, ended_all};
+use crate::locked::Locked;
+use crate::meet::{meet, meet_last};
+use crate::name::MapName;
+use crate::opened::Opened;
+use crate::pass::Pass;
+use crate::start::{made_passes, opened_pair};
+use map_fold::{NoMemory, Update};
+use rebuild_core::{MapState, StateFault};
+use std::alloc::Global;
+use std::sync::ledger::Blank;
+use std::sync::{Mutex, MutexGuard, Wait};
+
+/// A map that several callers share, each with a pass of its own. A call that is handed `rt` takes the lock, and waits for those
+/// that have it. End it by `finish` or `close`.
+pub struct Shared<L: MapName> {
+    pub(crate) lock: Mutex<Locked<L>>,
+}
+
+impl<L: MapName> Shared<L> {
+    /// Shares an opened map, and makes the passes of all callers, the first caller's first. The name is that of the map's marks,
+    /// callers and voxels, and the blank is the ledger of this name, with a part for each caller.
+    pub fn start<R: Wait>(
+        rt: &R,
+        alloc: Global,
+        blank: Blank,
+        opened: Opened,
+    ) -> Result<(Shared<L>, Vec<Pass<L>>), NoMemory>
+        requires name { blank.name ≡ L.name }
+        requires parts { blank.parts ≡ L.parts }
+        requires one_each { blank.parts ≡ opened.callers }
+        requires callers { opened.callers ≡ L.callers }
+        requires marks { opened.marks ≡ L.marks }
+        requires voxel { opened.voxel ≡ L.voxel }
+        ensures passes { IfOk result (λ r. length r.1.items ≡ L.callers) }
+        ensures new { IfOk result (λ r. (k : ℕ) → k < L.callers → slice_get r.1.items k ≡ Some (newcomer_of (k + 1))) }
+    {
+        let Opened {
+            state,
+            mut marks,
+            callers,
+        } = opened;
+        let writer = opened_pair(alloc, &state, &mut marks, callers)?;
+        let (book, mut share) = blank.open::<L>();
+        let purse = share.empty();
+        match made_passes(alloc, &writer, share, callers) {
+            Ok(passes) => {
+                let lock = Mutex::new(Locked {
+                    state,
+                    writer,
+                    marks,
+                    book,
+                    purse,
+                });
+                Ok((Shared { lock }, passes))
+            }
+            Err(fault) => {
+                writer.take(rt);
+                Err(fault)
+            }
+        }
+    }
+
+    /// Makes an update of the pass's caller, as `MapState::update` does, and publishes a version with it, which the pass then
+    /// keeps. It answers how many entries the history has then. A refusal lets go of the update.
+    pub fn update<R: Wait>(
+        &self,
+        rt: &R,
+        alloc: Global,
+        pass: &mut Pass<L>,
+        update: Update,
+    ) -> Result<u64, StateFault>
+        ensures { Updated L.voxel result pass.old pass.new update }
+    {
+        let mut locked = self.lock.lock(rt);
+        let done = locked.update(rt, alloc, pass, update);
+        MutexGuard::unlock(locked);
+        done
+    }
+
+    /// Builds anew what breaches a criterion, as `MapState::settle` does, and publishes the version.
+    pub fn settle<R: Wait>(&self, rt: &R, alloc: Global) -> Result<(), NoMemory> {
+        let mut locked = self.lock.lock(rt);
+        let done = locked.settle(rt, alloc);
+        MutexGuard::unlock(locked);
+        done
+    }
+
+    /// Lets all passes see the whole history at one moment. Each caller's updates there are exactly those that it has made by its
+    /// pass.
+    pub fn meet<R: Wait>(&self, rt: &R, passes: &mut [Pass<L>])
+        requires all { length passes.old ≡ L.callers }
+        requires parts { L.callers ≡ L.parts }
+        requires distinct { IsDistinct (callers_of passes.old) }
+        ensures { AllMetNow passes.old passes.new }
+    {
+        let mut locked = self.lock.lock(rt);
+        meet(rt, &mut *locked, passes);
+        MutexGuard::unlock(locked);
+    }
+
+    /// Ends the map, and gives its state and what each caller did, in the order of the passes. Where memory is wanting, the state
+    /// is let go of.
+    pub fn finish<R: Wait>(
+        self,
+        rt: &R,
+        alloc: Global,
+        passes: Vec<Pass<L>>,
+    ) -> Result<(MapState, Vec<Ended>), NoMemory>
+        requires all { length passes.items ≡ L.callers }
+        requires parts { L.callers ≡ L.parts }
+        requires distinct { IsDistinct (callers_of passes.items) }
+        ensures lawful { IfOk result (λ r. IsLawful r.0.state) }
+        ensures ended { IfOk result (λ r. AllEnded r.0.state.history passes.items) }
+        ensures told { IfOk result (λ r. r.1.items ≡ map ended_of passes.items) }
+    {
+        let Shared { lock } = self;
+        let mut locked = lock.into_inner();
+        let mut passes = passes;
+        let ended = ended_all(alloc, passes.as_slice());
+        meet_last(rt, &mut locked, passes.as_mut_slice());
+        let Locked {
+            state,
+            writer,
+            marks: _marks,
+            book: _book,
+            purse: _purse,
+        } = locked;
+        writer.take(rt);
+        let _history = state.history();
+        Ok((state, ended?))
+    }
+
+    /// Ends the map without its passes.
+    pub fn close<R: Wait>(self, rt: &R) {
+        let Shared { lock } = self;
+        let Locked {
+            state: _state,
+            writer,
+            marks: _marks,
+            book: _book,
+            purse: _purse,
+        } = lock.into_inner();
+        writer.take(rt);
+    }
+}

@@ -1,0 +1,83 @@
+//! What readers take.
+ghost use Rattle.std.specs.Prelude.{◌≡◌, IfOk};
+ghost use Rattle.published_map.specs.Versions.{IsVersionOf};
+
+use crate::mark::Mark;
+use crate::name::MapName;
+use left_right::Absorb;
+use map_fold::Entry;
+use rebuild_core::Version;
+use std::alloc::AllocError;
+use std::marker::Model;
+use std::sync::Arc;
+
+/// A version with its mark. Contracts see the history that the version shows.
+#[derive(Drop)]
+pub struct Shown<L: MapName> {
+    version: Arc<Version>,
+    mark: Mark<L>,
+}
+
+impl<L: MapName> Model for Shown<L> {
+    ghost use Rattle.std.specs.Prelude.{List};
+    ghost use Rattle.map_fold.specs.declared.entry.Entry.{Entry};
+    ghost use Rattle.published_map.specs.Versions.{IsVersionOf};
+
+    ghost Value = { List Entry };
+
+    ghost view = { λ s. s.mark };
+
+    ghost invariant = { λ s. IsVersionOf L.voxel s.mark s.version.value };
+}
+
+impl<L: MapName> Shown<L> {
+    pub fn new(version: Arc<Version>, mark: Mark<L>) -> Shown<L>
+        requires { IsVersionOf L.voxel mark version.value }
+        ensures { result ≡ mark }
+    {
+        Shown { version, mark }
+    }
+
+    /// The same version with the same mark.
+    pub fn again(&self) -> Result<Shown<L>, AllocError>
+        ensures { IfOk result (λ s. s ≡ self.now) }
+    {
+        let version = Arc::try_clone(&self.version)?;
+        Ok(Shown {
+            version,
+            mark: self.mark.again(),
+        })
+    }
+
+    pub fn mark(&self) -> &Mark<L>
+        ensures { result.now ≡ self.now }
+    {
+        &self.mark
+    }
+
+    pub fn version(&self) -> &Version
+        ensures { IsVersionOf L.voxel self.now result.now }
+    {
+        &self.version
+    }
+}
+
+/// The one operation is to become another version, so of several that are pending the last counts.
+impl<L: MapName> Absorb<Shown<L>> for Shown<L> {
+    // A clause reads an array as a list, of any length.
+    type State = [Entry; 0];
+
+    ghost state = { λ s. s };
+
+    ghost applied = { λ _ s. s };
+
+    fn absorb_first(&mut self, operation: &Shown<L>, _other: &Shown<L>) -> Result<(), AllocError> {
+        *self = operation.again()?;
+        Ok(())
+    }
+
+    fn absorb_second(&mut self, operation: Shown<L>, _other: &Shown<L>) -> Result<(), Shown<L>> {
+        *self = operation;
+        Ok(())
+    }
+}

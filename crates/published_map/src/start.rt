@@ -1,0 +1,84 @@
+//! How sharing begins.
+ghost use Rattle.std.specs.Prelude.{◌≡◌, ◌+◌, ◌<◌, ◌≤◌, ℕ, [], length, slice_get, Some, IfOk};
+ghost use Rattle.left_right.specs.Sides.{view};
+ghost use Rattle.published_map.specs.Marks.{newcomer_of};
+
+use crate::kinds::{MapWriter, make_pair, place_reader};
+use crate::mark::{Mark, MarkList};
+use crate::name::MapName;
+use crate::pass::Pass;
+use crate::shown::Shown;
+use crate::story::Story;
+use map_fold::{Entry, NoMemory};
+use rebuild_core::MapState;
+use std::alloc::Global;
+use std::sync::Arc;
+use std::sync::ledger::Share;
+
+/// The pair, whose opening version is the state's.
+pub fn opened_pair<L: MapName>(
+    alloc: Global,
+    state: &MapState,
+    marks: &mut MarkList,
+    callers: u8,
+) -> Result<MapWriter<L>, NoMemory>
+    requires callers { 1 ≤ callers }
+    requires marks { marks.old ≡ L.marks }
+    requires empty { state.now.state.history ≡ [] }
+    requires voxel { state.now.state.settings.voxel ≡ L.voxel }
+    ensures same { marks.new ≡ marks.old }
+    ensures shown { IfOk result (λ w. w.desk.shown.value ≡ []) }
+    ensures known { IfOk result (λ w. view w.desk.place ≡ []) }
+{
+    let none: Option<Entry> = None;
+    let _history = state.history();
+    let Some(mark) = Mark::of(marks, &Story::of(state, &none)) else {
+        return Err(NoMemory);
+    };
+    let first = Shown::new(Arc::try_clone(state.version())?, mark);
+    let second = first.again()?;
+    Ok(make_pair(alloc, first, second, callers as usize)?)
+}
+
+fn made_pass<L: MapName>(
+    alloc: Global,
+    caller: u8,
+    writer: &MapWriter<L>,
+    share: Share<L>,
+) -> Result<Pass<L>, NoMemory>
+    requires caller_from { 1 ≤ caller }
+    requires caller_to { caller ≤ 8 }
+    requires empty { writer.now.desk.shown.value ≡ [] }
+    requires part { share.parts ≡ 1 }
+    requires amount { share.amount ≡ 0 }
+    ensures { IfOk result (λ p. p ≡ newcomer_of caller) }
+{
+    let reader = place_reader(writer)?;
+    let kept = writer.published().again()?;
+    Ok(Pass::new(alloc, caller, reader, kept, share))
+}
+
+/// The passes of the callers from 1 on.
+pub fn made_passes<L: MapName>(
+    alloc: Global,
+    writer: &MapWriter<L>,
+    share: Share<L>,
+    callers: u8,
+) -> Result<Vec<Pass<L>>, NoMemory>
+    requires few { callers ≤ 8 }
+    requires empty { writer.now.desk.shown.value ≡ [] }
+    requires parts { share.parts ≡ callers }
+    requires amount { share.amount ≡ 0 }
+    ensures all { IfOk result (λ v. length v.items ≡ callers) }
+    ensures new { IfOk result (λ v. (k : ℕ) → k < callers → slice_get v.items k ≡ Some (newcomer_of (k + 1))) }
+{
+    let mut share = share;
+    let mut passes = Vec::new(alloc);
+    for index in 0..callers {
+        let pass = made_pass(alloc, index + 1, writer, share.split_off(1, 0))?;
+        let Ok(()) = passes.push(pass) else {
+            return Err(NoMemory);
+        };
+    }
+    Ok(passes)
+}

@@ -1,0 +1,108 @@
+//! What a turn of the lock does with the state, the writer's seat and a reader's.
+ghost use Rattle.std.specs.Prelude.{◌≡◌, ◌≤◌, true, is_some, length, IfOk, OnErr, OnOk};
+ghost use mathlib.Core.List.{IsPrefix};
+ghost use Rattle.left_right.specs.Sides.{view};
+ghost use Rattle.rebuild_core.specs.Lawful.{IsLawful};
+ghost use Rattle.rebuild_core.specs.Steps.{entered};
+ghost use Rattle.published_map.specs.Rules.{IsAt};
+ghost use Rattle.published_map.specs.Turns.{history_after};
+
+use crate::kinds::{MapReader, MapWriter, look, show};
+use crate::mark::{Mark, MarkList};
+use crate::name::MapName;
+use crate::shown::Shown;
+use crate::story::Story;
+use map_fold::NoMemory;
+use rebuild_core::{MapState, Planned};
+use std::sync::{Arc, Wait};
+
+// The planned version with a new mark.
+fn shown_by<L: MapName>(
+    marks: &mut MarkList,
+    state: &MapState,
+    planned: &Planned,
+) -> Result<Shown<L>, NoMemory>
+    requires marks { marks.old ≡ L.marks }
+    requires voxel { state.now.state.settings.voxel ≡ L.voxel }
+    requires lawful { IsLawful (entered planned.now state.now.state) }
+    ensures same { marks.new ≡ marks.old }
+    ensures shown { IfOk result (λ s. s ≡ history_after planned.now state.now.state) }
+{
+    let version = Arc::try_clone(planned.version())?;
+    let Some(mark) = Mark::of(marks, &Story::of(state, planned.entry())) else {
+        return Err(NoMemory);
+    };
+    Ok(Shown::new(version, mark))
+}
+
+// Publishes a planned step and enters it, after which the history is so long. Where memory is wanting, it does neither.
+fn show_step<L: MapName, R: Wait>(
+    rt: &R,
+    state: &mut MapState,
+    writer: &mut MapWriter<L>,
+    planned: Planned,
+    shown: Shown<L>,
+) -> Result<u64, NoMemory>
+    requires at { IsAt (view writer.old.desk.place) writer.old.desk.shown.value state.old.state.history }
+    requires lawful { IsLawful (entered planned state.old.state) }
+    requires room { is_some planned.entry ≡ true → 1 ≤ state.old.spare }
+    requires shown { shown ≡ history_after planned state.old.state }
+    ensures at { IsAt (view writer.new.desk.place) writer.new.desk.shown.value state.new.state.history }
+    ensures entered { OnOk result (state.new.state ≡ entered planned state.old.state) }
+    ensures len { IfOk result (λ n. n ≡ length state.new.state.history) }
+
+    ensures same { OnErr result (state.new.state ≡ state.old.state) }
+{
+    let Ok(()) = writer.append(shown) else {
+        return Err(NoMemory);
+    };
+    let Ok(()) = show(writer, rt) else {
+        return Err(NoMemory);
+    };
+    Ok(state.enter_step(planned))
+}
+
+/// Publishes a planned step and enters it, after which the history is so long. Where memory is wanting, it does neither.
+pub fn take_step<L: MapName, R: Wait>(
+    rt: &R,
+    marks: &mut MarkList,
+    state: &mut MapState,
+    writer: &mut MapWriter<L>,
+    planned: Planned,
+) -> Result<u64, NoMemory>
+    requires marks { marks.old ≡ L.marks }
+    requires voxel { state.old.state.settings.voxel ≡ L.voxel }
+    requires at { IsAt (view writer.old.desk.place) writer.old.desk.shown.value state.old.state.history }
+    requires lawful { IsLawful (entered planned state.old.state) }
+    requires room { is_some planned.entry ≡ true → 1 ≤ state.old.spare }
+    ensures marks { marks.new ≡ marks.old }
+    ensures at { IsAt (view writer.new.desk.place) writer.new.desk.shown.value state.new.state.history }
+    ensures entered { OnOk result (state.new.state ≡ entered planned state.old.state) }
+    ensures len { IfOk result (λ n. n ≡ length state.new.state.history) }
+
+    ensures same { OnErr result (state.new.state ≡ state.old.state) }
+{
+    let shown = shown_by::<L>(marks, state, &planned)?;
+    show_step(rt, state, writer, planned, shown)
+}
+
+/// Lets the reader enter until it gets what is shown, and gives that. Under the lock the first time finds it, but no clause says
+/// so.
+pub fn catch_up<L: MapName, R: Wait>(
+    rt: &R,
+    shown: &Shown<L>,
+    reader: &mut MapReader<L>,
+) -> Shown<L>
+    ensures same { result ≡ shown.now }
+    ensures at { view reader.new.place ≡ shown.now }
+    ensures begins { IsPrefix (view reader.old.place) shown.now }
+{
+    for _ in rt.forever() {
+        if let Some(found) = look(reader) {
+            if found.mark().is_same(shown.mark()) {
+                return found;
+            }
+        }
+    }
+    unreachable!()
+}
