@@ -9,6 +9,7 @@ ghost use Rattle.mapper_cli.specs.Codes.{code_of};
 
 use crate::streams::{Input, Output};
 use mapper_core::{Sink, Status, run};
+use rebuild_worker::FreeGate;
 use std::alloc::AllocError;
 use std::env;
 use std::io::ErrorKind;
@@ -26,6 +27,7 @@ fn main(rt: HostRuntime) -> ExitCode {
             &mut log,
             &mut out,
             &mut notes,
+            &FreeGate,
         ),
         Err(AllocError) => {
             let _ = notes.write(b"no memory\n");

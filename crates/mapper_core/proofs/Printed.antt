@@ -1,20 +1,22 @@
 -- What is printed of a script that runs in the log's order.
 use Rattle.std.proofs.Common.{◌≡◌, ℕ, List, refl, sym, ap, subst, ◌∙◌}
+use Rattle.scan_log.specs.Legal.{AreLegalReplies}
 use Rattle.scan_log.specs.Scripts.{ScriptAt}
 use Rattle.scan_log.specs.declared.reply.Reply.{Reply}
 use Rattle.scan_log.specs.Transcript.{lines_text, replies, serial_marks, text}
 use Rattle.scan_log.proofs.Serial.{serial_replies_legal}
-use Rattle.mapper_core.specs.declared.words.Ask.{Ask}
 use Rattle.mapper_core.specs.declared.words.Ask.TheVariants.{Run, Serial}
 use Rattle.mapper_core.specs.Prints.{AreLegalLines, Prints}
 
 serial_lines : (s : ScriptAt) → AreLegalLines s (text s (serial_marks s))
 serial_lines s = record { told = replies s (serial_marks s); legal = serial_replies_legal s; text = refl }
 
-serial_prints : (a : Ask) (s : ScriptAt) → Prints a s (text s (serial_marks s))
-serial_prints Run s = serial_lines s
-serial_prints Serial s = (serial_lines s, refl)
+-- the lines of legal replies are what a run prints
+pub legal_print : (s : ScriptAt) (rs : List Reply) (lines : List ℕ) → AreLegalReplies s rs → lines ≡ lines_text s.commands rs → Prints Run s lines
+legal_print s rs lines legal shown = record { told = rs; legal = legal; text = shown }
 
--- the lines of the replies in the log's order serve all that may be asked
-pub replies_print : (a : Ask) (s : ScriptAt) (rs : List Reply) (lines : List ℕ) → rs ≡ replies s (serial_marks s) → lines ≡ lines_text s.commands rs → Prints a s lines
-replies_print a s rs lines all shown = subst (Prints a s) (sym (shown ∙ ap (lines_text s.commands) all)) (serial_prints a s)
+-- those of the replies in the log's order are what a serial one prints
+pub serial_print : (s : ScriptAt) (rs : List Reply) (lines : List ℕ) → rs ≡ replies s (serial_marks s) → lines ≡ lines_text s.commands rs → Prints Serial s lines
+serial_print s rs lines all shown =
+    let told = shown ∙ ap (lines_text s.commands) all in
+    (subst (AreLegalLines s) (sym told) (serial_lines s), told)

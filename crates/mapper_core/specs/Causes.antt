@@ -10,8 +10,10 @@ use Rattle.mapper_core.specs.declared.ending.Ending.{Ending}
 use Rattle.mapper_core.specs.declared.ending.Ending.TheVariants.{Done, Usage, ReadFault, TooLong, Bad, WriteFault, NoMemory}
 use Rattle.mapper_core.specs.declared.status.Status.{Status}
 use Rattle.mapper_core.specs.declared.words.Ask.{Ask}
-use Rattle.mapper_core.specs.Asks.{Asks, AskSomething, AskNothing}
+use Rattle.mapper_core.specs.declared.words.Ask.TheVariants as ask
+use Rattle.mapper_core.specs.Asks.{Asks, AskForLog, AskNothing}
 use Rattle.mapper_core.specs.Endings.{status_of, note_of}
+use Rattle.mapper_core.specs.Generated.{generated}
 use Rattle.mapper_core.specs.Outside.{Rose, HasRead, AppendsFront}
 use Rattle.mapper_core.specs.Prints.{Prints}
 
@@ -61,19 +63,33 @@ NotRead log Done = ⊥
 NotRead log Usage = ⊥
 NotRead log WriteFault = ⊥
 
--- The log says a script, and what the words make of it has been written so far.
+-- what is asked for is done on this script: on the log's, or on the one that is generated
+abbrev pub IsDoneOn : Ask → LogSeen → ScriptAt → Type 0
+IsDoneOn ask.Run log s = Says log s
+IsDoneOn ask.Serial log s = Says log s
+IsDoneOn (ask.Make n) log s = s ≡ generated n
+IsDoneOn (ask.Drive n) log s = s ≡ generated n
+
+-- why there is no script to do it on: the log's cause, or want of memory
+abbrev pub IsUndone : Ask → LogSeen → Ending → Type 0
+IsUndone ask.Run log e = NotRead log e
+IsUndone ask.Serial log e = NotRead log e
+IsUndone (ask.Make n) log e = e ≡ NoMemory
+IsUndone (ask.Drive n) log e = e ≡ NoMemory
+
+-- There is a script, and what the words make of it has been written so far.
 pub record HasPrinted (s : Seen) (so_far : List ℕ → Type 0) : Type 0 where
   pub ask : Ask
   pub asked : Asks ask s.words
   pub script : ScriptAt
-  pub said : Says s.log script
+  pub said : IsDoneOn ask s.log script
   pub lines : List ℕ
   pub printed : Prints ask script lines
   pub written : so_far lines
 
 -- no script was read, and out got nothing
 pub record HasRefused (s : Seen) (e : Ending) : Type 0 where
-  pub asked : AskSomething s.words
+  pub asked : AskForLog s.words
   pub unread : NotRead s.log e
   pub kept : Keeps s.out.held s.out.held_after
 
@@ -85,7 +101,7 @@ Ended s ReadFault = HasRefused s ReadFault
 Ended s TooLong = HasRefused s TooLong
 Ended s (Bad line cause) = HasRefused s (Bad line cause)
 Ended s WriteFault = HasPrinted s (AppendsFront s.out.held s.out.held_after) × Rose s.out.faults s.out.faults_after
-Ended s NoMemory = AskSomething s.words × (Keeps s.out.held s.out.held_after ⊎ HasPrinted s (AppendsFront s.out.held s.out.held_after))
+Ended s NoMemory = Keeps s.out.held s.out.held_after ⊎ HasPrinted s (AppendsFront s.out.held s.out.held_after)
 
 -- The run ended in one of these ways, and answers its status; notes got its line or a front of it.
 pub record Ends (s : Seen) (notes notes_after : Option (List ℕ)) (status : Status) : Type 0 where

@@ -1,7 +1,14 @@
 pub mod Outside
 pub mod Memory
 pub mod Asks
+pub mod CommandLine
+pub mod Generated
+pub mod Summary
 pub mod Endings
 pub mod Prints
 pub mod Causes
 pub mod Turns
+pub mod Told
+pub mod Mine
+pub mod Meetings
+pub mod Ended

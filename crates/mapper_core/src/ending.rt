@@ -3,6 +3,7 @@ ghost use Rattle.std.specs.Prelude.{◌≡◌};
 ghost use Rattle.mapper_core.specs.Endings.{status_of};
 
 use crate::status::Status;
+use map_fold::NoMemory;
 use scan_log::LogCause;
 
 /// How a run ended, with what is told of it.
@@ -44,5 +45,16 @@ impl Ending {
             Ending::WriteFault => Status::WriteFault,
             Ending::NoMemory => Status::NoMemory,
         }
+    }
+}
+
+impl From<NoMemory> for Ending {
+    ghost use Rattle.std.specs.Prelude.{◌≡◌};
+    ghost use Rattle.mapper_core.specs.declared.ending.Ending.TheVariants.{NoMemory as want};
+
+    ghost from_gives = { λ _ e. e ≡ want };
+
+    fn from(_want: NoMemory) -> Ending {
+        Ending::NoMemory
     }
 }

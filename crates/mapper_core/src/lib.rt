@@ -2,20 +2,28 @@
 #![tactic(auto)]
 
 mod answering;
+mod callers;
+mod draws;
 mod ending;
+mod generated;
+mod hearing;
 mod mem;
 mod notes;
 mod outside;
 mod reading;
 mod replying;
 mod running;
+mod spelling;
 mod status;
+mod summing;
 mod sure;
 #[cfg(test)]
 mod tests;
 mod words;
 mod writing;
 
+pub use callers::{run_callers, threaded};
+pub use generated::made;
 pub use mem::{MemSink, MemSource};
 pub use outside::{Failed, Sink, SinkFault, Source};
 pub use replying::{Replies, serial};

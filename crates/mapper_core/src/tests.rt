@@ -1,10 +1,15 @@
 //! Runs, as their users see them.
 use crate::{MemSink, MemSource, Status, SureSink, SureSource, run};
+use rebuild_worker::FreeGate;
 use std::alloc::{AllocError, Global};
+use std::sync::Wait;
 use std::test::Fail;
+use std::thread::Threads;
 
+mod callers;
 mod examples;
 mod faults;
+mod generated;
 mod limits;
 mod outside;
 mod prefixes;
@@ -35,35 +40,47 @@ fn words_of(alloc: Global, line: &str) -> Result<Vec<String>, AllocError> {
 }
 
 // A run over streams that never fail.
-fn ran(alloc: Global, words: &str, log: &[u8]) -> Result<Outcome, AllocError> {
+fn ran<R: Threads + Wait + Sync>(
+    rt: &R,
+    alloc: Global,
+    words: &str,
+    log: &[u8],
+) -> Result<Outcome, AllocError> {
     let words = words_of(alloc, words)?;
     let mut source = SureSource::new(log.to_vec(alloc)?);
     let mut out = SureSink::new(alloc);
     let mut notes = SureSink::new(alloc);
     let status = run(
-        &(),
+        rt,
         alloc,
         words.as_slice(),
         &mut source,
         &mut out,
         &mut notes,
+        &FreeGate,
     );
     Ok(Outcome { status, out, notes })
 }
 
 // A run over streams that move a byte at a time.
-fn ran_by_bytes(alloc: Global, words: &str, log: &[u8]) -> Result<(Status, MemSink), Fail> {
+fn ran_by_bytes<R: Threads + Wait + Sync>(
+    rt: &R,
+    alloc: Global,
+    words: &str,
+    log: &[u8],
+) -> Result<(Status, MemSink), Fail> {
     let words = words_of(alloc, words)?;
     let mut source = MemSource::new(log.to_vec(alloc)?, 1, Vec::new(alloc));
     let mut out = MemSink::new(alloc, 1, Vec::new(alloc));
     let mut notes = SureSink::new(alloc);
     let status = run(
-        &(),
+        rt,
         alloc,
         words.as_slice(),
         &mut source,
         &mut out,
         &mut notes,
+        &FreeGate,
     );
     Ok((status, out))
 }

@@ -1,7 +1,11 @@
 //! What the words ask for.
-ghost use Rattle.std.specs.Prelude.{map, IfSome, IfNone};
+ghost use Rattle.std.specs.Prelude.{◌≡◌, ◌∷◌, [], codes, map, IfOk, IfSome, IfNone};
 ghost use Rattle.std.specs.String.{string_bytes};
 ghost use Rattle.mapper_core.specs.Asks.{Asks, AskNothing};
+
+use crate::hearing::heard;
+use crate::spelling::is_spelled;
+use std::alloc::{AllocError, Global};
 
 /// What the words ask for.
 #[derive(Clone, Copy, Debug, PartialEq, Eq)]
@@ -10,18 +14,37 @@ pub enum Ask {
     Run,
     /// A run of a log in its order.
     Serial,
+    /// The log of a generated script of so many scans.
+    Make(u32),
+    /// A run of a generated script in its order, and one line of sums.
+    Drive(u32),
 }
 
-/// What the words ask for, if it is something that can be done.
-pub fn asked(words: &[String]) -> Option<Ask>
-    ensures found { IfSome result (λ a. Asks a (map (λ w. string_bytes w) words.now)) }
-    ensures nothing { IfNone result (AskNothing (map (λ w. string_bytes w) words.now)) }
+/// What the words ask for, if it is something that can be done. `clap`'s reading counts only where the words are the one
+/// spelling of what it read.
+pub fn asked(alloc: Global, words: &[String]) -> Result<Option<Ask>, AllocError>
+    ensures found { IfOk result (λ r. IfSome r (λ a. Asks a (map (λ w. string_bytes w) words.now))) }
+    ensures nothing { IfOk result (λ r. IfNone r (AskNothing (map (λ w. string_bytes w) words.now))) }
 {
-    match words {
-        [word] if word.as_str() == "run" => Some(Ask::Run),
-        [word, option] if word.as_str() == "run" && option.as_str() == "--serial" => {
-            Some(Ask::Serial)
-        }
-        _ => None,
+    let argv = with_program(alloc, words)?;
+    let Some(ask) = heard(alloc, argv.as_slice())? else {
+        return Ok(None);
+    };
+    if is_spelled(words, ask) {
+        Ok(Some(ask))
+    } else {
+        Ok(None)
     }
+}
+
+// The words after the program's name, which `clap` passes over.
+fn with_program<'a>(alloc: Global, words: &'a [String]) -> Result<Vec<&'a str>, AllocError>
+    ensures { IfOk result (λ v. map (λ w. w.now) v.items ≡ codes "mapper" ∷ map (λ w. string_bytes w) words.now) }
+{
+    let mut argv = Vec::new(alloc);
+    argv.push("mapper")?;
+    for word in words {
+        argv.push(word.as_str())?;
+    }
+    Ok(argv)
 }

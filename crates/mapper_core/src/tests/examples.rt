@@ -119,13 +119,65 @@ sync 2 live 1 suspended 0
 end 2 live 1 suspended 0
 ",
         ),
+        (
+            "# A door: its two points are hidden while it is open.
+ikdmap 1 voxel 1000 large 1500
+@1 add 200 300 1000 800 300 1000 1500 300 1000
+@1 suspend 0 0 0 1000 500 2000
+@1 near 3 0 0 1000
+@1 thin 500 400 1000
+@1 restore 0 0 0 1000 500 2000
+@1 box 5 0 0 0 1000 1000 2000
+@1 suspend 0 0 0 1000 350 2000
+@1 delete 0 0 0 500 500 2000
+sync
+@1 restore 0 0 0 1000 500 2000
+@1 near 5 0 0 1000
+",
+            "@1 ok 1
+@1 ok 2
+@1 near 2 | 2 1500 300 1000 2340000
+@1 ok 3
+@1 ok 4
+@1 box 4 3 | 0 200 300 1000 | 1 800 300 1000 | 3 500 400 1000
+@1 ok 5
+@1 ok 6
+sync 6 live 2 suspended 1
+@1 ok 7
+@1 near 7 | 3 500 400 1000 410000 | 1 800 300 1000 730000 | 2 1500 300 1000 2340000
+end 7 live 3 suspended 0
+",
+        ),
+        (
+            "# Two scans of a corridor, along which a robot drives. Voxels of half a metre keep one point each.
+ikdmap 1 voxel 500 large 1500
+
+# The first scan: two points on each wall, and a post. Is anything within half a metre of where it stands?
+@1 thin 1000 -1000 200 1000 1000 200 2000 -1000 210 2000 1000 190 3000 0 300
+@1 near 1 3000 0 300 within 500
+
+# The second one, a metre further on: the walls and the post again, and the corridor's end.
+@1 thin 2010 -990 205 2000 1000 180 3020 20 290 6000 0 300
+@1 near 1 3000 0 300 within 500
+
+# What is left behind is let go.
+@1 delete -9000 -9000 -9000 1500 9000 9000
+@1 box 9 -9000 -9000 -9000 9000 9000 9000
+",
+            "@1 ok 1
+@1 near 1 | 4 3000 0 300 0
+@1 ok 2
+@1 near 2 | 7 3020 20 290 900
+@1 ok 3
+@1 box 3 4 | 3 2000 1000 190 | 5 2010 -990 205 | 7 3020 20 290 | 8 6000 0 300
+end 3 live 4 suspended 0
+",
+        ),
     ] {
-        for words in ["run", "run --serial"] {
-            let ran = ran(alloc, words, log.as_bytes())?;
-            assert_eq!(rt; ran.status, Status::Done, "{words}, {log}");
-            assert_eq!(rt; ran.out.bytes(), want.as_bytes(), "{words}, {log}");
-            assert_eq!(rt; ran.notes.bytes(), b"".as_slice(), "{words}, {log}");
-        }
+        let ran = ran(&rt, alloc, "run --serial", log.as_bytes())?;
+        assert_eq!(rt; ran.status, Status::Done, "{log}");
+        assert_eq!(rt; ran.out.bytes(), want.as_bytes(), "{log}");
+        assert_eq!(rt; ran.notes.bytes(), b"".as_slice(), "{log}");
     }
     Ok(())
 }

@@ -3,6 +3,7 @@ ghost use Rattle.std.specs.Prelude.{None, false};
 
 use super::{HEADER, ran, words_of};
 use crate::{Failed, Source, Status, SureSink, run};
+use rebuild_worker::FreeGate;
 use std::test::Fail;
 
 // A comment that ends after so many bytes.
@@ -43,7 +44,15 @@ fn a_log_has_at_most_so_many_bytes(rt: HostRuntime) -> Result<(), Fail> {
         };
         let mut out = SureSink::new(alloc);
         let mut notes = SureSink::new(alloc);
-        let status = run(&rt, alloc, words.as_slice(), &mut log, &mut out, &mut notes);
+        let status = run(
+            &rt,
+            alloc,
+            words.as_slice(),
+            &mut log,
+            &mut out,
+            &mut notes,
+            &FreeGate,
+        );
         assert_eq!(rt; status, want);
         assert_eq!(rt; out.bytes(), b"".as_slice());
         assert_eq!(rt; notes.bytes(), note.as_bytes());
@@ -94,7 +103,7 @@ fn a_log_has_at_most_so_many_commands_and_points(rt: HostRuntime) -> Result<(), 
         let line = format!(in alloc; "{word}{arguments}\n")?;
         let lines = line.repeat(alloc, lines)?;
         let log = format!(in alloc; "{HEADER}{lines}{last}\n")?;
-        let ran = ran(alloc, "run", log.as_bytes())?;
+        let ran = ran(&rt, alloc, "run", log.as_bytes())?;
         assert_eq!(rt; ran.status, Status::OverLimit, "{note}");
         assert_eq!(rt; ran.out.bytes(), b"".as_slice(), "{note}");
         assert_eq!(rt; ran.notes.bytes(), note.as_bytes(), "{note}");

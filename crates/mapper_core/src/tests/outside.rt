@@ -1,6 +1,7 @@
 //! What the outside may do.
 use super::{HEADER, SMALLEST, SMALLEST_OUT, words_of};
 use crate::{MemSink, MemSource, Sink, Source, Status, SureSink, SureSource, run};
+use rebuild_worker::FreeGate;
 use std::test::Fail;
 
 #[test]
@@ -32,7 +33,15 @@ fn a_failing_call_of_the_outside_ends_the_run(rt: HostRuntime) -> Result<(), Fai
         );
         let mut out = MemSink::new(alloc, write_piece, [failing_write].to_vec(alloc)?);
         let mut notes = SureSink::new(alloc);
-        let status = run(&rt, alloc, words.as_slice(), &mut log, &mut out, &mut notes);
+        let status = run(
+            &rt,
+            alloc,
+            words.as_slice(),
+            &mut log,
+            &mut out,
+            &mut notes,
+            &FreeGate,
+        );
         assert_eq!(rt; status, want);
         assert_eq!(rt; Some(out.bytes()), SMALLEST_OUT.get(..written));
         assert_eq!(rt; notes.bytes(), note.as_bytes());
@@ -54,7 +63,15 @@ fn a_fault_of_notes_does_not_change_the_status(rt: HostRuntime) -> Result<(), Fa
         let mut log = SureSource::new(log.as_bytes().to_vec(alloc)?);
         let mut out = SureSink::new(alloc);
         let mut notes = MemSink::new(alloc, piece, [failing].to_vec(alloc)?);
-        let status = run(&rt, alloc, words.as_slice(), &mut log, &mut out, &mut notes);
+        let status = run(
+            &rt,
+            alloc,
+            words.as_slice(),
+            &mut log,
+            &mut out,
+            &mut notes,
+            &FreeGate,
+        );
         assert_eq!(rt; status, want);
         assert_eq!(rt; out.bytes(), b"".as_slice());
         assert_eq!(rt; notes.bytes(), note.as_bytes());

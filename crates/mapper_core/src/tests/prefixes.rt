@@ -28,7 +28,7 @@ fn each_front_of_a_log_is_a_log_or_has_its_fault(rt: HostRuntime) -> Result<(), 
             let Some(front) = SMALLEST.get(..length) else {
                 return Err(Fail::new("it is longer than the log"));
             };
-            let ran = ran(alloc, "run", front)?;
+            let ran = ran(&rt, alloc, "run", front)?;
             assert_eq!(rt; ran.notes.bytes(), note.as_bytes(), "{length}");
             assert_eq!(rt; ran.status == Status::Done, note.is_empty(), "{length}");
             assert_eq!(rt; ran.status == Status::BadLog, !note.is_empty(), "{length}");

@@ -73,12 +73,12 @@ fn worked_logs_give_their_transcripts(rt: HostRuntime) -> Result<(), Fail> {
     ] {
         let log = format!(in alloc; "ikdmap 1 voxel 200 large {large}\n{commands}")?;
         for words in ["run", "run --serial"] {
-            let ran = ran(alloc, words, log.as_bytes())?;
+            let ran = ran(&rt, alloc, words, log.as_bytes())?;
             assert_eq!(rt; ran.status, Status::Done, "{words}, {commands}");
             assert_eq!(rt; ran.out.bytes(), want.as_bytes(), "{words}, {commands}");
             assert_eq!(rt; ran.notes.bytes(), b"".as_slice(), "{words}, {commands}");
         }
-        let (status, out) = ran_by_bytes(alloc, "run", log.as_bytes())?;
+        let (status, out) = ran_by_bytes(&rt, alloc, "run", log.as_bytes())?;
         assert_eq!(rt; status, Status::Done, "{commands}");
         assert_eq!(rt; out.bytes(), want.as_bytes(), "{commands}");
     }
@@ -106,7 +106,7 @@ fn a_voxel_keeps_the_point_nearest_to_its_centre(rt: HostRuntime) -> Result<(), 
         ),
     ] {
         let log = format!(in alloc; "{HEADER}{commands}")?;
-        let ran = ran(alloc, "run", log.as_bytes())?;
+        let ran = ran(&rt, alloc, "run", log.as_bytes())?;
         assert_eq!(rt; ran.status, Status::Done, "{commands}");
         assert_eq!(rt; ran.out.bytes(), want.as_bytes(), "{commands}");
     }
@@ -117,7 +117,7 @@ fn a_voxel_keeps_the_point_nearest_to_its_centre(rt: HostRuntime) -> Result<(), 
 fn several_callers_are_answered_in_the_logs_order(rt: HostRuntime) -> Result<(), Fail> {
     let alloc = rt.alloc();
     let log = format!(in alloc; "{HEADER}@1 add 100 0 0\n@2 add 1 0 0\n@2 near 1 0 0 0\n")?;
-    let ran = ran(alloc, "run --serial", log.as_bytes())?;
+    let ran = ran(&rt, alloc, "run --serial", log.as_bytes())?;
     assert_eq!(rt; ran.status, Status::Done);
     assert_eq!(rt;
         ran.out.bytes(),
@@ -131,7 +131,7 @@ fn many_equal_points_are_held_each_by_itself(rt: HostRuntime) -> Result<(), Fail
     let alloc = rt.alloc();
     let points = " 3 3 3".repeat(alloc, 5_000)?;
     let log = format!(in alloc; "{HEADER}@1 add{points}\nsync\n@1 near 2 3 3 3\n")?;
-    let ran = ran(alloc, "run", log.as_bytes())?;
+    let ran = ran(&rt, alloc, "run", log.as_bytes())?;
     assert_eq!(rt; ran.status, Status::Done);
     assert_eq!(rt;
         ran.out.bytes(),

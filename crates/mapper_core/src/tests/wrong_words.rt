@@ -17,15 +17,22 @@ fn words_that_ask_for_nothing_are_refused(rt: HostRuntime) -> Result<(), Fail> {
         "--serial run",
         "run --serial --serial",
         "run --Serial",
+        "run --",
         "make",
         "make 0",
-        "make 1",
+        "make 01",
+        "make +1",
+        "make -- 1",
+        "make 1 1",
+        "make 201",
         "make scope.md",
-        "drive 1",
+        "drive",
         "drive 201",
+        "drive 4294967297",
+        "help",
         "--help",
     ] {
-        let ran = ran(alloc, line, SMALLEST)?;
+        let ran = ran(&rt, alloc, line, SMALLEST)?;
         assert_eq!(rt; ran.status, Status::Usage, "{line}");
         assert_eq!(rt; ran.out.bytes(), b"".as_slice(), "{line}");
         assert_eq!(rt; ran.notes.bytes(), USAGE.as_bytes(), "{line}");

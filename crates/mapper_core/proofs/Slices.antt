@@ -1,0 +1,90 @@
+-- Slices of a script's commands.
+use Rattle.std.proofs.Common.{◌≡◌, ℕ, zero, suc, ◌+◌, ◌-◌, ◌<◌, ◌≤◌, ◌==◌, Bool, true, false, List, [], ◌∷◌, ◌++◌, length, take, drop, Some, slice_get, refl, ap, sym, ◌∙◌, subst, arith, add-one}
+use Rattle.std.specs.List.{AllByRecursion}
+use Rattle.scan_log.specs.declared.command.Command.{Command}
+use Rattle.scan_log.specs.declared.command.Command.TheVariants.{Change, Near, Inside, Sync}
+use Rattle.scan_log.specs.Scripts.{submitted, points_of}
+use Rattle.mapper_core.specs.Meetings.{is_barrier, IsOfCallers, HasCaller}
+use Rattle.mapper_core.proofs.Beginnings.{take_next}
+
+pub all_take : {A : Type 0} (P : A → Type 0) (n : ℕ) (xs : List A) → AllByRecursion P xs → AllByRecursion P (take n xs)
+all_take P zero [] all = tt
+all_take P zero (x ∷ xs) all = tt
+all_take P (suc n) [] all = tt
+all_take P (suc n) (x ∷ xs) all = (all.0, all_take P n xs all.1)
+
+pub all_drop : {A : Type 0} (P : A → Type 0) (n : ℕ) (xs : List A) → AllByRecursion P xs → AllByRecursion P (drop n xs)
+all_drop P zero [] all = tt
+all_drop P zero (x ∷ xs) all = all
+all_drop P (suc n) [] all = tt
+all_drop P (suc n) (x ∷ xs) all = all_drop P n xs all.1
+
+pub all_get : {A : Type 0} (P : A → Type 0) (xs : List A) (k : ℕ) (x : A) → AllByRecursion P xs → slice_get xs k ≡ Some x → P x
+all_get P [] k x all at = absurd (cc at)
+all_get P (y ∷ xs) zero x all at = let e : y ≡ x = cc (at) in subst P e all.0
+all_get P (y ∷ xs) (suc k) x all at = all_get P xs k x all.1 at
+
+pub all_last : {A : Type 0} (P : A → Type 0) (xs : List A) (x : A) → AllByRecursion P xs → P x → AllByRecursion P (xs ++ x ∷ [])
+all_last P [] x all p = (p, tt)
+all_last P (y ∷ xs) x all p = (all.0, all_last P xs x all.1 p)
+
+pub take_length_le : {A : Type 0} (n : ℕ) (xs : List A) → length (take n xs) ≤ length xs
+take_length_le zero [] = omega arith
+take_length_le zero (x ∷ xs) = omega arith
+take_length_le (suc n) [] = omega arith
+take_length_le (suc n) (x ∷ xs) = let r = take_length_le n xs in omega arith
+
+pub drop_length_le : {A : Type 0} (n : ℕ) (xs : List A) → n ≤ length xs → n + length (drop n xs) ≡ length xs
+drop_length_le zero [] le = refl
+drop_length_le zero (x ∷ xs) le = omega arith
+drop_length_le (suc n) [] le = absurd (omega arith)
+drop_length_le (suc n) (x ∷ xs) le = let r = drop_length_le n xs (omega arith) in omega arith
+
+-- the first commands have no more points than all
+pub points_take : (n : ℕ) (cs : List Command) → points_of (take n cs) ≤ points_of cs
+points_take zero [] = omega arith
+points_take zero (c ∷ cs) = omega arith
+points_take (suc n) [] = omega arith
+points_take (suc n) (c ∷ cs) = let r = points_take n cs in omega arith
+
+pub barrier_is : (c : Command) → is_barrier c ≡ true → c ≡ Sync
+barrier_is (Change caller u) is = absurd (cc is)
+barrier_is (Near caller k p within) is = absurd (cc is)
+barrier_is (Inside caller k b) is = absurd (cc is)
+barrier_is Sync is = refl
+
+-- a command that is no barrier is one of the callers'
+pub caller_is : (n : ℕ) (c : Command) → is_barrier c ≡ false → HasCaller n c → IsOfCallers n c
+caller_is n (Change caller u) is has = (caller - 1, (let a : 1 ≤ caller = has.0 in omega arith), (let a : 1 ≤ caller = has.0 in let b : caller ≤ n = has.1 in omega arith))
+caller_is n (Near caller k p within) is has = (caller - 1, (let a : 1 ≤ caller = has.0 in omega arith), (let a : 1 ≤ caller = has.0 in let b : caller ≤ n = has.1 in omega arith))
+caller_is n (Inside caller k c) is has = (caller - 1, (let a : 1 ≤ caller = has.0 in omega arith), (let a : 1 ≤ caller = has.0 in let b : caller ≤ n = has.1 in omega arith))
+caller_is n Sync is has = absurd (cc is)
+
+drop_slice : {A : Type 0} (n k : ℕ) (xs : List A) (x : A) → slice_get xs (n + k) ≡ Some x → slice_get (drop n xs) k ≡ Some x
+drop_slice zero k [] x at = absurd (cc at)
+drop_slice zero k (y ∷ xs) x at = subst (λ z. slice_get (y ∷ xs) z ≡ Some x) (omega arith) at
+drop_slice (suc n) k [] x at = absurd (cc at)
+drop_slice (suc n) k (y ∷ xs) x at =
+    let e : suc n + k ≡ suc (n + k) = omega arith in
+    drop_slice n k xs x (subst (λ z. slice_get (y ∷ xs) z ≡ Some x) e at)
+
+-- one more command of the slice
+pub slice_next : {A : Type 0} (from at : ℕ) (xs : List A) (x : A) → from ≤ at → slice_get xs at ≡ Some x
+    → take ((at + 1) - from) (drop from xs) ≡ take (at - from) (drop from xs) ++ x ∷ []
+slice_next from at xs x le there =
+    let k : ℕ = at - from in
+    let whole : at ≡ from + k = omega arith in
+    let here : slice_get (drop from xs) k ≡ Some x = drop_slice from k xs x (subst (λ z. slice_get xs z ≡ Some x) whole there) in
+    let more : (at + 1) - from ≡ suc k = omega arith in
+    ap (λ z. take z (drop from xs)) more ∙ take_next (drop from xs) k x here
+
+pub has_caller_more : (n m : ℕ) (c : Command) → n ≤ m → HasCaller n c → HasCaller m c
+has_caller_more n m (Change caller u) le has = (has.0, (let a : caller ≤ n = has.1 in omega arith))
+has_caller_more n m (Near caller k p within) le has = (has.0, (let a : caller ≤ n = has.1 in omega arith))
+has_caller_more n m (Inside caller k c) le has = (has.0, (let a : caller ≤ n = has.1 in omega arith))
+has_caller_more n m Sync le has = tt
+
+pub all_none : {A : Type 0} (P : A → Type 0) (n : ℕ) (xs : List A) → n ≡ 0 → AllByRecursion P (take n xs)
+all_none P zero [] is = tt
+all_none P zero (x ∷ xs) is = tt
+all_none P (suc n) xs is = absurd (omega arith)

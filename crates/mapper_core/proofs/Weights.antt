@@ -1,0 +1,197 @@
+-- How much the updates of some callers weigh together, each update by a weight of its own.
+use Rattle.std.proofs.Common.{◌≡◌, ℕ, ◌+◌, ◌<◌, ◌≤◌, ◌==◌, Bool, true, false, List, [], ◌∷◌, ◌++◌, length, refl, ap, sym, ◌∙◌, subst, arith}
+use Rattle.std.proofs.lemmas.Bool.Decides.{nat_tests}
+use mathlib.Core.List.{IsPrefix}
+use Rattle.map_fold.specs.declared.entry.Entry.{Entry}
+use Rattle.map_fold.specs.declared.update.Update.{Update}
+use Rattle.map_fold.specs.Fold.{MapAt, step, fold, fold_from, no_points, points_in}
+use Rattle.map_fold.proofs.Folds.{step_next}
+use Rattle.rebuild_core.specs.History.{updates}
+use Rattle.published_map.specs.Marks.{Seen, keep_if, updates_of, one_if, times, IsDistinct, AllOf, callers_of, AllMet}
+use Rattle.scan_log.specs.declared.command.Command.{Command}
+use Rattle.scan_log.specs.declared.command.Command.TheVariants.{Change, Near, Inside, Sync}
+use Rattle.scan_log.specs.Scripts.{submitted, points_of}
+use Rattle.scan_log.specs.Transcript.{updates_in}
+use Rattle.mapper_core.specs.Mine.{updates_by}
+use Rattle.mapper_core.specs.Meetings.{AllDone}
+
+unfoldable pub weigh : (Update → ℕ) → List Update → ℕ
+weigh w [] = 0
+weigh w (u ∷ us) = w u + weigh w us
+
+pub weigh_append : (w : Update → ℕ) (us vs : List Update) → weigh w (us ++ vs) ≡ weigh w us + weigh w vs
+unfolding weigh
+weigh_append w [] vs = omega arith
+weigh_append w (u ∷ us) vs = let r = weigh_append w us vs in omega arith
+
+pub weigh_one : (us : List Update) → weigh (λ u. 1) us ≡ length us
+unfolding weigh
+weigh_one [] = refl
+weigh_one (u ∷ us) = let r = weigh_one us in omega arith
+
+weigh_from : (voxel : ℕ) (us : List Update) (m : MapAt) → (fold_from voxel us m).next ≡ m.next + weigh points_in us
+unfolding weigh
+weigh_from voxel [] m = omega arith
+weigh_from voxel (u ∷ us) m = let r = weigh_from voxel us (step voxel u m) in let s = step_next voxel u m in omega arith
+
+-- the next number is how many points were submitted
+pub weigh_points : (voxel : ℕ) (us : List Update) → (fold voxel us).next ≡ weigh points_in us
+weigh_points voxel us = let r = weigh_from voxel us no_points in omega arith
+
+weight_if : Bool → ℕ → ℕ
+weight_if true n = n
+weight_if false n = 0
+
+keep_weight : (w : Update → ℕ) (b : Bool) (u : Update) (us : List Update) → weigh w (keep_if b u us) ≡ weight_if b (w u) + weigh w us
+unfolding weigh weight_if
+keep_weight w true u us = refl
+keep_weight w false u us = omega arith
+
+-- what counts so much for each time that the caller is among these
+share : ℕ → List ℕ → ℕ → ℕ
+share x [] n = 0
+share x (c ∷ cs) n = weight_if (x == c) n + share x cs n
+
+share_none : (x : ℕ) (cs : List ℕ) (n : ℕ) → times x cs ≡ 0 → share x cs n ≡ 0
+unfolding share weight_if
+share_none x [] n is = refl
+share_none x (c ∷ cs) n is = by_case (λ e. share_none x cs n e) (x == c) is
+  where
+    by_case : (times x cs ≡ 0 → share x cs n ≡ 0) → (b : Bool) → one_if b + times x cs ≡ 0 → weight_if b n + share x cs n ≡ 0
+    by_case more true e = absurd (omega arith)
+    by_case more false e = let r = more (omega arith) in omega arith
+
+share_one : (x : ℕ) (cs : List ℕ) (n : ℕ) → times x cs ≡ 1 → share x cs n ≡ n
+unfolding share weight_if
+share_one x [] n is = absurd (omega arith)
+share_one x (c ∷ cs) n is = by_case (λ e. share_one x cs n e) (x == c) is
+  where
+    by_case : (times x cs ≡ 1 → share x cs n ≡ n) → (b : Bool) → one_if b + times x cs ≡ 1 → weight_if b n + share x cs n ≡ n
+    by_case more true e = let r = share_none x cs n (omega arith) in omega arith
+    by_case more false e = let r = more (omega arith) in omega arith
+
+share_most : (x : ℕ) (cs : List ℕ) (n : ℕ) → IsDistinct cs → share x cs n ≤ n
+unfolding share weight_if
+share_most x [] n d = omega arith
+share_most x (c ∷ cs) n d = by_case (share_most x cs n d.1) (x == c) refl
+  where
+    by_case : share x cs n ≤ n → (b : Bool) → (x == c) ≡ b → weight_if b n + share x cs n ≤ n
+    by_case more true e =
+        let same : c ≡ x = grind (arith, nat_tests) in
+        let r = share_none x cs n (subst (λ z. times z cs ≡ 0) same d.0) in omega arith
+    by_case more false e = omega (arith, more)
+
+-- the weight of these callers' entries
+pub entries_of : (Update → ℕ) → List ℕ → List Entry → ℕ
+entries_of w [] h = 0
+entries_of w (c ∷ cs) h = weigh w (updates_of c h) + entries_of w cs h
+
+-- and of their commands
+unfoldable pub commands_of : (Update → ℕ) → List ℕ → List Command → ℕ
+commands_of w [] ds = 0
+commands_of w (c ∷ cs) ds = weigh w (updates_by c ds) + commands_of w cs ds
+
+-- and of all commands
+unfoldable pub weigh_all : (Update → ℕ) → List Command → ℕ
+weigh_all w [] = 0
+weigh_all w (Change caller u ∷ ds) = w u + weigh_all w ds
+weigh_all w (Near caller k p within ∷ ds) = weigh_all w ds
+weigh_all w (Inside caller k c ∷ ds) = weigh_all w ds
+weigh_all w (Sync ∷ ds) = weigh_all w ds
+
+entries_nil : (w : Update → ℕ) (cs : List ℕ) → entries_of w cs [] ≡ 0
+unfolding entries_of weigh
+entries_nil w [] = refl
+entries_nil w (c ∷ cs) = let r = entries_nil w cs in omega arith
+
+entries_cons : (w : Update → ℕ) (cs : List ℕ) (e : Entry) (h : List Entry) → entries_of w cs (e ∷ h) ≡ share e.caller cs (w e.update) + entries_of w cs h
+unfolding entries_of share
+entries_cons w [] e h = refl
+entries_cons w (c ∷ cs) e h = let r = entries_cons w cs e h in let k = keep_weight w (e.caller == c) e.update (updates_of c h) in omega arith
+
+-- where all entries are of these callers, each once, theirs weigh as much as all
+pub entries_whole : (w : Update → ℕ) (cs : List ℕ) (h : List Entry) → AllOf cs h → entries_of w cs h ≡ weigh w (updates h)
+unfolding weigh
+entries_whole w cs [] o = entries_nil w cs
+entries_whole w cs (e ∷ h) o =
+    let r = entries_whole w cs h o.1 in let k = entries_cons w cs e h in let t = share_one e.caller cs (w e.update) o.0 in omega arith
+
+commands_nil : (w : Update → ℕ) (cs : List ℕ) → commands_of w cs [] ≡ 0
+unfolding commands_of weigh
+commands_nil w [] = refl
+commands_nil w (c ∷ cs) = let r = commands_nil w cs in omega arith
+
+commands_cons : (w : Update → ℕ) (cs : List ℕ) (x : ℕ) (u : Update) (ds : List Command) → commands_of w cs (Change x u ∷ ds) ≡ share x cs (w u) + commands_of w cs ds
+unfolding commands_of share
+commands_cons w [] x u ds = refl
+commands_cons w (c ∷ cs) x u ds = let r = commands_cons w cs x u ds in let k = keep_weight w (x == c) u (updates_by c ds) in omega arith
+
+commands_skip : (w : Update → ℕ) (cs : List ℕ) (d : Command) (ds : List Command) → ((c : ℕ) → updates_by c (d ∷ ds) ≡ updates_by c ds) → commands_of w cs (d ∷ ds) ≡ commands_of w cs ds
+unfolding commands_of
+commands_skip w [] d ds same = refl
+commands_skip w (c ∷ cs) d ds same = let r = commands_skip w cs d ds same in let k = ap (weigh w) (same c) in omega arith
+
+-- different callers' commands weigh no more than all
+pub commands_most : (w : Update → ℕ) (cs : List ℕ) (ds : List Command) → IsDistinct cs → commands_of w cs ds ≤ weigh_all w ds
+unfolding weigh_all
+commands_most w cs [] d = let k = commands_nil w cs in omega arith
+commands_most w cs (Change x u ∷ ds) d =
+    let k = commands_cons w cs x u ds in let one = share_most x cs (w u) d in let r = commands_most w cs ds d in omega arith
+commands_most w cs (Near x n p within ∷ ds) d = let k = commands_skip w cs (Near x n p within) ds (λ c. refl) in let r = commands_most w cs ds d in omega arith
+commands_most w cs (Inside x n b ∷ ds) d = let k = commands_skip w cs (Inside x n b) ds (λ c. refl) in let r = commands_most w cs ds d in omega arith
+commands_most w cs (Sync ∷ ds) d = let k = commands_skip w cs Sync ds (λ c. refl) in let r = commands_most w cs ds d in omega arith
+
+-- each of the updates is of one of these callers
+unfoldable pub AllChangesOf : List ℕ → List Command → Type 0
+AllChangesOf cs [] = Unit {0}
+AllChangesOf cs (Change x u ∷ ds) = (times x cs ≡ 1) × AllChangesOf cs ds
+AllChangesOf cs (Near x k p within ∷ ds) = AllChangesOf cs ds
+AllChangesOf cs (Inside x k b ∷ ds) = AllChangesOf cs ds
+AllChangesOf cs (Sync ∷ ds) = AllChangesOf cs ds
+
+pub commands_whole : (w : Update → ℕ) (cs : List ℕ) (ds : List Command) → AllChangesOf cs ds → commands_of w cs ds ≡ weigh_all w ds
+unfolding weigh_all AllChangesOf
+commands_whole w cs [] o = commands_nil w cs
+commands_whole w cs (Change x u ∷ ds) o =
+    let k = commands_cons w cs x u ds in let one = share_one x cs (w u) o.0 in let r = commands_whole w cs ds o.1 in omega arith
+commands_whole w cs (Near x n p within ∷ ds) o = commands_skip w cs (Near x n p within) ds (λ c. refl) ∙ commands_whole w cs ds o
+commands_whole w cs (Inside x n b ∷ ds) o = commands_skip w cs (Inside x n b) ds (λ c. refl) ∙ commands_whole w cs ds o
+commands_whole w cs (Sync ∷ ds) o = commands_skip w cs Sync ds (λ c. refl) ∙ commands_whole w cs ds o
+
+pub all_ones : (ds : List Command) → weigh_all (λ u. 1) ds ≡ updates_in ds
+unfolding weigh_all
+all_ones [] = refl
+all_ones (Change x u ∷ ds) = let r = all_ones ds in omega arith
+all_ones (Near x k p within ∷ ds) = all_ones ds
+all_ones (Inside x k b ∷ ds) = all_ones ds
+all_ones (Sync ∷ ds) = all_ones ds
+
+pub all_points : (ds : List Command) → weigh_all points_in ds ≡ points_of ds
+unfolding weigh_all
+all_points [] = refl
+all_points (Change x u ∷ ds) = let r = all_points ds in omega arith
+all_points (Near x k p within ∷ ds) = let r = all_points ds in omega arith
+all_points (Inside x k b ∷ ds) = let r = all_points ds in omega arith
+all_points (Sync ∷ ds) = let r = all_points ds in omega arith
+
+pub updates_few : (ds : List Command) → updates_in ds ≤ length ds
+updates_few [] = omega arith
+updates_few (Change x u ∷ ds) = let r = updates_few ds in omega arith
+updates_few (Near x k p within ∷ ds) = let r = updates_few ds in omega arith
+updates_few (Inside x k b ∷ ds) = let r = updates_few ds in omega arith
+updates_few (Sync ∷ ds) = let r = updates_few ds in omega arith
+
+-- what these passes have made
+unfoldable pub made : (Update → ℕ) → List Seen → ℕ
+made w [] = 0
+made w (p ∷ ps) = weigh w p.mine + made w ps
+
+pub made_met : (w : Update → ℕ) (h : List Entry) (ps : List Seen) → AllMet h ps → made w ps ≡ entries_of w (callers_of ps) h
+unfolding made entries_of
+made_met w h [] met = refl
+made_met w h (p ∷ ps) met = let r = made_met w h ps met.2 in let e : weigh w p.mine ≡ weigh w (updates_of p.caller h) = ap (weigh w) met.1 in omega arith
+
+pub made_done : (w : Update → ℕ) (ds : List Command) (ps : List Seen) → AllDone ds ps → made w ps ≡ commands_of w (callers_of ps) ds
+unfolding made commands_of
+made_done w ds [] done = refl
+made_done w ds (p ∷ ps) done = let r = made_done w ds ps done.1 in let e : weigh w p.mine ≡ weigh w (updates_by p.caller ds) = ap (weigh w) done.0 in omega arith

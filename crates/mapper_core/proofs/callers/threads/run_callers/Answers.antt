@@ -1,0 +1,30 @@
+use Rattle.std.proofs.Common.{◌≡◌, IfOk, subst}
+use Rattle.scan_log.specs.Legal.{AreLegalReplies}
+use Rattle.published_map.proofs.Crossing.{shared_sync}
+use Rattle.mapper_core.proofs.Sent.{to_worker}
+use Rattle.mapper_core.specs.Ended.{HaveEnded}
+use Rattle.mapper_core.specs.Meetings.{StandingAtEnd}
+use Rattle.mapper_core.proofs.AtEnd.{ended_is_legal, have_ended}
+use Rattle.mapper_core.proofs.CameBack.{answer_gives}
+use Rattle.mapper_core.proofs.callers.threads.run_callers.Goals as goal
+
+pub returns-clause-legal : goal.returns-clause-legal
+returns-clause-legal g c =
+    let s = c.args.script.now in
+    answer_gives (λ r. StandingAtEnd g.L.MapName.voxel s.commands r.0.items r.1) (λ r. AreLegalReplies s r.1)
+    (λ r e. ended_is_legal s r.0.items r.1 (subst (λ z. StandingAtEnd z s.commands r.0.items r.1) c.requires.voxel e)) c.join-all.result.1 c.join-all.ensures.second
+
+pub returns-clause-ended : goal.returns-clause-ended
+returns-clause-ended g c =
+    let s = c.args.script.now in
+    answer_gives (λ r. StandingAtEnd g.L.MapName.voxel s.commands r.0.items r.1) (λ r. HaveEnded s r.0.items r.1)
+    (λ r e. have_ended s r.0.items r.1 (subst (λ z. StandingAtEnd z s.commands r.0.items r.1) c.requires.voxel e)) c.join-all.result.1 c.join-all.ensures.second
+
+pub join-all-requires-send-F : goal.join-all-requires-send-F
+join-all-requires-send-F g c κs within =
+    let sent = c.type_bounds.send-L in
+    let seen = c.type_bounds.sync-L in
+    let gate = c.type_bounds.sync-G in
+    let host = c.type_bounds.sync-R in
+    let map = shared_sync _ g.L.MapName g.L.Ledger sent seen in
+    search to_worker depth 60 fits 100000

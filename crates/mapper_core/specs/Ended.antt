@@ -1,0 +1,27 @@
+-- What is known once all callers have ended.
+use Rattle.std.specs.Prelude.{◌≡◌, ℕ, List, [], ◌∷◌, length}
+use Rattle.map_fold.specs.declared.entry.Entry.{Entry}
+use Rattle.rebuild_core.specs.History.{updates}
+use Rattle.published_map.specs.Marks.{Seen, AllMet, AllOf, callers_of}
+use Rattle.scan_log.specs.declared.command.Command.{Command}
+use Rattle.scan_log.specs.declared.reply.Reply.{Reply}
+use Rattle.scan_log.specs.Scripts.{ScriptAt}
+use Rattle.scan_log.specs.Transcript.{totals_reply}
+use Rattle.mapper_core.specs.Told.{IsReply}
+use Rattle.mapper_core.specs.Meetings.{AllDone}
+
+-- each command's reply, and at the end the totals, in one history
+abbrev pub AllReplied : ℕ → List Entry → List Command → List Reply → Type 0
+AllReplied voxel h (c ∷ cs) (r ∷ rs) = IsReply voxel h c r × AllReplied voxel h cs rs
+AllReplied voxel h [] (r ∷ []) = r ≡ totals_reply voxel (updates h) (length h)
+AllReplied voxel h [] [] = ⊥
+AllReplied voxel h [] (r ∷ s ∷ rs) = ⊥
+AllReplied voxel h (c ∷ cs) [] = ⊥
+
+-- All passes have seen one history, in which each caller's updates are those that the script has of it, and the replies are those of this history.
+pub record HaveEnded (s : ScriptAt) (ps : List Seen) (rs : List Reply) : Type 0 where
+  pub history : List Entry
+  pub seen : AllMet history ps
+  pub only : AllOf (callers_of ps) history
+  pub done : AllDone s.commands ps
+  pub replied : AllReplied s.sizes.voxel history s.commands rs

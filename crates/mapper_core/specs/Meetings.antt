@@ -1,0 +1,131 @@
+-- What all callers did and were told, from one meeting to the next.
+use Rattle.std.specs.Prelude.{◌≡◌, Bool, true, false, ℕ, ◌+◌, ◌<◌, ◌≤◌, List, [], ◌∷◌, ◌++◌, length, slice_get, set, Some, Result, Ok, IfOk}
+use Rattle.std.specs.List.{AllByRecursion}
+use Rattle.map_fold.specs.declared.entry.Entry.{Entry}
+use Rattle.map_fold.specs.declared.memory.NoMemory.{NoMemory}
+use Rattle.rebuild_core.specs.History.{updates}
+use Rattle.published_map.specs.Marks.{Seen, AllMet, AllOf, callers_of, newcomer_of}
+use Rattle.scan_log.specs.declared.command.Command.{Command}
+use Rattle.scan_log.specs.declared.command.Command.TheVariants.{Change, Near, Inside, Sync}
+use Rattle.scan_log.specs.declared.reply.Reply.{Reply}
+use Rattle.scan_log.specs.Legal.{counted}
+use Rattle.scan_log.specs.Transcript.{totals_reply}
+use Rattle.mapper_core.specs.Told.{Told}
+use Rattle.mapper_core.specs.Mine.{updates_by, Mine, Turned}
+
+-- whose command it is
+abbrev pub IsBy : Command → ℕ → Type 0
+IsBy (Change caller u) x = caller ≡ x
+IsBy (Near caller k p within) x = caller ≡ x
+IsBy (Inside caller k c) x = caller ≡ x
+IsBy Sync x = ⊥
+
+abbrev pub is_barrier : Command → Bool
+is_barrier (Change caller u) = false
+is_barrier (Near caller k p within) = false
+is_barrier (Inside caller k c) = false
+is_barrier Sync = true
+
+-- the command is one of these callers', who are numbered from 1
+abbrev pub IsOfCallers : ℕ → Command → Type 0
+IsOfCallers n c = (k : ℕ) × IsBy c (k + 1) × (k < n)
+
+-- the command is a barrier, or one of these callers'
+abbrev pub HasCaller : ℕ → Command → Type 0
+HasCaller n (Change caller u) = (1 ≤ caller) × (caller ≤ n)
+HasCaller n (Near caller k p within) = (1 ≤ caller) × (caller ≤ n)
+HasCaller n (Inside caller k c) = (1 ≤ caller) × (caller ≤ n)
+HasCaller n Sync = Unit {0}
+
+-- what is left to be told to each caller, the first of whom is 1
+abbrev pub AllMine : ℕ → List Entry → List Command → (ℕ → ℕ) → List (List Reply) → ℕ → Type 0
+AllMine voxel h cs lows lists high = (k : ℕ) (rs : List Reply) → slice_get lists k ≡ Some rs → Mine voxel h (k + 1) cs (lows (k + 1)) rs high
+
+abbrev pub AllBelow : (ℕ → ℕ) → ℕ → Type 0
+AllBelow lows high = (x : ℕ) → lows x ≤ high
+
+-- the lists have each command's reply
+pub record AreReplies (voxel : ℕ) (cs : List Command) (lists : List (List Reply)) : Type 0 where
+  pub history : List Entry
+  pub lasts : ℕ → ℕ
+  pub most : ℕ
+  pub mine : AllMine voxel history cs lasts lists most
+  pub below : AllBelow lasts most
+  pub owned : AllByRecursion (IsOfCallers (length lists)) cs
+
+-- a reply is left for the caller
+pub record HasReply (lists : List (List Reply)) (caller : ℕ) : Type 0 where
+  pub place : ℕ
+  pub caller_is : caller ≡ place + 1
+  pub first : Reply
+  pub rest : List Reply
+  pub there : slice_get lists place ≡ Some (first ∷ rest)
+
+-- the first reply of this caller was taken
+pub record Takes (old new : List (List Reply)) (caller : ℕ) (r : Reply) : Type 0 where
+  pub place : ℕ
+  pub caller_is : caller ≡ place + 1
+  pub rest : List Reply
+  pub first : slice_get old place ≡ Some (r ∷ rest)
+  pub left : new ≡ set old place rest
+
+-- replies have been put in the log's order up to the commands that are left
+pub record MergedFrom (voxel : ℕ) (h : List Entry) (cs left : List Command) (lows : ℕ → ℕ) (lists : List (List Reply)) (old new : List Reply) (high : ℕ) : Type 0 where
+  pub now : ℕ → ℕ
+  pub below : AllBelow now high
+  pub mine : AllMine voxel h left now lists high
+  pub replies : List Reply
+  pub added : new ≡ old ++ replies
+  pub told : (rest : List Reply) (highs : ℕ → ℕ) → Told voxel h now left rest highs → Told voxel h lows cs (replies ++ rest) highs
+
+-- the same, in every history in which the callers were told what the lists had
+abbrev pub MergedTo : ℕ → List Command → List Command → List (List Reply) → List (List Reply) → List Reply → List Reply → Type 0
+MergedTo voxel cs left all lists old new =
+    (h : List Entry) (lows : ℕ → ℕ) (high : ℕ) → AllMine voxel h cs lows all high → AllBelow lows high → MergedFrom voxel h cs left lows lists old new high
+
+-- a thread's answer for each pass
+abbrev pub AllTurned : ℕ → List Command → List Seen → List (Result (Seen × List Reply) NoMemory) → Type 0
+AllTurned voxel cs ps ts =
+    (length ts ≡ length ps)
+    × ((k : ℕ) (p : Seen) (t : Result (Seen × List Reply) NoMemory) → slice_get ps k ≡ Some p → slice_get ts k ≡ Some t → IfOk t (λ u. Turned voxel cs p u.0 u.1))
+
+-- the passes and the replies that came back
+abbrev pub AllParted : List (Result (Seen × List Reply) NoMemory) → List Seen → List (List Reply) → Type 0
+AllParted [] [] [] = Unit {0}
+AllParted (t ∷ ts) (q ∷ qs) (rs ∷ lists) = (t ≡ Ok (q, rs)) × AllParted ts qs lists
+AllParted [] (q ∷ qs) lists = ⊥
+AllParted [] [] (rs ∷ lists) = ⊥
+AllParted (t ∷ ts) [] lists = ⊥
+AllParted (t ∷ ts) (q ∷ qs) [] = ⊥
+
+-- each pass has made its caller's updates of the commands
+abbrev pub AllDone : List Command → List Seen → Type 0
+AllDone cs [] = Unit {0}
+AllDone cs (p ∷ ps) = (p.mine ≡ updates_by p.caller cs) × AllDone cs ps
+
+-- so many passes that have seen nothing, of the callers from 1 on
+abbrev pub AreNewcomers : ℕ → List Seen → Type 0
+AreNewcomers n ps = (length ps ≡ n) × ((k : ℕ) → k < length ps → slice_get ps k ≡ Some (newcomer_of (k + 1)))
+
+-- all callers have met after these commands, with these replies
+pub record Standing (voxel : ℕ) (cs : List Command) (ps : List Seen) (rs : List Reply) : Type 0 where
+  pub history : List Entry
+  pub order : callers_of ps ≡ counted 1 (length ps)
+  pub met : AllMet history ps
+  pub only : AllOf (callers_of ps) history
+  pub done : AllDone cs ps
+  pub lasts : ℕ → ℕ
+  pub below : AllBelow lasts (length history)
+  pub told : Told voxel history (λ x. 0) cs rs lasts
+
+-- the totals of all that was held when the callers met
+abbrev pub IsTotal : ℕ → List Seen → Reply → Type 0
+IsTotal voxel ps r = (0 < length ps) × ((h : List Entry) → AllMet h ps → r ≡ totals_reply voxel (updates h) (length h))
+
+-- all callers have met after all commands, and the last reply tells what is held
+pub record StandingAtEnd (voxel : ℕ) (cs : List Command) (ps : List Seen) (rs : List Reply) : Type 0 where
+  pub front : List Reply
+  pub ending : Reply
+  pub replies : rs ≡ front ++ ending ∷ []
+  pub standing : Standing voxel cs ps front
+  pub total : IsTotal voxel ps ending

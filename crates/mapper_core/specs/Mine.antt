@@ -1,0 +1,74 @@
+-- What one caller did and was told, seen from one history.
+use Rattle.std.specs.Prelude.{◌≡◌, ℕ, ◌+◌, ◌<◌, ◌≤◌, ◌⊎◌, ◌==◌, Bool, true, List, [], ◌∷◌, ◌++◌, length, Option, Some, None, MatchBool}
+use mathlib.Core.List.{IsPrefix}
+use Rattle.map_fold.specs.declared.entry.Entry.{Entry}
+use Rattle.map_fold.specs.declared.update.Update.{Update}
+use Rattle.map_fold.specs.Fold.{fold}
+use Rattle.rebuild_core.specs.History.{updates}
+use Rattle.published_map.specs.Marks.{Seen, Grown, keep_if}
+use Rattle.scan_log.specs.declared.command.Command.{Command}
+use Rattle.scan_log.specs.declared.command.Command.TheVariants.{Change, Near, Inside, Sync}
+use Rattle.scan_log.specs.declared.reply.Reply.{Reply}
+use Rattle.scan_log.specs.Scripts.{submitted}
+use Rattle.scan_log.specs.Transcript.{mark_of}
+use Rattle.mapper_core.specs.Told.{is_by, Answers}
+
+-- the updates of a caller among the commands, in order
+abbrev pub updates_by : ℕ → List Command → List Update
+updates_by x [] = []
+updates_by x (Change caller u ∷ cs) = keep_if (caller == x) u (updates_by x cs)
+updates_by x (Near caller k p within ∷ cs) = updates_by x cs
+updates_by x (Inside caller k c ∷ cs) = updates_by x cs
+updates_by x (Sync ∷ cs) = updates_by x cs
+
+-- the replies to a caller's commands among these. Before them its last mark was at least low, and after them it is at most high
+abbrev pub Mine : ℕ → List Entry → ℕ → List Command → ℕ → List Reply → ℕ → Type 0
+Mine voxel h x [] low rs high = (rs ≡ []) × (low ≤ high)
+Mine voxel h x (c ∷ cs) low rs high =
+    MatchBool (is_by x c) ((r : Reply) × (rest : List Reply) × (rs ≡ r ∷ rest) × Answers voxel h low c r × Mine voxel h x cs (mark_of r) rest high)
+    (Mine voxel h x cs low rs high)
+
+-- a caller's pass was lent for one command, and this is the reply
+pub record Answered (voxel : ℕ) (c : Command) (p q : Seen) (r : Reply) : Type 0 where
+  pub caller : q.caller ≡ p.caller
+  pub seen : IsPrefix p.seen q.seen
+  pub mine : q.mine ≡ p.mine ++ updates_by p.caller (c ∷ [])
+  pub mark : mark_of r ≡ length q.seen
+  pub told : (h : List Entry) → IsPrefix q.seen h → Answers voxel h (length p.seen) c r
+
+-- with the command a map of this history would have more updates, or more points, than it may have
+abbrev pub IsOver : ℕ → List Entry → Command → Type 0
+IsOver voxel h c = (1048576 ≤ length h) ⊎ (4194304 < (fold voxel (updates h)).next + submitted c)
+
+-- the reply to the command, or none where the map has no room for it
+abbrev pub Tried : ℕ → Command → Seen → Seen → Option Reply → Type 0
+Tried voxel c p q (Some r) = Answered voxel c p q r
+Tried voxel c p q None = Grown p q × IsOver voxel q.seen c
+
+-- a caller has run its commands among these
+pub record Ran (voxel : ℕ) (cs : List Command) (p q : Seen) (rs : List Reply) : Type 0 where
+  pub caller : q.caller ≡ p.caller
+  pub seen : IsPrefix p.seen q.seen
+  pub mine : q.mine ≡ p.mine ++ updates_by p.caller cs
+  pub told : (h : List Entry) → IsPrefix q.seen h → Mine voxel h p.caller cs (length p.seen) rs (length q.seen)
+
+-- a caller has come so far: these of its commands are left
+pub record RanTo (voxel : ℕ) (cs left : List Command) (p q : Seen) (rs : List Reply) : Type 0 where
+  pub caller : q.caller ≡ p.caller
+  pub seen : IsPrefix p.seen q.seen
+  pub mine : q.mine ++ updates_by p.caller left ≡ p.mine ++ updates_by p.caller cs
+  pub told : (h : List Entry) → IsPrefix q.seen h → (rest : List Reply) (high : ℕ) → Mine voxel h p.caller left (length q.seen) rest high
+      → Mine voxel h p.caller cs (length p.seen) (rs ++ rest) high
+
+-- a caller stopped before one of its commands, for which the map has no room
+pub record Stopped (voxel : ℕ) (cs : List Command) (p q : Seen) : Type 0 where
+  pub next : Command
+  pub left : List Command
+  pub own : is_by p.caller next ≡ true
+  pub over : IsOver voxel q.seen next
+  pub caller : q.caller ≡ p.caller
+  pub mine : q.mine ++ updates_by p.caller (next ∷ left) ≡ p.mine ++ updates_by p.caller cs
+
+-- how a caller's turn ended
+abbrev pub Turned : ℕ → List Command → Seen → Seen → List Reply → Type 0
+Turned voxel cs p q rs = Ran voxel cs p q rs ⊎ Stopped voxel cs p q

@@ -1,0 +1,52 @@
+-- What callers were told, seen from one history.
+use Rattle.std.specs.Prelude.{◌≡◌, ℕ, ◌+◌, ◌≤◌, ◌==◌, Bool, true, false, List, [], ◌∷◌, length, slice_get, Some, if◌then◌else◌}
+use Rattle.map_fold.specs.declared.entry.Entry.{Entry}
+use Rattle.rebuild_core.specs.History.{updates}
+use Rattle.scan_log.specs.declared.command.Command.{Command}
+use Rattle.scan_log.specs.declared.command.Command.TheVariants.{Change, Near, Inside, Sync}
+use Rattle.scan_log.specs.declared.reply.Reply.{Reply}
+use Rattle.scan_log.specs.Legal.{Concerns, IsLater}
+use Rattle.scan_log.specs.Transcript.{reply_to, mark_of}
+
+-- the command is this caller's
+abbrev pub is_by : ℕ → Command → Bool
+is_by x (Change caller u) = caller == x
+is_by x (Near caller k p within) = caller == x
+is_by x (Inside caller k c) = caller == x
+is_by x Sync = false
+
+-- the command is this caller's, or a barrier
+abbrev pub is_for : ℕ → Command → Bool
+is_for x (Change caller u) = caller == x
+is_for x (Near caller k p within) = caller == x
+is_for x (Inside caller k c) = caller == x
+is_for x Sync = true
+
+-- the mark has a place in the history: an update's is the place of the caller's entry with it, from 1 on
+abbrev pub IsPlaced : List Entry → Command → ℕ → Type 0
+IsPlaced h (Change caller u) m = (k : ℕ) × (m ≡ k + 1) × ((e : Entry) × (slice_get h k ≡ Some e) × (e.caller ≡ caller) × (e.update ≡ u))
+IsPlaced h (Near caller k p within) m = m ≤ length h
+IsPlaced h (Inside caller k c) m = m ≤ length h
+IsPlaced h Sync m = m ≤ length h
+
+-- the reply to the command after so many entries of the history as its mark says
+pub record IsReply (voxel : ℕ) (h : List Entry) (c : Command) (r : Reply) : Type 0 where
+  pub placed : IsPlaced h c (mark_of r)
+  pub told : r ≡ reply_to voxel (updates h) c (mark_of r)
+
+-- such a reply, whose mark is later than this one
+pub record Answers (voxel : ℕ) (h : List Entry) (low : ℕ) (c : Command) (r : Reply) : Type 0 where
+  pub reply : IsReply voxel h c r
+  pub later : IsLater low c (mark_of r)
+
+-- the last marks of all callers, once a command has the mark m
+abbrev pub raised : (ℕ → ℕ) → Command → ℕ → ℕ → ℕ
+raised lows c m = λ x. if is_for x c then m else lows x
+
+-- the replies to commands in the log's order. Before them each caller's last mark was at least lows, and after them it is at most highs
+abbrev pub Told : ℕ → List Entry → (ℕ → ℕ) → List Command → List Reply → (ℕ → ℕ) → Type 0
+Told voxel h lows [] [] highs = (x : ℕ) → lows x ≤ highs x
+Told voxel h lows [] (r ∷ rs) highs = ⊥
+Told voxel h lows (c ∷ cs) [] highs = ⊥
+Told voxel h lows (c ∷ cs) (r ∷ rs) highs =
+    ((x : ℕ) → Concerns x c → Answers voxel h (lows x) c r) × Told voxel h (raised lows c (mark_of r)) cs rs highs

@@ -1,0 +1,12 @@
+//! Callers that run a script in threads of their own, beside two workers.
+
+mod alarm;
+mod caller;
+mod merging;
+mod naming;
+mod phase;
+mod queue;
+mod script;
+mod threads;
+
+pub use threads::{run_callers, threaded};

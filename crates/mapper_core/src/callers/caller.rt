@@ -1,0 +1,133 @@
+//! What a caller's thread does.
+ghost use Rattle.std.specs.Prelude.{◌≡◌, ◌≤◌, ◌+◌, true, length, IfOk};
+ghost use Rattle.std.specs.List.{AllByRecursion};
+ghost use Rattle.std.specs.Option.{ForSome};
+ghost use Rattle.scan_log.specs.declared.command.Command.TheVariants as command_of;
+ghost use Rattle.scan_log.specs.Scripts.{IsCommand};
+ghost use Rattle.mapper_core.specs.Told.{is_by};
+ghost use Rattle.mapper_core.specs.Mine.{Tried, Turned};
+
+use super::alarm::{Bells, Signals};
+use super::naming::is_own;
+use super::queue::Queue;
+use map_fold::{NoMemory, Update};
+use point_geom::{Cuboid, Point};
+use published_map::{MapName, Pass, Shared};
+use rebuild_core::StateFault;
+use rebuild_worker::Gate;
+use scan_log::{Command, Reply};
+use std::alloc::Global;
+use std::sync::Wait;
+
+// Makes the update, and wakes the workers. There is no reply where a limit of the map refuses it.
+#[tactic(auto, using(crate::proofs::OneCaller::change_tried))]
+fn change<L: MapName, R: Wait>(
+    rt: &R,
+    alloc: Global,
+    shared: &Shared<L>,
+    bells: &Bells,
+    pass: &mut Pass<L>,
+    update: &Update,
+) -> Result<Option<Reply>, NoMemory>
+    ensures { IfOk result (λ r. Tried L.voxel (command_of.Change pass.old.caller update.now) pass.old pass.new r) }
+{
+    let copy = update.copy(alloc)?;
+    match shared.update(rt, alloc, pass, copy) {
+        Ok(mark) => {
+            bells.ring();
+            Ok(Some(Reply::Done { mark }))
+        }
+        Err(StateFault::TooManyUpdates { .. }) => Ok(None),
+        Err(StateFault::TooManyPoints { .. }) => Ok(None),
+        Err(StateFault::NoMemory) => Err(NoMemory),
+    }
+}
+
+#[tactic(auto, using(crate::proofs::OneCaller::near_answered))]
+fn near<L: MapName>(
+    alloc: Global,
+    pass: &mut Pass<L>,
+    k: u32,
+    point: &Point,
+    within: Option<u64>,
+) -> Result<Option<Reply>, NoMemory>
+    requires k_from { 1 ≤ k }
+    requires k_to { k ≤ 256 }
+    requires within_to { ForSome within (λ r. r ≤ 4000000000) }
+    ensures { IfOk result (λ r. Tried L.voxel (command_of.Near pass.old.caller k point.now within) pass.old pass.new r) }
+{
+    let found = pass.nearest(alloc, k, point, within)?;
+    Ok(Some(Reply::Near(found)))
+}
+
+#[tactic(auto, using(crate::proofs::OneCaller::inside_answered))]
+fn inside<L: MapName>(
+    alloc: Global,
+    pass: &mut Pass<L>,
+    k: u32,
+    cuboid: &Cuboid,
+) -> Result<Option<Reply>, NoMemory>
+    requires k_from { 1 ≤ k }
+    requires k_to { k ≤ 256 }
+    ensures { IfOk result (λ r. Tried L.voxel (command_of.Inside pass.old.caller k cuboid.now) pass.old pass.new r) }
+{
+    let found = pass.in_cuboid(alloc, cuboid, k)?;
+    Ok(Some(Reply::Inside(found)))
+}
+
+// Runs one command of the pass's caller.
+#[tactic(auto, using(crate::proofs::OneCaller::change_by, crate::proofs::OneCaller::near_by, crate::proofs::OneCaller::inside_by))]
+fn answer<L: MapName, R: Wait>(
+    rt: &R,
+    alloc: Global,
+    shared: &Shared<L>,
+    bells: &Bells,
+    pass: &mut Pass<L>,
+    command: &Command,
+) -> Result<Option<Reply>, NoMemory>
+    requires own { is_by pass.old.caller command.now ≡ true }
+    requires good { IsCommand command.now }
+    ensures { IfOk result (λ r. Tried L.voxel command.now pass.old pass.new r) }
+{
+    match command {
+        Command::Change { update, .. } => change(rt, alloc, shared, bells, pass, update),
+        Command::Near {
+            k,
+            point,
+            within,
+            ..
+        } => near(alloc, pass, *k, point, *within),
+        Command::Inside { k, cuboid, .. } => inside(alloc, pass, *k, cuboid),
+        Command::Sync => unreachable!(),
+    }
+}
+
+/// Runs the commands of the pass's caller among these, in order, and tells the gate of each reply. Where a limit of the map refuses an update, the caller ends before it: that no limit is passed shows only
+/// when all callers have met.
+pub fn run_own<L: MapName, G: Gate, R: Wait>(
+    rt: &R,
+    alloc: Global,
+    shared: &Shared<L>,
+    signals: &Signals<'_, G>,
+    commands: &[Command],
+    pass: Pass<L>,
+) -> Result<(Pass<L>, Queue), NoMemory>
+    requires good { AllByRecursion IsCommand commands.now }
+    requires few { signals.now.from + length commands.now ≤ 65536 }
+    ensures { IfOk result (λ r. Turned L.voxel commands.now pass r.0 r.1) }
+{
+    let mut pass = pass;
+    let mut replies = Queue::new(alloc);
+    let mut index = signals.from;
+    for command in commands {
+        if is_own(command, pass.caller()) {
+            let Some(reply) = answer(rt, alloc, shared, signals.bells, &mut pass, command)? else {
+                return Ok((pass, replies));
+            };
+            replies.put(reply)?;
+            signals.gate.replied(pass.caller(), index);
+        }
+        index += 1;
+    }
+    Ok((pass, replies))
+}

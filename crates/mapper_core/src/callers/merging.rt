@@ -1,0 +1,37 @@
+//! Replies of all callers, put in the log's order.
+ghost use Rattle.std.specs.Prelude.{◌≡◌, ℕ, [], OnOk};
+ghost use Rattle.mapper_core.specs.Meetings.{AreReplies, HasReply, Takes, MergedTo};
+
+use super::naming::caller_of;
+use super::queue::Queue;
+use crate::replying::Replies;
+use map_fold::NoMemory;
+use scan_log::{Command, Reply};
+
+// The next reply of a caller, the first of whom is 1.
+fn take_for(queues: &mut [Queue], caller: u8) -> Reply
+    requires { HasReply queues.old caller }
+    ensures { Takes queues.old queues.new caller result }
+{
+    let place = caller as usize - 1;
+    match queues[place].take() {
+        Some(reply) => reply,
+        None => unreachable!(),
+    }
+}
+
+/// Puts the replies of all callers behind those that are there, in the order of the commands.
+pub fn merge(
+    commands: &[Command],
+    queues: &mut [Queue],
+    replies: &mut Replies,
+) -> Result<(), NoMemory>
+    requires { (voxel : ℕ) × AreReplies voxel commands.now queues.old }
+    ensures { OnOk result ((voxel : ℕ) → MergedTo voxel commands.now [] queues.old queues.new replies.old replies.new) }
+{
+    for command in commands {
+        let reply = take_for(queues, caller_of(command));
+        replies.push(reply)?;
+    }
+    Ok(())
+}

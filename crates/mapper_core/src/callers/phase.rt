@@ -1,0 +1,170 @@
+//! The commands between two barriers.
+ghost use Rattle.std.specs.Prelude.{◌≡◌, ◌+◌, ◌-◌, ◌<◌, ◌≤◌, length, take, drop, slice_get, Some, IfOk};
+ghost use Rattle.std.specs.List.{AllByRecursion};
+ghost use Rattle.std.specs.Thread.{IsSync, IsSend};
+ghost use Rattle.scan_log.specs.declared.command.Command.TheVariants as command_of;
+ghost use Rattle.scan_log.specs.Scripts.{IsCommand, points_of};
+ghost use Rattle.published_map.specs.Marks.{callers_of, IsDistinct, AllMetNow};
+ghost use Rattle.mapper_core.specs.Mine.{Turned};
+ghost use Rattle.mapper_core.specs.Meetings.{AllTurned, AllParted, IsOfCallers, Standing, IsTotal};
+
+use super::alarm::{Bells, Signals};
+use super::caller::run_own;
+use super::merging::merge;
+use super::queue::Queue;
+use crate::replying::Replies;
+use map_fold::NoMemory;
+use published_map::{MapName, Pass, Shared};
+use rebuild_worker::Gate;
+use scan_log::{Command, Reply};
+use std::alloc::Global;
+use std::sync::Wait;
+use std::thread::{Threads, join};
+
+/// A pass that comes back, and what its caller was told.
+type Turn<L> = Result<(Pass<L>, Queue), NoMemory>;
+
+// Each caller runs its commands in a thread of its own. Those for whom no thread can be made run here, in their order.
+#[tactic(auto, using(crate::proofs::CameBack::turned_none, crate::proofs::CameBack::turned_more))]
+fn run_each<L: MapName + Send + Sync, G: Gate + Sync, R: Threads + Wait + Sync>(
+    rt: &R,
+    alloc: Global,
+    shared: &Shared<L>,
+    signals: &Signals<'_, G>,
+    commands: &[Command],
+    passes: Vec<Pass<L>>,
+) -> Result<Vec<Turn<L>>, NoMemory>
+    requires good { AllByRecursion IsCommand commands.now }
+    requires few { signals.now.from + length commands.now ≤ 65536 }
+    ensures { IfOk result (λ v. AllTurned L.voxel commands.now passes.items v.items) }
+{
+    let mut passes = passes;
+    let Some(last) = passes.pop() else {
+        return Ok(Vec::new(alloc));
+    };
+    let (turn, turns) = join(
+        rt,
+        move || -> Turn<L>
+            requires { AllByRecursion IsCommand commands.now × (signals.now.from + length commands.now ≤ 65536) }
+            ensures { IfOk result (λ r. Turned L.voxel commands.entry.now last r.0 r.1) }
+        { run_own(rt, alloc, shared, signals, commands, last) },
+        move || -> Result<Vec<Turn<L>>, NoMemory>
+            requires { IsSync R.row × IsSync G.row × IsSync L.row × IsSend L.row × AllByRecursion IsCommand commands.now × (signals.now.from + length commands.now ≤ 65536) }
+            ensures { IfOk result (λ v. AllTurned L.voxel commands.entry.now passes.items v.items) }
+        { run_each(rt, alloc, shared, signals, commands, passes) },
+    );
+    let mut turns = turns?;
+    let Ok(()) = turns.push(turn) else {
+        return Err(NoMemory);
+    };
+    Ok(turns)
+}
+
+// The passes, and the replies of each.
+fn part<L: MapName>(
+    alloc: Global,
+    turns: Vec<Turn<L>>,
+) -> Result<(Vec<Pass<L>>, Vec<Queue>), NoMemory>
+    ensures { IfOk result (λ r. AllParted turns.items r.0.items r.1.items) }
+{
+    let mut passes = Vec::new(alloc);
+    let mut queues = Vec::new(alloc);
+    for turn in turns {
+        let (pass, queue) = turn?;
+        let Ok(()) = passes.push(pass) else {
+            return Err(NoMemory);
+        };
+        let Ok(()) = queues.push(queue) else {
+            return Err(NoMemory);
+        };
+    }
+    Ok((passes, queues))
+}
+
+// The callers meet.
+fn all_meet<L: MapName, R: Wait>(rt: &R, shared: &Shared<L>, passes: Vec<Pass<L>>) -> Vec<Pass<L>>
+    requires all { length passes.items ≡ L.callers }
+    requires parts { L.callers ≡ L.parts }
+    requires distinct { IsDistinct (callers_of passes.items) }
+    ensures { AllMetNow passes.items result.items }
+{
+    let mut passes = passes;
+    shared.meet(rt, passes.as_mut_slice());
+    passes
+}
+
+/// Runs the commands between two barriers, and lets the callers meet. No caller is stopped by a limit of the map: the history in
+/// which they meet has no more than the script's updates.
+pub fn phase<L: MapName + Send + Sync, G: Gate + Sync, R: Threads + Wait + Sync>(
+    rt: &R,
+    alloc: Global,
+    shared: &Shared<L>,
+    gate: &G,
+    bells: &Bells,
+    commands: &[Command],
+    from: usize,
+    to: usize,
+    passes: Vec<Pass<L>>,
+    replies: &mut Replies,
+) -> Result<Vec<Pass<L>>, NoMemory>
+    requires from_to { from ≤ to }
+    requires to_end { to ≤ length commands.now }
+    requires good { AllByRecursion IsCommand commands.now }
+    requires few { length commands.now ≤ 65536 }
+    requires room { points_of commands.now ≤ 4194304 }
+    requires all { length passes.items ≡ L.callers }
+    requires parts { L.callers ≡ L.parts }
+    requires named { AllByRecursion (IsOfCallers L.callers) (take (to - from) (drop from commands.now)) }
+    requires standing { Standing L.voxel (take from commands.now) passes.items replies.old }
+    ensures all { IfOk result (λ v. length v.items ≡ L.callers) }
+    ensures standing { IfOk result (λ v. Standing L.voxel (take to commands.now) v.items replies.new) }
+{
+    let between = &commands[from..to];
+    let signals = Signals {
+        gate,
+        bells,
+        from: from as u32,
+    };
+    let turns = run_each(rt, alloc, shared, &signals, between, passes)?;
+    let (passes, mut queues) = part(alloc, turns)?;
+    let passes = all_meet(rt, shared, passes);
+    merge(between, queues.as_mut_slice(), replies)?;
+    Ok(passes)
+}
+
+/// What is held where the callers have met.
+pub fn held<L: MapName>(passes: &[Pass<L>]) -> Reply
+    requires { 0 < length passes.now }
+    ensures { IsTotal L.voxel passes.now result }
+{
+    let version = passes[0].version();
+    let counts = version.counts();
+    Reply::Totals {
+        mark: version.len(),
+        live: counts.live,
+        suspended: counts.suspended,
+    }
+}
+
+/// The callers have met at a barrier, where the map is settled, and meet again.
+pub fn barrier<L: MapName, R: Wait>(
+    rt: &R,
+    alloc: Global,
+    shared: &Shared<L>,
+    commands: &[Command],
+    at: usize,
+    passes: Vec<Pass<L>>,
+    replies: &mut Replies,
+) -> Result<Vec<Pass<L>>, NoMemory>
+    requires barrier { slice_get commands.now at ≡ Some command_of.Sync }
+    requires all { length passes.items ≡ L.callers }
+    requires parts { L.callers ≡ L.parts }
+    requires some { 0 < L.callers }
+    requires standing { Standing L.voxel (take at commands.now) passes.items replies.old }
+    ensures all { IfOk result (λ v. length v.items ≡ L.callers) }
+    ensures standing { IfOk result (λ v. Standing L.voxel (take (at + 1) commands.now) v.items replies.new) }
+{
+    shared.settle(rt, alloc)?;
+    replies.push(held(passes.as_slice()))?;
+    Ok(all_meet(rt, shared, passes))
+}

@@ -1,0 +1,75 @@
+//! A script, from barrier to barrier.
+ghost use Rattle.std.specs.Prelude.{◌≡◌, ◌<◌, ◌≤◌, length, IfOk};
+ghost use Rattle.std.specs.List.{AllByRecursion};
+ghost use Rattle.scan_log.specs.Scripts.{IsCommand, points_of};
+ghost use Rattle.mapper_core.specs.Meetings.{AreNewcomers, HasCaller, StandingAtEnd};
+
+use super::alarm::Bells;
+use super::naming::is_barrier;
+use super::phase::{barrier, held, phase};
+use crate::replying::Replies;
+use map_fold::NoMemory;
+use published_map::{MapName, Pass, Shared};
+use rebuild_worker::Gate;
+use scan_log::Command;
+use std::alloc::Global;
+use std::sync::Wait;
+use std::thread::Threads;
+
+/// Runs the commands up to each barrier, and passes it. At the end all have met, and the last reply tells what is held.
+pub fn run_commands<L: MapName + Send + Sync, G: Gate + Sync, R: Threads + Wait + Sync>(
+    rt: &R,
+    alloc: Global,
+    shared: &Shared<L>,
+    gate: &G,
+    bells: &Bells,
+    commands: &[Command],
+    passes: Vec<Pass<L>>,
+) -> Result<(Vec<Pass<L>>, Replies), NoMemory>
+    requires good { AllByRecursion IsCommand commands.now }
+    requires few { length commands.now ≤ 65536 }
+    requires room { points_of commands.now ≤ 4194304 }
+    requires named { AllByRecursion (HasCaller L.callers) commands.now }
+    requires new { AreNewcomers L.callers passes.items }
+    requires parts { L.callers ≡ L.parts }
+    requires some { 0 < L.callers }
+    ensures { IfOk result (λ r. StandingAtEnd L.voxel commands.now r.0.items r.1) }
+{
+    let mut passes = passes;
+    let mut replies = Replies::new(alloc);
+    let mut from = 0;
+    let mut at = 0;
+    for command in commands {
+        if is_barrier(command) {
+            let met = phase(
+                rt,
+                alloc,
+                shared,
+                gate,
+                bells,
+                commands,
+                from,
+                at,
+                passes,
+                &mut replies,
+            )?;
+            passes = barrier(rt, alloc, shared, commands, at, met, &mut replies)?;
+            from = at + 1;
+        }
+        at += 1;
+    }
+    let passes = phase(
+        rt,
+        alloc,
+        shared,
+        gate,
+        bells,
+        commands,
+        from,
+        at,
+        passes,
+        &mut replies,
+    )?;
+    replies.push(held(passes.as_slice()))?;
+    Ok((passes, replies))
+}

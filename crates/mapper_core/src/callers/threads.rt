@@ -1,0 +1,154 @@
+//! The whole run of a script by its callers.
+ghost use Rattle.std.specs.Prelude.{◌≡◌, ◌<◌, ◌≤◌, IfOk};
+ghost use Rattle.std.specs.List.{AllByRecursion};
+ghost use Rattle.scan_log.specs.Legal.{AreLegalReplies};
+ghost use Rattle.scan_log.specs.Scripts.{IsScript};
+ghost use Rattle.mapper_core.specs.Ended.{HaveEnded};
+ghost use Rattle.mapper_core.specs.Meetings.{AreNewcomers, HasCaller, StandingAtEnd};
+
+use super::alarm::{Bells, Post};
+use super::naming::callers_in;
+use super::script::run_commands;
+use crate::replying::Replies;
+use map_fold::NoMemory;
+use published_map::{MapName, Opened, Pass, Shared};
+use rebuild_worker::{Gate, pair, work};
+use scan_log::Script;
+use std::alloc::Global;
+use std::marker::Brand;
+use std::sync::Wait;
+use std::sync::ledger::Blank;
+use std::thread::{Threads, join};
+
+/// The passes, and the replies.
+type Run<L> = Result<(Vec<Pass<L>>, Replies), NoMemory>;
+
+// The callers run beside the second worker, which is stopped with the first one when they have ended.
+fn beside_second<L: MapName + Send + Sync, G: Gate + Sync, R: Threads + Wait + Sync>(
+    rt: &R,
+    alloc: Global,
+    shared: &Shared<L>,
+    gate: &G,
+    bells: &Bells,
+    post: Post,
+    script: &Script,
+    passes: Vec<Pass<L>>,
+) -> Run<L>
+    requires good { IsScript script.now }
+    requires large_from { 16 ≤ post.large }
+    requires large_to { post.large ≤ 1000000 }
+    requires voxel { L.voxel ≡ script.now.sizes.voxel }
+    requires named { AllByRecursion (HasCaller L.callers) script.now.commands }
+    requires new { AreNewcomers L.callers passes.items }
+    requires parts { L.callers ≡ L.parts }
+    requires some { 0 < L.callers }
+    ensures { IfOk result (λ r. StandingAtEnd L.voxel script.now.commands r.0.items r.1) }
+{
+    let (_, all) = join(
+        rt,
+        move ||
+            requires { (16 ≤ post.large) × (post.large ≤ 1000000) }
+        {
+            let mut post = post;
+            work(rt, alloc, post.large, 2, shared, gate, &mut post.rest)
+        },
+        || -> Run<L>
+            requires { IsScript script.now × AllByRecursion (HasCaller L.callers) script.now.commands × AreNewcomers L.callers passes.items × (L.callers ≡ L.parts) × (0 < L.callers) }
+            ensures { IfOk result (λ r. StandingAtEnd L.voxel script.entry.now.commands r.0.items r.1) }
+        {
+            let all = run_commands(rt, alloc, shared, gate, bells, script.commands(), passes);
+            bells.stop();
+            all
+        },
+    );
+    all
+}
+
+/// Each caller runs its commands of the script on a thread of its own, in order, beside two workers. At each barrier all meet, and
+/// so they do at the end. The passes are all of this map's, and the map was started with the script's settings. Each caller rings
+/// the workers' bells after each of its changes, and tells the gate of each reply. What no thread can be made for is done by the
+/// thread that calls: the commands of a caller, in the callers' order, while the others run, and a worker once it is stopped.
+pub fn run_callers<L: MapName + Send + Sync, G: Gate + Sync, R: Threads + Wait + Sync>(
+    rt: &R,
+    alloc: Global,
+    shared: &Shared<L>,
+    passes: Vec<Pass<L>>,
+    script: &Script,
+    gate: &G,
+) -> Result<(Vec<Pass<L>>, Replies), NoMemory>
+    requires voxel { L.voxel ≡ script.now.sizes.voxel }
+    requires named { AllByRecursion (HasCaller L.callers) script.now.commands }
+    requires new { AreNewcomers L.callers passes.items }
+    requires parts { L.callers ≡ L.parts }
+    requires some { 0 < L.callers }
+    // All passes have seen one history, each caller's updates are those that the script has of it, and each reply is that after
+    // as many entries as its mark says.
+    ensures ended { IfOk result (λ r. HaveEnded script.now r.0.items r.1) }
+    // The marks are legal, and the replies those of the script under them.
+    ensures legal { IfOk result (λ r. AreLegalReplies script.now r.1) }
+{
+    let large = script.settings().large();
+    let (first, rest) = pair(alloc)?;
+    let post = Post { rest, large };
+    let (second, rest) = pair(alloc)?;
+    let other = Post { rest, large };
+    let bells = Bells { first, second };
+    let _commands = script.commands();
+    let (_, all) = join(
+        rt,
+        move ||
+            requires { (16 ≤ post.large) × (post.large ≤ 1000000) }
+        {
+            let mut post = post;
+            work(rt, alloc, post.large, 1, shared, gate, &mut post.rest)
+        },
+        || -> Run<L>
+            requires { IsScript script.now × (16 ≤ other.large) × (other.large ≤ 1000000) × (L.voxel ≡ script.now.sizes.voxel) × AllByRecursion (HasCaller L.callers) script.now.commands × AreNewcomers L.callers passes.items × (L.callers ≡ L.parts) × (0 < L.callers) }
+            ensures { IfOk result (λ r. StandingAtEnd L.voxel script.entry.now.commands r.0.items r.1) }
+        { beside_second(rt, alloc, shared, gate, &bells, other, script, passes) },
+    );
+    all
+}
+
+// The replies on a map of this name.
+fn run_map<L: MapName + Send + Sync, G: Gate + Sync, R: Threads + Wait + Sync>(
+    rt: &R,
+    alloc: Global,
+    script: &Script,
+    gate: &G,
+    blank: Blank,
+    opened: Opened,
+) -> Result<Replies, NoMemory>
+    requires name { blank.name ≡ L.name }
+    requires parts { blank.parts ≡ L.parts }
+    requires one_each { blank.parts ≡ opened.callers }
+    requires callers { opened.callers ≡ L.callers }
+    requires marks { opened.marks ≡ L.marks }
+    requires named_voxel { opened.voxel ≡ L.voxel }
+    requires voxel { opened.voxel ≡ script.now.sizes.voxel }
+    requires named { AllByRecursion (HasCaller L.callers) script.now.commands }
+    requires some { 0 < opened.callers }
+    ensures { IfOk result (λ rs. AreLegalReplies script.now rs) }
+{
+    let (shared, passes) = Shared::<L>::start(rt, alloc, blank, opened)?;
+    let all = run_callers(rt, alloc, &shared, passes, script, gate);
+    shared.close(rt);
+    let (_passes, replies) = all?;
+    Ok(replies)
+}
+
+/// The replies of all callers to a script that each runs its commands of on a thread of its own, and the reply at the end. They are
+/// those of the marks that they carry, which are legal.
+pub fn threaded<G: Gate + Sync, R: Threads + Wait + Sync>(
+    rt: &R,
+    alloc: Global,
+    script: &Script,
+    gate: &G,
+) -> Result<Replies, NoMemory>
+    ensures { IfOk result (λ rs. AreLegalReplies script.now rs) }
+{
+    let callers = callers_in(script.commands());
+    let opened = Opened::new(alloc, *script.settings(), callers)?;
+    let blank = Blank::new(u64::from(callers));
+    run_map::<Brand, G, R>(rt, alloc, script, gate, blank, opened)
+}

@@ -1,0 +1,95 @@
+//! What `clap` reads from the words.
+ghost use Rattle.std.specs.Prelude.{◌≡◌, ◌≤◌, ℕ, codes, decimal, Some, IfSome, IfOk, MatchOption, ◌∷◌, map};
+ghost use Rattle.clap.specs.Words.{app_of, first_value, found_of, one_text};
+ghost use Rattle.mapper_core.specs.declared.words.Ask.{Ask};
+ghost use Rattle.mapper_core.specs.declared.words.Ask.TheVariants as asks;
+ghost use Rattle.mapper_core.specs.Asks.{CanBeDone, spelled};
+ghost use Rattle.mapper_core.specs.CommandLine.{IsHeard, IsSaid, mapper};
+
+use crate::spelling::scans_of;
+use crate::words::Ask;
+use clap::error::ErrorKind;
+use clap::{Arg, ArgAction, ArgMatches, Command};
+use std::alloc::{AllocError, Global};
+
+/// What `clap` reads from the words, of which the first is the program's name. Whatever it refuses is heard as nothing, its
+/// texts are let go, and words that ask for something are heard as that.
+pub fn heard(alloc: Global, argv: &[&str]) -> Result<Option<Ask>, AllocError>
+    ensures can_be_done { IfOk result (λ r. IfSome r CanBeDone) }
+    ensures heard { (a : Ask) → CanBeDone a → map (λ w. w.now) argv.now ≡ codes "mapper" ∷ spelled a → IfOk result (λ r. IsHeard r (spelled a)) }
+{
+    let command = command_line(alloc)?;
+    match command.try_get_matches_from(argv) {
+        Ok(matches) => match matches.subcommand() {
+            Some((name, inner)) => Ok(said(name, inner)),
+            None => Ok(None),
+        },
+        Err(error) => {
+            if error.kind() == ErrorKind::OutOfMemory {
+                Err(AllocError)
+            } else {
+                Ok(None)
+            }
+        }
+    }
+}
+
+// `run`, `run --serial`, `make n` and `drive n`.
+fn command_line<'a>(alloc: Global) -> Result<Command<'a>, AllocError>
+    ensures { IfOk result (λ c. app_of c ≡ mapper) }
+{
+    let serial = Arg::new(alloc, "serial")
+        .long("serial")
+        .action(ArgAction::SetTrue);
+    let run = Command::new(alloc, "run").arg(serial)?;
+    let made = Arg::new(alloc, "n").action(ArgAction::Set);
+    let make = Command::new(alloc, "make").arg(made)?;
+    let driven = Arg::new(alloc, "n").action(ArgAction::Set);
+    let drive = Command::new(alloc, "drive").arg(driven)?;
+    Command::new(alloc, "mapper")
+        .subcommand(run)?
+        .subcommand(make)?
+        .subcommand(drive)
+}
+
+// What the subcommand of this name asks for.
+fn said(name: &str, inner: &ArgMatches<'_>) -> Option<Ask>
+    ensures can_be_done { IfSome result CanBeDone }
+    ensures heard { (a : Ask) → CanBeDone a → IsSaid a name.now (found_of inner.now) → IsHeard result (spelled a) }
+{
+    if name == "run" {
+        return Some(run_of(inner));
+    }
+    let Some(scans) = count_of(inner) else {
+        return None;
+    };
+    if name == "make" {
+        return Some(Ask::Make(scans));
+    }
+    if name == "drive" {
+        return Some(Ask::Drive(scans));
+    }
+    None
+}
+
+fn run_of(inner: &ArgMatches<'_>) -> Ask
+    ensures can_be_done { CanBeDone result }
+    ensures serial { one_text (found_of inner.now) (codes "serial") ≡ Some (codes "true") → result ≡ asks.Serial }
+    ensures plain { one_text (found_of inner.now) (codes "serial") ≡ Some (codes "false") → result ≡ asks.Run }
+{
+    if inner.get_flag("serial") {
+        Ask::Serial
+    } else {
+        Ask::Run
+    }
+}
+
+fn count_of(inner: &ArgMatches<'_>) -> Option<u32>
+    ensures from_to { IfSome result (λ n. (1 ≤ n) × (n ≤ 200)) }
+    ensures heard { (n : ℕ) → 1 ≤ n → n ≤ 200 → first_value (found_of inner.now) (codes "n") ≡ Some (decimal n) → MatchOption result ⊥ (λ m. decimal m ≡ decimal n) }
+{
+    let Some(text) = inner.get_str("n") else {
+        return None;
+    };
+    scans_of(text)
+}

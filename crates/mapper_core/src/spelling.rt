@@ -1,0 +1,55 @@
+//! The one spelling of what may be asked for.
+ghost use Rattle.std.specs.Prelude.{◌≡◌, ◌≢◌, ◌↔◌, ◌≤◌, ◌∷◌, [], ℕ, true, decimal, map, IfSome, IfNone};
+ghost use Rattle.std.specs.String.{string_bytes};
+ghost use Rattle.mapper_core.specs.Asks.{spelled};
+
+use crate::words::Ask;
+use itoa::Buffer;
+
+/// The most scans that may be asked for.
+const MAX_SCANS: u32 = 200;
+
+/// Whether the words are the one spelling of it.
+pub fn is_spelled(words: &[String], ask: Ask) -> bool
+    ensures { (result ≡ true) ↔ (map (λ w. string_bytes w) words.now ≡ spelled ask) }
+{
+    let mut number = Buffer::new();
+    match ask {
+        Ask::Run => is_one(words, "run"),
+        Ask::Serial => are_two(words, "run", "--serial"),
+        Ask::Make(n) => are_two(words, "make", number.format(n)),
+        Ask::Drive(n) => are_two(words, "drive", number.format(n)),
+    }
+}
+
+/// The number of scans whose one spelling this is, from 1 to 200.
+pub fn scans_of(text: &str) -> Option<u32>
+    ensures some { IfSome result (λ n. (1 ≤ n) × (n ≤ 200) × (decimal n ≡ text.now)) }
+    ensures none { IfNone result ((n : ℕ) → 1 ≤ n → n ≤ 200 → decimal n ≢ text.now) }
+{
+    for n in 1..MAX_SCANS + 1 {
+        let mut number = Buffer::new();
+        if number.format(n) == text {
+            return Some(n);
+        }
+    }
+    None
+}
+
+fn is_one(words: &[String], first: &str) -> bool
+    ensures { (result ≡ true) ↔ (map (λ w. string_bytes w) words.now ≡ first.now ∷ []) }
+{
+    match words {
+        [word] => word.as_str() == first,
+        _ => false,
+    }
+}
+
+fn are_two(words: &[String], first: &str, second: &str) -> bool
+    ensures { (result ≡ true) ↔ (map (λ w. string_bytes w) words.now ≡ first.now ∷ second.now ∷ []) }
+{
+    match words {
+        [word, other] => word.as_str() == first && other.as_str() == second,
+        _ => false,
+    }
+}

@@ -1,0 +1,82 @@
+//! Runs of several callers, and what gates show of their threads.
+use super::{ran, words_of};
+use crate::{Status, SureSink, SureSource, run};
+use rebuild_worker::{Gate, HoldGate, MeetGate};
+use std::alloc::{AllocError, Global};
+use std::sync::Wait;
+use std::test::Fail;
+use std::thread::Threads;
+
+// What a run with this gate writes.
+fn ran_with<R: Threads + Wait + Sync, G: Gate + Sync>(
+    rt: &R,
+    alloc: Global,
+    log: &[u8],
+    gate: &G,
+) -> Result<(Status, SureSink), AllocError> {
+    let words = words_of(alloc, "run")?;
+    let mut source = SureSource::new(log.to_vec(alloc)?);
+    let mut out = SureSink::new(alloc);
+    let mut notes = SureSink::new(alloc);
+    let status = run(
+        rt,
+        alloc,
+        words.as_slice(),
+        &mut source,
+        &mut out,
+        &mut notes,
+        gate,
+    );
+    Ok((status, out))
+}
+
+#[test]
+fn a_caller_reads_its_own_update(rt: HostRuntime) -> Result<(), Fail> {
+    let alloc = rt.alloc();
+    let log = "ikdmap 1 voxel 200 large 1500\n@1 add 100 0 0\n@2 add 1 0 0\n@2 near 1 0 0 0\n";
+    let ran = ran(&rt, alloc, "run", log.as_bytes())?;
+    assert_eq!(rt; ran.status, Status::Done);
+    let mut found = false;
+    for want in [
+        "@1 ok 1\n@2 ok 2\n@2 near 2 | 1 1 0 0 1\nend 2 live 2 suspended 0\n",
+        "@1 ok 2\n@2 ok 1\n@2 near 1 | 0 1 0 0 1\nend 2 live 2 suspended 0\n",
+        "@1 ok 2\n@2 ok 1\n@2 near 2 | 0 1 0 0 1\nend 2 live 2 suspended 0\n",
+    ] {
+        found |= ran.out.bytes() == want.as_bytes();
+    }
+    assert!(rt; found);
+    Ok(())
+}
+
+// The first update leaves the tree in breach, so a build begins, which is held until both later commands are replied to.
+#[test]
+fn callers_go_on_while_a_build_is_held(rt: HostRuntime) -> Result<(), Fail> {
+    let alloc = rt.alloc();
+    let mut log = String::from_str(alloc, "ikdmap 1 voxel 200 large 16\n@1 add")?;
+    for x in 1..=40 {
+        log.push_str(format!(in alloc; " {x} 0 0")?.as_str())?;
+    }
+    log.push_str("\n@1 add 100 0 0\n@1 near 1 0 0 0\n")?;
+    let gate = HoldGate::new(0, 2, 100_000_000);
+    let (status, out) = ran_with(&rt, alloc, log.as_bytes(), &gate)?;
+    assert_eq!(rt; status, Status::Done);
+    assert!(rt; gate.held());
+    let want = "@1 ok 1\n@1 ok 2\n@1 near 2 | 0 1 0 0 1\nend 2 live 41 suspended 0\n";
+    assert_eq!(rt; out.bytes(), want.as_bytes());
+    Ok(())
+}
+
+// Caller 1 goes on from its first query only once caller 2's update is replied to, and so reads it by the second.
+#[test]
+fn callers_run_beside_each_other(rt: HostRuntime) -> Result<(), Fail> {
+    let alloc = rt.alloc();
+    let log =
+        "ikdmap 1 voxel 200 large 1500\n@1 near 1 0 0 0\n@1 near 1 0 0 0\n@1 add 100 0 0\n@2 add 1 0 0\n";
+    let gate = MeetGate::new(0, 3, 100_000_000);
+    let (status, out) = ran_with(&rt, alloc, log.as_bytes(), &gate)?;
+    assert_eq!(rt; status, Status::Done);
+    assert!(rt; gate.held());
+    let rest = "@1 near 1 | 0 1 0 0 1\n@1 ok 2\n@2 ok 1\nend 2 live 2 suspended 0\n";
+    assert!(rt; out.bytes().ends_with(rest.as_bytes()));
+    Ok(())
+}
