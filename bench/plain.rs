@@ -1,10 +1,14 @@
 // A straightforward incremental k-d tree in plain Rust, to be measured beside map_bench: the same words, points, works and
-// checksums. Build with `rustc -O`. It is changed in place and holds no versions, so `held` is here the work of `scans`.
+// checksums. Build with `rustc -O`. It is changed in place and holds no versions, so `held` is here the work of `scans`, and it
+// builds everything anew in place, so `longest` has one figure here.
+use std::collections::HashMap;
 use std::env;
-use std::time::Instant;
+use std::time::{Duration, Instant};
+mod drive;
 
 const KEEP: [u8; 2] = [0, 1];
 const DELETE: [u8; 2] = [2, 2];
+const THIN: [u8; 2] = [2, 1];
 const LIVE: u8 = 0;
 const DROPPED: u8 = 2;
 
@@ -280,6 +284,37 @@ fn near(tree: &Tree, owed: [u8; 2], k: usize, q: &[i64; 3], hits: &mut Vec<Hit>)
     near(second, below, k, q, hits);
 }
 
+const VOXEL: i64 = 500;
+
+fn voxel(p: &[i64; 3]) -> Cuboid {
+    let lo = p.map(|c| VOXEL * c.div_euclid(VOXEL));
+    [lo, lo.map(|c| c + VOXEL)]
+}
+
+type Rank = (u64, [i64; 3], u32);
+
+// The order in which the points of a voxel win.
+fn rank(c: &Cuboid, point: [i64; 3], number: u32) -> Rank {
+    let away = (0..3).map(|i| (2 * point[i]).abs_diff(c[0][i] + c[1][i]).pow(2)).sum();
+    (away, point, number)
+}
+
+// The first live item of the cuboid in that order, and how many there are.
+fn best(tree: &Tree, owed: [u8; 2], c: &Cuboid, found: &mut (Option<Rank>, u32)) {
+    let Some(node) = tree else { return };
+    if live(node, owed) == 0 || !(0..3).all(|i| c[0][i] <= node.hi[i] && node.lo[i] < c[1][i]) {
+        return;
+    }
+    if apply(owed, node.item.label) == LIVE && holds(c, &node.item.point) {
+        let new = rank(c, node.item.point, node.item.number);
+        found.0 = Some(found.0.map_or(new, |old| old.min(new)));
+        found.1 += 1;
+    }
+    let below = then(node.pending, owed);
+    best(&node.left, below, c, found);
+    best(&node.right, below, c, found);
+}
+
 struct Draws(u64);
 
 impl Draws {
@@ -339,21 +374,50 @@ impl Map {
         self.tree = mark(self.tree.take(), LARGE, cuboid, DELETE);
     }
 
+    // What lies from 30 to 60 metres behind the robot is deleted.
+    fn leave(&mut self, scan: u32) {
+        let x = 1000 * scan as i64;
+        self.delete(&[[x - 60000, -30000, -3000], [x - 30000, 30001, 3001]]);
+    }
+
     fn add(&mut self, points: &[[i64; 3]]) {
         let mut items = numbered(self.next, points);
         self.next += points.len() as u32;
         self.tree = put_all(self.tree.take(), LARGE, &mut items, 0);
     }
 
-    // Takes the scans in, after something that is done with each scan's points. After each tenth scan what lies from 30
-    // to 60 metres behind the robot is deleted.
-    fn grow(&mut self, points: &[[i64; 3]], before: impl Fn(&mut Map, &[[i64; 3]])) {
+    // Of the points that meet in a voxel, and of what is live there, the one nearest to the centre stays. One search a voxel,
+    // and what is new goes in in one pass.
+    fn thin(&mut self, points: &[[i64; 3]]) {
+        let mut firsts: HashMap<Cuboid, Rank> = HashMap::new();
+        for (number, &point) in (self.next..).zip(points) {
+            let cube = voxel(&point);
+            let new = rank(&cube, point, number);
+            firsts.entry(cube).and_modify(|old| *old = new.min(*old)).or_insert(new);
+        }
+        self.next += points.len() as u32;
+        let mut items = Vec::new();
+        for (cube, new) in firsts {
+            let mut found = (None, 0);
+            best(&self.tree, KEEP, &cube, &mut found);
+            let (_, point, number) = found.0.map_or(new, |old| old.min(new));
+            if found.1 == 1 && number != new.2 {
+                continue;
+            }
+            if found.1 > 0 {
+                self.tree = mark(self.tree.take(), LARGE, &cube, THIN);
+            }
+            items.push(Item { number, point, label: LIVE });
+        }
+        self.tree = put_all(self.tree.take(), LARGE, &mut items, 0);
+    }
+
+    // Takes each scan's points in. After each tenth scan what the robot leaves is deleted.
+    fn grow(&mut self, points: &[[i64; 3]], take_in: impl Fn(&mut Map, &[[i64; 3]])) {
         for (scan, points) in points.chunks(POINTS_OF_SCAN as usize).enumerate() {
-            before(self, points);
-            self.add(points);
+            take_in(self, points);
             if scan % 10 == 9 {
-                let x = 1000 * scan as i64;
-                self.delete(&[[x - 60000, -30000, -3000], [x - 30000, 30001, 3001]]);
+                self.leave(scan as u32);
             }
         }
     }
@@ -367,10 +431,28 @@ impl Map {
     }
 }
 
+// A map grows by scans to so many points, and then by so many more. The longest addition of one of those.
+fn longest(count: u32, more: u32) -> Duration {
+    let points = Draws(1).points(count + more);
+    let mut map = Map { tree: None, next: 0, sum: 0 };
+    let mut longest = Duration::ZERO;
+    for (scan, points) in points.chunks(POINTS_OF_SCAN as usize).enumerate() {
+        let begun = Instant::now();
+        map.add(points);
+        if scan >= (count / POINTS_OF_SCAN) as usize {
+            longest = longest.max(begun.elapsed());
+        }
+    }
+    longest
+}
+
 fn main() {
     let words: Vec<String> = env::args().skip(1).collect();
     let count: u32 = words[1].parse().unwrap();
     let asked: u32 = words[2].parse().unwrap();
+    if words[0] == "longest" {
+        return println!("together {}", longest(count, asked).as_micros());
+    }
     let mut draws = Draws(1);
     let points = draws.points(count);
     let places = draws.places(asked, count);
@@ -379,17 +461,29 @@ fn main() {
     let mut map = Map { tree: None, next: 0, sum: 0 };
     match words[0].as_str() {
         "ask" | "box" => map.tree = build(&mut items),
-        "after" => map.grow(&points, |_, _| ()),
+        "after" => map.grow(&points, Map::add),
         _ => (),
     }
     let begun = Instant::now();
     match words[0].as_str() {
         "build" => map.tree = build(&mut items),
         "ask" | "after" => map.ask(&places),
-        "scans" => map.grow(&points, |_, _| ()),
-        "held" => map.grow(&points, |map, _| map.sum = with(map.sum, live_of(&map.tree), 0)),
-        "turn" => map.grow(&points, |map, points| map.ask(points)),
+        "scans" => map.grow(&points, Map::add),
+        "held" => map.grow(&points, |map, points| {
+            map.sum = with(map.sum, live_of(&map.tree), 0);
+            map.add(points);
+        }),
+        "turn" => map.grow(&points, |map, points| {
+            map.ask(points);
+            map.add(points);
+        }),
+        "thin" => map.grow(&points, Map::thin),
+        "odometry" => map.grow(&points, |map, points| {
+            map.ask(points);
+            map.thin(points);
+        }),
         "box" => cubes.iter().for_each(|cube| map.delete(cube)),
+        "drive" => return println!("{}", drive::summary(count)),
         _ => panic!("no such work"),
     }
     eprintln!("{}", begun.elapsed().as_micros());

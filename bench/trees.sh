@@ -47,6 +47,13 @@ measure scans 0 1000 'scans, ms'
 measure held 0 1000 'held, ms'
 measure turn 0 1000 'turn, ms'
 measure box 10000 10000 'box, us each'
+measure thin 0 1000 'thin, ms'
+measure odometry 0 1000 'odometry, ms'
+echo
+for points in ${SIZES:-1000000}; do
+    printf 'longest step in us at %s points, ours:  %s\n' "$points" "$("$program" longest "$points" 400000)"
+    printf 'longest step in us at %s points, plain: %s\n' "$points" "$("$folder/plain" longest "$points" 400000)"
+done
 cat <<'LEGEND'
 
 build   a tree is built by medians
@@ -56,6 +63,11 @@ scans   points are added in scans of 2,000, and each tenth time the slab that wa
 held    the same, while the version before each scan is held. The plain tree holds no versions: its work is that of scans
 turn    as scans, and before a scan is added each of its points is asked for its 5 nearest
 box     cubes of a metre are deleted from a tree that was built, 10,000 times
+thin    scans are thinned in voxels of half a metre, with the slabs as above. Ours is the state of a map here: it keeps a history
+        and a version, and has subtrees from 1,500 nodes on detached, built anew and swapped in after each update
+odometry the same, and before a scan is thinned each of its points is asked for its 5 nearest
+longest of 200 more scans that are added, the longest of each step: what is done to a detached subtree (build) holds nobody up
+        where a second thread does it, and `together` is what one scan takes where none does
 
 Both build subtrees below 1,000,000 nodes anew in place, put a scan in one pass, and leave out subtrees without a live item
 when they search.

@@ -111,3 +111,33 @@ fn cube(lo: &Point) -> Cuboid {
     };
     Cuboid::new(lo, hi).unwrap_or(Cuboid::unit(&Point::default()))
 }
+
+/// How the points of a scan lie.
+#[derive(Clone, Copy, Debug, PartialEq, Eq)]
+pub enum Lie {
+    Drawn,
+    /// In a row along x, from below.
+    Rising,
+    /// All at one place.
+    Equal,
+}
+
+/// So many points that lie so, from a place on.
+pub fn lying(
+    alloc: Global,
+    lie: Lie,
+    from: u32,
+    count: u32,
+    draws: &mut Draws,
+) -> Result<Points, NoMemory> {
+    let mut points = Points::new(alloc);
+    for place in 0..count {
+        let point = match lie {
+            Lie::Drawn => draws.point(0),
+            Lie::Rising => Point::new(from as i64 + place as i64, 0, 0).unwrap_or_default(),
+            Lie::Equal => Point::default(),
+        };
+        points.push(point)?;
+    }
+    Ok(points)
+}

@@ -7,7 +7,11 @@
 //! - `scans`: a tree grows by scans of 2,000 points, and after each tenth the slab that is left is deleted;
 //! - `held`: the same, while the version before each scan is held until the scan is done;
 //! - `turn`: the same without versions, but each point is asked for its 5 nearest before its scan is added;
-//! - `box`: Q cubes of a metre are deleted from a tree that was built.
+//! - `box`: Q cubes of a metre are deleted from a tree that was built;
+//! - `thin`: the state of a map thins such scans, at half a metre, and after each tenth the slab that is left is deleted;
+//! - `odometry`: the same, but each point is asked for its 5 nearest before its scan is thinned;
+//! - `drawn`, `rising`, `equal`: a state takes N points that lie so, 262,144 an update, with Q as the size of a large subtree;
+//! - `longest`: a state grows by scans to N points and then by Q more, of which the longest steps are told.
 //!
 //! The work's checksum goes to standard output, the microseconds that it took to standard error.
 #![tactic(auto)]
@@ -17,10 +21,16 @@ ghost use Rattle.std.specs.Prelude.{◌≡◌, ◌<◌, ◌≤◌, IfOk};
 mod course;
 mod draws;
 mod grown;
+mod longest;
+mod robot;
 mod stop;
 mod sums;
+mod thinned;
 mod works;
+mod worst;
 
+use crate::course::Lie;
+use crate::longest::{Longest, longest_steps};
 use crate::stop::Stop;
 use crate::works::Measured;
 use kd_tree::Steps;
@@ -32,7 +42,7 @@ use std::sync::ledger::{Blank, Ledger};
 fn main(rt: HostRuntime) -> ExitCode {
     match measure(&rt) {
         Ok(()) => ExitCode::from(0),
-        Err(Stop::Words) => ExitCode::from(2),
+        Err(Stop::Words | Stop::Full) => ExitCode::from(2),
         Err(Stop::NoMemory) => ExitCode::from(5),
         Err(Stop::Outside) => ExitCode::from(4),
     }
@@ -43,9 +53,14 @@ fn measure(rt: &HostRuntime) -> Result<(), Stop> {
     let [work, count, asked] = words.as_slice() else {
         return Err(Stop::Words);
     };
-    let named = named(work)?;
     let count = number(count, 4_194_304)?;
     let asked = number(asked, 1_000_000_000)?;
+    if work.as_str() == "longest" {
+        let longest = looked_at::<Brand>(rt, count, asked, Blank::new(1))?;
+        println!(rt; "{longest}")?;
+        return Ok(());
+    }
+    let named = named(work)?;
     let Measured { micros, sum } = measured::<Brand>(rt, named, count, asked, Blank::new(1))?;
     eprintln!(rt; "{micros}")?;
     println!(rt; "{work} {count} {asked} sum {sum}")?;
@@ -75,7 +90,24 @@ fn measured<L: Ledger>(
         Work::Held => works::held(rt, alloc, count, steps),
         Work::Turn => works::turn(rt, alloc, count, steps),
         Work::Box => works::delete(rt, alloc, count, asked, steps),
+        Work::Thin => thinned::thin(rt, alloc, count, steps),
+        Work::Odometry => thinned::odometry(rt, alloc, count, steps),
+        Work::Lying(lie) => worst::add(rt, alloc, lie, count, asked, steps),
     }
+}
+
+fn looked_at<L: Ledger>(
+    rt: &HostRuntime,
+    count: u32,
+    more: u32,
+    blank: Blank,
+) -> Result<Longest, Stop>
+    requires name { blank.name ≡ L.name }
+    requires parts { blank.parts ≡ L.parts }
+    requires some { 0 < blank.parts }
+{
+    let steps: &mut Steps<L> = &mut Steps::new(blank);
+    longest_steps(rt, rt.alloc(), count, more, steps)
 }
 
 #[derive(Clone, Copy, Debug, PartialEq, Eq)]
@@ -87,6 +119,9 @@ enum Work {
     Held,
     Turn,
     Box,
+    Thin,
+    Odometry,
+    Lying(Lie),
 }
 
 fn named(word: &str) -> Result<Work, Stop> {
@@ -98,6 +133,11 @@ fn named(word: &str) -> Result<Work, Stop> {
         "held" => Ok(Work::Held),
         "turn" => Ok(Work::Turn),
         "box" => Ok(Work::Box),
+        "thin" => Ok(Work::Thin),
+        "odometry" => Ok(Work::Odometry),
+        "drawn" => Ok(Work::Lying(Lie::Drawn)),
+        "rising" => Ok(Work::Lying(Lie::Rising)),
+        "equal" => Ok(Work::Lying(Lie::Equal)),
         _ => Err(Stop::Words),
     }
 }

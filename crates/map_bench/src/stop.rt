@@ -1,5 +1,6 @@
 //! Why a measurement stopped.
 use map_fold::NoMemory;
+use rebuild_core::StateFault;
 use std::alloc::AllocError;
 use std::io;
 
@@ -7,6 +8,8 @@ use std::io;
 pub enum Stop {
     /// The words ask for nothing.
     Words,
+    /// The map takes no more points.
+    Full,
     NoMemory,
     /// The clock or a stream failed.
     Outside,
@@ -27,5 +30,14 @@ impl From<AllocError> for Stop {
 impl From<io::Error> for Stop {
     fn from(_error: io::Error) -> Stop {
         Stop::Outside
+    }
+}
+
+impl From<StateFault> for Stop {
+    fn from(fault: StateFault) -> Stop {
+        match fault {
+            StateFault::NoMemory => Stop::NoMemory,
+            StateFault::TooManyUpdates { .. } | StateFault::TooManyPoints { .. } => Stop::Full,
+        }
     }
 }

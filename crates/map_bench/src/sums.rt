@@ -1,11 +1,27 @@
 //! Checksums of what was found and of what is held.
+use kd_search::nearest;
 use kd_tree::Tree;
-use map_fold::{Hits, NoMemory};
+use map_fold::{Hits, NoMemory, Points};
 use point_geom::{Point, dist2};
 use std::alloc::Global;
 
+/// The checksum after the 5 nearest points to each of these places.
+pub fn with_answers(
+    sum: u64,
+    alloc: Global,
+    tree: &Tree,
+    places: &Points,
+) -> Result<u64, NoMemory> {
+    let mut sum = sum;
+    for place in places.as_slice() {
+        let hits = nearest(alloc, tree, 5, place, None)?;
+        sum = with_hits(sum, &hits);
+    }
+    Ok(sum)
+}
+
 /// The checksum after these hits.
-pub fn with_hits(sum: u64, hits: &Hits) -> u64 {
+fn with_hits(sum: u64, hits: &Hits) -> u64 {
     let mut sum = sum;
     for hit in hits.as_slice() {
         sum = with(sum, hit.number, hit.dist2);

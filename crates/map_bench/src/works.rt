@@ -7,8 +7,7 @@ use crate::course::{Scan, cubes, items, places, scans};
 use crate::draws::Draws;
 use crate::grown::{Grown, LARGE};
 use crate::stop::Stop;
-use crate::sums::{with, with_hits, with_items};
-use kd_search::nearest;
+use crate::sums::{with, with_answers, with_items};
 use kd_tree::{Steps, Tree};
 use kd_update::marked;
 use map_fold::{Cuboids, Items, NoMemory, Points, Tag};
@@ -89,16 +88,6 @@ fn asking(rt: &impl Clock, alloc: Global, tree: &Tree, places: &Points) -> Resul
     let micros = begun.elapsed(rt)?.as_micros();
     let sum = with_items(sum, alloc, tree)?;
     Ok(Measured { micros, sum })
-}
-
-// The checksum after the 5 nearest points to each of these places.
-fn with_answers(sum: u64, alloc: Global, tree: &Tree, places: &Points) -> Result<u64, NoMemory> {
-    let mut sum = sum;
-    for place in places.as_slice() {
-        let hits = nearest(alloc, tree, 5, place, None)?;
-        sum = with_hits(sum, &hits);
-    }
-    Ok(sum)
 }
 
 /// A tree grows by scans; after each tenth the slab that is left is deleted.
