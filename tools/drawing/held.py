@@ -1,0 +1,123 @@
+"""What a map holds: a plain reading of every update and every query, in the order of the numbers, with no tree."""
+
+import heapq
+import itertools
+import math
+from collections import defaultdict
+from typing import NamedTuple
+
+from .log import Point
+
+
+class Gone(NamedTuple):
+    """A point that is gone for good: by the update of this mark, and by its word."""
+
+    point: Point
+    mark: int
+    word: str
+
+
+class Hit(NamedTuple):
+    """A live point near a place; hits are ordered as their parts are."""
+
+    dist2: int
+    point: Point
+    number: int
+
+
+class Held:
+    """The points that are held, each under its number, and those that are gone."""
+
+    def __init__(self, voxel):
+        self.voxel = voxel
+        self.live = {}
+        self.suspended = {}
+        self.gone = []
+        self.next = 0
+        self.mark = 0
+        # The numbers of the held points by the voxel that they lie in.
+        self.cells = defaultdict(set)
+
+    def update(self, update):
+        """Does the next update of the history."""
+        self.mark += 1
+        for point in update.points:
+            if update.word == "thin":
+                self.thin(point)
+            else:
+                self.hold(self.next, point)
+            self.next += 1
+        for box in update.boxes:
+            for number, point in self.held_in(box):
+                self.change(update.word, number, point)
+
+    def hold(self, number, point):
+        """Holds a live point."""
+        self.live[number] = point
+        self.cells[self.cell(point)].add(number)
+
+    def drop(self, number, point, word):
+        """A held point is gone for good."""
+        self.live.pop(number, None)
+        self.suspended.pop(number, None)
+        self.cells[self.cell(point)].discard(number)
+        self.gone.append(Gone(point, self.mark, word))
+
+    def change(self, word, number, point):
+        """What becomes of a held point that is in an update's box."""
+        if word in ("delete", "erase"):
+            self.drop(number, point, word)
+        elif word == "suspend" and number in self.live:
+            self.suspended[number] = self.live.pop(number)
+        elif word == "restore" and number in self.suspended:
+            self.live[number] = self.suspended.pop(number)
+
+    def thin(self, point):
+        """Of a new point and the live ones in its voxel, the one nearest to the voxel's centre stays alone."""
+        cell = self.cell(point)
+        rivals = [Hit(self.to_centre(cell, point), point, self.next)]
+        for number in self.cells[cell]:
+            if number in self.live:
+                rivals.append(Hit(self.to_centre(cell, self.live[number]), self.live[number], number))
+        self.hold(self.next, point)
+        for loser in sorted(rivals)[1:]:
+            self.drop(loser.number, loser.point, "thin")
+
+    def cell(self, point):
+        """The voxel that a point lies in, counted from the origin's."""
+        return tuple(at // self.voxel for at in point)
+
+    def to_centre(self, cell, point):
+        """Four times the squared distance from a point to a voxel's centre."""
+        return sum((2 * at - (2 * place + 1) * self.voxel) ** 2 for at, place in zip(point, cell))
+
+    def held_in(self, box):
+        """The held points in a box, with their numbers."""
+        edges = [range(low // self.voxel, (high - 1) // self.voxel + 1) for low, high in zip(*box)]
+        # A small box is looked up voxel by voxel, a large one by all voxels that are in use.
+        if math.prod(map(len, edges)) < len(self.cells):
+            cells = [cell for cell in itertools.product(*edges) if cell in self.cells]
+        else:
+            cells = self.cells
+        held = ((number, self.point(number)) for cell in cells for number in self.cells[cell])
+        return [(number, point) for number, point in held if box.holds(point)]
+
+    def point(self, number):
+        """The point that is held under a number."""
+        return self.live[number] if number in self.live else self.suspended[number]
+
+    def nearest(self, query):
+        """The hits of a query, nearest first."""
+        x, y, z = query.place
+        # Most are no hits, so they are plain tuples, which take half the time.
+        near = (
+            ((at[0] - x) ** 2 + (at[1] - y) ** 2 + (at[2] - z) ** 2, at, number) for number, at in self.live.items()
+        )
+        if query.reach is not None:
+            near = (hit for hit in near if hit[0] <= query.reach**2)
+        return [Hit(*hit) for hit in heapq.nsmallest(query.most, near)]
+
+    def inside(self, query):
+        """How many live points are in a query's box, and the first of them with their numbers."""
+        found = sorted((number, point) for number, point in self.held_in(query.box) if number in self.live)
+        return len(found), found[: query.most]

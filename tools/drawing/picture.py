@@ -1,0 +1,208 @@
+"""The picture of a run, seen from above, as SVG: x to the right, y upwards."""
+
+import html
+import math
+from collections import defaultdict
+from dataclasses import dataclass
+
+from .log import Inside, Near, Point, Update
+
+WIDTH, HEIGHT, MARGIN, FOOT = 960, 720, 12, 58
+# Of the points of one kind that lie in the same square of the picture, with sides of so many pixels, one is drawn.
+SQUARE = 5
+# What was deleted has one of so many colours, by when.
+SHADES = 8
+
+# What is drawn, by its class, and its name in the legend.
+NAMES = {
+    "live": "live",
+    "suspended": "suspended",
+    "asked": "asked, and hits",
+    "delete": "box to delete",
+    "suspend": "to suspend",
+    "restore": "to restore",
+}
+
+STYLE = """
+text{font:13px sans-serif;fill:#333}
+path,rect{fill:none}
+.dots{stroke-linecap:round}
+.sample{stroke-width:3}
+.shade{stroke-width:8}
+.live{stroke:#93a5b8}
+.suspended,.suspend,.restore{stroke:#12a594}
+.asked{stroke:#1d4ed8}
+.delete{stroke:#b91c1c}
+.delete,.suspend{stroke-dasharray:7 4}
+.ground{fill:#fff}
+.scale{stroke:#333;stroke-width:2}
+"""
+
+
+@dataclass(frozen=True)
+class View:
+    """The part of the ground that the picture shows: from where on, at so many pixels a millimetre, and its pixels."""
+
+    left: float
+    top: float
+    scale: float
+    width: int
+    height: int
+
+    @classmethod
+    def of(cls, points, boxes):
+        """The view of all these points with a margin, and of those sides of the boxes that aren't far from them."""
+        west, east = min(p.x for p in points), max(p.x for p in points)
+        south, north = min(p.y for p in points), max(p.y for p in points)
+        near = max(east - west, north - south) / 8
+        corners = [corner for box in boxes for corner in box]
+        xs = [west, east, *(at.x for at in corners if west - near <= at.x <= east + near)]
+        ys = [south, north, *(at.y for at in corners if south - near <= at.y <= north + near)]
+        return cls.between((min(xs), max(xs)), (min(ys), max(ys)))
+
+    @classmethod
+    def between(cls, across, along):
+        """The view between two places on each axis; a flat map has a height too, and a single point a width."""
+        (west, east), (south, north) = across, along
+        width = max(east - west, 1)
+        height = max(north - south, width / 8)
+        scale = min((WIDTH - 2 * MARGIN) / width, (HEIGHT - 2 * MARGIN) / height)
+        left = (west + east - WIDTH / scale) / 2
+        pixels = round(height * scale) + 2 * MARGIN
+        return cls(left, (south + north + pixels / scale) / 2, scale, WIDTH, pixels)
+
+    def at(self, point):
+        """The pixel of a point."""
+        return round((point[0] - self.left) * self.scale), round((self.top - point[1]) * self.scale)
+
+    def box(self, box):
+        """The pixels of a box's corners, cut a little outside of the picture."""
+        (left, bottom), (right, top) = self.at(box.lo), self.at(box.hi)
+        left, right = (min(max(at, -9), self.width + 9) for at in (left, right))
+        top, bottom = (min(max(at, -9), self.height + 9) for at in (top, bottom))
+        return left, top, right - left, bottom - top
+
+
+def draw(log, result):
+    """The text of the SVG of a log's run."""
+    view = view_of(log, result.held)
+    size, label = f'width="{view.width}" height="{view.height + FOOT}"', html.escape(summary(result.held))
+    drawn = [*points(view, log, result.held), *boxes(view, log), *queries(view, log, result)]
+    parts = [
+        f'<svg xmlns="http://www.w3.org/2000/svg" viewBox="0 0 {view.width} {view.height + FOOT}" role="img">',
+        f"<title>{label}</title><style>{STYLE}</style>",
+        f'<rect class="ground" {size}/><svg width="{view.width}" height="{view.height}">',
+        *drawn,
+        "</svg>",
+        *legend(view, log, "".join(drawn)),
+        *foot(view, label),
+        "</svg>",
+    ]
+    return "\n".join(parts) + "\n"
+
+
+def view_of(log, held):
+    """The view of all points that were ever held, of the places that were asked for theirs, and of boxes around."""
+    seen = [*held.live.values(), *held.suspended.values(), *(gone.point for gone in held.gone)]
+    seen += [command.place for command in log.commands if isinstance(command, Near)]
+    return View.of(seen or [Point(0, 0, 0)], [box for box, _ in outlines(log)])
+
+
+def outlines(log):
+    """The boxes that are drawn, each with its kind."""
+    for command in log.commands:
+        if isinstance(command, Inside):
+            yield command.box, "asked"
+        elif isinstance(command, Update) and command.word != "erase":
+            yield from ((box, command.word) for box in command.boxes)
+
+
+def points(view, log, held):
+    """The points: what was deleted undermost, by its colours, then what is live, then what is suspended."""
+    marks, deleted = log.updates(), defaultdict(list)
+    for gone in held.gone:
+        if gone.word != "thin":
+            deleted[shade(gone.mark, marks)].append(gone.point)
+    # A few points are drawn larger than many.
+    yield f'<g class="dots" stroke-width="{7 if held.next < 1_000 else 3}">'
+    yield from (f'<path stroke="{colour}" d="{dots(view, places)}"/>' for colour, places in deleted.items())
+    for kind, places in (("live", held.live), ("suspended", held.suspended)):
+        if places:
+            yield f'<path class="{kind}" d="{dots(view, places.values())}"/>'
+    yield "</g>"
+
+
+def shade(mark, marks):
+    """The colour of what the update of this mark deleted: from yellow for the first updates to violet for the last."""
+    step = (mark - 1) * SHADES // marks
+    return f"hsl({(408 - 18 * step) % 360},85%,{60 - 2 * step}%)"
+
+
+def dots(view, places):
+    """A path with a dot at the pixel of one point for each square of the picture, each told from the one before."""
+    squares = {}
+    for place in places:
+        x, y = view.at(place)
+        squares.setdefault((y // SQUARE, x // SQUARE), (x, y))
+    text, last = [], (0, 0)
+    for _, (x, y) in sorted(squares.items()):
+        text.append(f"m{x - last[0]} {y - last[1]}h0")
+        last = (x, y)
+    return "".join(text)
+
+
+def boxes(view, log):
+    """The outlines of the boxes of updates and queries, those that look the same once."""
+    for (x, y, width, height), kind in dict.fromkeys((view.box(box), kind) for box, kind in outlines(log)):
+        yield f'<rect class="{kind}" x="{x}" y="{y}" width="{width}" height="{height}"/>'
+
+
+def queries(view, log, result):
+    """A ring at each place that was asked for its nearest points, and lines from it to its hits."""
+    places = {place: view.at(log.commands[place].place) for place in result.hits}
+    lines = {(places[place], view.at(hit.point)) for place, hits in result.hits.items() for hit in hits}
+    rings = "".join(f"M{x - 3} {y}a3 3 0 1 0 6 0a3 3 0 1 0-6 0" for x, y in sorted(set(places.values())))
+    spokes = "".join(f"M{x} {y}L{to_x} {to_y}" for (x, y), (to_x, to_y) in sorted(lines))
+    if rings:
+        yield f'<path class="asked" d="{rings}{spokes}"/>'
+
+
+def legend(view, log, drawn):
+    """What the colours mean that were drawn, in a line below the picture."""
+    line, names = view.height + 22, [name for name in NAMES if f'{name}"' in drawn]
+    for x, name in zip(range(MARGIN, view.width, 120), names):
+        yield f'<path class="sample {name}" d="M{x} {line - 4}h20"/><text x="{x + 26}" y="{line}">{NAMES[name]}</text>'
+    x = MARGIN + 120 * len(names)
+    if 'stroke="hsl' in drawn:
+        for step in range(SHADES):
+            yield f'<path class="shade" stroke="{shade(step + 1, SHADES)}" d="M{x + 9 * step} {line - 4}h9"/>'
+        yield f'<text x="{x + 9 * SHADES + 6}" y="{line}">deleted by update 1 to {log.updates()}</text>'
+
+
+def foot(view, label):
+    """The totals and the scale, at the foot."""
+    line, length = view.height + 46, round_length(WIDTH / 8 / view.scale)
+    pixels = round(length * view.scale)
+    x = WIDTH - MARGIN - pixels
+    yield f'<text x="{MARGIN}" y="{line}">{label}</text>'
+    yield f'<text x="{x - 8}" y="{line}" text-anchor="end">{metres(length)}</text>'
+    yield f'<path class="scale" d="M{x} {line - 9}v9h{pixels}v-9"/>'
+
+
+def summary(held):
+    """One line on what the picture shows."""
+    thinned = sum(gone.word == "thin" for gone in held.gone)
+    parts = [f"{held.next:,} points: {len(held.live):,} live", f"{len(held.suspended):,} suspended"]
+    parts += [f"{len(held.gone) - thinned:,} deleted", f"{thinned:,} thinned away (not drawn)"]
+    return ", ".join(parts)
+
+
+def round_length(length):
+    """The largest of 1, 2, 5, 10, 20, .. millimetres that isn't longer than this, and 1 at least."""
+    power = 10 ** max(math.floor(math.log10(length)), 0)
+    return max(power * factor for factor in (1, 2, 5) if power * factor <= max(length, 1))
+
+
+def metres(length):
+    """A length with its unit."""
+    return f"{length // 1000:,} m" if length >= 1000 else f"{length} mm"

@@ -1,0 +1,154 @@
+"""Transcripts: the marks that their lines carry, whether these are legal, and where a line says something else."""
+
+import re
+from dataclasses import dataclass, field
+from itertools import zip_longest
+
+from .held import Held
+from .log import Inside, Near, Sync, Update
+
+# The head of a line, and its mark.
+REPLY = re.compile(r"(@[1-8] ok|@[1-8] near|@[1-8] box|sync|end) (0|[1-9][0-9]{0,9})(?: .*)?")
+
+
+@dataclass
+class Run:
+    """A log's run: what is held at its end, the line to each command and at the end, and what each `near` found."""
+
+    held: Held
+    lines: list[str]
+    hits: dict[int, list] = field(default_factory=dict)
+
+
+def serial_marks(log):
+    """The marks of a run in the log's order: how many updates stand at or before each command, and at the end."""
+    marks, count = [], 0
+    for command in log.commands:
+        count += isinstance(command, Update)
+        marks.append(count)
+    return [*marks, count]
+
+
+def run(log, marks):
+    """Runs a log whose commands have these marks, which have to be legal: each update in its turn, each query after the
+    update of its mark."""
+    result = Run(Held(log.voxel), [""] * len(marks))
+    commands = [*log.commands, Sync()]
+    turns = sorted(range(len(marks)), key=lambda place: (marks[place], not isinstance(commands[place], Update)))
+    for place in turns:
+        head = "end" if place == len(log.commands) else head_of(commands[place])
+        result.lines[place] = f"{head} {marks[place]}" + answer(result, place, commands[place])
+    return result
+
+
+def answer(result, place, command):
+    """Does a command, and tells what its line says after the mark."""
+    held = result.held
+    if isinstance(command, Update):
+        held.update(command)
+        return ""
+    if isinstance(command, Near):
+        result.hits[place] = held.nearest(command)
+        return "".join(f" | {hit.number} {spelled(hit.point)} {hit.dist2}" for hit in result.hits[place])
+    if isinstance(command, Inside):
+        count, found = held.inside(command)
+        return f" {count}" + "".join(f" | {number} {spelled(point)}" for number, point in found)
+    return f" live {len(held.live)} suspended {len(held.suspended)}"
+
+
+def spelled(point):
+    """A point's three numbers."""
+    return f"{point.x} {point.y} {point.z}"
+
+
+def head_of(command):
+    """What the line to a command begins with."""
+    if isinstance(command, Sync):
+        return "sync"
+    word = {Update: "ok", Near: "near", Inside: "box"}[type(command)]
+    return f"@{command.caller} {word}"
+
+
+def compare(log, transcript):
+    """The run of a log by a transcript's marks, and how the transcript differs from it.
+
+    Where the transcript hasn't a line for each command, or its marks aren't legal, that is all that is told of it, and
+    the run is the one in the log's order.
+    """
+    marks, faults = read_marks(log, transcript)
+    faults = faults or illegal(log, marks)
+    result = run(log, serial_marks(log) if faults else marks)
+    if not faults:
+        pairs = zip(transcript.split("\n"), result.lines)
+        faults = [difference(number, *pair) for number, pair in enumerate(pairs, 1) if pair[0] != pair[1]]
+    return result, faults
+
+
+def difference(number, told, due):
+    """Tells the first part of a line that isn't the one that is due."""
+    pairs = zip_longest(told.split(" | "), due.split(" | "), fillvalue="nothing more")
+    told, due = next(pair for pair in pairs if pair[0] != pair[1])
+    return f"line {number}: `{told}` where `{due}` is due"
+
+
+def read_marks(log, transcript):
+    """The marks of a transcript's lines; where a line is missing or of another form, none, and what is wrong."""
+    *lines, rest = transcript.split("\n")
+    heads = [*map(head_of, log.commands), "end"]
+    if rest:
+        return [], ["the last line has no end"]
+    if len(lines) != len(heads):
+        return [], [f"{len(lines)} lines where {len(heads)} are due"]
+    replies = [REPLY.fullmatch(line) for line in lines]
+    faults = [
+        f"line {number}: no line of the form `{head} MARK ..`"
+        for number, (reply, head) in enumerate(zip(replies, heads), 1)
+        if not reply or reply[1] != head
+    ]
+    return [] if faults else [int(reply[2]) for reply in replies], faults
+
+
+def illegal(log, marks):
+    """What is illegal in the marks of a log's commands and its end."""
+    legality = Legality()
+    for line, (command, mark) in enumerate(zip([*log.commands, Sync()], marks), 1):
+        legality.take(line, command, mark)
+    return legality.faults
+
+
+class Legality:
+    """Goes over the marks of a transcript, line by line, and notes what is illegal."""
+
+    def __init__(self):
+        self.faults = []
+        self.updates = 0
+        self.barrier = 0
+        # The highest mark of each caller; the highest since the barrier, with its line; the line of each update's mark.
+        self.callers = {}
+        self.highest = (0, 0)
+        self.taken = {}
+
+    def take(self, line, command, mark):
+        """Takes the mark of the next line."""
+        if isinstance(command, Sync):
+            self.take_barrier(line, mark)
+            return
+        least = max(self.barrier, self.callers.get(command.caller, 0))
+        if isinstance(command, Update):
+            self.updates += 1
+            least += 1
+            if self.taken.setdefault(mark, line) != line:
+                self.faults.append(f"line {line}: mark {mark} is that of the update in line {self.taken[mark]} too")
+        if mark < least:
+            self.faults.append(f"line {line}: mark {mark} where {least} is the least")
+        self.callers[command.caller] = max(mark, self.callers.get(command.caller, 0))
+        self.highest = max(self.highest, (mark, line))
+
+    def take_barrier(self, line, mark):
+        """Takes the mark of a sync or of the end, which is the number of the updates before it: what stands before has
+        none above it."""
+        if mark != self.updates:
+            self.faults.append(f"line {line}: mark {mark} where {self.updates} updates stand before")
+        if self.highest[0] > self.updates:
+            self.faults.append(f"line {self.highest[1]}: mark {self.highest[0]} where {self.updates} is the most")
+        self.barrier, self.highest = self.updates, (0, 0)
