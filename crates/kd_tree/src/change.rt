@@ -9,7 +9,7 @@ ghost use Rattle.kd_tree.specs.Sound.{IsSound, IsTopSound};
 ghost use Rattle.kd_tree.specs.Contents.{contents};
 ghost use Rattle.kd_tree.specs.Parts.{contents_of_parts, joined, pushed, with_son};
 
-use crate::node::Node;
+use crate::open_node::{Block, OpenNode, Opened};
 use crate::{Side, Steps, Tree};
 use map_fold::{Item, NoMemory, Tag};
 use point_geom::Axis;
@@ -43,7 +43,7 @@ impl Tree {
         if tag == Tag::KEEP {
             return Ok(self);
         }
-        match self.opened(alloc)? {
+        match self.opened()? {
             None => Ok(Tree::empty()),
             Some(node) => {
                 let item = Item {
@@ -51,9 +51,12 @@ impl Tree {
                     ..node.item
                 };
                 let pending = node.pending.then(tag);
-                Tree::made(
-                    alloc, item, node.axis, pending, node.left, node.right, steps,
-                )
+                let node = Opened {
+                    item,
+                    pending,
+                    ..node
+                };
+                node.closed(alloc, steps)
             }
         }
     }
@@ -72,18 +75,14 @@ impl Tree {
         ensures ticks { steps.new ≤ steps.old + 2 }
         ensures still { self ≡ leaf → steps.new ≡ steps.old }
     {
-        match self.opened(alloc)? {
+        match self.take_apart(alloc, steps)? {
             None => Ok(None),
-            Some(node) => {
-                let left = node.left.tagged(alloc, node.pending, steps)?;
-                let right = node.right.tagged(alloc, node.pending, steps)?;
-                Ok(Some(Fork {
-                    item: node.item,
-                    axis: node.axis,
-                    left,
-                    right,
-                }))
-            }
+            Some(node) => Ok(Some(Fork {
+                item: node.item,
+                axis: node.axis,
+                left: node.left,
+                right: node.right,
+            })),
         }
     }
 
@@ -101,22 +100,30 @@ impl Tree {
         ensures shape { IfOk result (λ t. t ≡ with_son side son self) }
         ensures ticks { steps.new ≤ steps.old + 1 }
     {
-        match self.opened(alloc)? {
+        match self.opened()? {
             None => Ok(Tree::empty()),
             Some(node) => {
-                let Node {
+                let Opened {
                     item,
                     axis,
                     pending,
                     left,
                     right,
-                    ..
+                    block,
                 } = node;
                 let (left, right) = match side {
                     Side::Left => (son, right),
                     Side::Right => (left, son),
                 };
-                Tree::made(alloc, item, axis, pending, left, right, steps)
+                let node = Opened {
+                    item,
+                    axis,
+                    pending,
+                    left,
+                    right,
+                    block,
+                };
+                node.closed(alloc, steps)
             }
         }
     }
@@ -143,6 +150,13 @@ impl Tree {
             left,
             right,
         } = fork;
-        Tree::made(alloc, item, axis, Tag::KEEP, left, right, steps)
+        let node = OpenNode {
+            item,
+            axis,
+            left,
+            right,
+            block: Block::none(),
+        };
+        Tree::put_together(alloc, node, steps)
     }
 }

@@ -11,7 +11,7 @@ ghost use Rattle.kd_update.specs.Made.{entered_put};
 ghost use Rattle.kd_update.specs.Put.{IsRouteCalm, goes_left, leaf_of, put_from, put_shape};
 
 use crate::rebuild::rejoined;
-use kd_tree::{Fork, Steps, Tree};
+use kd_tree::{Fork, OpenNode, Steps, Tree};
 use map_fold::{Item, Label, NoMemory};
 use point_geom::{Axis, Point};
 use std::alloc::Global;
@@ -74,33 +74,16 @@ pub(crate) fn put_below<L: Ledger>(
         → steps.new ≤ steps.old + (3 * entered_put item.point tree + 1) }
 {
     let _size = tree.size();
-    let Some(fork) = tree.push_down(alloc, steps)? else {
+    let Some(node) = tree.take_apart(alloc, steps)? else {
         return leaf(alloc, item, axis, steps);
     };
-    let Fork {
-        item: own,
-        axis,
-        left,
-        right,
-    } = fork;
-    if goes_left(&item.point, axis, &own.point) {
-        let left = put_below(alloc, left, large, item, axis.next(), steps)?;
-        let fork = Fork {
-            item: own,
-            axis,
-            left,
-            right,
-        };
-        rejoined(alloc, fork, large, steps)
+    let axis = node.axis;
+    if goes_left(&item.point, axis, &node.item.point) {
+        let left = put_below(alloc, node.left, large, item, axis.next(), steps)?;
+        rejoined(alloc, OpenNode { left, ..node }, large, steps)
     } else {
-        let right = put_below(alloc, right, large, item, axis.next(), steps)?;
-        let fork = Fork {
-            item: own,
-            axis,
-            left,
-            right,
-        };
-        rejoined(alloc, fork, large, steps)
+        let right = put_below(alloc, node.right, large, item, axis.next(), steps)?;
+        rejoined(alloc, OpenNode { right, ..node }, large, steps)
     }
 }
 

@@ -9,7 +9,7 @@ ghost use Rattle.kd_update.specs.Made.{entered_mark, made_mark};
 ghost use Rattle.kd_update.specs.Mark.{IsVisitCalm, marked_shape};
 
 use crate::rebuild::rejoined;
-use kd_tree::{Fork, Steps, Tree};
+use kd_tree::{OpenNode, Steps, Tree};
 use map_fold::{Item, NoMemory, Tag};
 use point_geom::Cuboid;
 use std::alloc::Global;
@@ -68,25 +68,19 @@ pub(crate) fn marked_within<L: Ledger>(
     if within.covers(&extent) {
         return tree.tagged(alloc, tag, steps);
     }
-    let Some(fork) = tree.push_down(alloc, steps)? else {
+    let Some(node) = tree.take_apart(alloc, steps)? else {
         return Ok(Tree::empty());
     };
-    let Fork {
+    let item = marked_item(node.item, within, tag);
+    let left = marked_within(alloc, node.left, large, within, tag, steps)?;
+    let right = marked_within(alloc, node.right, large, within, tag, steps)?;
+    let node = OpenNode {
         item,
-        axis,
         left,
         right,
-    } = fork;
-    let item = marked_item(item, within, tag);
-    let left = marked_within(alloc, left, large, within, tag, steps)?;
-    let right = marked_within(alloc, right, large, within, tag, steps)?;
-    let fork = Fork {
-        item,
-        axis,
-        left,
-        right,
+        ..node
     };
-    rejoined(alloc, fork, large, steps)
+    rejoined(alloc, node, large, steps)
 }
 
 pub(crate) fn marked_item(item: Item, within: &Cuboid, tag: Tag) -> Item

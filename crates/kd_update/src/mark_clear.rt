@@ -8,7 +8,7 @@ ghost use Rattle.kd_update.specs.Ways.{paths_of};
 use crate::mark::{marked_item, marked_within};
 use crate::rebuild::{NEVER, joined};
 use crate::ways::Ways;
-use kd_tree::{Fork, Side, Steps, Tree};
+use kd_tree::{OpenNode, Side, Steps, Tree};
 use map_fold::{NoMemory, Tag};
 use point_geom::Cuboid;
 use std::alloc::Global;
@@ -46,25 +46,19 @@ pub(crate) fn marked_clear<L: Ledger>(
     if within.covers(&extent) {
         return tree.tagged(alloc, tag, steps);
     }
-    let Some(fork) = tree.push_down(alloc, steps)? else {
+    let Some(node) = tree.take_apart(alloc, steps)? else {
         return Ok(Tree::empty());
     };
-    let Fork {
-        item,
-        axis,
-        left,
-        right,
-    } = fork;
-    let item = marked_item(item, within, tag);
+    let item = marked_item(node.item, within, tag);
     let lefts = ways.onward(Side::Left);
-    let left = marked_clear(alloc, left, large, within, tag, &lefts, steps)?;
+    let left = marked_clear(alloc, node.left, large, within, tag, &lefts, steps)?;
     let rights = ways.onward(Side::Right);
-    let right = marked_clear(alloc, right, large, within, tag, &rights, steps)?;
-    let fork = Fork {
+    let right = marked_clear(alloc, node.right, large, within, tag, &rights, steps)?;
+    let node = OpenNode {
         item,
-        axis,
         left,
         right,
+        ..node
     };
-    joined(alloc, fork, steps)
+    joined(alloc, node, steps)
 }

@@ -11,7 +11,7 @@ ghost use Rattle.kd_update.specs.Scan.{IsGrown, IsPiece};
 use crate::insert::put_below;
 use crate::part_items::parted;
 use crate::rebuild::rejoined;
-use kd_tree::{Fork, Steps, Tree};
+use kd_tree::{OpenNode, Steps, Tree};
 use map_fold::{Item, NoMemory};
 use point_geom::Axis;
 use std::alloc::Global;
@@ -41,25 +41,18 @@ pub(crate) fn put_at_once<L: Ledger>(
     let Some(count) = parted(&tree, large, items) else {
         return built_with(alloc, tree, large, items, steps);
     };
-    let Some(fork) = tree.push_down(alloc, steps)? else {
+    let Some(node) = tree.take_apart(alloc, steps)? else {
         return Ok(Tree::empty());
     };
-    let Fork {
-        item,
-        axis,
-        left,
-        right,
-    } = fork;
     let (lefts, rights) = items.split_at_mut(count);
-    let left = put_at_once(alloc, left, large, lefts, axis.next(), steps)?;
-    let right = put_at_once(alloc, right, large, rights, axis.next(), steps)?;
-    let fork = Fork {
-        item,
-        axis,
+    let left = put_at_once(alloc, node.left, large, lefts, node.axis.next(), steps)?;
+    let right = put_at_once(alloc, node.right, large, rights, node.axis.next(), steps)?;
+    let node = OpenNode {
         left,
         right,
+        ..node
     };
-    rejoined(alloc, fork, large, steps)
+    rejoined(alloc, node, large, steps)
 }
 
 // What is left of the tree and the items, built by medians. The tree is let go.

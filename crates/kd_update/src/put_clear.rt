@@ -12,7 +12,7 @@ ghost use Rattle.kd_update.specs.Ways.{paths_of};
 use crate::insert::{goes_left, put_below};
 use crate::rebuild::{NEVER, joined};
 use crate::ways::Ways;
-use kd_tree::{Fork, Side, Steps, Tree};
+use kd_tree::{OpenNode, Side, Steps, Tree};
 use map_fold::{Item, NoMemory};
 use point_geom::Axis;
 use std::alloc::Global;
@@ -45,34 +45,17 @@ pub(crate) fn put_clear<L: Ledger>(
     if ways.is_here() {
         return put_below(alloc, tree, NEVER, item, axis, steps);
     }
-    let Some(fork) = tree.push_down(alloc, steps)? else {
+    let Some(node) = tree.take_apart(alloc, steps)? else {
         return Ok(Tree::empty());
     };
-    let Fork {
-        item: own,
-        axis,
-        left,
-        right,
-    } = fork;
-    if goes_left(&item.point, axis, &own.point) {
+    let axis = node.axis;
+    if goes_left(&item.point, axis, &node.item.point) {
         let ways = ways.onward(Side::Left);
-        let left = put_clear(alloc, left, large, item, axis.next(), &ways, steps)?;
-        let fork = Fork {
-            item: own,
-            axis,
-            left,
-            right,
-        };
-        joined(alloc, fork, steps)
+        let left = put_clear(alloc, node.left, large, item, axis.next(), &ways, steps)?;
+        joined(alloc, OpenNode { left, ..node }, steps)
     } else {
         let ways = ways.onward(Side::Right);
-        let right = put_clear(alloc, right, large, item, axis.next(), &ways, steps)?;
-        let fork = Fork {
-            item: own,
-            axis,
-            left,
-            right,
-        };
-        joined(alloc, fork, steps)
+        let right = put_clear(alloc, node.right, large, item, axis.next(), &ways, steps)?;
+        joined(alloc, OpenNode { right, ..node }, steps)
     }
 }

@@ -6,10 +6,10 @@ ghost use Rattle.kd_tree.specs.Walk.{walk};
 ghost use Rattle.kd_tree.specs.Sound.{IsSoundFork};
 ghost use Rattle.kd_tree.specs.Contents.{contents};
 ghost use Rattle.kd_tree.specs.Criteria.{IsCalm};
-ghost use Rattle.kd_tree.specs.Parts.{joined};
+ghost use Rattle.kd_tree.specs.Parts.{fork_of, joined};
 ghost use Rattle.kd_update.specs.Refresh.{AreAmong, IsRefresh, IsSpared, RefreshesIfDue};
 
-use kd_tree::{Fork, Steps, Tree};
+use kd_tree::{OpenNode, Steps, Tree};
 use map_fold::{Item, NoMemory};
 use std::alloc::Global;
 use std::sync::ledger::Ledger;
@@ -52,31 +52,31 @@ fn what_is_left(alloc: Global, tree: Tree) -> Result<Vec<Item>, NoMemory>
 // The joined parts, built anew where they are to be.
 pub(crate) fn rejoined<L: Ledger>(
     alloc: Global,
-    fork: Fork,
+    node: OpenNode,
     large: u32,
     steps: &mut Steps<L>,
 ) -> Result<Tree, NoMemory>
-    requires { IsSoundFork (record { item = fork.item; axis = fork.axis; pending = keep_tag })
-        fork.left fork.right }
-    ensures due { IfOk result (λ t. RefreshesIfDue large (joined fork) t) }
-    ensures ticks { IsSpared large (joined fork) → steps.new ≤ steps.old + 1 }
+    requires { IsSoundFork (record { item = node.item; axis = node.axis; pending = keep_tag })
+        node.left node.right }
+    ensures due { IfOk result (λ t. RefreshesIfDue large (joined (fork_of node)) t) }
+    ensures ticks { IsSpared large (joined (fork_of node)) → steps.new ≤ steps.old + 1 }
 {
-    let tree = joined(alloc, fork, steps)?;
+    let tree = joined(alloc, node, steps)?;
     refreshed(alloc, tree, large, steps)
 }
 
 // The joined parts as they are.
 pub(crate) fn joined<L: Ledger>(
     alloc: Global,
-    fork: Fork,
+    node: OpenNode,
     steps: &mut Steps<L>,
 ) -> Result<Tree, NoMemory>
-    requires { IsSoundFork (record { item = fork.item; axis = fork.axis; pending = keep_tag })
-        fork.left fork.right }
-    ensures shape { IfOk result (λ t. t ≡ joined fork) }
+    requires { IsSoundFork (record { item = node.item; axis = node.axis; pending = keep_tag })
+        node.left node.right }
+    ensures shape { IfOk result (λ t. t ≡ joined (fork_of node)) }
     ensures ticks { steps.new ≤ steps.old + 1 }
 {
-    Tree::pull_up(alloc, fork, steps)
+    Tree::put_together(alloc, node, steps)
 }
 
 // The tree, built anew where it has from 10 nodes on, and fewer than `large`, and its top breaches a criterion.

@@ -1,4 +1,4 @@
-use Rattle.std.proofs.Common.{◌≡◌, sym, ◌∙◌, subst, arith, List}
+use Rattle.std.proofs.Common.{◌≡◌, sym, ◌∙◌, subst, arith, List, ap}
 use Rattle.std.proofs.lemmas.Result.{IfOk-weaker}
 use Rattle.map_fold.specs.declared.item.Item.{Item}
 use Rattle.map_fold.specs.Contents.{in_box, marked_item}
@@ -6,6 +6,7 @@ use Rattle.kd_tree.specs.Shape.{fork}
 use Rattle.kd_tree.specs.Apart.{onward}
 use Rattle.kd_tree.specs.declared.path.Side.{Side}
 use Rattle.kd_tree.specs.declared.path.Side.TheVariants.{Left, Right}
+use Rattle.kd_tree.specs.Parts.{fork_in, fork_of}
 use Rattle.kd_update.specs.Mark.{IsVisitCalm, marked_shape}
 use Rattle.kd_update.specs.Several.{AreLargeAt, IsUpdatedClear}
 use Rattle.kd_update.specs.Ways.{paths_of}
@@ -47,58 +48,58 @@ pub returns-then-covers-clause-ticks : goal.returns-then-covers-clause-ticks
 returns-then-covers-clause-ticks g t c = λ calm.
     omega (arith, c.tagged.ensures.ticks, made_covered c.args.within.now c.args.tree c.in-Some.extent (sym c.in-Some.is ∙ c.extent.ensures.value) (sym c.meets.ensures.value ∙ c.if-not-meets.false) (sym c.covers.ensures.value ∙ c.if-covers.true))
 
-pub returns-in_err-fork-clause-ticks : goal.returns-in_err-fork-clause-ticks
-returns-in_err-fork-clause-ticks g t c = λ calm. apart_mark c.args.within.now c.args.tree c.in-Some.extent c.args.steps.now c.push_down.new.steps (sym c.in-Some.is ∙ c.extent.ensures.value) (sym c.meets.ensures.value ∙ c.if-not-meets.false) (sym c.covers.ensures.value ∙ c.if-covers.false) c.push_down.ensures.ticks
+pub returns-in_err-node-clause-ticks : goal.returns-in_err-node-clause-ticks
+returns-in_err-node-clause-ticks g t c = λ calm. apart_mark c.args.within.now c.args.tree c.in-Some.extent c.args.steps.now c.take_apart.new.steps (sym c.in-Some.is ∙ c.extent.ensures.value) (sym c.meets.ensures.value ∙ c.if-not-meets.false) (sym c.covers.ensures.value ∙ c.if-covers.false) c.take_apart.ensures.ticks
 
 pub marked_clear-requires : goal.marked_clear-requires
 marked_clear-requires g t c κs within =
-    let y = sym c.in-Some-2.is ∙ c.in_ok-fork.ensures.parts in
-    let pass = passed_by c.args.large (paths_of c.args.ways.now) c.args.tree c.in-Some-2.fork y c.requires in
+    let y = ap fork_in (sym c.in-Some-2.is) ∙ c.in_ok-node.ensures.parts in
+    let pass = passed_by c.args.large (paths_of c.args.ways.now) c.args.tree (fork_of c.in-Some-2.node) y c.requires in
     let ways : paths_of c.onward-lefts.result ≡ onward Left (paths_of c.args.ways.now) = c.onward-lefts.ensures in
-    (omega (arith, (pushed_smaller c.args.tree c.in-Some-2.fork y).0), (within, subst (λ (ps : List (List Side)). AreLargeAt c.args.large ps c.in-Some-2.fork.left) (sym ways) pass.left))
+    (omega (arith, (pushed_smaller c.args.tree (fork_of c.in-Some-2.node) y).0), (within, subst (λ (ps : List (List Side)). AreLargeAt c.args.large ps c.in-Some-2.node.left) (sym ways) pass.left))
 
 pub marked_clear-requires-2 : goal.marked_clear-requires-2
 marked_clear-requires-2 g t c κs within =
-    let y = sym c.in-Some-2.is ∙ c.in_ok-fork.ensures.parts in
-    let pass = passed_by c.args.large (paths_of c.args.ways.now) c.args.tree c.in-Some-2.fork y c.requires in
+    let y = ap fork_in (sym c.in-Some-2.is) ∙ c.in_ok-node.ensures.parts in
+    let pass = passed_by c.args.large (paths_of c.args.ways.now) c.args.tree (fork_of c.in-Some-2.node) y c.requires in
     let ways : paths_of c.onward-rights.result ≡ onward Right (paths_of c.args.ways.now) = c.onward-rights.ensures in
-    (omega (arith, (pushed_smaller c.args.tree c.in-Some-2.fork y).1), (within, subst (λ (ps : List (List Side)). AreLargeAt c.args.large ps c.in-Some-2.fork.right) (sym ways) pass.right))
+    (omega (arith, (pushed_smaller c.args.tree (fork_of c.in-Some-2.node) y).1), (within, subst (λ (ps : List (List Side)). AreLargeAt c.args.large ps c.in-Some-2.node.right) (sym ways) pass.right))
 
 pub returns-in_err-left-clause-ticks : goal.returns-in_err-left-clause-ticks
 returns-in_err-left-clause-ticks g t c =
     let x = sym c.in-Some.is ∙ c.extent.ensures.value in
     let m = sym c.meets.ensures.value ∙ c.if-not-meets.false in
     let k = sym c.covers.ensures.value ∙ c.if-covers.false in
-    let y = sym c.in-Some-2.is ∙ c.in_ok-fork.ensures.parts in
-    let w = entered_all c.args.within.now c.args.tag c.args.tree c.in-Some-2.fork c.in-Some.extent x m k c.size-size.ensures.sound y in
-    ticks_entered c.args.large c.args.within.now c.args.tag c.args.tree c.in-Some-2.fork c.in-Some.extent c.args.steps.now c.push_down.new.steps c.marked_clear.new.steps c.marked_clear.new.steps c.marked_clear.new.steps w x m k y c.push_down.ensures.ticks c.marked_clear.ensures.ticks (λ on. omega arith) (λ on off spared. omega arith)
+    let y = ap fork_in (sym c.in-Some-2.is) ∙ c.in_ok-node.ensures.parts in
+    let w = entered_all c.args.within.now c.args.tag c.args.tree (fork_of c.in-Some-2.node) c.in-Some.extent x m k c.size-size.ensures.sound y in
+    ticks_entered c.args.large c.args.within.now c.args.tag c.args.tree (fork_of c.in-Some-2.node) c.in-Some.extent c.args.steps.now c.take_apart.new.steps c.marked_clear.new.steps c.marked_clear.new.steps c.marked_clear.new.steps w x m k y c.take_apart.ensures.ticks c.marked_clear.ensures.ticks (λ on. omega arith) (λ on off spared. omega arith)
 
 pub returns-in_err-right-clause-ticks : goal.returns-in_err-right-clause-ticks
 returns-in_err-right-clause-ticks g t c =
     let x = sym c.in-Some.is ∙ c.extent.ensures.value in
     let m = sym c.meets.ensures.value ∙ c.if-not-meets.false in
     let k = sym c.covers.ensures.value ∙ c.if-covers.false in
-    let y = sym c.in-Some-2.is ∙ c.in_ok-fork.ensures.parts in
-    let w = entered_all c.args.within.now c.args.tag c.args.tree c.in-Some-2.fork c.in-Some.extent x m k c.size-size.ensures.sound y in
-    ticks_entered c.args.large c.args.within.now c.args.tag c.args.tree c.in-Some-2.fork c.in-Some.extent c.args.steps.now c.push_down.new.steps c.marked_clear.new.steps c.marked_clear-2.new.steps c.marked_clear-2.new.steps w x m k y c.push_down.ensures.ticks c.marked_clear.ensures.ticks c.marked_clear-2.ensures.ticks (λ on off spared. omega arith)
+    let y = ap fork_in (sym c.in-Some-2.is) ∙ c.in_ok-node.ensures.parts in
+    let w = entered_all c.args.within.now c.args.tag c.args.tree (fork_of c.in-Some-2.node) c.in-Some.extent x m k c.size-size.ensures.sound y in
+    ticks_entered c.args.large c.args.within.now c.args.tag c.args.tree (fork_of c.in-Some-2.node) c.in-Some.extent c.args.steps.now c.take_apart.new.steps c.marked_clear.new.steps c.marked_clear-2.new.steps c.marked_clear-2.new.steps w x m k y c.take_apart.ensures.ticks c.marked_clear.ensures.ticks c.marked_clear-2.ensures.ticks (λ on off spared. omega arith)
 
 pub returns-clause-ticks : goal.returns-clause-ticks
 returns-clause-ticks g t c =
     let x = sym c.in-Some.is ∙ c.extent.ensures.value in
     let m = sym c.meets.ensures.value ∙ c.if-not-meets.false in
     let k = sym c.covers.ensures.value ∙ c.if-covers.false in
-    let y = sym c.in-Some-2.is ∙ c.in_ok-fork.ensures.parts in
-    let w = entered_all c.args.within.now c.args.tag c.args.tree c.in-Some-2.fork c.in-Some.extent x m k c.size-size.ensures.sound y in
-    ticks_entered c.args.large c.args.within.now c.args.tag c.args.tree c.in-Some-2.fork c.in-Some.extent c.args.steps.now c.push_down.new.steps c.marked_clear.new.steps c.marked_clear-2.new.steps c.joined.new.steps w x m k y c.push_down.ensures.ticks c.marked_clear.ensures.ticks c.marked_clear-2.ensures.ticks (λ on off spared. c.joined.ensures.ticks)
+    let y = ap fork_in (sym c.in-Some-2.is) ∙ c.in_ok-node.ensures.parts in
+    let w = entered_all c.args.within.now c.args.tag c.args.tree (fork_of c.in-Some-2.node) c.in-Some.extent x m k c.size-size.ensures.sound y in
+    ticks_entered c.args.large c.args.within.now c.args.tag c.args.tree (fork_of c.in-Some-2.node) c.in-Some.extent c.args.steps.now c.take_apart.new.steps c.marked_clear.new.steps c.marked_clear-2.new.steps c.joined.new.steps w x m k y c.take_apart.ensures.ticks c.marked_clear.ensures.ticks c.marked_clear-2.ensures.ticks (λ on off spared. c.joined.ensures.ticks)
 
 pub joined-requires : goal.joined-requires
 joined-requires g t c =
     let x = sym c.in-Some.is ∙ c.extent.ensures.value in
     let m = sym c.meets.ensures.value ∙ c.if-not-meets.false in
     let k = sym c.covers.ensures.value ∙ c.if-covers.false in
-    let y = sym c.in-Some-2.is ∙ c.in_ok-fork.ensures.parts in
-    let w = entered_all c.args.within.now c.args.tag c.args.tree c.in-Some-2.fork c.in-Some.extent x m k c.size-size.ensures.sound y in
-    let f = c.in-Some-2.fork in
+    let y = ap fork_in (sym c.in-Some-2.is) ∙ c.in_ok-node.ensures.parts in
+    let w = entered_all c.args.within.now c.args.tag c.args.tree (fork_of c.in-Some-2.node) c.in-Some.extent x m k c.size-size.ensures.sound y in
+    let f = fork_of c.in-Some-2.node in
     let i = marked_item (in_box c.args.within.now) c.args.tag f.item in
     rw c.marked_item-item.ensures (refresh_sound i f.axis (marked_shape c.args.within.now c.args.tag f.left) (marked_shape c.args.within.now c.args.tag f.right) c.in_ok-left.left c.in_ok-right.right w.sound c.in_ok-left.ensures.updated.refresh c.in_ok-right.ensures.updated.refresh)
 
@@ -107,9 +108,9 @@ returns-clause-updated g t c =
     let x = sym c.in-Some.is ∙ c.extent.ensures.value in
     let m = sym c.meets.ensures.value ∙ c.if-not-meets.false in
     let k = sym c.covers.ensures.value ∙ c.if-covers.false in
-    let y = sym c.in-Some-2.is ∙ c.in_ok-fork.ensures.parts in
-    let w = entered_all c.args.within.now c.args.tag c.args.tree c.in-Some-2.fork c.in-Some.extent x m k c.size-size.ensures.sound y in
-    let f = c.in-Some-2.fork in
+    let y = ap fork_in (sym c.in-Some-2.is) ∙ c.in_ok-node.ensures.parts in
+    let w = entered_all c.args.within.now c.args.tag c.args.tree (fork_of c.in-Some-2.node) c.in-Some.extent x m k c.size-size.ensures.sound y in
+    let f = fork_of c.in-Some-2.node in
     let lefts : paths_of c.onward-lefts.result ≡ onward Left (paths_of c.args.ways.now) = c.onward-lefts.ensures in
     let rights : paths_of c.onward-rights.result ≡ onward Right (paths_of c.args.ways.now) = c.onward-rights.ensures in
     let ml = marked_shape c.args.within.now c.args.tag f.left in

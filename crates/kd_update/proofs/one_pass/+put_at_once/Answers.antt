@@ -1,10 +1,11 @@
-use Rattle.std.proofs.Common.{◌≡◌, ◌∙◌, List, [], ◌∷◌, sym, subst, arith, length, true}
+use Rattle.std.proofs.Common.{◌≡◌, ◌∙◌, List, [], ◌∷◌, sym, subst, arith, length, true, ap}
 use Rattle.std.specs.Prelude.{◌==◌}
 use Rattle.std.proofs.lemmas.Bool.{eqb-true}
 use Rattle.std.proofs.lemmas.Result.{IfOk-weaker}
 use Rattle.std.proofs.lemmas.List.Elements.{All-head}
 use Rattle.node_labels.specs.declared.label.Label.TheVariants.{Live}
 use Rattle.map_fold.specs.declared.item.Item.{Item}
+use Rattle.kd_tree.specs.Parts.{fork_in, fork_of}
 use Rattle.kd_update.specs.Update.{IsEven}
 use Rattle.kd_update.specs.Scan.{AreLive, IsGrown}
 use Rattle.kd_update.proofs.Trees.{pushed_smaller}
@@ -37,31 +38,31 @@ returns-in_default-parted-clause-grown g t c =
 
 pub put_at_once-requires : goal.put_at_once-requires
 put_at_once-requires g t c κs within =
-    let x = sym c.in-Some-2.is ∙ c.in_ok-fork.ensures.parts in
-    let f = c.in-Some-2.fork in
+    let x = ap fork_in (sym c.in-Some-2.is) ∙ c.in_ok-node.ensures.parts in
+    let f = fork_of c.in-Some-2.node in
     let k = step_at c.args.tree f c.in-Some-parted.count c.args.items.now c.parted.new.items c.split_at_mut-lefts.result.0.now c.split_at_mut-lefts.result.1.now x c.size-size.ensures.sound c.parted.ensures.moved c.in-Some-parted.ensures.parted c.split_at_mut-lefts.ensures.front c.split_at_mut-lefts.ensures.back in
     let less = pushed_smaller c.args.tree f x in
     (omega (arith, less.0), (within, (step_pieces c.args.large c.args.tree c.args.items.now f _ _ k c.requires).0))
 
 pub put_at_once-requires-2 : goal.put_at_once-requires-2
 put_at_once-requires-2 g t c κs within =
-    let x = sym c.in-Some-2.is ∙ c.in_ok-fork.ensures.parts in
-    let f = c.in-Some-2.fork in
+    let x = ap fork_in (sym c.in-Some-2.is) ∙ c.in_ok-node.ensures.parts in
+    let f = fork_of c.in-Some-2.node in
     let k = step_at c.args.tree f c.in-Some-parted.count c.args.items.now c.parted.new.items c.split_at_mut-lefts.result.0.now c.split_at_mut-lefts.result.1.now x c.size-size.ensures.sound c.parted.ensures.moved c.in-Some-parted.ensures.parted c.split_at_mut-lefts.ensures.front c.split_at_mut-lefts.ensures.back in
     let less = pushed_smaller c.args.tree f x in
     (omega (arith, less.1), (within, (step_pieces c.args.large c.args.tree c.args.items.now f _ _ k c.requires).1))
 
 pub rejoined-requires : goal.rejoined-requires
 rejoined-requires g t c =
-    let x = sym c.in-Some-2.is ∙ c.in_ok-fork.ensures.parts in
-    let f = c.in-Some-2.fork in
+    let x = ap fork_in (sym c.in-Some-2.is) ∙ c.in_ok-node.ensures.parts in
+    let f = fork_of c.in-Some-2.node in
     let k = step_at c.args.tree f c.in-Some-parted.count c.args.items.now c.parted.new.items c.split_at_mut-lefts.result.0.now c.split_at_mut-lefts.result.1.now x c.size-size.ensures.sound c.parted.ensures.moved c.in-Some-parted.ensures.parted c.split_at_mut-lefts.ensures.front c.split_at_mut-lefts.ensures.back in
     step_sound c.args.large c.args.tree c.args.items.now f _ _ c.in_ok-left.left c.in_ok-right.right k c.requires c.in_ok-left.ensures.grown c.in_ok-right.ensures.grown
 
 pub returns-clause-grown : goal.returns-clause-grown
 returns-clause-grown g t c =
-    let x = sym c.in-Some-2.is ∙ c.in_ok-fork.ensures.parts in
-    let f = c.in-Some-2.fork in
+    let x = ap fork_in (sym c.in-Some-2.is) ∙ c.in_ok-node.ensures.parts in
+    let f = fork_of c.in-Some-2.node in
     let k = step_at c.args.tree f c.in-Some-parted.count c.args.items.now c.parted.new.items c.split_at_mut-lefts.result.0.now c.split_at_mut-lefts.result.1.now x c.size-size.ensures.sound c.parted.ensures.moved c.in-Some-parted.ensures.parted c.split_at_mut-lefts.ensures.front c.split_at_mut-lefts.ensures.back in
     IfOk-weaker c.rejoined.result _ (λ v. IsGrown c.args.tree c.args.items.now v)
     (λ v done. step_grown c.args.large c.args.tree c.args.items.now f _ _ c.in_ok-left.left c.in_ok-right.right v k c.in_ok-left.ensures.grown c.in_ok-right.ensures.grown done) c.rejoined.ensures.due
@@ -69,4 +70,4 @@ returns-clause-grown g t c =
 pub returns-clause-balance : goal.returns-clause-balance
 returns-clause-balance g t c =
     IfOk-weaker c.rejoined.result _ (λ v. IsEven c.args.large c.args.tree → IsEven c.args.large v)
-    (λ v done even. step_even c.args.large c.args.tree c.in-Some-2.fork c.in_ok-left.left c.in_ok-right.right v (sym c.in-Some-2.is ∙ c.in_ok-fork.ensures.parts) c.in_ok-left.ensures.balance c.in_ok-right.ensures.balance done even) c.rejoined.ensures.due
+    (λ v done even. step_even c.args.large c.args.tree (fork_of c.in-Some-2.node) c.in_ok-left.left c.in_ok-right.right v (ap fork_in (sym c.in-Some-2.is) ∙ c.in_ok-node.ensures.parts) c.in_ok-left.ensures.balance c.in_ok-right.ensures.balance done even) c.rejoined.ensures.due

@@ -1,10 +1,11 @@
-use Rattle.std.proofs.Common.{◌≡◌, ◌+◌, ◌*◌, ◌≤◌, true, false, sym, ◌∙◌, subst, arith, List}
+use Rattle.std.proofs.Common.{◌≡◌, ◌+◌, ◌*◌, ◌≤◌, true, false, sym, ◌∙◌, subst, arith, List, ap}
 use Rattle.std.proofs.lemmas.Result.{IfOk-weaker}
 use Rattle.point_geom.specs.Axes.{next_axis}
 use Rattle.point_geom.specs.declared.axis.Axis.{Axis}
 use Rattle.kd_tree.specs.Apart.{onward}
 use Rattle.kd_tree.specs.declared.path.Side.{Side}
 use Rattle.kd_tree.specs.declared.path.Side.TheVariants.{Left, Right}
+use Rattle.kd_tree.specs.Parts.{fork_in, fork_of}
 use Rattle.kd_update.specs.Made.{entered_put}
 use Rattle.kd_update.specs.Put.{IsRouteCalm, goes_left, put_from}
 use Rattle.kd_update.specs.Several.{AreLargeAt, IsUpdatedClear}
@@ -34,39 +35,39 @@ returns-then-is_here-clause-ticks g t c = λ calm. c.put_below-then-is_here.ensu
 
 pub returns-in_default-clause-updated : goal.returns-in_default-clause-updated
 returns-in_default-clause-updated g t c =
-    absurd (nowhere c.args.large (paths_of c.args.ways.now) c.args.tree (sym c.in_default.is ∙ c.in_ok-fork.ensures.parts) c.requires.there (sym c.is_here.ensures ∙ c.if-is_here.false) (some_of (paths_of c.args.ways.now) (sym c.is_empty.ensures ∙ c.if-is_empty.false)))
+    absurd (nowhere c.args.large (paths_of c.args.ways.now) c.args.tree (ap fork_in (sym c.in_default.is) ∙ c.in_ok-node.ensures.parts) c.requires.there (sym c.is_here.ensures ∙ c.if-is_here.false) (some_of (paths_of c.args.ways.now) (sym c.is_empty.ensures ∙ c.if-is_empty.false)))
 
 pub returns-in_default-clause-ticks : goal.returns-in_default-clause-ticks
-returns-in_default-clause-ticks g t c = λ calm. apart_put c.args.item.point c.args.tree c.args.steps.now c.push_down.new.steps c.push_down.ensures.ticks c.push_down.ensures.still
+returns-in_default-clause-ticks g t c = λ calm. apart_put c.args.item.point c.args.tree c.args.steps.now c.take_apart.new.steps c.take_apart.ensures.ticks c.take_apart.ensures.still
 
-pub returns-in_err-fork-clause-ticks : goal.returns-in_err-fork-clause-ticks
-returns-in_err-fork-clause-ticks g t c = λ calm. apart_put c.args.item.point c.args.tree c.args.steps.now c.push_down.new.steps c.push_down.ensures.ticks c.push_down.ensures.still
+pub returns-in_err-node-clause-ticks : goal.returns-in_err-node-clause-ticks
+returns-in_err-node-clause-ticks g t c = λ calm. apart_put c.args.item.point c.args.tree c.args.steps.now c.take_apart.new.steps c.take_apart.ensures.ticks c.take_apart.ensures.still
 
 pub put_clear-requires : goal.put_clear-requires
 put_clear-requires g t c κs within =
-    let x = sym c.in-Some.is ∙ c.in_ok-fork.ensures.parts in
-    let free = (route_free c.args.item.number c.args.tree c.in-Some.fork x (record { low = c.requires.low; few = c.requires.few; new = c.requires.new })).0 in
-    let pass = passed_by c.args.large (paths_of c.args.ways.now) c.args.tree c.in-Some.fork x c.requires.there in
+    let x = ap fork_in (sym c.in-Some.is) ∙ c.in_ok-node.ensures.parts in
+    let free = (route_free c.args.item.number c.args.tree (fork_of c.in-Some.node) x (record { low = c.requires.low; few = c.requires.few; new = c.requires.new })).0 in
+    let pass = passed_by c.args.large (paths_of c.args.ways.now) c.args.tree (fork_of c.in-Some.node) x c.requires.there in
     let ways : paths_of c.onward-ways.result ≡ onward Left (paths_of c.args.ways.now) = c.onward-ways.ensures in
-    (omega (arith, (pushed_smaller c.args.tree c.in-Some.fork x).0), (within, (c.requires.live, (free.low, (free.few, (free.new, subst (λ (ps : List (List Side)). AreLargeAt c.args.large ps c.in-Some.fork.left) (sym ways) pass.left))))))
+    (omega (arith, (pushed_smaller c.args.tree (fork_of c.in-Some.node) x).0), (within, (c.requires.live, (free.low, (free.few, (free.new, subst (λ (ps : List (List Side)). AreLargeAt c.args.large ps c.in-Some.node.left) (sym ways) pass.left))))))
 
 pub returns-in_err-left-clause-ticks : goal.returns-in_err-left-clause-ticks
 returns-in_err-left-clause-ticks g t c =
-    let f = c.in-Some.fork in
+    let f = fork_of c.in-Some.node in
     let n = c.args.item.number in
     let p = c.args.item.point in
-    let x = sym c.in-Some.is ∙ c.in_ok-fork.ensures.parts in
+    let x = ap fork_in (sym c.in-Some.is) ∙ c.in_ok-node.ensures.parts in
     let e : goes_left f.axis p f.item.point ≡ true = sym c.goes_left.ensures ∙ c.if-goes_left.true in
     let w = on_left n p c.args.axis c.args.tree f x e c.size-size.ensures.sound (record { low = c.requires.low; few = c.requires.few; new = c.requires.new }) in
-    let below = subst (λ (a : Axis). IsRouteCalm c.args.large p (put_from n p a f.left) → c.put_clear.new.steps ≤ c.push_down.new.steps + (3 * entered_put p f.left + 1)) c.next.ensures c.put_clear.ensures.ticks in
-    ticks_left c.args.large n p c.args.axis c.args.tree f c.args.steps.now c.push_down.new.steps c.put_clear.new.steps c.put_clear.new.steps w x e c.push_down.ensures.ticks below (λ on spared. omega arith)
+    let below = subst (λ (a : Axis). IsRouteCalm c.args.large p (put_from n p a f.left) → c.put_clear.new.steps ≤ c.take_apart.new.steps + (3 * entered_put p f.left + 1)) c.next.ensures c.put_clear.ensures.ticks in
+    ticks_left c.args.large n p c.args.axis c.args.tree f c.args.steps.now c.take_apart.new.steps c.put_clear.new.steps c.put_clear.new.steps w x e c.take_apart.ensures.ticks below (λ on spared. omega arith)
 
 pub joined-requires : goal.joined-requires
 joined-requires g t c =
-    let f = c.in-Some.fork in
+    let f = fork_of c.in-Some.node in
     let n = c.args.item.number in
     let p = c.args.item.point in
-    let x = sym c.in-Some.is ∙ c.in_ok-fork.ensures.parts in
+    let x = ap fork_in (sym c.in-Some.is) ∙ c.in_ok-node.ensures.parts in
     let e : goes_left f.axis p f.item.point ≡ true = sym c.goes_left.ensures ∙ c.if-goes_left.true in
     let w = on_left n p c.args.axis c.args.tree f x e c.size-size.ensures.sound (record { low = c.requires.low; few = c.requires.few; new = c.requires.new }) in
     let ways : paths_of c.onward-ways.result ≡ onward Left (paths_of c.args.ways.now) = c.onward-ways.ensures in
@@ -76,21 +77,21 @@ joined-requires g t c =
 
 pub returns-in_ok-left-clause-ticks : goal.returns-in_ok-left-clause-ticks
 returns-in_ok-left-clause-ticks g t c =
-    let f = c.in-Some.fork in
+    let f = fork_of c.in-Some.node in
     let n = c.args.item.number in
     let p = c.args.item.point in
-    let x = sym c.in-Some.is ∙ c.in_ok-fork.ensures.parts in
+    let x = ap fork_in (sym c.in-Some.is) ∙ c.in_ok-node.ensures.parts in
     let e : goes_left f.axis p f.item.point ≡ true = sym c.goes_left.ensures ∙ c.if-goes_left.true in
     let w = on_left n p c.args.axis c.args.tree f x e c.size-size.ensures.sound (record { low = c.requires.low; few = c.requires.few; new = c.requires.new }) in
-    let below = subst (λ (a : Axis). IsRouteCalm c.args.large p (put_from n p a f.left) → c.put_clear.new.steps ≤ c.push_down.new.steps + (3 * entered_put p f.left + 1)) c.next.ensures c.put_clear.ensures.ticks in
-    ticks_left c.args.large n p c.args.axis c.args.tree f c.args.steps.now c.push_down.new.steps c.put_clear.new.steps c.joined.new.steps w x e c.push_down.ensures.ticks below (λ on spared. c.joined.ensures.ticks)
+    let below = subst (λ (a : Axis). IsRouteCalm c.args.large p (put_from n p a f.left) → c.put_clear.new.steps ≤ c.take_apart.new.steps + (3 * entered_put p f.left + 1)) c.next.ensures c.put_clear.ensures.ticks in
+    ticks_left c.args.large n p c.args.axis c.args.tree f c.args.steps.now c.take_apart.new.steps c.put_clear.new.steps c.joined.new.steps w x e c.take_apart.ensures.ticks below (λ on spared. c.joined.ensures.ticks)
 
 pub returns-in_ok-left-clause-updated : goal.returns-in_ok-left-clause-updated
 returns-in_ok-left-clause-updated g t c =
-    let f = c.in-Some.fork in
+    let f = fork_of c.in-Some.node in
     let n = c.args.item.number in
     let p = c.args.item.point in
-    let x = sym c.in-Some.is ∙ c.in_ok-fork.ensures.parts in
+    let x = ap fork_in (sym c.in-Some.is) ∙ c.in_ok-node.ensures.parts in
     let e : goes_left f.axis p f.item.point ≡ true = sym c.goes_left.ensures ∙ c.if-goes_left.true in
     let w = on_left n p c.args.axis c.args.tree f x e c.size-size.ensures.sound (record { low = c.requires.low; few = c.requires.few; new = c.requires.new }) in
     let ways : paths_of c.onward-ways.result ≡ onward Left (paths_of c.args.ways.now) = c.onward-ways.ensures in
@@ -101,29 +102,29 @@ returns-in_ok-left-clause-updated g t c =
 
 pub put_clear-requires-else-goes_left : goal.put_clear-requires-else-goes_left
 put_clear-requires-else-goes_left g t c κs within =
-    let x = sym c.in-Some.is ∙ c.in_ok-fork.ensures.parts in
-    let free = (route_free c.args.item.number c.args.tree c.in-Some.fork x (record { low = c.requires.low; few = c.requires.few; new = c.requires.new })).1 in
-    let pass = passed_by c.args.large (paths_of c.args.ways.now) c.args.tree c.in-Some.fork x c.requires.there in
+    let x = ap fork_in (sym c.in-Some.is) ∙ c.in_ok-node.ensures.parts in
+    let free = (route_free c.args.item.number c.args.tree (fork_of c.in-Some.node) x (record { low = c.requires.low; few = c.requires.few; new = c.requires.new })).1 in
+    let pass = passed_by c.args.large (paths_of c.args.ways.now) c.args.tree (fork_of c.in-Some.node) x c.requires.there in
     let ways : paths_of c.onward-ways-else-goes_left.result ≡ onward Right (paths_of c.args.ways.now) = c.onward-ways-else-goes_left.ensures in
-    (omega (arith, (pushed_smaller c.args.tree c.in-Some.fork x).1), (within, (c.requires.live, (free.low, (free.few, (free.new, subst (λ (ps : List (List Side)). AreLargeAt c.args.large ps c.in-Some.fork.right) (sym ways) pass.right))))))
+    (omega (arith, (pushed_smaller c.args.tree (fork_of c.in-Some.node) x).1), (within, (c.requires.live, (free.low, (free.few, (free.new, subst (λ (ps : List (List Side)). AreLargeAt c.args.large ps c.in-Some.node.right) (sym ways) pass.right))))))
 
 pub returns-in_err-right-clause-ticks : goal.returns-in_err-right-clause-ticks
 returns-in_err-right-clause-ticks g t c =
-    let f = c.in-Some.fork in
+    let f = fork_of c.in-Some.node in
     let n = c.args.item.number in
     let p = c.args.item.point in
-    let x = sym c.in-Some.is ∙ c.in_ok-fork.ensures.parts in
+    let x = ap fork_in (sym c.in-Some.is) ∙ c.in_ok-node.ensures.parts in
     let e : goes_left f.axis p f.item.point ≡ false = sym c.goes_left.ensures ∙ c.if-goes_left.false in
     let w = on_right n p c.args.axis c.args.tree f x e c.size-size.ensures.sound (record { low = c.requires.low; few = c.requires.few; new = c.requires.new }) in
-    let below = subst (λ (a : Axis). IsRouteCalm c.args.large p (put_from n p a f.right) → c.put_clear-else-goes_left.new.steps ≤ c.push_down.new.steps + (3 * entered_put p f.right + 1)) c.next-else-goes_left.ensures c.put_clear-else-goes_left.ensures.ticks in
-    ticks_right c.args.large n p c.args.axis c.args.tree f c.args.steps.now c.push_down.new.steps c.put_clear-else-goes_left.new.steps c.put_clear-else-goes_left.new.steps w x e c.push_down.ensures.ticks below (λ on spared. omega arith)
+    let below = subst (λ (a : Axis). IsRouteCalm c.args.large p (put_from n p a f.right) → c.put_clear-else-goes_left.new.steps ≤ c.take_apart.new.steps + (3 * entered_put p f.right + 1)) c.next-else-goes_left.ensures c.put_clear-else-goes_left.ensures.ticks in
+    ticks_right c.args.large n p c.args.axis c.args.tree f c.args.steps.now c.take_apart.new.steps c.put_clear-else-goes_left.new.steps c.put_clear-else-goes_left.new.steps w x e c.take_apart.ensures.ticks below (λ on spared. omega arith)
 
 pub joined-requires-else-goes_left : goal.joined-requires-else-goes_left
 joined-requires-else-goes_left g t c =
-    let f = c.in-Some.fork in
+    let f = fork_of c.in-Some.node in
     let n = c.args.item.number in
     let p = c.args.item.point in
-    let x = sym c.in-Some.is ∙ c.in_ok-fork.ensures.parts in
+    let x = ap fork_in (sym c.in-Some.is) ∙ c.in_ok-node.ensures.parts in
     let e : goes_left f.axis p f.item.point ≡ false = sym c.goes_left.ensures ∙ c.if-goes_left.false in
     let w = on_right n p c.args.axis c.args.tree f x e c.size-size.ensures.sound (record { low = c.requires.low; few = c.requires.few; new = c.requires.new }) in
     let ways : paths_of c.onward-ways-else-goes_left.result ≡ onward Right (paths_of c.args.ways.now) = c.onward-ways-else-goes_left.ensures in
@@ -133,21 +134,21 @@ joined-requires-else-goes_left g t c =
 
 pub returns-in_ok-right-clause-ticks : goal.returns-in_ok-right-clause-ticks
 returns-in_ok-right-clause-ticks g t c =
-    let f = c.in-Some.fork in
+    let f = fork_of c.in-Some.node in
     let n = c.args.item.number in
     let p = c.args.item.point in
-    let x = sym c.in-Some.is ∙ c.in_ok-fork.ensures.parts in
+    let x = ap fork_in (sym c.in-Some.is) ∙ c.in_ok-node.ensures.parts in
     let e : goes_left f.axis p f.item.point ≡ false = sym c.goes_left.ensures ∙ c.if-goes_left.false in
     let w = on_right n p c.args.axis c.args.tree f x e c.size-size.ensures.sound (record { low = c.requires.low; few = c.requires.few; new = c.requires.new }) in
-    let below = subst (λ (a : Axis). IsRouteCalm c.args.large p (put_from n p a f.right) → c.put_clear-else-goes_left.new.steps ≤ c.push_down.new.steps + (3 * entered_put p f.right + 1)) c.next-else-goes_left.ensures c.put_clear-else-goes_left.ensures.ticks in
-    ticks_right c.args.large n p c.args.axis c.args.tree f c.args.steps.now c.push_down.new.steps c.put_clear-else-goes_left.new.steps c.joined-else-goes_left.new.steps w x e c.push_down.ensures.ticks below (λ on spared. c.joined-else-goes_left.ensures.ticks)
+    let below = subst (λ (a : Axis). IsRouteCalm c.args.large p (put_from n p a f.right) → c.put_clear-else-goes_left.new.steps ≤ c.take_apart.new.steps + (3 * entered_put p f.right + 1)) c.next-else-goes_left.ensures c.put_clear-else-goes_left.ensures.ticks in
+    ticks_right c.args.large n p c.args.axis c.args.tree f c.args.steps.now c.take_apart.new.steps c.put_clear-else-goes_left.new.steps c.joined-else-goes_left.new.steps w x e c.take_apart.ensures.ticks below (λ on spared. c.joined-else-goes_left.ensures.ticks)
 
 pub returns-in_ok-right-clause-updated : goal.returns-in_ok-right-clause-updated
 returns-in_ok-right-clause-updated g t c =
-    let f = c.in-Some.fork in
+    let f = fork_of c.in-Some.node in
     let n = c.args.item.number in
     let p = c.args.item.point in
-    let x = sym c.in-Some.is ∙ c.in_ok-fork.ensures.parts in
+    let x = ap fork_in (sym c.in-Some.is) ∙ c.in_ok-node.ensures.parts in
     let e : goes_left f.axis p f.item.point ≡ false = sym c.goes_left.ensures ∙ c.if-goes_left.false in
     let w = on_right n p c.args.axis c.args.tree f x e c.size-size.ensures.sound (record { low = c.requires.low; few = c.requires.few; new = c.requires.new }) in
     let ways : paths_of c.onward-ways-else-goes_left.result ≡ onward Right (paths_of c.args.ways.now) = c.onward-ways-else-goes_left.ensures in

@@ -1,0 +1,199 @@
+//! Nodes taken apart and put together. Only this file and `twin` know that a node is shared: the block of one that nobody else
+//! holds is kept meanwhile, and takes the node that is made of the parts. A shared node is never written.
+ghost use Rattle.std.specs.Prelude.{◌≡◌, ℕ, ◌+◌, ◌≤◌, ◌≤ℤ◌, ◌∷◌, ◌++◌, max, IfOk, IfSome, IsNone, ◌↔◌};
+ghost use Rattle.std.specs.Arc.{arc_value};
+ghost use Rattle.point_geom.specs.Axes.{on};
+ghost use Rattle.node_labels.specs.Labels.{keep_tag};
+ghost use Rattle.kd_tree.specs.Shape.{leaf, fork, levels, nodes, numbers};
+ghost use Rattle.kd_tree.specs.Walk.{AllLeft, times};
+ghost use Rattle.kd_tree.specs.Sound.{IsSound, IsSoundFork};
+ghost use Rattle.kd_tree.specs.Contents.{contents};
+ghost use Rattle.kd_tree.specs.Parts.{contents_of_parts, fork_in, fork_of, joined, pushed};
+ghost use Rattle.kd_tree.specs.View.{IsKeptAt, IsOpened, IsTakenOf, shape_at, top_of};
+
+use crate::node::Node;
+use crate::{Steps, Tree};
+use map_fold::{Item, NoMemory, Tag};
+use point_geom::Axis;
+use std::alloc::Global;
+use std::mem;
+use std::sync::Arc;
+use std::sync::ledger::Ledger;
+
+/// A tree taken apart at its top, as a `Fork` is, together with the memory of its top node.
+#[derive(Debug, Drop)]
+pub struct OpenNode {
+    pub item: Item,
+    pub axis: Axis,
+    pub left: Tree,
+    pub right: Tree,
+    /// What `Tree::put_together` makes the node in.
+    pub block: Block,
+}
+
+/// The memory of a node, if any is kept.
+#[derive(Debug, Drop)]
+pub struct Block {
+    node: Option<Arc<Node>>,
+}
+
+// A top node whose sons still owe what is pending.
+#[derive(Debug, Drop)]
+pub(crate) struct Opened {
+    pub(crate) item: Item,
+    pub(crate) axis: Axis,
+    pub(crate) pending: Tag,
+    pub(crate) left: Tree,
+    pub(crate) right: Tree,
+    pub(crate) block: Block,
+}
+
+impl Tree {
+    /// The tree taken apart at its top node, if it has one, as `push_down` does. Where nobody else holds the node, its memory is
+    /// kept. Where memory is wanting, the tree is let go.
+    pub fn take_apart<L: Ledger>(
+        self,
+        alloc: Global,
+        steps: &mut Steps<L>,
+    ) -> Result<Option<OpenNode>, NoMemory>
+        ensures parts { IfOk result (λ o. fork_in o ≡ pushed self) }
+        ensures none { IfOk result (λ o. IsNone o ↔ (self ≡ leaf)) }
+        ensures contents { IfOk result (λ o. IfSome o (λ n. contents_of_parts (fork_of n) ≡ contents self)) }
+        ensures numbers { IfOk result (λ o. IfSome o (λ n. numbers (joined (fork_of n)) ≡ numbers self)) }
+        ensures sound { IfOk result (λ o. IfSome o (λ n. IsSound (joined (fork_of n)))) }
+        ensures ticks { steps.new ≤ steps.old + 2 }
+        ensures still { self ≡ leaf → steps.new ≡ steps.old }
+    {
+        match self.opened()? {
+            None => Ok(None),
+            Some(node) => {
+                let left = node.left.tagged(alloc, node.pending, steps)?;
+                let right = node.right.tagged(alloc, node.pending, steps)?;
+                Ok(Some(OpenNode {
+                    item: node.item,
+                    axis: node.axis,
+                    left,
+                    right,
+                    block: node.block,
+                }))
+            }
+        }
+    }
+
+    /// Joins the parts to a tree with nothing pending at its top, as `pull_up` does. Where memory was kept, the node is made in
+    /// it. Where memory is wanting, the parts are let go.
+    pub fn put_together<L: Ledger>(
+        alloc: Global,
+        node: OpenNode,
+        steps: &mut Steps<L>,
+    ) -> Result<Tree, NoMemory>
+        requires below { AllLeft (λ p. on node.axis p ≤ℤ on node.axis node.item.point) keep_tag node.left }
+        requires above { AllLeft (λ p. on node.axis node.item.point ≤ℤ on node.axis p) keep_tag node.right }
+        requires once { (n : ℕ) → times n keep_tag (joined (fork_of node)) ≤ 1 }
+        requires low { max (levels node.left) (levels node.right) ≤ 511 }
+        requires few { nodes node.left + nodes node.right ≤ 4194303 }
+        ensures shape { IfOk result (λ t. t ≡ joined (fork_of node)) }
+        ensures contents { IfOk result (λ t. contents t ≡ contents_of_parts (fork_of node)) }
+        ensures numbers { IfOk result (λ t. numbers t ≡ node.item.number ∷ (numbers node.left ++ numbers node.right)) }
+        ensures ticks { steps.new ≤ steps.old + 1 }
+    {
+        let OpenNode {
+            item,
+            axis,
+            left,
+            right,
+            block,
+        } = node;
+        let node = Node::made(item, axis, Tag::KEEP, left, right, steps);
+        block.filled(alloc, node)
+    }
+
+    // The top node, if there is one.
+    pub(crate) fn opened(self) -> Result<Option<Opened>, NoMemory>
+        ensures { IfOk result (λ o. IsOpened self o) }
+    {
+        match self.root {
+            None => Ok(None),
+            Some(block) => {
+                let node = taken(block)?;
+                Ok(Some(node))
+            }
+        }
+    }
+}
+
+impl Opened {
+    // The node of these parts, in their block.
+    pub(crate) fn closed<L: Ledger>(
+        self,
+        alloc: Global,
+        steps: &mut Steps<L>,
+    ) -> Result<Tree, NoMemory>
+        requires { IsSoundFork (top_of self) self.left self.right }
+        ensures shape { IfOk result (λ t. t ≡ fork (top_of self) self.left self.right) }
+        ensures ticks { steps.new ≡ steps.old + 1 }
+    {
+        let Opened {
+            item,
+            axis,
+            pending,
+            left,
+            right,
+            block,
+        } = self;
+        let node = Node::made(item, axis, pending, left, right, steps);
+        block.filled(alloc, node)
+    }
+}
+
+impl Block {
+    pub(crate) fn none() -> Block {
+        Block { node: None }
+    }
+
+    // The tree of this node. Where memory is kept that nobody else holds, it is in that.
+    pub(crate) fn filled(self, alloc: Global, node: Node) -> Result<Tree, NoMemory>
+        requires { IsKeptAt node }
+        ensures { IfOk result (λ t. t ≡ shape_at node) }
+    {
+        if let Some(mut block) = self.node {
+            if let Some(place) = Arc::get_mut(&mut block) {
+                *place = node;
+                return Ok(Tree { root: Some(block) });
+            }
+        }
+        let block = Arc::new(alloc, node)?;
+        Ok(Tree { root: Some(block) })
+    }
+}
+
+// The parts of the node in this block. Where nobody else holds it, its sons are taken out of it, and else they are copied.
+fn taken(mut block: Arc<Node>) -> Result<Opened, NoMemory>
+    ensures { IfOk result (λ o. IsTakenOf (arc_value block) o) }
+{
+    let item = block.item;
+    let axis = block.axis;
+    let pending = block.pending;
+    match Arc::get_mut(&mut block) {
+        Some(node) => {
+            let left = mem::replace(&mut node.left, Tree::empty());
+            let right = mem::replace(&mut node.right, Tree::empty());
+            Ok(Opened {
+                item,
+                axis,
+                pending,
+                left,
+                right,
+                block: Block { node: Some(block) },
+            })
+        }
+        None => Ok(Opened {
+            item,
+            axis,
+            pending,
+            left: block.left.twin()?,
+            right: block.right.twin()?,
+            block: Block::none(),
+        }),
+    }
+}
