@@ -75,7 +75,7 @@ shown_sync : (L : RattleType) (m : name.Ghosts L.Denot) (l : ledger.Ghosts L.Den
 shown_sync L m l s y = search (version_send, version_sync, all) depth 40 fits 20000
 
 locked_send : (L : RattleType) (m : name.Ghosts L.Denot) (l : ledger.Ghosts L.Denot) → IsSend L → IsSync L → IsSend (locked.the_row L (absorb.ghosts L m absorb.no_dict l absorb.no_dict) m l)
-locked_send L m l s y = search (state_send, shown_send, shown_sync, all) depth 40 fits 20000
+locked_send L m l s y = search (state_send, version_send, version_sync, shown_send, shown_sync, all) depth 40 fits 20000
 
 pub shared_sync : (L : RattleType) (m : name.Ghosts L.Denot) (l : ledger.Ghosts L.Denot) → IsSend L → IsSync L → IsSync (shared.the_row L m l)
 shared_sync L m l s y = search (locked_send, all) depth 40 fits 20000

@@ -31,8 +31,14 @@ impl<L: MapName> Desk for Shared<L> {
         force: bool,
     ) -> Result<(), SwapLeft> {
         let mut locked = self.lock.lock(rt);
-        let done = locked.swap(rt, alloc, built, force);
+        let former = locked.version();
+        let done = locked.swap(rt, alloc, &built, force);
+        let spent = locked.keep(former, done.is_ok());
         MutexGuard::unlock(locked);
-        done
+        drop(spent);
+        match done {
+            Ok(()) => Ok(()),
+            Err(fault) => Err(SwapLeft { built, fault }),
+        }
     }
 }

@@ -15,13 +15,14 @@ use crate::pass::Pass;
 use crate::plans::{plan_swap, plan_update};
 use crate::shown::Shown;
 use crate::turn::{catch_up, take_step};
+use core::mem::replace;
 use left_right::Absorb;
 use map_fold::{Entry, NoMemory, Ops, Update};
-use rebuild_core::{Built, Job, LogAsk, MapState, StateFault, SwapFault, SwapLeft};
+use rebuild_core::{Built, Job, LogAsk, MapState, StateFault, SwapFault, Version};
 use std::alloc::Global;
 use std::marker::Model;
-use std::sync::Wait;
 use std::sync::ledger::{Book, Share};
+use std::sync::{Arc, Wait};
 
 /// The state, beside the writer's seat, the marks of the versions and the book of all updates. Contracts see the state.
 pub struct Locked<L: MapName>
@@ -34,6 +35,9 @@ where
     pub(crate) book: Book<L>,
     // It has no part, and lends itself to an audit.
     pub(crate) purse: Share<L>,
+    // The version before the published one. The next step writes over the last other copy of it, the one on the side that readers
+    // don't take, and would free it under the lock.
+    pub(crate) former: Option<Arc<Version>>,
 }
 
 impl<L: MapName> Model for Locked<L>
@@ -58,6 +62,27 @@ where
 }
 
 impl<L: MapName> Locked<L> {
+    /// The version of the whole history, or none where it can't be shared once more.
+    pub fn version(&self) -> Option<Arc<Version>> {
+        Arc::try_clone(self.state.version()).ok()
+    }
+
+    /// Ends a turn before which this version was published. What it answers may be all that keeps a version now: it is to be let
+    /// go of after the lock was given back.
+    pub fn keep(
+        &mut self,
+        former: Option<Arc<Version>>,
+        has_published: bool,
+    ) -> Option<Arc<Version>>
+        ensures same { self.new ≡ self.old }
+    {
+        // After a refusal the other side still shows what is kept already.
+        if !has_published {
+            return former;
+        }
+        replace(&mut self.former, former)
+    }
+
     /// Lets the pass's reader get the version of the whole history, which shows that it begins with what the pass has seen.
     fn agree<R: Wait>(&mut self, rt: &R, pass: &mut Pass<L>)
         ensures same { self.new ≡ self.old }
@@ -166,24 +191,6 @@ impl<L: MapName> Locked<L> {
 
     /// One turn of the lock that swaps the value in.
     pub fn swap<R: Wait>(
-        &mut self,
-        rt: &R,
-        alloc: Global,
-        built: Built,
-        force: bool,
-    ) -> Result<(), SwapLeft>
-        ensures history { self.new.state.history ≡ self.old.state.history }
-
-        ensures left { IfErr result (λ l. l.built ≡ built) }
-        ensures refused { IfErr result (λ l. IsSwapCause built force l.fault) }
-    {
-        match self.swap_in(rt, alloc, &built, force) {
-            Ok(()) => Ok(()),
-            Err(fault) => Err(SwapLeft { built, fault }),
-        }
-    }
-
-    fn swap_in<R: Wait>(
         &mut self,
         rt: &R,
         alloc: Global,

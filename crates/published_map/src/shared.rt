@@ -19,7 +19,8 @@ use std::sync::ledger::Blank;
 use std::sync::{Mutex, MutexGuard, Wait};
 
 /// A map that several callers share, each with a pass of its own. A call that is handed `rt` takes the lock, and waits for those
-/// that have it. End it by `finish` or `close`.
+/// that have it. What an update, `settle` or a swap lets go of is freed after the lock was given back, though no clause says so.
+/// End it by `finish` or `close`.
 pub struct Shared<L: MapName> {
     pub(crate) lock: Mutex<Locked<L>>,
 }
@@ -58,6 +59,7 @@ impl<L: MapName> Shared<L> {
                     marks,
                     book,
                     purse,
+                    former: None,
                 });
                 Ok((Shared { lock }, passes))
             }
@@ -79,17 +81,26 @@ impl<L: MapName> Shared<L> {
     ) -> Result<u64, StateFault>
         ensures { Updated L.voxel result pass.old pass.new update }
     {
+        // The pass may be the last that keeps its version.
+        let kept = pass.kept.again().ok();
         let mut locked = self.lock.lock(rt);
+        let former = locked.version();
         let done = locked.update(rt, alloc, pass, update);
+        let spent = locked.keep(former, done.is_ok());
         MutexGuard::unlock(locked);
+        drop(kept);
+        drop(spent);
         done
     }
 
     /// Builds anew what breaches a criterion, as `MapState::settle` does, and publishes the version.
     pub fn settle<R: Wait>(&self, rt: &R, alloc: Global) -> Result<(), NoMemory> {
         let mut locked = self.lock.lock(rt);
+        let former = locked.version();
         let done = locked.settle(rt, alloc);
+        let spent = locked.keep(former, done.is_ok());
         MutexGuard::unlock(locked);
+        drop(spent);
         done
     }
 
@@ -132,6 +143,7 @@ impl<L: MapName> Shared<L> {
             marks: _marks,
             book: _book,
             purse: _purse,
+            former: _former,
         } = locked;
         writer.take(rt);
         let _history = state.history();
@@ -147,6 +159,7 @@ impl<L: MapName> Shared<L> {
             marks: _marks,
             book: _book,
             purse: _purse,
+            former: _former,
         } = lock.into_inner();
         writer.take(rt);
     }

@@ -1,6 +1,8 @@
 //! Subtrees that are detached behind the lock.
-use super::{Trial, row, tried, updated};
+use super::{Trial, cuboid, deleted, row, tried, updated};
 use crate::{Ended, MapName, Pass, Shared};
+use kd_search::nearest;
+use point_geom::Point;
 use rebuild_core::{Built, Desk, Job, LogAsk, MapState, SwapFault, SwapLeft};
 use std::alloc::Global;
 use std::process::Abort;
@@ -127,4 +129,55 @@ fn a_value_that_is_65_behind_catches_up_and_a_stale_one_is_refused(
     rt: HostRuntime,
 ) -> Result<(), Fail> {
     tried(&rt, rt.alloc(), 1, &AddedMeanwhile { last: 106 })
+}
+
+// A pass keeps a version while points are deleted and a built value is swapped in.
+struct KeptMeanwhile;
+
+// The second pass keeps the points from 1 to 40.
+fn assert_kept<L: MapName>(rt: &impl Abort, alloc: Global, passes: &[Pass<L>]) -> Result<(), Fail> {
+    let Some(pass) = passes.get(1) else {
+        return Err(Fail::new("no such pass"));
+    };
+    let version = pass.version();
+    assert_eq!(rt; (version.len(), version.counts().live), (1, 40));
+    let hits = nearest(alloc, version.tree(), 9, &Point::new(0, 0, 0)?, None)?;
+    assert_eq!(rt; hits.len(), 9);
+    for (place, hit) in hits.as_slice().iter().enumerate() {
+        assert_eq!(rt; hit.number as usize, place);
+    }
+    Ok(())
+}
+
+impl<R: Wait + Abort> Trial<R> for KeptMeanwhile {
+    fn run<L: MapName>(
+        &self,
+        rt: &R,
+        alloc: Global,
+        shared: &Shared<L>,
+        passes: &mut [Pass<L>],
+    ) -> Result<(), Fail> {
+        updated(rt, alloc, shared, passes, 0, row(alloc, 1, 41)?)?;
+        let Some(pass) = passes.get_mut(1) else {
+            return Err(Fail::new("no such pass"));
+        };
+        pass.renew();
+        let built = first(rt, alloc, shared)?;
+        let near = deleted(alloc, cuboid(10, 1, 1)?)?;
+        updated(rt, alloc, shared, passes, 0, near)?;
+        assert!(rt; shared.swap(rt, alloc, built, false).is_ok());
+        // The step after a swap is the one that lets go of what was before it.
+        updated(rt, alloc, shared, passes, 0, row(alloc, 41, 42)?)?;
+        assert_kept(rt, alloc, passes)
+    }
+
+    fn end(&self, rt: &R, state: &MapState, _ended: &[Ended]) -> Result<(), Fail> {
+        assert_eq!(rt; state.version().counts().live, 32);
+        Ok(())
+    }
+}
+
+#[test]
+fn a_swap_leaves_a_version_that_a_pass_keeps(rt: HostRuntime) -> Result<(), Fail> {
+    tried(&rt, rt.alloc(), 2, &KeptMeanwhile)
 }

@@ -1,5 +1,5 @@
 //! A map that is settled behind its lock.
-use super::{Trial, tried, updated};
+use super::{Trial, row, tried, updated};
 use crate::{Ended, MapName, Pass, Shared};
 use map_fold::{Points, Update};
 use point_geom::Point;
@@ -53,4 +53,38 @@ impl<R: Wait + Abort> Trial<R> for EqualPoints {
 #[test]
 fn settling_leaves_no_breach_behind_the_lock(rt: HostRuntime) -> Result<(), Fail> {
     tried(&rt, rt.alloc(), 1, &EqualPoints)
+}
+
+// Forty points in a row, which leave a breach.
+struct PointsInARow;
+
+impl<R: Wait + Abort> Trial<R> for PointsInARow {
+    fn run<L: MapName>(
+        &self,
+        rt: &R,
+        alloc: Global,
+        shared: &Shared<L>,
+        passes: &mut [Pass<L>],
+    ) -> Result<(), Fail> {
+        updated(rt, alloc, shared, passes, 0, row(alloc, 1, 41)?)?;
+        let Some(pass) = passes.get_mut(0) else {
+            return Err(Fail::new("no such pass"));
+        };
+        assert!(rt; pass.version().tree().first_breach(16).is_some());
+        shared.settle(rt, alloc)?;
+        pass.renew();
+        assert!(rt; pass.version().tree().first_breach(16).is_none());
+        Ok(())
+    }
+
+    fn end(&self, rt: &R, state: &MapState, _ended: &[Ended]) -> Result<(), Fail> {
+        assert_eq!(rt; state.version().counts().live, 40);
+        assert!(rt; state.version().tree().first_breach(16).is_none());
+        Ok(())
+    }
+}
+
+#[test]
+fn settling_mends_a_breach_behind_the_lock(rt: HostRuntime) -> Result<(), Fail> {
+    tried(&rt, rt.alloc(), 1, &PointsInARow)
 }

@@ -95,11 +95,14 @@ impl<R: Wait + Abort> Trial<R> for NewPass {
             (pass.version().len(), pass.version().counts().live),
             (1, 1)
         );
+        updated(rt, alloc, shared, passes, 0, row(alloc, 2, 3)?)?;
+        let reply = in_box(alloc, passes, 1)?;
+        assert_eq!(rt; (reply.mark, reply.count), (2, 2));
         Ok(())
     }
 
     fn end(&self, rt: &R, state: &MapState, _ended: &[Ended]) -> Result<(), Fail> {
-        assert_eq!(rt; state.version().counts().live, 1);
+        assert_eq!(rt; state.version().counts().live, 2);
         Ok(())
     }
 }

@@ -1,10 +1,11 @@
 //! Two callers at once.
-ghost use Rattle.std.specs.Prelude.{◌≡◌};
+ghost use Rattle.std.specs.Prelude.{◌≡◌, ◌≤◌};
 
 use super::are_distinct;
 use crate::{MapName, Opened, Pass, Shared};
 use map_fold::{Points, Settings, Update};
 use point_geom::Point;
+use rebuild_core::{Desk, SwapFault};
 use std::alloc::Global;
 use std::marker::Brand;
 use std::process::Abort;
@@ -13,24 +14,50 @@ use std::sync::ledger::Blank;
 use std::test::Fail;
 use std::thread::{Threads, join};
 
-// How many updates each caller makes.
-const TURNS: u32 = 5_000;
+// How many updates each caller makes, and as many reads.
+const TURNS: u32 = 25_000;
 
-// Updates, reads and settles. None where something was refused. No read goes back.
+const LARGE: u32 = 16;
+
+// Updates, reads, settles and swaps. None where something was refused. No read goes back.
 fn busy<L: MapName, R: Wait + Abort>(
     rt: &R,
     alloc: Global,
     shared: &Shared<L>,
     pass: &mut Pass<L>,
-) -> Option<()> {
+    slot: u8,
+) -> Option<()>
+    requires slot_from { 1 ≤ slot }
+    requires slot_to { slot ≤ 4 }
+{
     let mut last = 0;
     for turn in 0..TURNS {
         last = once(rt, alloc, shared, pass, i64::from(turn % 100), last)?;
-        if turn % 1_000 == 0 {
-            shared.settle(rt, alloc).ok()?;
+        match turn % 1_000 {
+            0 => shared.settle(rt, alloc).ok()?,
+            250 | 500 | 750 => rebuilt(rt, alloc, shared, slot)?,
+            _ => {}
         }
     }
     Some(())
+}
+
+// Builds a subtree anew that is out of balance, if there is one, and swaps it in unless it was forgotten meanwhile.
+fn rebuilt<L: MapName, R: Wait>(rt: &R, alloc: Global, shared: &Shared<L>, slot: u8) -> Option<()>
+    requires slot_from { 1 ≤ slot }
+    requires slot_to { slot ≤ 4 }
+{
+    let Some(job) = shared.detach(rt, alloc, slot).ok()? else {
+        return Some(());
+    };
+    let built = job.build(alloc, LARGE).ok()?;
+    match shared.swap(rt, alloc, built, true) {
+        Ok(()) => Some(()),
+        Err(left) => match left.fault {
+            SwapFault::Stale { .. } => Some(()),
+            _ => None,
+        },
+    }
 }
 
 // The mark of a read after one more point.
@@ -62,8 +89,8 @@ fn both<L: MapName + Send + Sync, R: Threads + Wait + Abort + Sync>(
 ) -> bool {
     let (one, other) = join(
         rt,
-        || busy(rt, alloc, shared, first),
-        || busy(rt, alloc, shared, second),
+        || busy(rt, alloc, shared, first, 1),
+        || busy(rt, alloc, shared, second, 2),
     );
     one.is_some() && other.is_some()
 }
@@ -104,8 +131,8 @@ fn shared_by_two<L: MapName + Send + Sync, R: Threads + Wait + Abort + Sync>(
         return Err(Fail::new("a call was refused"));
     }
     let (state, ended) = shared.finish(rt, alloc, passes)?;
-    assert_eq!(rt; state.version().len(), 10_000);
-    assert_eq!(rt; state.version().counts().live, 10_000);
+    assert_eq!(rt; state.version().len(), 50_000);
+    assert_eq!(rt; state.version().counts().live, 50_000);
     assert_eq!(rt; ended.len(), 2);
     for told in ended.as_slice() {
         assert_eq!(rt; told.updates, TURNS);
@@ -114,8 +141,8 @@ fn shared_by_two<L: MapName + Send + Sync, R: Threads + Wait + Abort + Sync>(
 }
 
 #[test]
-fn two_threads_make_ten_thousand_updates(rt: HostRuntime) -> Result<(), Fail> {
+fn two_threads_make_a_hundred_thousand_updates_and_reads(rt: HostRuntime) -> Result<(), Fail> {
     let alloc = rt.alloc();
-    let opened = Opened::new(alloc, Settings::new(200, 16), 2)?;
+    let opened = Opened::new(alloc, Settings::new(200, LARGE), 2)?;
     shared_by_two::<Brand, HostRuntime>(&rt, alloc, Blank::new(2), opened)
 }
