@@ -4,8 +4,50 @@ use crate::{Status, SureSink, SureSource, run};
 use rebuild_worker::{Gate, HoldGate, MeetGate};
 use std::alloc::{AllocError, Global};
 use std::sync::Wait;
+use std::sync::atomic::{AtomicBool, AtomicU64, Ordering};
 use std::test::Fail;
-use std::thread::Threads;
+use std::thread::{Threads, yield_now};
+
+// How long a gate waits.
+const TURNS: u64 = 20_000_000;
+
+// It holds the second build up until the third begins, and a caller after each of three commands until its build begins.
+#[derive(Drop)]
+struct TwoBuilds {
+    // The ticket of the last build that began.
+    begun: AtomicU64,
+    missed: AtomicBool,
+}
+
+impl TwoBuilds {
+    fn wait(&self, ticket: u64) {
+        for _ in 0..TURNS {
+            if ticket <= self.begun.load(Ordering::SeqCst) {
+                return;
+            }
+            yield_now();
+        }
+        self.missed.store(true, Ordering::SeqCst);
+    }
+}
+
+impl Gate for TwoBuilds {
+    fn before_build(&self, ticket: u64) {
+        self.begun.store(ticket, Ordering::SeqCst);
+        if ticket == 2 {
+            self.wait(3);
+        }
+    }
+
+    fn replied(&self, _caller: u8, index: u32) {
+        match index {
+            0 => self.wait(1),
+            2 => self.wait(2),
+            3 => self.wait(3),
+            _ => {}
+        }
+    }
+}
 
 // What a run with this gate writes.
 fn ran_with<R: Threads + Wait + Sync, G: Gate + Sync>(
@@ -57,7 +99,7 @@ fn callers_go_on_while_a_build_is_held(rt: HostRuntime) -> Result<(), Fail> {
         log.push_str(format!(in alloc; " {x} 0 0")?.as_str())?;
     }
     log.push_str("\n@1 add 100 0 0\n@1 near 1 0 0 0\n")?;
-    let gate = HoldGate::new(0, 2, 100_000_000);
+    let gate = HoldGate::new(0, 2, TURNS);
     let (status, out) = ran_with(&rt, alloc, log.as_bytes(), &gate)?;
     assert_eq!(rt; status, Status::Done);
     assert!(rt; gate.held());
@@ -72,11 +114,34 @@ fn callers_run_beside_each_other(rt: HostRuntime) -> Result<(), Fail> {
     let alloc = rt.alloc();
     let log =
         "ikdmap 1 voxel 200 large 1500\n@1 near 1 0 0 0\n@1 near 1 0 0 0\n@1 add 100 0 0\n@2 add 1 0 0\n";
-    let gate = MeetGate::new(0, 3, 100_000_000);
+    let gate = MeetGate::new(0, 3, TURNS);
     let (status, out) = ran_with(&rt, alloc, log.as_bytes(), &gate)?;
     assert_eq!(rt; status, Status::Done);
     assert!(rt; gate.held());
     let rest = "@1 near 1 | 0 1 0 0 1\n@1 ok 2\n@2 ok 1\nend 2 live 2 suspended 0\n";
     assert!(rt; out.bytes().ends_with(rest.as_bytes()));
+    Ok(())
+}
+
+// After the barrier the tree is balanced, and each of the next updates leaves one of the top's sons in breach.
+#[test]
+fn two_workers_build_beside_each_other(rt: HostRuntime) -> Result<(), Fail> {
+    let alloc = rt.alloc();
+    let mut log = String::from_str(alloc, "ikdmap 1 voxel 200 large 16\n@1 add")?;
+    for x in 1..=40 {
+        log.push_str(format!(in alloc; " {x} 0 0")?.as_str())?;
+    }
+    log.push_str("\nsync\n@1 add 41 0 0 42 0 0 43 0 0 44 0 0\n")?;
+    log.push_str("@1 add 0 0 0 -1 0 0 -2 0 0 -3 0 0 -4 0 0\n")?;
+    let gate = TwoBuilds {
+        begun: AtomicU64::new(0),
+        missed: AtomicBool::new(false),
+    };
+    let (status, out) = ran_with(&rt, alloc, log.as_bytes(), &gate)?;
+    assert_eq!(rt; status, Status::Done);
+    assert!(rt; !gate.missed.load(Ordering::SeqCst));
+    assert_eq!(rt; gate.begun.load(Ordering::SeqCst), 3);
+    let want = "@1 ok 1\nsync 1 live 40 suspended 0\n@1 ok 2\n@1 ok 3\nend 3 live 49 suspended 0\n";
+    assert_eq!(rt; out.bytes(), want.as_bytes());
     Ok(())
 }
