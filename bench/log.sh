@@ -6,8 +6,8 @@
 # The logs have 1, 16 and 128 MB: `add` lines of 2,000 points, then four `near` lines. Coordinates have up to 6 digits,
 # as in a map of some hundred metres, and in the largest up to 9, since a log has at most 4,194,304 points. Reading and
 # parsing by themselves are measured on the same log with a fault in a last line, which is refused when all of it was
-# parsed; the whole run also puts every point into the tree. Each time is the least of three runs. Needs bash 5, python3
-# and GNU time.
+# parsed; the whole run also puts every point into the tree, and is done once. The times of reading and of `wc -w` are the least of
+# 25, 11 and 5 runs in turn. Needs bash 5, python3 and GNU time.
 set -euo pipefail
 
 program=$(realpath "${1:-$(dirname "$0")/../crates/mapper_cli/out/mapper_cli}")
@@ -33,16 +33,19 @@ with open(path, "w") as log:
 PYTHON
 }
 
-# The least seconds of three runs on a file: least_seconds FILE COMMAND..
-least_seconds() {
-    local file=$1
-    shift
-    for _ in 1 2 3; do
-        local start=$EPOCHREALTIME
-        "$@" < "$file" > "$folder/out" 2> "$folder/notes" || true
-        local end=$EPOCHREALTIME
-        echo "$start $end"
-    done | awk '{ s = $2 - $1; if (NR == 1 || s < least) least = s } END { print least }'
+# Appends the seconds of one run on a file to a list: time_run FILE LIST COMMAND..
+time_run() {
+    local file=$1 list=$2 start end
+    shift 2
+    start=$EPOCHREALTIME
+    "$@" < "$file" > "$folder/out" 2> "$folder/notes" || true
+    end=$EPOCHREALTIME
+    echo "$start $end" >> "$list"
+}
+
+# The least of a list: least LIST
+least() {
+    awk '{ s = $2 - $1; if (NR == 1 || s < least) least = s } END { print least }' "$1"
 }
 
 # The most kilobytes held in a run on a file: most_memory FILE
@@ -52,13 +55,19 @@ most_memory() {
 }
 
 printf '%6s %9s %9s %10s %6s %8s %9s %8s\n' MB points 'wc MB/s' 'parse MB/s' ratio 'RSS/log' 'run MB/s' 'RSS/log'
-for case in '1000000 999999' '16000000 999999' '128000000 999999999'; do
-    write_log $case
+for case in '1000000 999999 25' '16000000 999999 11' '128000000 999999999 5'; do
+    read -r bytes reach runs <<< "$case"
+    write_log "$bytes" "$reach"
     cp "$log" "$folder/faulty"
     echo '@1 add' >> "$folder/faulty"
+    rm -f "$folder"/{wc,parse,run}
+    for ((run = 0; run < runs; run++)); do
+        time_run "$log" "$folder/wc" wc -w
+        time_run "$folder/faulty" "$folder/parse" "$program" run
+    done
+    time_run "$log" "$folder/run" "$program" run
     awk -v bytes="$(stat -c %s "$log")" -v adds="$(grep -c ' add ' "$log")" \
-        -v wc="$(least_seconds "$log" wc -w)" \
-        -v parse="$(least_seconds "$folder/faulty" "$program" run)" -v held="$(most_memory "$folder/faulty")" \
-        -v run="$(least_seconds "$log" "$program" run)" -v all="$(most_memory "$log")" \
+        -v wc="$(least "$folder/wc")" -v parse="$(least "$folder/parse")" -v held="$(most_memory "$folder/faulty")" \
+        -v run="$(least "$folder/run")" -v all="$(most_memory "$log")" \
         'BEGIN { mb = bytes / 1e6; printf "%6.1f %9d %9.1f %10.1f %6.2f %8.2f %9.1f %8.2f\n", mb, 2000 * adds, mb / wc, mb / parse, parse / wc, held * 1024 / bytes, mb / run, all * 1024 / bytes }'
 done

@@ -5,6 +5,7 @@ use std::collections::HashMap;
 use std::env;
 use std::time::{Duration, Instant};
 mod drive;
+mod readers;
 
 const KEEP: [u8; 2] = [0, 1];
 const DELETE: [u8; 2] = [2, 2];
@@ -452,6 +453,11 @@ fn main() {
     let asked: u32 = words[2].parse().unwrap();
     if words[0] == "longest" {
         return println!("together {}", longest(count, asked).as_micros());
+    }
+    match words[0].as_str() {
+        "readers" => return readers::run(&words[0], count, asked, Duration::ZERO),
+        "paced" => return readers::run(&words[0], count, asked, Duration::from_millis(50)),
+        _ => (),
     }
     let mut draws = Draws(1);
     let points = draws.points(count);

@@ -64,7 +64,7 @@ held    the same, while the version before each scan is held. The plain tree hol
 turn    as scans, and before a scan is added each of its points is asked for its 5 nearest
 box     cubes of a metre are deleted from a tree that was built, 10,000 times
 thin    scans are thinned in voxels of half a metre, with the slabs as above. Ours is the state of a map here: it keeps a history
-        and a version, and has subtrees from 1,500 nodes on detached, built anew and swapped in after each update
+        and a version
 odometry the same, and before a scan is thinned each of its points is asked for its 5 nearest
 longest of 200 more scans that are added, the longest of each step: what is done to a detached subtree (build) holds nobody up
         where a second thread does it, and `together` is what one scan takes where none does

@@ -11,9 +11,12 @@
 //! - `thin`: the state of a map thins such scans, at half a metre, and after each tenth the slab that is left is deleted;
 //! - `odometry`: the same, but each point is asked for its 5 nearest before its scan is thinned;
 //! - `drawn`, `rising`, `equal`: a state takes N points that lie so, 262,144 an update, with Q as the size of a large subtree;
-//! - `longest`: a state grows by scans to N points and then by Q more, of which the longest steps are told.
+//! - `longest`: a state grows by scans to N points and then by Q more, of which the longest steps are told;
+//! - `readers`: a shared map grows so to N points, and then Q readers, from 1 to 7, ask it beside a writer that adds a hundred scans more;
+//! - `paced`: the same, but the writer sleeps for 50 milliseconds before each scan.
 //!
-//! The work's checksum goes to standard output, the microseconds that it took to standard error.
+//! The work's checksum goes to standard output, the microseconds that it took to standard error; of readers the queries a second,
+//! the microseconds of the longest query and the writer's for each scan.
 #![tactic(auto)]
 
 ghost use Rattle.std.specs.Prelude.{◌≡◌, ◌<◌, ◌≤◌, IfOk};
@@ -22,6 +25,7 @@ mod course;
 mod draws;
 mod grown;
 mod longest;
+mod readers;
 mod robot;
 mod stop;
 mod sums;
@@ -31,13 +35,20 @@ mod worst;
 
 use crate::course::Lie;
 use crate::longest::{Longest, longest_steps};
+use crate::readers::{Beside, readers};
 use crate::stop::Stop;
 use crate::works::Measured;
 use kd_tree::Steps;
 use std::env;
 use std::marker::Brand;
 use std::process::ExitCode;
+use std::rt::Env;
+use std::sync::Wait;
 use std::sync::ledger::{Blank, Ledger};
+use std::thread::Threads;
+use std::time::{Clock, Duration};
+
+const MOST_ASKED: u32 = 1_000_000_000;
 
 fn main(rt: HostRuntime) -> ExitCode {
     match measure(&rt) {
@@ -48,28 +59,75 @@ fn main(rt: HostRuntime) -> ExitCode {
     }
 }
 
-fn measure(rt: &HostRuntime) -> Result<(), Stop> {
+fn measure<R: AllocGlobal + Env + Print + Eprint + Clock + Threads + Wait + Sync>(
+    rt: &R,
+) -> Result<(), Stop> {
     let words = Vec::from_iter(rt.alloc(), env::args(rt)?.skip(1))?;
     let [work, count, asked] = words.as_slice() else {
         return Err(Stop::Words);
     };
     let count = number(count, 4_194_304)?;
-    let asked = number(asked, 1_000_000_000)?;
-    if work.as_str() == "longest" {
-        let longest = looked_at::<Brand>(rt, count, asked, Blank::new(1))?;
-        println!(rt; "{longest}")?;
-        return Ok(());
+    match work.as_str() {
+        "longest" => tell_longest(rt, count, number(asked, MOST_ASKED)?),
+        "readers" => tell_readers(rt, work, count, number(asked, 7)?, Duration::ZERO),
+        "paced" => tell_readers(
+            rt,
+            work,
+            count,
+            number(asked, 7)?,
+            Duration::from_millis(50),
+        ),
+        work => tell(rt, work, count, number(asked, MOST_ASKED)?),
     }
+}
+
+fn tell<R: AllocGlobal + Print + Eprint + Clock>(
+    rt: &R,
+    work: &str,
+    count: u32,
+    asked: u32,
+) -> Result<(), Stop>
+    requires { count ≤ 4194304 }
+{
     let named = named(work)?;
-    let Measured { micros, sum } = measured::<Brand>(rt, named, count, asked, Blank::new(1))?;
+    let Measured { micros, sum } = measured::<Brand, R>(rt, named, count, asked, Blank::new(1))?;
     eprintln!(rt; "{micros}")?;
     println!(rt; "{work} {count} {asked} sum {sum}")?;
     Ok(())
 }
 
+fn tell_longest<R: AllocGlobal + Print + Clock>(rt: &R, count: u32, more: u32) -> Result<(), Stop> {
+    let longest = looked_at::<Brand, R>(rt, count, more, Blank::new(1))?;
+    println!(rt; "{longest}")?;
+    Ok(())
+}
+
+fn tell_readers<R: AllocGlobal + Print + Eprint + Clock + Threads + Wait + Sync>(
+    rt: &R,
+    work: &str,
+    count: u32,
+    asked: u32,
+    pause: Duration,
+) -> Result<(), Stop>
+    requires { asked ≤ 7 }
+{
+    if asked == 0 {
+        return Err(Stop::Words);
+    }
+    let Beside {
+        queries_per_second,
+        longest,
+        each_scan,
+        sum,
+    } = readers(rt, rt.alloc(), count, asked as u8, pause)?;
+    eprintln!(rt; "{queries_per_second} {longest} {each_scan}")?;
+    println!(rt; "{work} {count} {asked} sum {sum}")?;
+    Ok(())
+}
+
 // The nodes that are made are counted by a counter that nothing looks at.
-fn measured<L: Ledger>(
-    rt: &HostRuntime,
+fn measured<L: Ledger, R: AllocGlobal + Clock>(
+    rt: &R,
     work: Work,
     count: u32,
     asked: u32,
@@ -96,8 +154,8 @@ fn measured<L: Ledger>(
     }
 }
 
-fn looked_at<L: Ledger>(
-    rt: &HostRuntime,
+fn looked_at<L: Ledger, R: AllocGlobal + Clock>(
+    rt: &R,
     count: u32,
     more: u32,
     blank: Blank,

@@ -1,4 +1,4 @@
-//! A robot's map: the state of a map that one thread keeps. Large subtrees that became uneven are detached, built anew and
+//! A robot's map: the state of a map that one thread keeps. Large subtrees that became uneven can be detached, built anew and
 //! swapped in by calls of their own.
 use crate::course::Scan;
 use crate::stop::Stop;
@@ -10,9 +10,6 @@ use std::sync::ledger::Ledger;
 
 // Half a metre.
 const VOXEL: u32 = 500;
-
-/// Subtrees from so many nodes on are left to be detached.
-pub const LARGE: u32 = 1_500;
 
 /// A state whose updates are all of one caller.
 #[derive(Drop)]
@@ -101,14 +98,5 @@ impl Robot {
             Ok(()) => Ok(()),
             Err(_left) => Err(Stop::NoMemory),
         }
-    }
-
-    /// Builds anew, at once, what became uneven.
-    pub fn tend<L: Ledger>(&mut self, alloc: Global, steps: &mut Steps<L>) -> Result<(), Stop> {
-        let Some(job) = self.detach(alloc)? else {
-            return Ok(());
-        };
-        let built = self.build(alloc, job)?;
-        self.swap(alloc, built, steps)
     }
 }

@@ -1,7 +1,8 @@
-//! The works that thin. The map is a state, which holds its last version, and builds uneven subtrees anew after each update.
+//! The works that thin. The map is a state, which holds its last version, and builds uneven subtrees anew in its updates.
 use crate::course::{Scan, scans};
 use crate::draws::Draws;
-use crate::robot::{LARGE, Robot};
+use crate::grown::LARGE;
+use crate::robot::Robot;
 use crate::stop::Stop;
 use crate::sums::{with_answers, with_items};
 use crate::works::Measured;
@@ -55,7 +56,5 @@ fn taken_in<L: Ledger>(
     steps: &mut Steps<L>,
 ) -> Result<(), Stop> {
     robot.thin(alloc, &scan.points, steps)?;
-    robot.tend(alloc, steps)?;
-    robot.leave(alloc, scan, steps)?;
-    robot.tend(alloc, steps)
+    robot.leave(alloc, scan, steps)
 }
