@@ -1,6 +1,6 @@
 //! Nodes taken apart and put together. Only this file and `twin` know that a node is shared: the block of one that nobody else
 //! holds is kept meanwhile, and takes the node that is made of the parts. A shared node is never written.
-ghost use Rattle.std.specs.Prelude.{◌≡◌, ℕ, ◌+◌, ◌≤◌, ◌≤ℤ◌, ◌∷◌, ◌++◌, max, IfOk, IfSome, IsNone, ◌↔◌};
+ghost use Rattle.std.specs.Prelude.{◌≡◌, ℕ, ◌+◌, ◌≤◌, ◌≤ℤ◌, ◌∷◌, ◌++◌, max, Some, IfOk, IfErr, IfSome, IsNone, ◌↔◌};
 ghost use Rattle.std.specs.Arc.{arc_value};
 ghost use Rattle.point_geom.specs.Axes.{on};
 ghost use Rattle.node_labels.specs.Labels.{keep_tag};
@@ -120,6 +120,20 @@ impl Tree {
             }
         }
     }
+
+    // The top node, if nobody else holds it, and else the tree as it was.
+    pub(crate) fn opened_if_own(self) -> Result<Opened, Tree>
+        ensures own { IfOk result (λ o. IsOpened self (Some o)) }
+        ensures stays { IfErr result (λ t. t ≡ self) }
+    {
+        match self.root {
+            None => Err(Tree::empty()),
+            Some(block) => match taken_if_own(block) {
+                Ok(node) => Ok(node),
+                Err(block) => Err(Tree { root: Some(block) }),
+            },
+        }
+    }
 }
 
 impl Opened {
@@ -151,6 +165,14 @@ impl Block {
         Block { node: None }
     }
 
+    // The last of the blocks, if there is one.
+    pub(crate) fn last_of(blocks: &mut Vec<Block>) -> Block {
+        match blocks.pop() {
+            None => Block::none(),
+            Some(block) => block,
+        }
+    }
+
     // The tree of this node. Where memory is kept that nobody else holds, it is in that.
     pub(crate) fn filled(self, alloc: Global, node: Node) -> Result<Tree, NoMemory>
         requires { IsKeptAt node }
@@ -167,14 +189,33 @@ impl Block {
     }
 }
 
-// The parts of the node in this block. Where nobody else holds it, its sons are taken out of it, and else they are copied.
-fn taken(mut block: Arc<Node>) -> Result<Opened, NoMemory>
+// The parts of the node in this block. Where somebody else holds it, its sons are copied.
+fn taken(block: Arc<Node>) -> Result<Opened, NoMemory>
     ensures { IfOk result (λ o. IsTakenOf (arc_value block) o) }
+{
+    match taken_if_own(block) {
+        Ok(node) => Ok(node),
+        Err(block) => Ok(Opened {
+            item: block.item,
+            axis: block.axis,
+            pending: block.pending,
+            left: block.left.twin()?,
+            right: block.right.twin()?,
+            block: Block::none(),
+        }),
+    }
+}
+
+// The same where nobody else holds the block: the sons are taken out of it. Else the block as it was.
+fn taken_if_own(mut block: Arc<Node>) -> Result<Opened, Arc<Node>>
+    ensures own { IfOk result (λ o. IsTakenOf (arc_value block) o) }
+    ensures stays { IfErr result (λ b. arc_value b ≡ arc_value block) }
 {
     let item = block.item;
     let axis = block.axis;
     let pending = block.pending;
     match Arc::get_mut(&mut block) {
+        None => Err(block),
         Some(node) => {
             let left = mem::replace(&mut node.left, Tree::empty());
             let right = mem::replace(&mut node.right, Tree::empty());
@@ -187,13 +228,5 @@ fn taken(mut block: Arc<Node>) -> Result<Opened, NoMemory>
                 block: Block { node: Some(block) },
             })
         }
-        None => Ok(Opened {
-            item,
-            axis,
-            pending,
-            left: block.left.twin()?,
-            right: block.right.twin()?,
-            block: Block::none(),
-        }),
     }
 }

@@ -2,15 +2,14 @@
 ghost use Rattle.std.specs.Prelude.{◌≡◌, ◌+◌, ◌≤◌, IfOk, length};
 ghost use Rattle.node_labels.specs.Labels.{keep_tag};
 ghost use Rattle.kd_tree.specs.Shape.{levels, nodes, numbers};
-ghost use Rattle.kd_tree.specs.Walk.{walk};
 ghost use Rattle.kd_tree.specs.Sound.{IsSoundFork};
 ghost use Rattle.kd_tree.specs.Contents.{contents};
 ghost use Rattle.kd_tree.specs.Criteria.{IsCalm};
 ghost use Rattle.kd_tree.specs.Parts.{fork_of, joined};
 ghost use Rattle.kd_update.specs.Refresh.{AreAmong, IsRefresh, IsSpared, RefreshesIfDue};
 
-use kd_tree::{OpenNode, Steps, Tree};
-use map_fold::{Item, NoMemory};
+use kd_tree::{OpenNode, Scratch, Steps, Tree};
+use map_fold::NoMemory;
 use std::alloc::Global;
 use std::sync::ledger::Ledger;
 
@@ -20,9 +19,9 @@ pub(crate) const LEAST: u32 = 10;
 /// No node has fewer than so many nodes: with this for `large`, none is built anew.
 pub(crate) const NEVER: u32 = 0;
 
-/// What is left in the tree, built anew by medians. n nodes take time in the order of n log n. The old nodes are let go
-/// before the new ones are made, so that beside these only one list of the items is needed. Where memory is wanting, the
-/// tree is let go.
+/// What is left in the tree, built anew by medians. n nodes take time in the order of n log n. The new ones are
+/// made in the memory of the old ones that nobody else holds, and beside these only a list of the items and one of that
+/// memory are needed. Where memory is wanting, the tree is let go.
 pub fn rebuilt<L: Ledger>(alloc: Global, tree: Tree, steps: &mut Steps<L>) -> Result<Tree, NoMemory>
     ensures contents { IfOk result (λ t. contents t ≡ contents tree) }
     ensures numbers { IfOk result (λ t. AreAmong (numbers t) (numbers tree)) }
@@ -34,19 +33,7 @@ pub fn rebuilt<L: Ledger>(alloc: Global, tree: Tree, steps: &mut Steps<L>) -> Re
     ensures ticks { steps.new ≤ steps.old + length (contents tree) }
 {
     let _size = tree.size();
-    let items = what_is_left(alloc, tree)?;
-    Tree::build_from(alloc, items, steps)
-}
-
-// The items that are left, node first. The tree is let go.
-fn what_is_left(alloc: Global, tree: Tree) -> Result<Vec<Item>, NoMemory>
-    ensures { IfOk result (λ v. v.items ≡ walk keep_tag tree) }
-{
-    let _size = tree.size();
-    let counts = tree.counts();
-    let mut items = Vec::with_capacity(alloc, (counts.live + counts.suspended) as usize)?;
-    tree.gather(&mut items)?;
-    Ok(items)
+    tree.built_anew(alloc, &[], &mut Scratch::new(alloc), steps)
 }
 
 // The joined parts, built anew where they are to be.

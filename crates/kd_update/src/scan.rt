@@ -7,9 +7,9 @@ ghost use Rattle.kd_update.specs.Update.{IsEven};
 ghost use Rattle.kd_update.specs.Scan.{IsPut, MayJoin, numbers_in, put_each};
 
 use crate::insert::put_below;
-use crate::one_pass::{left_with, put_at_once};
+use crate::one_pass::put_at_once;
 use crate::roomy;
-use kd_tree::{Steps, Tree};
+use kd_tree::{Scratch, Steps, Tree};
 use map_fold::{Item, NoMemory};
 use point_geom::Axis;
 use std::alloc::Global;
@@ -57,15 +57,16 @@ fn put_in_pieces<L: Ledger>(
     requires { MayJoin (contents tree) items.now }
     ensures { IfOk result (λ t. IsPut large tree items.now t) }
 {
+    let mut scratch = Scratch::new(alloc);
     let mut tree = tree;
     let mut rest = items;
     while !rest.is_empty() {
         if tree.levels() >= FULL || tree.size() >= MOST {
-            return built_with_rest(alloc, tree, rest, steps);
+            return built_with_rest(alloc, tree, rest, &mut scratch, steps);
         }
         let most = most_at_once(&tree, large);
         let (piece, more) = rest.split_at(most.min(rest.len()));
-        tree = put_piece(alloc, tree, large, piece, steps)?;
+        tree = put_piece(alloc, tree, large, piece, &mut scratch, steps)?;
         rest = more;
     }
     Ok(tree)
@@ -88,14 +89,14 @@ fn built_with_rest<L: Ledger>(
     alloc: Global,
     tree: Tree,
     items: &[Item],
+    scratch: &mut Scratch,
     steps: &mut Steps<L>,
 ) -> Result<Tree, NoMemory>
     requires fit { MayJoin (contents tree) items.now }
     requires some { 1 ≤ nodes tree + levels tree }
     ensures { (large : ℕ) → IfOk result (λ t. IsPut large tree items.now t) }
 {
-    let all = left_with(alloc, tree, items)?;
-    Tree::build_from(alloc, all, steps)
+    tree.built_anew(alloc, items, scratch, steps)
 }
 
 // Fewer items than large nodes are: in one pass if there is room.
@@ -104,6 +105,7 @@ fn put_piece<L: Ledger>(
     tree: Tree,
     large: u32,
     items: &[Item],
+    scratch: &mut Scratch,
     steps: &mut Steps<L>,
 ) -> Result<Tree, NoMemory>
     requires fit { MayJoin (contents tree) items.now }
@@ -116,7 +118,15 @@ fn put_piece<L: Ledger>(
         return put_singly(alloc, tree, large, items, steps);
     }
     let mut items = Vec::from_slice(alloc, items)?;
-    put_at_once(alloc, tree, large, items.as_mut_slice(), Axis::X, steps)
+    put_at_once(
+        alloc,
+        tree,
+        large,
+        items.as_mut_slice(),
+        Axis::X,
+        scratch,
+        steps,
+    )
 }
 
 fn put_singly<L: Ledger>(

@@ -1,0 +1,95 @@
+//! Building anew in memory that is used again: a list of items, and the memory of the old nodes. Which nodes may be used
+//! again, `open_node.rt` knows alone.
+ghost use Rattle.std.specs.Prelude.{◌≡◌, ◌+◌, ◌<◌, ◌≤◌, ◌^◌, ◌++◌, ℕ, IfOk, OnOk, IsPermutation, length, map};
+ghost use Rattle.node_labels.specs.Labels.{keep_tag};
+ghost use Rattle.kd_tree.specs.Shape.{levels, nodes, numbers};
+ghost use Rattle.kd_tree.specs.Walk.{walk};
+ghost use Rattle.kd_tree.specs.Contents.{AreDistinct, AreKept, by_number, contents};
+ghost use Rattle.kd_tree.specs.Criteria.{IsCalm};
+ghost use Rattle.kd_tree.specs.Build.{IsBuilt};
+
+use crate::build::built;
+use crate::flatten::{gather_owed, push_kept};
+use crate::{Block, Steps, Tree};
+use map_fold::{Item, NoMemory, Tag};
+use std::alloc::Global;
+use std::sync::ledger::Ledger;
+
+/// Memory that building anew uses over and over. What it holds between two calls means nothing.
+#[derive(Debug, Drop)]
+pub struct Scratch {
+    items: Vec<Item>,
+    blocks: Vec<Block>,
+}
+
+impl Scratch {
+    /// One that has taken no memory yet.
+    pub fn new(alloc: Global) -> Scratch {
+        Scratch {
+            items: Vec::new(alloc),
+            blocks: Vec::new(alloc),
+        }
+    }
+}
+
+impl Tree {
+    /// What is left of the tree and these items, built by medians as `build` does it. The list of them all is the scratch's.
+    /// The new nodes are made in the memory of the old ones that nobody else holds, as far as that goes; what is left over is
+    /// the scratch's until it is used or let go with it. Where memory is wanting, the tree is let go.
+    pub fn built_anew<L: Ledger>(
+        self,
+        alloc: Global,
+        more: &[Item],
+        scratch: &mut Scratch,
+        steps: &mut Steps<L>,
+    ) -> Result<Tree, NoMemory>
+        requires kept { AreKept more.now }
+        requires distinct { AreDistinct (walk keep_tag self ++ more.now) }
+        requires few { length (walk keep_tag self) + length more.now ≤ 4194304 }
+        ensures shape { IfOk result (λ t. IsBuilt (walk keep_tag self ++ more.now) t) }
+        ensures contents { IfOk result (λ t. contents t ≡ by_number (walk keep_tag self ++ more.now)) }
+        ensures calm { IfOk result (λ t. IsCalm 10 t) }
+        ensures numbers { IfOk result (λ t. IsPermutation (map (λ i. i.number) (walk keep_tag self ++ more.now)) (numbers t)) }
+        ensures nodes { IfOk result (λ t. nodes t ≡ length (walk keep_tag self ++ more.now)) }
+        ensures levels { (n : ℕ) → length (walk keep_tag self ++ more.now) < 2 ^ n → IfOk result (λ t. levels t ≤ n) }
+        ensures once { OnOk result (steps.new ≡ steps.old + length (walk keep_tag self ++ more.now)) }
+        ensures ticks { steps.new ≤ steps.old + length (walk keep_tag self ++ more.now) }
+    {
+        let _size = self.size();
+        let counts = self.counts();
+        let held = (counts.live + counts.suspended) as usize;
+        scratch.items.clear();
+        scratch.items.reserve(held + more.len())?;
+        empty_owed(self, Tag::KEEP, &mut scratch.items, &mut scratch.blocks)?;
+        scratch.items.extend_from_slice(more)?;
+        built(
+            alloc,
+            scratch.items.as_mut_slice(),
+            &mut scratch.blocks,
+            steps,
+        )
+    }
+}
+
+// Puts what is left of a tree that owes this action behind the items, and the memory of the nodes that nobody else holds
+// behind the blocks. What is below a node that somebody else holds is read as it stands.
+fn empty_owed(
+    tree: Tree,
+    owed: Tag,
+    items: &mut Vec<Item>,
+    blocks: &mut Vec<Block>,
+) -> Result<(), NoMemory>
+    ensures { OnOk result (items.new.items ≡ items.old.items ++ walk owed tree) }
+{
+    match tree.opened_if_own() {
+        Err(tree) => gather_owed(&tree, owed, items),
+        Ok(node) => {
+            let label = owed.apply(node.item.label);
+            push_kept(items, Item { label, ..node.item })?;
+            blocks.push(node.block)?;
+            let below = node.pending.then(owed);
+            empty_owed(node.left, below, items, blocks)?;
+            empty_owed(node.right, below, items, blocks)
+        }
+    }
+}
