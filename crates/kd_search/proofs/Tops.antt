@@ -74,3 +74,8 @@ split_owed t owed top q s e sound is =
 pub split : (t : Shape) (owed : Tag) (top : Top) (q : Place) (s : Sides) (i : Item) (below : Tag) → t ≡ fork (record { item = top.item; axis = top.axis; pending = top.pending }) top.left.now top.right.now → IsSound t → AreSidesOf top q s
     → i ≡ relabelled owed top.item → below ≡ composed top.pending owed → IsSplit (walk owed t) q s.gap i (walk below s.near.now) (walk below s.far.now)
 split t owed top q s i below e sound is own under = rw (own, under) (split_owed t owed top q s e sound is)
+
+-- the same of a tree whose sons aren't looked at by a point
+pub walk_top : (t : Shape) (owed : Tag) (top : Top) (i : Item) (below : Tag) → t ≡ fork (record { item = top.item; axis = top.axis; pending = top.pending }) top.left.now top.right.now
+    → i ≡ relabelled owed top.item → below ≡ composed top.pending owed → walk owed t ≡ kept (i ∷ []) ++ (walk below top.left.now ++ walk below top.right.now)
+walk_top t owed top i below e own under = rw (own, under) (ap (walk owed) e)

@@ -6,6 +6,7 @@ mod count;
 mod inside;
 mod near;
 mod part;
+mod rivals;
 mod sides;
 #[cfg(test)]
 mod tests;
@@ -14,3 +15,4 @@ pub use best::best_in;
 pub use count::count_in;
 pub use inside::in_cuboid;
 pub use near::nearest;
+pub use rivals::{Rivals, rivals_in};

@@ -3,7 +3,7 @@ ghost use Rattle.std.specs.Prelude.{◌≡◌, ◌<◌, ◌≤◌, length, false
 ghost use Rattle.node_labels.specs.Labels.{is_dropped};
 ghost use Rattle.kd_tree.specs.Contents.{AreDistinct, AreKept};
 
-use crate::{best_in, count_in, in_cuboid, nearest};
+use crate::{best_in, count_in, in_cuboid, nearest, rivals_in};
 use kd_tree::{Steps, Tree};
 use map_fold::{Item, Label, NoMemory, PlainMap, Points, Settings, Tag, Update};
 use point_geom::{Corner, Cuboid, Point, centre_dist2, dist2};
@@ -266,6 +266,9 @@ fn finds_in(alloc: Global, tree: &Tree, items: &[Item], c: &Cuboid) -> Result<bo
     let mut want = scan_box(alloc, items, c)?;
     let counted = count_in(tree, c) as usize == want.len();
     let best = best_in(tree, c).map(|i| i.number) == want.first().copied();
+    let rivals = rivals_in(tree, c);
+    let both = rivals.count as usize == want.len()
+        && rivals.best.map(|i| i.number) == want.first().copied();
     want.sort()?;
     want.truncate(30);
     let found = in_cuboid(alloc, tree, c, 30)?;
@@ -274,7 +277,7 @@ fn finds_in(alloc: Global, tree: &Tree, items: &[Item], c: &Cuboid) -> Result<bo
         .iter()
         .map(|i| i.number)
         .eq(want.iter().copied());
-    Ok(counted && best && listed)
+    Ok(counted && best && both && listed)
 }
 
 #[test]

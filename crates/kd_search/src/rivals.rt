@@ -1,0 +1,103 @@
+//! The live points of a box: the one that is nearest to its centre, and how many there are.
+ghost use Rattle.std.specs.Prelude.{◌≡◌, ◌+◌, ◌≤◌, ◌<◌, [], ◌∷◌, IfSome, IsNone, ◌↔◌};
+ghost use Rattle.map_fold.specs.Answers.{count, inside_all};
+ghost use Rattle.kd_tree.specs.Contents.{contents};
+ghost use Rattle.kd_tree.specs.Shape.{nodes};
+ghost use Rattle.kd_tree.specs.Walk.{walk};
+ghost use Rattle.kd_search.specs.Best.{best_from, best_inside, IsBest};
+
+use crate::part::live;
+use kd_tree::Tree;
+use map_fold::{Item, Tag};
+use point_geom::Cuboid;
+
+/// What is live in a cuboid: the items of which thinning leaves one.
+#[derive(Clone, Copy, Debug)]
+pub struct Rivals {
+    /// The item whose point is nearest to the cuboid's centre; of several the least by x, y and z, and then by number.
+    pub best: Option<Item>,
+    /// How many there are.
+    pub count: u32,
+}
+
+/// The live items in the cuboid: the best of them, and how many they are, in one search. It takes no memory. A subtree that
+/// the cuboid doesn't meet, or that has no live item, is left out; one that lies within it is entered, where `count_in` only
+/// adds what it counts.
+pub fn rivals_in(tree: &Tree, c: &Cuboid) -> Rivals
+    ensures best { result.best ≡ best_inside (contents tree.now) c.now }
+    ensures count { result.count ≡ count (contents tree.now) c.now }
+    ensures none { IsNone result.best ↔ (inside_all (contents tree.now) c.now ≡ []) }
+    ensures first { IfSome result.best (λ i. IsBest (contents tree.now) c.now i) }
+{
+    let _size = tree.size();
+    let mut found = Rivals {
+        best: None,
+        count: 0,
+    };
+    add_from(tree, Tag::KEEP, c, &mut found);
+    found
+}
+
+// Adds what is live in the cuboid of a tree that owes this action.
+#[cycle(rivals)]
+fn add_from(tree: &Tree, owed: Tag, c: &Cuboid, found: &mut Rivals)
+    requires { found.old.count + nodes tree.now ≤ 4194304 }
+    ensures best { found.new.best ≡ best_from c.now found.old.best (inside_all (walk owed tree.now) c.now) }
+    ensures count { found.new.count ≡ found.old.count + count (walk owed tree.now) c.now }
+    ensures few { found.new.count ≤ found.old.count + nodes tree.now }
+{
+    let Some(extent) = tree.extent() else {
+        return;
+    };
+    if c.meets(&extent) {
+        add_under(tree, owed, c, found);
+    }
+}
+
+// The same for a tree that the cuboid meets. Most it doesn't, so what this sets up isn't set up for those.
+#[cycle(rivals)]
+#[inline(never)]
+fn add_under(tree: &Tree, owed: Tag, c: &Cuboid, found: &mut Rivals)
+    requires { found.old.count + nodes tree.now ≤ 4194304 }
+    ensures best { found.new.best ≡ best_from c.now found.old.best (inside_all (walk owed tree.now) c.now) }
+    ensures count { found.new.count ≡ found.old.count + count (walk owed tree.now) c.now }
+    ensures few { found.new.count ≤ found.old.count + nodes tree.now }
+{
+    if live(tree, owed) == 0 {
+        return;
+    }
+    let Some(top) = tree.top() else {
+        return;
+    };
+    let item = Item {
+        label: owed.apply(top.item.label),
+        ..top.item
+    };
+    add(&item, c, found);
+    let below = top.pending.then(owed);
+    add_from(top.left, below, c, found);
+    add_from(top.right, below, c, found);
+}
+
+// Adds the item, if it is live in the cuboid.
+fn add(item: &Item, c: &Cuboid, found: &mut Rivals)
+    requires { found.old.count < 4194304 }
+    ensures best { found.new.best ≡ best_from c.now found.old.best (inside_all (item.now ∷ []) c.now) }
+    ensures count { found.new.count ≡ found.old.count + count (item.now ∷ []) c.now }
+    ensures few { found.new.count ≤ found.old.count + 1 }
+{
+    if !item.is_live_in(c) {
+        return;
+    }
+    found.count += 1;
+    found.best = match found.best {
+        None => Some(*item),
+        Some(held) => {
+            if item.comes_before(&held, c) {
+                Some(*item)
+            } else {
+                Some(held)
+            }
+        }
+    };
+}
