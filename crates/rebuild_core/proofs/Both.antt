@@ -1,24 +1,23 @@
 -- Items that wait to be put into a tree, and what both hold.
-use Rattle.std.proofs.Common.{◌≡◌, ℕ, ◌+◌, ◌<◌, ◌≤◌, inl, Bool, true, false, not, cond, List, [], ◌∷◌, ◌++◌, Some, None, length, refl, ap, sym, ◌∙◌, subst, arith, length-append, append_assoc}
-use Rattle.std.specs.Prelude.{All, IsPermutation, count_by, filter, ◌==◌}
-use Rattle.std.specs.declared.option.Option.{Option}
-use Rattle.std.proofs.lemmas.Bool.{cases_Bool, eqb-true}
+use Rattle.std.proofs.Common.{◌≡◌, ℕ, ◌+◌, ◌<◌, ◌≤◌, inl, Bool, true, false, not, cond, List, [], ◌∷◌, ◌++◌, None, length, refl, ap, sym, ◌∙◌, subst, arith, length-append, append_assoc}
+use Rattle.std.specs.Prelude.{All, IsPermutation, count_by, filter, ◌==◌, ◌&&◌}
+use Rattle.std.proofs.lemmas.Bool.{eqb-true}
 use Rattle.std.proofs.lemmas.List.{append-nil}
-use Rattle.std.proofs.lemmas.List.Elements.{All-append, All-contains, All-contains_itself, All-cons, All-head, All-map, All-nil, All-tail, All-weaker, filter-append}
+use Rattle.std.proofs.lemmas.List.Elements.{All-append, All-contains, All-contains_itself, All-head, All-map, All-tail, All-weaker, filter-append}
 use Rattle.std.proofs.lemmas.List.Sorted.{length_permutation, IsPermutation-sym, IsPermutation-to_front, sum_by-IsPermutation}
 use Rattle.std.proofs.lemmas.List.Sums.{sum_by-append, sum_by-cons}
 use Rattle.std.specs.Prelude.{Contains}
 use Rattle.point_geom.specs.Place.{Bounds}
-use Rattle.node_labels.specs.Labels.{thin_tag}
+use Rattle.node_labels.specs.Labels.{is_live, thin_tag}
 use Rattle.node_labels.specs.declared.label.Label.TheVariants.{Live}
 use Rattle.map_fold.specs.declared.item.Item.{Item}
 use Rattle.map_fold.specs.Answers.{count, inside_all}
-use Rattle.map_fold.specs.Contents.{AreContents, in_box, live_at, mark, put}
+use Rattle.map_fold.specs.Contents.{AreContents, in_box, mark, put}
 use Rattle.map_fold.specs.Ops.{IsUnheld}
-use Rattle.map_fold.proofs.Numbered.{contents_length, contents_within}
+use Rattle.map_fold.proofs.Numbered.{contents_length}
 use Rattle.map_fold.proofs.Puts.{filter_none}
 use Rattle.map_fold.proofs.Thinning.{inside_by, is_live_in, left_out, mark-thin}
-use Rattle.kd_tree.specs.Shape.{Shape, numbers}
+use Rattle.kd_tree.specs.Shape.{Shape}
 use Rattle.kd_tree.specs.Sound.{IsSound}
 use Rattle.kd_tree.specs.Contents.{AreDistinct, by_number, contents, insert_item}
 use Rattle.kd_tree.proofs.Held.{are_distinct, by_number-contents}
@@ -29,8 +28,6 @@ use Rattle.kd_search.proofs.Least.{best-by_number, best_from-append, best_from-n
 use Rattle.kd_update.specs.Refresh.{AreAmong}
 use Rattle.kd_update.specs.Scan.{AreLive, MayJoin, numbers_in, put_each}
 use Rattle.kd_update.proofs.Grown.{IsLive, live_of}
-use Rattle.rebuild_core.specs.Waiting.{IsWaiting}
-use Rattle.rebuild_core.specs.declared.waiting.Waiting.{Waiting}
 
 -- what the tree holds and these items, by number
 abbrev pub both : Shape → List Item → List Item
@@ -125,12 +122,8 @@ all_left : (p : Item → Bool) (xs : List Item) → filter p xs ≡ [] → filte
 all_left p [] e = refl
 all_left p (x ∷ xs) e = let parts = filter_none p x xs e in rw parts.0 (ap (λ ys. x ∷ ys) (all_left p xs parts.1))
 
--- THIN changes nothing where nothing is live in the box
-pub thin_nothing : (c : Bounds) (next : ℕ) (m : List Item) → AreContents 0 next m → inside_all m c ≡ [] → m ≡ mark m (in_box c) thin_tag
-thin_nothing c next m k none = sym (mark-thin c 0 next m k ∙ all_left (is_live_in c) m (sym (inside_by c m) ∙ none))
-
 -- what is left of both without what is live in the box
-pub cleared_held : (c : Bounds) (next : ℕ) (t u : Shape) (ws : List Item) → AreContents 0 next (both t ws) → AreContents 0 next (contents t) → contents u ≡ mark (contents t) (in_box c) thin_tag
+cleared_held : (c : Bounds) (next : ℕ) (t u : Shape) (ws : List Item) → AreContents 0 next (both t ws) → AreContents 0 next (contents t) → contents u ≡ mark (contents t) (in_box c) thin_tag
     → both u (filter (left_out c) ws) ≡ mark (both t ws) (in_box c) thin_tag
 cleared_held c next t u ws k h e =
     ap (λ m. by_number (m ++ filter (left_out c) ws)) (e ∙ mark-thin c 0 next (contents t) h)
@@ -139,7 +132,7 @@ cleared_held c next t u ws k h e =
     ∙ sym (mark-thin c 0 next (both t ws) k)
 
 -- the best of the tree, and then of what waits
-pub best_both : (c : Bounds) (t : Shape) (ws : List Item) → best_from c (best_inside (contents t) c) (inside_all ws c) ≡ best_inside (both t ws) c
+best_both : (c : Bounds) (t : Shape) (ws : List Item) → best_from c (best_inside (contents t) c) (inside_all ws c) ≡ best_inside (both t ws) c
 best_both c t ws =
     let xs = inside_all (contents t) c in
     let ys = inside_all ws c in
@@ -149,25 +142,34 @@ best_both c t ws =
     ∙ ap (best_of c) (sym (inside-append c (contents t) ws))
     ∙ sym (best-by_number c (contents t ++ ws))
 
--- the best of one item more and the rest
-pub best_cons : (c : Bounds) (best : Option Item) (x : Item) (xs : List Item) → best_from c (best_from c best (inside_all (x ∷ []) c)) (inside_all xs c) ≡ best_from c best (inside_all (x ∷ xs) c)
-best_cons c best x xs =
-    sym (best_from-append c best (inside_all (x ∷ []) c) (inside_all xs c)) ∙ ap (best_from c best) (sym (inside-append c (x ∷ []) xs))
-
 -- how many of both are live in the box
-pub count_both : (c : Bounds) (t : Shape) (ws : List Item) → count (both t ws) c ≡ count (contents t) c + length (filter (is_live_in c) ws)
+count_both : (c : Bounds) (t : Shape) (ws : List Item) → count (both t ws) c ≡ count (contents t) c + length (filter (is_live_in c) ws)
 count_both c t ws =
     count-by_number c (contents t ++ ws)
     ∙ ap length (inside-append c (contents t) ws)
     ∙ length-append (inside_all (contents t) c) (inside_all ws c)
     ∙ ap (λ xs. count (contents t) c + length xs) (inside_by c ws)
 
--- what waits also waits where one more number was given
-pub waiting_more : (large next : ℕ) (w : Waiting) → IsWaiting large next w → IsWaiting large (next + 1) w
-waiting_more large next w k = record {
-  live = k.live;
-  held = contents_within 0 0 next (next + 1) (both w.tree w.items.items) (omega arith) (omega arith) k.held;
-  given = All-weaker (λ (i : Item). i.number < next) (λ (i : Item). i.number < next + 1) (λ i e. omega (arith, e)) w.items.items k.given;
-  below = All-weaker (λ (n : ℕ). n < next) (λ (n : ℕ). n < next + 1) (λ n e. omega (arith, e)) (numbers w.tree) k.below;
-  even = k.even;
-}
+not_both : (a b : Bool) → b ≡ false → (a && b) ≡ false
+not_both true b e = e
+not_both false b e = refl
+
+-- where nothing that waits is in the box, nothing of it is live there
+none_live : (c : Bounds) (ws : List Item) → All (λ i. in_box c i ≡ false) ws → filter (is_live_in c) ws ≡ []
+none_live c [] k = refl
+none_live c (x ∷ ws) k =
+    let P : Item → Type 0 = λ i. in_box c i ≡ false in
+    let out : is_live_in c x ≡ false = not_both (is_live x.label) (in_box c x) (All-head P x ws k) in rw out (none_live c ws (All-tail P x ws k))
+
+-- then the tree alone is cleared
+pub cleared_clear : (c : Bounds) (high : ℕ) (t u : Shape) (ws : List Item) → All (λ i. in_box c i ≡ false) ws → AreContents 0 high (both t ws) → AreContents 0 high (contents t) → contents u ≡ mark (contents t) (in_box c) thin_tag
+    → both u ws ≡ mark (both t ws) (in_box c) thin_tag
+cleared_clear c high t u ws clear k h e = ap (both u) (sym (all_left (is_live_in c) ws (none_live c ws clear))) ∙ cleared_held c high t u ws k h e
+
+-- and its best is that of both
+pub best_clear : (c : Bounds) (t : Shape) (ws : List Item) → All (λ i. in_box c i ≡ false) ws → best_inside (contents t) c ≡ best_inside (both t ws) c
+best_clear c t ws clear = ap (best_from c (best_inside (contents t) c)) (sym (inside_by c ws ∙ none_live c ws clear)) ∙ best_both c t ws
+
+-- and so is the count
+pub count_clear : (c : Bounds) (t : Shape) (ws : List Item) → All (λ i. in_box c i ≡ false) ws → count (contents t) c ≡ count (both t ws) c
+count_clear c t ws clear = let none = ap length (none_live c ws clear) in omega (arith, count_both c t ws, none)

@@ -1,9 +1,8 @@
 -- Parts that come into a slot.
-use Rattle.std.proofs.Common.{◌≡◌, ℕ, ◌+◌, ◌<◌, ◌≤◌, Bool, true, false, cond, List, [], ◌∷◌, length, refl, ap, sym, ◌∙◌, arith, subst, inl, inr, Option, Some, None, nat_lt}
-use Rattle.std.specs.Prelude.{All, ◌==◌}
-use Rattle.std.proofs.lemmas.Bool.{cases_eq, cond_both, eq-eqb, eqb-false, eqb-true, ltb-false, ltb-true, ne_eqb}
+use Rattle.std.proofs.Common.{◌≡◌, ℕ, ◌+◌, ◌<◌, ◌≤◌, cond, List, [], ◌∷◌, refl, ap, sym, ◌∙◌, arith, subst, inl, inr, Option, Some, None, nat_lt}
+use Rattle.std.specs.Prelude.{◌==◌}
+use Rattle.std.proofs.lemmas.Bool.{cond_both, eqb-false, eqb-true, ltb-false, ltb-true}
 use Rattle.std.proofs.lemmas.List.Elements.{All-nil}
-use Rattle.map_fold.specs.declared.item.Item.{Item}
 use Rattle.map_fold.specs.Contents.{AreContents}
 use Rattle.kd_tree.specs.Shape.{Shape, numbers}
 use Rattle.kd_tree.specs.Sound.{IsSound}
@@ -14,9 +13,9 @@ use Rattle.kd_tree.specs.declared.path.Side.{Side}
 use Rattle.kd_tree.proofs.Held.{are_contents}
 use Rattle.kd_update.specs.Watch.{IsLargeAt}
 use Rattle.kd_update.proofs.Large.{some_shape}
-use Rattle.rebuild_core.specs.Detach.{IsDetachedAt, IsNoDetach, IsNoneToDetach, with_part}
+use Rattle.rebuild_core.specs.Detach.{IsDetachedAt, with_part}
 use Rattle.rebuild_core.specs.Lawful.{IsLawful, StateAt}
-use Rattle.rebuild_core.specs.Parts.{AreEachLawful, AreInSlots, AreLawfulParts, HaveOwnTickets, IsLawfulPart, IsNewTicket, PartAt, part_in, paths}
+use Rattle.rebuild_core.specs.Parts.{AreEachLawful, AreInSlots, HaveOwnTickets, IsLawfulPart, IsNewTicket, PartAt, part_in, paths}
 use Rattle.rebuild_core.proofs.ApartPaths.{AreOnesOf, IsOneOf, apart_sym, even_more}
 use Rattle.rebuild_core.proofs.Detached.{each_more}
 use Rattle.rebuild_core.proofs.Drafts.{among_below}

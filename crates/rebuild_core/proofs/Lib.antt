@@ -14,3 +14,9 @@ pub mod OtherParts
 pub mod Swapping
 pub mod Both
 pub mod AtOnce
+pub mod Voxels
+pub mod Entering
+pub mod Firsts
+pub mod AnyOrder
+pub mod Ranks
+pub mod Entrances

@@ -17,12 +17,12 @@ use Rattle.kd_update.proofs.Update.{calm_even}
 use Rattle.map_fold.specs.declared.entry.Entry.{Entry}
 use Rattle.rebuild_core.specs.Draft.{watches_of}
 use Rattle.rebuild_core.specs.History.{entry_by}
-use Rattle.rebuild_core.specs.Lawful.{IsLawful, StateAt, VersionAt, map_of}
+use Rattle.rebuild_core.specs.Lawful.{IsLawful, StateAt, VersionAt}
 use Rattle.rebuild_core.specs.Logs.{LogPlan, planned_parts}
 use Rattle.rebuild_core.specs.Parts.{AreInSlots, AreLawfulParts, PartAt, paths}
 use Rattle.rebuild_core.specs.Single.{IsQuiet, entered_nodes, only_op, unrebuilt}
 use Rattle.rebuild_core.specs.StateView.{IsNextOf}
-use Rattle.rebuild_core.specs.Steps.{IsDrafted, IsQuietUpdate, IsSettlePlan, IsUpdatePlan, PlannedAt, entered, listed}
+use Rattle.rebuild_core.specs.Steps.{IsDrafted, IsQuietUpdate, IsSettlePlan, IsUpdatePlan, PlannedAt, entered}
 use Rattle.rebuild_core.specs.declared.plan.Drafted.{Drafted}
 use Rattle.rebuild_core.proofs.Detached.{left_lawful, left_none}
 use Rattle.rebuild_core.proofs.Drafts.{among_below}

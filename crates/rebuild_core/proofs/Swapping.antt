@@ -1,9 +1,8 @@
 -- Values that are swapped into a lawful state.
-use Rattle.std.proofs.Common.{◌≡◌, ℕ, ◌+◌, ◌<◌, Bool, true, false, List, [], ◌∷◌, ◌++◌, length, map, refl, ap, sym, ◌∙◌, subst, inl, inr, arith, Some, None}
+use Rattle.std.proofs.Common.{◌≡◌, ℕ, ◌+◌, ◌<◌, Bool, true, false, List, [], ◌∷◌, ◌++◌, length, map, refl, ap, sym, ◌∙◌, subst, inl, inr, arith, None}
 use Rattle.std.specs.Prelude.{All, Contains, ◌↔◌}
 use Rattle.std.proofs.lemmas.List.Elements.{All-append, All-cons, All-contains, All-contains_itself, All-nil, All-weaker, Contains-append_cases, Contains-append_left, Contains-append_right}
 use Rattle.map_fold.specs.declared.item.Item.{Item}
-use Rattle.map_fold.specs.declared.op.Op.{Op}
 use Rattle.map_fold.specs.Contents.{AreContents}
 use Rattle.map_fold.specs.Ops.{numbers_put, replay}
 use Rattle.map_fold.proofs.Replays.{numbers_put-append}
@@ -12,7 +11,6 @@ use Rattle.kd_tree.specs.Sound.{IsSound}
 use Rattle.kd_tree.specs.Contents.{contents}
 use Rattle.kd_tree.specs.Criteria.{IsCalm}
 use Rattle.kd_tree.specs.Apart.{AreAllApart, IsClear}
-use Rattle.kd_tree.specs.declared.path.Side.{Side}
 use Rattle.kd_update.specs.Refresh.{AreAmong}
 use Rattle.kd_update.specs.Replace.{HasRoomAt, StandsFor}
 use Rattle.kd_update.specs.Several.{AreLargeAt, AreSameAt, IsEvenClear}
@@ -22,7 +20,7 @@ use Rattle.rebuild_core.specs.Built.{BuiltAt, IsLawfulBuilt, IsPartOf, undone}
 use Rattle.rebuild_core.specs.Lawful.{IsLawful, StateAt, VersionAt}
 use Rattle.rebuild_core.specs.Logs.{LogPlan, planned_parts}
 use Rattle.rebuild_core.specs.Parts.{AreEachLawful, AreLawfulParts, AreLeft, PartAt, paths, without}
-use Rattle.rebuild_core.specs.Steps.{PlannedAt, entered}
+use Rattle.rebuild_core.specs.Steps.{PlannedAt}
 use Rattle.rebuild_core.specs.Swap.{IsLeftBySwap, IsSwapPlan}
 use Rattle.rebuild_core.proofs.ApartPaths.{clear_of_others, even_more, ones_moved}
 use Rattle.rebuild_core.proofs.Detached.{each_large, each_same, each_without, left_lawful, left_none, left_without}

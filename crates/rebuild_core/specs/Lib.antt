@@ -11,4 +11,6 @@ pub mod Detach
 pub mod Draft
 pub mod StateView
 pub mod Swap
+pub mod Entrants
+pub mod Ranks
 pub mod Waiting

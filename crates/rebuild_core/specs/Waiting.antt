@@ -1,7 +1,9 @@
 -- Items that wait to be put into a tree.
-use Rattle.std.specs.Prelude.{ℕ, ◌<◌, List, ◌++◌, All}
+use Rattle.std.specs.Prelude.{◌≡◌, ℕ, ◌<◌, ◌⊎◌, true, false, List, [], ◌∷◌, ◌++◌, All}
+use Rattle.point_geom.specs.Place.{Bounds}
+use Rattle.point_geom.specs.Boxes.{voxel}
 use Rattle.map_fold.specs.declared.item.Item.{Item}
-use Rattle.map_fold.specs.Contents.{AreContents}
+use Rattle.map_fold.specs.Contents.{AreContents, in_box}
 use Rattle.kd_tree.specs.Shape.{numbers}
 use Rattle.kd_tree.specs.Contents.{by_number, contents}
 use Rattle.kd_update.specs.Scan.{AreLive}
@@ -19,3 +21,15 @@ pub record IsWaiting (large next : ℕ) (w : Waiting) : Type 0 where
   pub given : All (λ i. i.number < next) w.items.items
   pub below : All (λ n. n < next) (numbers w.tree)
   pub even : IsEven large w.tree
+
+-- nothing that waits is in the box
+abbrev pub IsClear : Bounds → Waiting → Type 0
+IsClear c w = All (λ i. in_box c i ≡ false) w.items.items
+
+-- what waits is the same, or one item of the box more
+abbrev pub IsJoined : Bounds → Waiting → Waiting → Type 0
+IsJoined c before after = (after.items.items ≡ before.items.items) ⊎ ((i : Item) × (in_box c i ≡ true) × (after.items.items ≡ before.items.items ++ i ∷ []))
+
+-- nothing that waits is in the voxel of one of the items
+abbrev pub AreClear : ℕ → Waiting → List Item → Type 0
+AreClear edge w is = All (λ i. IsClear (voxel edge i.point) w) is

@@ -6,6 +6,7 @@ mod desk;
 mod detach;
 mod draft;
 mod enter;
+mod entrants;
 mod even;
 mod fault;
 mod job;

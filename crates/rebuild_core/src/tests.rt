@@ -4,6 +4,7 @@ ghost use Rattle.std.specs.Prelude.{◌≡◌, ◌≤◌, ◌<◌, ◌^◌};
 mod drawn;
 mod parts;
 mod rows;
+mod scans;
 mod schedules;
 mod thinning;
 

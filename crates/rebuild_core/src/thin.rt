@@ -15,7 +15,7 @@ ghost use Rattle.rebuild_core.specs.Parts.{PartAt};
 use crate::draft::added_one;
 use crate::scan::SCAN;
 use crate::work::Work;
-use kd_search::{best_in, count_in};
+use kd_search::{Rivals, rivals_in};
 use kd_tree::Steps;
 use map_fold::{Item, Label, NoMemory, Points, Settings, Tag};
 use point_geom::{Cuboid, Point, voxel};
@@ -74,7 +74,8 @@ fn thinned_one<L: Ledger>(
     let _size = work.tree.size();
     let large = settings.large();
     let cube = voxel(&point, settings.voxel());
-    let Some(held) = best_in(&work.tree, &cube) else {
+    let Rivals { best, count } = rivals_in(&work.tree, &cube);
+    let Some(held) = best else {
         return added_one(alloc, work, large, next, point, steps);
     };
     let new = Item {
@@ -85,7 +86,7 @@ fn thinned_one<L: Ledger>(
     if new.comes_before(&held, &cube) {
         return left_alone(alloc, work, large, next, &cube, new, steps);
     }
-    if count_in(&work.tree, &cube) == 1 {
+    if count == 1 {
         return Ok(work);
     }
     left_alone(alloc, work, large, next, &cube, held, steps)

@@ -1,7 +1,8 @@
 //! Points of a scan that have won their voxels, and wait to be put into the tree at once. Nothing here knows the state or what
 //! is watched.
-ghost use Rattle.std.specs.Prelude.{◌≡◌, ℕ, ◌+◌, ◌≤◌, ◌<◌, [], ◌∷◌, ◌&&◌, ◌↔◌, All, filter, length, IfOk, IfSome, IsNone};
-ghost use Rattle.node_labels.specs.Labels.{is_live, thin_tag};
+ghost use Rattle.std.specs.Prelude.{◌≡◌, ℕ, ◌+◌, ◌≤◌, ◌<◌, [], ◌∷◌, ◌++◌, ◌↔◌, All, length, IfOk, IfSome, IsNone};
+ghost use Rattle.point_geom.specs.Boxes.{voxel};
+ghost use Rattle.node_labels.specs.Labels.{thin_tag};
 ghost use Rattle.node_labels.specs.declared.label.Label.TheVariants.{Live};
 ghost use Rattle.map_fold.specs.Answers.{count, inside_all};
 ghost use Rattle.map_fold.specs.Contents.{in_box, mark, put, thin};
@@ -9,30 +10,30 @@ ghost use Rattle.map_fold.specs.Fold.{thin_points};
 ghost use Rattle.map_fold.specs.Ops.{IsUnheld};
 ghost use Rattle.kd_tree.specs.Shape.{numbers};
 ghost use Rattle.kd_tree.specs.Contents.{contents};
-ghost use Rattle.kd_search.specs.Best.{best_from, IsBest};
+ghost use Rattle.kd_search.specs.Best.{IsBest};
 ghost use Rattle.kd_update.specs.Update.{IsEven};
 ghost use Rattle.rebuild_core.specs.Lawful.{map_of};
-ghost use Rattle.rebuild_core.specs.Waiting.{IsWaiting, held_by};
+ghost use Rattle.rebuild_core.specs.Waiting.{IsClear, IsJoined, IsWaiting, held_by};
 
-use kd_search::{best_in, count_in};
+use crate::entrants::{Entrant, firsts};
+use kd_search::{Rivals, rivals_in};
 use kd_tree::{Steps, Tree};
 use kd_update::{marked, put_all};
-use map_fold::{Item, Label, NoMemory, Settings, Tag};
-use point_geom::{Cuboid, Point, voxel};
+use map_fold::{Item, NoMemory, Settings, Tag};
+use point_geom::{Cuboid, Point};
 use std::alloc::Global;
 use std::sync::ledger::Ledger;
 
-// So many wait at most. Each point looks through them, so that more would cost more than they save in a pass.
-const MOST_WAITING: usize = 512;
-
-// A tree, and live items that it doesn't hold yet. A point that beats one of these, or is turned away, makes no node.
+// A tree, and live items that it doesn't hold yet. A point that is turned away makes no node.
 #[derive(Drop)]
 pub(crate) struct Waiting {
     pub(crate) tree: Tree,
     pub(crate) items: Vec<Item>,
 }
 
-// The tree after each point in turn has taken the next number and thinned its voxel. Winners are put at once.
+// The tree after each point in turn has taken the next number and thinned its voxel. What that leaves doesn't depend on the
+// order of the voxels, and in a voxel only the first of the points counts: so the tree is searched once a voxel, and all that win
+// are put in one pass.
 pub(crate) fn thinned_at_once<L: Ledger>(
     alloc: Global,
     tree: Tree,
@@ -49,20 +50,21 @@ pub(crate) fn thinned_at_once<L: Ledger>(
     ensures even { IfOk result (λ t. IsEven settings.now.large t) }
 {
     let large = settings.large();
+    let high = next + points.len() as u32;
+    let entrants = firsts(alloc, settings, next, points)?;
+    let _size = tree.size();
     let mut waiting = Waiting::none(alloc, tree);
-    let mut next = next;
-    for point in points {
-        waiting = waiting.roomy(alloc, large, next, steps)?;
-        waiting = waiting.thinned(alloc, settings, next, *point, steps)?;
-        next += 1;
+    for entrant in entrants.as_slice() {
+        waiting = waiting.thinned(alloc, settings, high, entrant, steps)?;
     }
-    waiting.put(alloc, large, next, steps)
+    waiting.put(alloc, large, high, steps)
 }
 
 impl Waiting {
     fn none(alloc: Global, tree: Tree) -> Waiting
         ensures held { held_by result ≡ contents tree }
-        ensures waiting { (large next : ℕ) → All (λ n. n < next) (numbers tree) → IsEven large tree → IsWaiting large next result }
+        ensures waiting { (large high : ℕ) → All (λ n. n < high) (numbers tree) → IsEven large tree → IsWaiting large high result }
+        ensures none { result.items.items ≡ [] }
     {
         let _size = tree.size();
         Waiting {
@@ -71,38 +73,18 @@ impl Waiting {
         }
     }
 
-    // The same, with room for one more.
-    fn roomy<L: Ledger>(
-        self,
-        alloc: Global,
-        large: u32,
-        next: u32,
-        steps: &mut Steps<L>,
-    ) -> Result<Waiting, NoMemory>
-        requires waiting { IsWaiting large next self }
-        requires few { next ≤ 4194304 }
-        ensures held { IfOk result (λ w. held_by w ≡ held_by self) }
-        ensures waiting { IfOk result (λ w. IsWaiting large next w) }
-    {
-        if self.items.len() < MOST_WAITING {
-            return Ok(self);
-        }
-        let tree = self.put(alloc, large, next, steps)?;
-        Ok(Waiting::none(alloc, tree))
-    }
-
     // The tree with all that wait.
     fn put<L: Ledger>(
         self,
         alloc: Global,
         large: u32,
-        next: u32,
+        high: u32,
         steps: &mut Steps<L>,
     ) -> Result<Tree, NoMemory>
-        requires waiting { IsWaiting large next self }
-        requires few { next ≤ 4194304 }
+        requires waiting { IsWaiting large high self }
+        requires few { high ≤ 4194304 }
         ensures held { IfOk result (λ t. contents t ≡ held_by self) }
-        ensures below { IfOk result (λ t. All (λ n. n < next) (numbers t)) }
+        ensures below { IfOk result (λ t. All (λ n. n < high) (numbers t)) }
         ensures even { IfOk result (λ t. IsEven large t) }
     {
         let Waiting { tree, items } = self;
@@ -110,55 +92,51 @@ impl Waiting {
         put_all(alloc, tree, large, items.as_slice(), steps)
     }
 
-    // With the point under the next number, or without it where the voxel's best item stays.
+    // With the entrant, or without it where the voxel's best item stays. Nothing that waits lies in its voxel, so that the tree
+    // alone is searched.
     fn thinned<L: Ledger>(
         self,
         alloc: Global,
         settings: &Settings,
-        next: u32,
-        point: Point,
+        high: u32,
+        entrant: &Entrant,
         steps: &mut Steps<L>,
     ) -> Result<Waiting, NoMemory>
-        requires waiting { IsWaiting settings.now.large next self }
-        requires few { next < 4194304 }
-        ensures held { IfOk result (λ w. held_by w ≡ thin settings.now.voxel (held_by self) next point) }
-        ensures waiting { IfOk result (λ w. IsWaiting settings.now.large (next + 1) w) }
+        requires waiting { IsWaiting settings.now.large high self }
+        requires cube { entrant.now.cube ≡ voxel settings.now.voxel entrant.now.item.point }
+        requires live { entrant.now.item.label ≡ Live }
+        requires below { entrant.now.item.number < high }
+        requires new { IsUnheld entrant.now.item.number (held_by self) }
+        requires clear { IsClear entrant.now.cube self }
+        ensures held { IfOk result (λ w. held_by w ≡ thin settings.now.voxel (held_by self) entrant.now.item.number entrant.now.item.point) }
+        ensures waiting { IfOk result (λ w. IsWaiting settings.now.large high w) }
+        ensures joined { IfOk result (IsJoined entrant.now.cube self) }
     {
         let large = settings.large();
-        let cube = voxel(&point, settings.voxel());
-        let new = Item {
-            number: next,
-            point,
-            label: Label::Live,
-        };
-        let Some(best) = self.best(&cube) else {
-            return self.with(large, next, new);
+        let Entrant { item: new, cube } = *entrant;
+        let Rivals { best, count } = self.rivals(&cube);
+        let Some(best) = best else {
+            return self.with(large, high, new);
         };
         if new.comes_before(&best, &cube) {
-            let cleared = self.cleared(alloc, large, next, &cube, steps)?;
-            return cleared.with(large, next, new);
+            let cleared = self.cleared(alloc, large, high, &cube, steps)?;
+            return cleared.with(large, high, new);
         }
-        if self.count(&cube) == 1 {
+        if count == 1 {
             return Ok(self);
         }
-        let cleared = self.cleared(alloc, large, next, &cube, steps)?;
-        cleared.with(large, next, best)
+        let cleared = self.cleared(alloc, large, high, &cube, steps)?;
+        cleared.with(large, high, best)
     }
 
-    // The best of both in the cuboid.
-    fn best(&self, cuboid: &Cuboid) -> Option<Item>
-        ensures none { IsNone result ↔ (inside_all (held_by self.now) cuboid.now ≡ []) }
-        ensures best { IfSome result (IsBest (held_by self.now) cuboid.now) }
+    // What is live in the cuboid.
+    fn rivals(&self, cuboid: &Cuboid) -> Rivals
+        requires { IsClear cuboid.now self.now }
+        ensures none { IsNone result.best ↔ (inside_all (held_by self.now) cuboid.now ≡ []) }
+        ensures best { IfSome result.best (IsBest (held_by self.now) cuboid.now) }
+        ensures count { result.count ≡ count (held_by self.now) cuboid.now }
     {
-        let best = best_in(&self.tree, cuboid);
-        best_among(self.items.as_slice(), cuboid, best)
-    }
-
-    // How many of both are live in the cuboid.
-    fn count(&self, cuboid: &Cuboid) -> usize
-        ensures { result ≡ count (held_by self.now) cuboid.now }
-    {
-        count_in(&self.tree, cuboid) as usize + count_among(self.items.as_slice(), cuboid)
+        rivals_in(&self.tree, cuboid)
     }
 
     // Without what is live in the cuboid.
@@ -166,89 +144,34 @@ impl Waiting {
         self,
         alloc: Global,
         large: u32,
-        next: u32,
+        high: u32,
         cuboid: &Cuboid,
         steps: &mut Steps<L>,
     ) -> Result<Waiting, NoMemory>
-        requires waiting { IsWaiting large next self }
+        requires waiting { IsWaiting large high self }
+        requires clear { IsClear cuboid.now self }
         ensures held { IfOk result (λ w. held_by w ≡ mark (held_by self) (in_box cuboid.now) thin_tag) }
-        ensures waiting { IfOk result (λ w. IsWaiting large next w) }
+        ensures waiting { IfOk result (λ w. IsWaiting large high w) }
+        ensures same { IfOk result (λ w. w.items.items ≡ self.items.items) }
     {
-        let Waiting { tree, mut items } = self;
+        let Waiting { tree, items } = self;
         let _size = tree.size();
-        let tree = cleared_tree(alloc, tree, large, next, cuboid, steps)?;
-        items.retain(|i| !i.is_live_in(cuboid));
+        let tree = marked(alloc, tree, large, cuboid, Tag::THIN, steps)?;
         Ok(Waiting { tree, items })
     }
 
     // With one more that waits.
-    fn with(self, large: u32, next: u32, item: Item) -> Result<Waiting, NoMemory>
-        requires waiting { IsWaiting large next self }
+    fn with(self, large: u32, high: u32, item: Item) -> Result<Waiting, NoMemory>
+        requires waiting { IsWaiting large high self }
         requires live { item.label ≡ Live }
-        requires below { item.number < next + 1 }
+        requires below { item.number < high }
         requires new { IsUnheld item.number (held_by self) }
         ensures held { IfOk result (λ w. held_by w ≡ put (held_by self) item.number item.point) }
-        ensures waiting { IfOk result (λ w. IsWaiting large (next + 1) w) }
+        ensures waiting { IfOk result (λ w. IsWaiting large high w) }
+        ensures one { IfOk result (λ w. w.items.items ≡ self.items.items ++ item ∷ []) }
     {
         let Waiting { tree, mut items } = self;
         items.push(item)?;
         Ok(Waiting { tree, items })
     }
-}
-
-// The best of the best so far and the items.
-fn best_among(items: &[Item], cuboid: &Cuboid, best: Option<Item>) -> Option<Item>
-    ensures { result ≡ best_from cuboid.now best (inside_all items.now cuboid.now) }
-{
-    let mut best = best;
-    for item in items {
-        best = better(cuboid, best, item);
-    }
-    best
-}
-
-fn better(cuboid: &Cuboid, best: Option<Item>, item: &Item) -> Option<Item>
-    ensures { result ≡ best_from cuboid.now best (inside_all (item.now ∷ []) cuboid.now) }
-{
-    if !item.is_live_in(cuboid) {
-        return best;
-    }
-    match best {
-        None => Some(*item),
-        Some(held) => {
-            if item.comes_before(&held, cuboid) {
-                Some(*item)
-            } else {
-                Some(held)
-            }
-        }
-    }
-}
-
-fn count_among(items: &[Item], cuboid: &Cuboid) -> usize
-    ensures value { result ≡ length (filter (λ i. is_live i.label && in_box cuboid.now i) items.now) }
-    ensures few { result ≤ length items.now }
-{
-    items.iter().filter(|i| i.is_live_in(cuboid)).count()
-}
-
-// The tree without what is live in the cuboid. Where nothing is, no node is made.
-fn cleared_tree<L: Ledger>(
-    alloc: Global,
-    tree: Tree,
-    large: u32,
-    next: u32,
-    cuboid: &Cuboid,
-    steps: &mut Steps<L>,
-) -> Result<Tree, NoMemory>
-    requires below { All (λ n. n < next) (numbers tree) }
-    ensures contents { IfOk result (λ t. contents t ≡ mark (contents tree) (in_box cuboid.now) thin_tag) }
-    ensures below { IfOk result (λ t. All (λ n. n < next) (numbers t)) }
-    ensures even { IsEven large tree → IfOk result (λ t. IsEven large t) }
-{
-    let _size = tree.size();
-    if count_in(&tree, cuboid) == 0 {
-        return Ok(tree);
-    }
-    marked(alloc, tree, large, cuboid, Tag::THIN, steps)
 }

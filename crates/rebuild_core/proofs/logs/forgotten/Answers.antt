@@ -1,6 +1,6 @@
 use Rattle.std.proofs.Common.{List, [], ◌∷◌, ◌++◌, None, ap, sym, ◌∙◌, append-nil}
 use Rattle.std.proofs.lemmas.List.{take_all}
-use Rattle.rebuild_core.specs.Logs.{LogPlan, planned_parts}
+use Rattle.rebuild_core.specs.Logs.{planned_parts}
 use Rattle.rebuild_core.specs.Parts.{PartAt}
 use Rattle.rebuild_core.proofs.PartLogs.{forget_next}
 use Rattle.rebuild_core.proofs.logs.forgotten.Goals as goal

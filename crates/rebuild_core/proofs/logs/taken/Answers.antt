@@ -1,6 +1,4 @@
-use Rattle.std.proofs.Common.{◌≡◌, List, [], ◌∷◌, ap, sym, ◌∙◌}
-use Rattle.std.specs.List.{remove}
-use Rattle.kd_tree.specs.declared.path.Side.{Side}
+use Rattle.std.proofs.Common.{◌≡◌, ◌∷◌, ap, sym, ◌∙◌}
 use Rattle.kd_update.specs.declared.watch.Watch.{Watch}
 use Rattle.rebuild_core.proofs.PartLogs.{first_taken}
 use Rattle.rebuild_core.proofs.logs.taken.Goals as goal

@@ -1,4 +1,4 @@
-use Rattle.std.proofs.Common.{◌≡◌, List, ap, ◌∙◌, refl, sym}
+use Rattle.std.proofs.Common.{List, ap, ◌∙◌, refl, sym}
 use Rattle.std.specs.List.{remove}
 use Rattle.kd_tree.specs.declared.path.Side.{Side}
 use Rattle.rebuild_core.specs.Parts.{PartAt, paths}

@@ -1,4 +1,4 @@
-use Rattle.std.proofs.Common.{◌+◌, ◌∙◌, arith, subst, sym}
+use Rattle.std.proofs.Common.{◌+◌, arith, subst, sym}
 use Rattle.std.proofs.lemmas.Result.{IfOk-weaker}
 use Rattle.map_fold.specs.Ops.{IsUnheld}
 use Rattle.kd_tree.proofs.Contents.{unheld_free}

@@ -19,7 +19,7 @@ returns-in_default-clause-contents g c =
     let edge = c.args.settings.now.voxel in
     let m = contents c.args.work.tree in
     let same : c.voxel-cube.result ≡ voxel edge c.args.point = rw c.voxel.ensures.value at c.voxel-cube.ensures.value in
-    let none : inside_all m (voxel edge c.args.point) ≡ [] = rw same at (c.in_default.ensures.none.0 refl) in
+    let none : inside_all m (voxel edge c.args.point) ≡ [] = rw same at (c.rivals_in-best.ensures.none.0 (rw c.in_default.is refl)) in
     let held = draft_contents c.args.settings.now.large c.args.next c.args.work c.size-size.ensures.sound c.requires.draft in
     becomes c.added_one.result (put m c.args.next c.args.point) (thin edge m c.args.next c.args.point) (sym (thin_none edge c.args.next m c.args.point held none)) c.added_one.ensures.contents
 
@@ -30,7 +30,7 @@ left_alone-requires-clause-new g c =
     let p = c.args.point in
     let m = contents c.args.work.tree in
     let same : c.voxel-cube.result ≡ voxel edge p = rw c.voxel.ensures.value at c.voxel-cube.ensures.value in
-    let best : IsBest m (voxel edge p) c.in-Some.held = rw same at c.in-Some.ensures.best in
+    let best : IsBest m (voxel edge p) c.in-Some.held = rw (same, c.in-Some.is) at c.rivals_in-best.ensures.first in
     let before : comes_before (voxel edge p) (live_at n p) c.in-Some.held ≡ true = rw same at (sym c.comes_before.ensures ∙ c.if-comes_before.true) in
     let held = draft_contents c.args.settings.now.large n c.args.work c.size-size.ensures.sound c.requires.draft in
     rw same (subst (λ (i : Item). IsUnheld i.number (mark m (in_box (voxel edge p)) thin_tag)) (new_wins edge n m p c.in-Some.held best before) (winner_unheld edge n m p held))
@@ -42,28 +42,28 @@ returns-then-comes_before-clause-contents g c =
     let p = c.args.point in
     let m = contents c.args.work.tree in
     let same : c.voxel-cube.result ≡ voxel edge p = rw c.voxel.ensures.value at c.voxel-cube.ensures.value in
-    let best : IsBest m (voxel edge p) c.in-Some.held = rw same at c.in-Some.ensures.best in
+    let best : IsBest m (voxel edge p) c.in-Some.held = rw (same, c.in-Some.is) at c.rivals_in-best.ensures.first in
     let before : comes_before (voxel edge p) (live_at n p) c.in-Some.held ≡ true = rw same at (sym c.comes_before.ensures ∙ c.if-comes_before.true) in
     let wins = new_wins edge n m p c.in-Some.held best before in
     becomes c.left_alone.result (put (mark m (in_box c.voxel-cube.result) thin_tag) n p) (thin edge m n p)
     (ap (λ (b : Bounds). put (mark m (in_box b) thin_tag) n p) same ∙ ap (λ (i : Item). put (mark m (in_box (voxel edge p)) thin_tag) i.number i.point) (sym wins))
     c.left_alone.ensures.contents
 
-pub returns-then-count_in-eq1-clause-contents : goal.returns-then-count_in-eq1-clause-contents
-returns-then-count_in-eq1-clause-contents g c =
+pub returns-then-count-eq1-clause-contents : goal.returns-then-count-eq1-clause-contents
+returns-then-count-eq1-clause-contents g c =
     let edge = c.args.settings.now.voxel in
     let n = c.args.next in
     let p = c.args.point in
     let m = contents c.args.work.tree in
     let same : c.voxel-cube.result ≡ voxel edge p = rw c.voxel.ensures.value at c.voxel-cube.ensures.value in
-    let best : IsBest m (voxel edge p) c.in-Some.held = rw same at c.in-Some.ensures.best in
+    let best : IsBest m (voxel edge p) c.in-Some.held = rw (same, c.in-Some.is) at c.rivals_in-best.ensures.first in
     let behind : comes_before (voxel edge p) (live_at n p) c.in-Some.held ≡ false = rw same at (sym c.comes_before.ensures ∙ c.if-comes_before.false) in
-    let one : length (inside_all m (voxel edge p)) ≡ 1 = rw same at (sym c.count_in.ensures ∙ c.if-count_in-eq1.true) in
+    let one : length (inside_all m (voxel edge p)) ≡ 1 = rw same at (sym c.rivals_in-best.ensures.count ∙ c.if-count-eq1.true) in
     let held = draft_contents c.args.settings.now.large n c.args.work c.size-size.ensures.sound c.requires.draft in
     sym (thin_same edge n m p c.in-Some.held held (alone_inside m (voxel edge p) c.in-Some.held best one) behind)
 
-pub returns-then-count_in-eq1-clause-draft : goal.returns-then-count_in-eq1-clause-draft
-returns-then-count_in-eq1-clause-draft g c = λ last ps d.
+pub returns-then-count-eq1-clause-draft : goal.returns-then-count-eq1-clause-draft
+returns-then-count-eq1-clause-draft g c = λ last ps d.
     (ps, left_itself ps, draft_more c.args.settings.now.large c.args.next (c.args.next + 1) last ps c.args.work (omega arith) d)
 
 pub left_alone-requires-2-clause-below : goal.left_alone-requires-2-clause-below
@@ -73,7 +73,7 @@ left_alone-requires-2-clause-below g c =
     let p = c.args.point in
     let m = contents c.args.work.tree in
     let same : c.voxel-cube.result ≡ voxel edge p = rw c.voxel.ensures.value at c.voxel-cube.ensures.value in
-    let best : IsBest m (voxel edge p) c.in-Some.held = rw same at c.in-Some.ensures.best in
+    let best : IsBest m (voxel edge p) c.in-Some.held = rw (same, c.in-Some.is) at c.rivals_in-best.ensures.first in
     let behind : comes_before (voxel edge p) (live_at n p) c.in-Some.held ≡ false = rw same at (sym c.comes_before.ensures ∙ c.if-comes_before.false) in
     let held = draft_contents c.args.settings.now.large n c.args.work c.size-size.ensures.sound c.requires.draft in
     subst (λ (i : Item). i.number < n + 1) (held_wins edge n m p c.in-Some.held best behind) (winner_number edge n m p held)
@@ -85,7 +85,7 @@ left_alone-requires-2-clause-new g c =
     let p = c.args.point in
     let m = contents c.args.work.tree in
     let same : c.voxel-cube.result ≡ voxel edge p = rw c.voxel.ensures.value at c.voxel-cube.ensures.value in
-    let best : IsBest m (voxel edge p) c.in-Some.held = rw same at c.in-Some.ensures.best in
+    let best : IsBest m (voxel edge p) c.in-Some.held = rw (same, c.in-Some.is) at c.rivals_in-best.ensures.first in
     let behind : comes_before (voxel edge p) (live_at n p) c.in-Some.held ≡ false = rw same at (sym c.comes_before.ensures ∙ c.if-comes_before.false) in
     let held = draft_contents c.args.settings.now.large n c.args.work c.size-size.ensures.sound c.requires.draft in
     rw same (subst (λ (i : Item). IsUnheld i.number (mark m (in_box (voxel edge p)) thin_tag)) (held_wins edge n m p c.in-Some.held best behind) (winner_unheld edge n m p held))
@@ -97,9 +97,12 @@ returns-clause-contents g c =
     let p = c.args.point in
     let m = contents c.args.work.tree in
     let same : c.voxel-cube.result ≡ voxel edge p = rw c.voxel.ensures.value at c.voxel-cube.ensures.value in
-    let best : IsBest m (voxel edge p) c.in-Some.held = rw same at c.in-Some.ensures.best in
+    let best : IsBest m (voxel edge p) c.in-Some.held = rw (same, c.in-Some.is) at c.rivals_in-best.ensures.first in
     let behind : comes_before (voxel edge p) (live_at n p) c.in-Some.held ≡ false = rw same at (sym c.comes_before.ensures ∙ c.if-comes_before.false) in
     let wins = held_wins edge n m p c.in-Some.held best behind in
     becomes c.left_alone-2.result (put (mark m (in_box c.voxel-cube.result) thin_tag) c.in-Some.held.number c.in-Some.held.point) (thin edge m n p)
     (ap (λ (b : Bounds). put (mark m (in_box b) thin_tag) c.in-Some.held.number c.in-Some.held.point) same ∙ ap (λ (i : Item). put (mark m (in_box (voxel edge p)) thin_tag) i.number i.point) (sym wins))
     c.left_alone-2.ensures.contents
+
+pub returns-clause-draft : goal.returns-clause-draft
+returns-clause-draft g c = rw c.large-large.ensures.value at c.left_alone-2.ensures.draft

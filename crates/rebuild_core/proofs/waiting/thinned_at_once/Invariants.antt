@@ -1,12 +1,15 @@
-use Rattle.std.proofs.Common.{◌≡◌, ◌+◌, length, drop}
-use Rattle.map_fold.specs.Fold.{MapAt, thin_points}
-use Rattle.rebuild_core.specs.Lawful.{map_of}
-use Rattle.rebuild_core.specs.Waiting.{IsWaiting, held_by}
+use Rattle.std.proofs.Common.{◌≡◌, drop}
+use Rattle.kd_tree.specs.Contents.{contents}
+use Rattle.rebuild_core.specs.Entrants.{AreApart, AreEntrants, thin_each}
+use Rattle.rebuild_core.specs.Ranks.{items_in}
+use Rattle.rebuild_core.specs.Waiting.{AreClear, IsWaiting, held_by}
 use Rattle.rebuild_core.proofs.waiting.thinned_at_once.Given as goal
 
-abbrev pub invariant-loop-point : goal.invariant-loop-point
-invariant-loop-point g l = record {
-  waiting : IsWaiting l.settings.large l.next l.waiting;
-  room : l.next + length (drop l.point-index l.points) ≡ l.fn.next + length l.points;
-  rest : thin_points l.settings.voxel (drop l.point-index l.points) (record { items = held_by l.waiting; next = l.next }) ≡ thin_points l.settings.voxel l.points (map_of l.fn.tree l.fn.next);
+abbrev pub invariant-loop-entrant : goal.invariant-loop-entrant
+invariant-loop-entrant g l = let edge = l.settings.voxel in let left = items_in (drop l.entrant-index l.entrant-items) in record {
+  waiting : IsWaiting l.settings.large l.high l.waiting;
+  rest : thin_each edge (held_by l.waiting) left ≡ thin_each edge (contents l.fn.tree) (items_in l.entrant-items);
+  ready : AreEntrants l.high (held_by l.waiting) left;
+  apart : AreApart edge left;
+  clear : AreClear edge l.waiting left;
 }

@@ -1,4 +1,4 @@
-use Rattle.std.proofs.Common.{◌∙◌, ap, arith}
+use Rattle.std.proofs.Common.{◌∙◌, ap}
 use Rattle.rebuild_core.specs.Lawful.{StateAt, Stored}
 use Rattle.rebuild_core.specs.StateView.{state_of}
 use Rattle.rebuild_core.proofs.OnePoint.{turned_copy}

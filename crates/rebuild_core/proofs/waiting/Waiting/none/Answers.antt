@@ -1,4 +1,4 @@
-use Rattle.std.proofs.Common.{◌<◌, [], List, subst, sym}
+use Rattle.std.proofs.Common.{◌<◌, List, subst, sym}
 use Rattle.std.specs.Prelude.{All}
 use Rattle.std.proofs.lemmas.List.Elements.{All-nil}
 use Rattle.map_fold.specs.declared.item.Item.{Item}
@@ -13,14 +13,14 @@ pub returns-clause-held : goal.returns-clause-held
 returns-clause-held c = rw c.new.ensures.items (none_held c.args.tree c.size-size.ensures.sound)
 
 pub returns-clause-waiting : goal.returns-clause-waiting
-returns-clause-waiting c = λ large next below even.
+returns-clause-waiting c = λ large high below even.
     let t = c.args.tree in
     let none = sym c.new.ensures.items in
-    let held = subst (AreContents 0 next) (sym (none_held t c.size-size.ensures.sound)) (are_contents next t c.size-size.ensures.sound below) in
+    let held = subst (AreContents 0 high) (sym (none_held t c.size-size.ensures.sound)) (are_contents high t c.size-size.ensures.sound below) in
     record {
       live = subst AreLive none (All-nil IsLive);
-      held = subst (λ (ws : List Item). AreContents 0 next (both t ws)) none held;
-      given = subst (All (λ (i : Item). i.number < next)) none (All-nil (λ (i : Item). i.number < next));
+      held = subst (λ (ws : List Item). AreContents 0 high (both t ws)) none held;
+      given = subst (All (λ (i : Item). i.number < high)) none (All-nil (λ (i : Item). i.number < high));
       below = below;
       even = even;
     }

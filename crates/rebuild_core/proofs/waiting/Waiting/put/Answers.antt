@@ -15,21 +15,21 @@ put_all-requires g c =
     let t = c.args.self.tree in
     let ws = c.args.self.items.items in
     let k = c.requires.waiting in
-    record { fit = subst (λ (xs : List Item). MayJoin (contents t) xs) (sym c.as_slice.ensures.value) (may_join c.args.next t ws c.requires.few k.live k.held) }
+    record { fit = subst (λ (xs : List Item). MayJoin (contents t) xs) (sym c.as_slice.ensures.value) (may_join c.args.high t ws c.requires.few k.live k.held) }
 
 pub returns-clause-held : goal.returns-clause-held
 returns-clause-held g c =
     let t = c.args.self.tree in
     let k = c.requires.waiting in
     IfOk-weaker c.put_all.result _ (λ u. contents u ≡ held_by c.args.self)
-    (λ u e. e ∙ ap (put_each (contents t)) c.as_slice.ensures.value ∙ put_held c.args.next t c.args.self.items.items c.size-size.ensures.sound k.live k.held) c.put_all.ensures.contents
+    (λ u e. e ∙ ap (put_each (contents t)) c.as_slice.ensures.value ∙ put_held c.args.high t c.args.self.items.items c.size-size.ensures.sound k.live k.held) c.put_all.ensures.contents
 
 pub returns-clause-below : goal.returns-clause-below
 returns-clause-below g c =
     let t = c.args.self.tree in
     let ws = c.args.self.items.items in
-    let next = c.args.next in
+    let high = c.args.high in
     let k = c.requires.waiting in
-    IfOk-weaker c.put_all.result _ (λ u. All (λ n. n < next) (numbers u))
-    (λ u among. among_below next (numbers_in ws) (numbers t) (numbers u) (subst (λ (xs : List Item). AreAmong (numbers u) (numbers_in xs ++ numbers t)) c.as_slice.ensures.value among) (numbers_below next ws k.given) k.below)
+    IfOk-weaker c.put_all.result _ (λ u. All (λ n. n < high) (numbers u))
+    (λ u among. among_below high (numbers_in ws) (numbers t) (numbers u) (subst (λ (xs : List Item). AreAmong (numbers u) (numbers_in xs ++ numbers t)) c.as_slice.ensures.value among) (numbers_below high ws k.given) k.below)
     c.put_all.ensures.numbers

@@ -1,4 +1,4 @@
-use Rattle.std.proofs.Common.{◌≡◌, ◌∷◌, ◌≤◌, List, [], ap, sym, ◌∙◌, refl, subst, arith}
+use Rattle.std.proofs.Common.{◌≡◌, ◌∷◌, ◌≤◌, List, ap, sym, ◌∙◌, refl, subst, arith}
 use Rattle.kd_tree.specs.Shape.{Shape, levels, nodes, numbers}
 use Rattle.kd_tree.specs.Apart.{IsClear}
 use Rattle.kd_tree.specs.declared.path.Side.{Side}
@@ -9,7 +9,6 @@ use Rattle.kd_update.specs.Watches.{paths_in}
 use Rattle.kd_update.proofs.StandsFor.{replaced_nodes}
 use Rattle.kd_update.proofs.Update.{calm_even}
 use Rattle.rebuild_core.specs.Draft.{IsDraftLeft}
-use Rattle.rebuild_core.specs.declared.work.Work.{Work}
 use Rattle.rebuild_core.proofs.Working.{among_part, at_numbers, draft_anew, draft_without, levels_kept, without_of}
 use Rattle.rebuild_core.proofs.work.Work.without.Goals as goal
 

@@ -1,0 +1,58 @@
+-- Points of one voxel have the same voxel.
+use Rattle.std.proofs.Common.{◌≡◌, ℕ, ◌+◌, ◌*◌, ◌<◌, ◌≤◌, ℤ, pos, negsuc, ◌+ℤ◌, ◌*ℤ◌, ◌≤ℤ◌, ◌<ℤ◌, suc, true, ap, ◌∙◌, sym, arith, lt_of_mul-lt-mul_right, int_le, int_lt}
+use Rattle.std.proofs.lemmas.Bool.{and_parts}
+use Rattle.std.proofs.lemmas.Int.{ints}
+use Rattle.point_geom.specs.Place.{Place}
+use Rattle.point_geom.specs.Boxes.{is_between, holds, cube, voxel, IsMultiple}
+use Rattle.point_geom.proofs.Laws.{all_parts, places_alike, voxel_held, voxel_on_grid}
+
+between_parts : (lo c hi : ℤ) → is_between lo c hi ≡ true → (lo ≤ℤ c) × (c <ℤ hi)
+between_parts lo c hi h =
+    let p = and_parts (int_le lo c) (int_lt c hi) h in
+    let low = p.0 in
+    let high = p.1 in (grind (arith, ints), grind (arith, ints))
+
+-- a multiple below the next one of another is no greater than that one
+times_less : (a b n : ℕ) → a * n < suc b * n → a ≤ b
+times_less a b n h = let below : a < suc b = lt_of_mul-lt-mul_right n h in omega arith
+
+-- one multiple alone stands where a number is on or above it, and below the next
+multiple_alone : (n : ℕ) (k l c : ℤ) → 1 ≤ n → (k *ℤ pos n) ≤ℤ c → c <ℤ ((k *ℤ pos n) +ℤ pos n) → (l *ℤ pos n) ≤ℤ c → c <ℤ ((l *ℤ pos n) +ℤ pos n) → k ≡ l
+multiple_alone n (pos a) (pos b) c from h k u v =
+    let more : suc a * n ≡ a * n + n = grind arith in
+    let more_yet : suc b * n ≡ b * n + n = grind arith in
+    let one = times_less a b n (omega (arith, ints)) in
+    let two = times_less b a n (omega (arith, ints)) in
+    let same : a ≡ b = omega arith in ap pos same
+multiple_alone n (pos a) (negsuc b) c from h k u v =
+    let more : suc b * n ≡ b * n + n = grind arith in absurd (omega (arith, ints))
+multiple_alone n (negsuc a) (pos b) c from h k u v =
+    let more : suc a * n ≡ a * n + n = grind arith in absurd (omega (arith, ints))
+multiple_alone n (negsuc a) (negsuc b) c from h k u v =
+    let more : suc (suc a) * n ≡ suc a * n + n = grind arith in
+    let more_yet : suc (suc b) * n ≡ suc b * n + n = grind arith in
+    let one = times_less (suc a) (suc b) n (omega (arith, ints)) in
+    let two = times_less (suc b) (suc a) n (omega (arith, ints)) in
+    let same : a ≡ b = omega arith in ap negsuc same
+
+-- on one axis, two cells that hold a number are one
+cell_alone : (n : ℕ) (s t c : ℤ) → 1 ≤ n → IsMultiple n s → IsMultiple n t → is_between s c (s +ℤ pos n) ≡ true → is_between t c (t +ℤ pos n) ≡ true → s ≡ t
+cell_alone n s t c from m o h k =
+    let a = between_parts s c (s +ℤ pos n) h in
+    let b = between_parts t c (t +ℤ pos n) k in
+    let e = m.1 in
+    let f = o.1 in
+    let same = multiple_alone n m.0 o.0 c from (rw e at a.0) (rw e at a.1) (rw f at b.0) (rw f at b.1) in
+    e ∙ (ap (λ (x : ℤ). x *ℤ pos n) same ∙ sym f)
+
+-- the voxel of what a voxel holds is that voxel
+pub voxel_of : (edge : ℕ) (p q : Place) → 1 ≤ edge → holds (voxel edge p) q ≡ true → voxel edge q ≡ voxel edge p
+voxel_of edge p q from h =
+    let own = all_parts _ _ _ (voxel_held edge q from) in
+    let other = all_parts _ _ _ h in
+    let here = voxel_on_grid edge q from in
+    let there = voxel_on_grid edge p from in
+    ap (cube edge) (places_alike (voxel edge q).lo (voxel edge p).lo
+    (cell_alone edge _ _ q.x from here.x there.x own.0 other.0)
+    (cell_alone edge _ _ q.y from here.y there.y own.1 other.1)
+    (cell_alone edge _ _ q.z from here.z there.z own.2 other.2))
