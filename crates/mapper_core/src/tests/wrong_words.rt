@@ -25,7 +25,7 @@ fn words_that_ask_for_nothing_are_refused(rt: HostRuntime) -> Result<(), Fail> {
         "make -- 1",
         "make 1 1",
         "make 201",
-        "make scope.md",
+        "make readme.md",
         "drive",
         "drive 201",
         "drive 4294967297",
