@@ -12,7 +12,7 @@ ghost use Rattle.kd_tree.specs.Parts.{contents_of_parts, fork_in, fork_of, joine
 ghost use Rattle.kd_tree.specs.View.{IsKeptAt, IsOpened, IsTakenOf, shape_at, top_of};
 
 use crate::node::Node;
-use crate::{Steps, Tree};
+use crate::{Scratch, Steps, Tree};
 use map_fold::{Item, NoMemory, Tag};
 use point_geom::Axis;
 use std::alloc::Global;
@@ -51,6 +51,7 @@ pub(crate) struct Opened {
 impl Tree {
     /// The tree taken apart at its top node, if it has one, as `push_down` does. Where nobody else holds the node, its memory is
     /// kept. Where memory is wanting, the tree is let go.
+    #[inline]
     pub fn take_apart<L: Ledger>(
         self,
         alloc: Global,
@@ -82,6 +83,7 @@ impl Tree {
 
     /// Joins the parts to a tree with nothing pending at its top, as `pull_up` does. Where memory was kept, the node is made in
     /// it. Where memory is wanting, the parts are let go.
+    #[inline]
     pub fn put_together<L: Ledger>(
         alloc: Global,
         node: OpenNode,
@@ -109,6 +111,7 @@ impl Tree {
     }
 
     // The top node, if there is one.
+    #[inline]
     pub(crate) fn opened(self) -> Result<Option<Opened>, NoMemory>
         ensures { IfOk result (λ o. IsOpened self o) }
     {
@@ -122,6 +125,7 @@ impl Tree {
     }
 
     // The top node, if nobody else holds it, and else the tree as it was.
+    #[inline]
     pub(crate) fn opened_if_own(self) -> Result<Opened, Tree>
         ensures own { IfOk result (λ o. IsOpened self (Some o)) }
         ensures stays { IfErr result (λ t. t ≡ self) }
@@ -161,19 +165,21 @@ impl Opened {
 }
 
 impl Block {
-    pub(crate) fn none() -> Block {
+    /// No memory.
+    pub fn none() -> Block {
         Block { node: None }
     }
 
-    // The last of the blocks, if there is one.
-    pub(crate) fn last_of(blocks: &mut Vec<Block>) -> Block {
-        match blocks.pop() {
-            None => Block::none(),
-            Some(block) => block,
+    /// This memory, or some of the scratch's where none is kept.
+    pub fn or_of(self, scratch: &mut Scratch) -> Block {
+        match self.node {
+            Some(node) => Block { node: Some(node) },
+            None => scratch.block(),
         }
     }
 
     // The tree of this node. Where memory is kept that nobody else holds, it is in that.
+    #[inline]
     pub(crate) fn filled(self, alloc: Global, node: Node) -> Result<Tree, NoMemory>
         requires { IsKeptAt node }
         ensures { IfOk result (λ t. t ≡ shape_at node) }
@@ -190,6 +196,7 @@ impl Block {
 }
 
 // The parts of the node in this block. Where somebody else holds it, its sons are copied.
+#[inline]
 fn taken(block: Arc<Node>) -> Result<Opened, NoMemory>
     ensures { IfOk result (λ o. IsTakenOf (arc_value block) o) }
 {
@@ -207,6 +214,7 @@ fn taken(block: Arc<Node>) -> Result<Opened, NoMemory>
 }
 
 // The same where nobody else holds the block: the sons are taken out of it. Else the block as it was.
+#[inline]
 fn taken_if_own(mut block: Arc<Node>) -> Result<Opened, Arc<Node>>
     ensures own { IfOk result (λ o. IsTakenOf (arc_value block) o) }
     ensures stays { IfErr result (λ b. arc_value b ≡ arc_value block) }

@@ -1,5 +1,5 @@
-//! Building anew in memory that is used again: a list of items, and the memory of the old nodes. Which nodes may be used
-//! again, `open_node.rt` knows alone.
+//! Memory that is used again: a list of items, and the memory of old nodes. Which nodes may be used again, `open_node.rt` knows
+//! alone.
 ghost use Rattle.std.specs.Prelude.{◌≡◌, ◌+◌, ◌<◌, ◌≤◌, ◌^◌, ◌++◌, ℕ, IfOk, OnOk, IsPermutation, length, map};
 ghost use Rattle.node_labels.specs.Labels.{keep_tag};
 ghost use Rattle.kd_tree.specs.Shape.{levels, nodes, numbers};
@@ -8,6 +8,7 @@ ghost use Rattle.kd_tree.specs.Contents.{AreDistinct, AreKept, by_number, conten
 ghost use Rattle.kd_tree.specs.Criteria.{IsCalm};
 ghost use Rattle.kd_tree.specs.Build.{IsBuilt};
 
+use crate::blocks::Blocks;
 use crate::build::built;
 use crate::flatten::{gather_owed, push_kept};
 use crate::{Block, Steps, Tree};
@@ -15,11 +16,11 @@ use map_fold::{Item, NoMemory, Tag};
 use std::alloc::Global;
 use std::sync::ledger::Ledger;
 
-/// Memory that building anew uses over and over. What it holds between two calls means nothing.
+/// Memory for new nodes, and for building anew. What it holds between two calls means nothing.
 #[derive(Debug, Drop)]
 pub struct Scratch {
     items: Vec<Item>,
-    blocks: Vec<Block>,
+    blocks: Blocks,
 }
 
 impl Scratch {
@@ -27,8 +28,19 @@ impl Scratch {
     pub fn new(alloc: Global) -> Scratch {
         Scratch {
             items: Vec::new(alloc),
-            blocks: Vec::new(alloc),
+            blocks: Blocks::new(alloc),
         }
+    }
+
+    /// Takes in a tree that its owner lets go, for the memory of the nodes that nobody else holds. What is left of the tree before it
+    /// is let go.
+    pub fn take_in(&mut self, tree: Tree) {
+        self.blocks.take_in(tree)
+    }
+
+    /// The memory of a node, if it has any.
+    pub fn block(&mut self) -> Block {
+        self.blocks.next()
     }
 }
 
@@ -77,7 +89,7 @@ fn empty_owed(
     tree: Tree,
     owed: Tag,
     items: &mut Vec<Item>,
-    blocks: &mut Vec<Block>,
+    blocks: &mut Blocks,
 ) -> Result<(), NoMemory>
     ensures { OnOk result (items.new.items ≡ items.old.items ++ walk owed tree) }
 {

@@ -11,7 +11,7 @@ ghost use Rattle.kd_update.specs.Made.{entered_put};
 ghost use Rattle.kd_update.specs.Put.{IsRouteCalm, goes_left, leaf_of, put_from, put_shape};
 
 use crate::rebuild::rejoined;
-use kd_tree::{Fork, OpenNode, Steps, Tree};
+use kd_tree::{Block, OpenNode, Steps, Tree};
 use map_fold::{Item, Label, NoMemory};
 use point_geom::{Axis, Point};
 use std::alloc::Global;
@@ -52,16 +52,17 @@ pub fn put<L: Ledger>(
         point,
         label: Label::Live,
     };
-    put_below(alloc, tree, large, item, Axis::X, steps)
+    put_below(alloc, tree, large, item, Axis::X, Block::none(), steps)
 }
 
-// The same, by shape. The axis is that of the new leaf, should the tree be empty.
+// The same, by shape. The axis is that of the new leaf, should the tree be empty, and the block is what the leaf is made in.
 pub(crate) fn put_below<L: Ledger>(
     alloc: Global,
     tree: Tree,
     large: u32,
     item: Item,
     axis: Axis,
+    block: Block,
     steps: &mut Steps<L>,
 ) -> Result<Tree, NoMemory>
     requires live { item ≡ live_at item.number item.point }
@@ -75,14 +76,16 @@ pub(crate) fn put_below<L: Ledger>(
 {
     let _size = tree.size();
     let Some(node) = tree.take_apart(alloc, steps)? else {
-        return leaf(alloc, item, axis, steps);
+        return leaf(alloc, item, axis, block, steps);
     };
     let axis = node.axis;
     if goes_left(&item.point, axis, &node.item.point) {
-        let left = put_below(alloc, node.left, large, item, axis.next(), steps)?;
+        let next = axis.next();
+        let left = put_below(alloc, node.left, large, item, next, block, steps)?;
         rejoined(alloc, OpenNode { left, ..node }, large, steps)
     } else {
-        let right = put_below(alloc, node.right, large, item, axis.next(), steps)?;
+        let next = axis.next();
+        let right = put_below(alloc, node.right, large, item, next, block, steps)?;
         rejoined(alloc, OpenNode { right, ..node }, large, steps)
     }
 }
@@ -91,18 +94,20 @@ pub(crate) fn leaf<L: Ledger>(
     alloc: Global,
     item: Item,
     axis: Axis,
+    block: Block,
     steps: &mut Steps<L>,
 ) -> Result<Tree, NoMemory>
     ensures shape { IfOk result (λ t. t ≡ leaf_of item axis) }
     ensures ticks { steps.new ≤ steps.old + 1 }
 {
-    let fork = Fork {
+    let node = OpenNode {
         item,
         axis,
         left: Tree::empty(),
         right: Tree::empty(),
+        block,
     };
-    Tree::pull_up(alloc, fork, steps)
+    Tree::put_together(alloc, node, steps)
 }
 
 // Whether the point belongs to the left of a node at the other point, with this axis.

@@ -9,7 +9,7 @@ ghost use Rattle.kd_update.specs.Update.{IsEven};
 ghost use Rattle.kd_update.specs.Scan.{live_from, numbers_in};
 
 use crate::put_all;
-use kd_tree::{Steps, Tree};
+use kd_tree::{Scratch, Steps, Tree};
 use map_fold::{Item, Label, NoMemory};
 use point_geom::Point;
 use std::alloc::Global;
@@ -23,6 +23,7 @@ pub fn put_points<L: Ledger>(
     large: u32,
     first: u32,
     points: &[Point],
+    scratch: &mut Scratch,
     steps: &mut Steps<L>,
 ) -> Result<Tree, NoMemory>
     requires held { AreContents 0 first (contents tree) }
@@ -33,7 +34,7 @@ pub fn put_points<L: Ledger>(
     ensures nodes { IfOk result (λ t. nodes t ≤ nodes tree + length points.now) }
 {
     let items = numbered(alloc, first, points)?;
-    put_all(alloc, tree, large, items.as_slice(), steps)
+    put_all(alloc, tree, large, items.as_slice(), scratch, steps)
 }
 
 fn numbered(alloc: Global, first: u32, points: &[Point]) -> Result<Vec<Item>, NoMemory>

@@ -16,7 +16,7 @@ use std::alloc::Global;
 use std::sync::ledger::Ledger;
 
 // The tree with the items put. They are moved about. The axis is that of the new leaf, should there be one item alone and the
-// tree be empty.
+// tree be empty. A node is made in the memory of its old one, or of the scratch's, while there is any.
 pub(crate) fn put_at_once<L: Ledger>(
     alloc: Global,
     tree: Tree,
@@ -35,7 +35,8 @@ pub(crate) fn put_at_once<L: Ledger>(
         return Ok(tree);
     };
     if size == 0 && rest.is_empty() {
-        return put_below(alloc, tree, large, *first, axis, steps);
+        let block = scratch.block();
+        return put_below(alloc, tree, large, *first, axis, block, steps);
     }
     let Some(count) = parted(&tree, large, items) else {
         return built_with(alloc, tree, large, items, scratch, steps);
@@ -50,6 +51,7 @@ pub(crate) fn put_at_once<L: Ledger>(
     let node = OpenNode {
         left,
         right,
+        block: node.block.or_of(scratch),
         ..node
     };
     rejoined(alloc, node, large, steps)

@@ -12,7 +12,7 @@ ghost use Rattle.kd_update.specs.Ways.{paths_of};
 use crate::insert::{goes_left, put_below};
 use crate::rebuild::{NEVER, joined};
 use crate::ways::Ways;
-use kd_tree::{OpenNode, Side, Steps, Tree};
+use kd_tree::{Block, OpenNode, Side, Steps, Tree};
 use map_fold::{Item, NoMemory};
 use point_geom::Axis;
 use std::alloc::Global;
@@ -40,10 +40,10 @@ pub(crate) fn put_clear<L: Ledger>(
 {
     let _size = tree.size();
     if ways.is_empty() {
-        return put_below(alloc, tree, large, item, axis, steps);
+        return put_below(alloc, tree, large, item, axis, Block::none(), steps);
     }
     if ways.is_here() {
-        return put_below(alloc, tree, NEVER, item, axis, steps);
+        return put_below(alloc, tree, NEVER, item, axis, Block::none(), steps);
     }
     let Some(node) = tree.take_apart(alloc, steps)? else {
         return Ok(Tree::empty());

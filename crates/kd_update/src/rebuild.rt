@@ -37,6 +37,7 @@ pub fn rebuilt<L: Ledger>(alloc: Global, tree: Tree, steps: &mut Steps<L>) -> Re
 }
 
 // The joined parts, built anew where they are to be.
+#[inline]
 pub(crate) fn rejoined<L: Ledger>(
     alloc: Global,
     node: OpenNode,
@@ -53,6 +54,7 @@ pub(crate) fn rejoined<L: Ledger>(
 }
 
 // The joined parts as they are.
+#[inline]
 pub(crate) fn joined<L: Ledger>(
     alloc: Global,
     node: OpenNode,
@@ -67,6 +69,7 @@ pub(crate) fn joined<L: Ledger>(
 }
 
 // The tree, built anew where it has from 10 nodes on, and fewer than `large`, and its top breaches a criterion.
+#[inline]
 pub(crate) fn refreshed<L: Ledger>(
     alloc: Global,
     tree: Tree,

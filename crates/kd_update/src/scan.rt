@@ -9,7 +9,7 @@ ghost use Rattle.kd_update.specs.Scan.{IsPut, MayJoin, numbers_in, put_each};
 use crate::insert::put_below;
 use crate::one_pass::put_at_once;
 use crate::roomy;
-use kd_tree::{Scratch, Steps, Tree};
+use kd_tree::{Block, Scratch, Steps, Tree};
 use map_fold::{Item, NoMemory};
 use point_geom::Axis;
 use std::alloc::Global;
@@ -29,12 +29,14 @@ const MOST: u32 = 4_194_304;
 /// them meet it, and a subtree of fewer than `large` nodes that would breach a criterion is built anew with them at once. Near
 /// the bounds of a tree they are put one by one, and once it is full, so that it has to be built anew anyway, it is built with
 /// all that are left: so a scan builds it anew at most once, however its points lie. The contents are those of `put`, done in
-/// turn; where nodes stand isn't. Where memory is wanting, the tree is let go.
+/// turn; where nodes stand isn't. New nodes are made in the memory of the scratch, as far as that goes. Where memory is wanting,
+/// the tree is let go.
 pub fn put_all<L: Ledger>(
     alloc: Global,
     tree: Tree,
     large: u32,
     items: &[Item],
+    scratch: &mut Scratch,
     steps: &mut Steps<L>,
 ) -> Result<Tree, NoMemory>
     requires fit { MayJoin (contents tree) items.now }
@@ -43,7 +45,7 @@ pub fn put_all<L: Ledger>(
     ensures balance { IsEven large tree → IfOk result (λ t. IsEven large t) }
     ensures nodes { IfOk result (λ t. nodes t ≤ nodes tree + length items.now) }
 {
-    put_in_pieces(alloc, tree, large, items, steps)
+    put_in_pieces(alloc, tree, large, items, scratch, steps)
 }
 
 // The same, said as one fact.
@@ -52,21 +54,21 @@ fn put_in_pieces<L: Ledger>(
     tree: Tree,
     large: u32,
     items: &[Item],
+    scratch: &mut Scratch,
     steps: &mut Steps<L>,
 ) -> Result<Tree, NoMemory>
     requires { MayJoin (contents tree) items.now }
     ensures { IfOk result (λ t. IsPut large tree items.now t) }
 {
-    let mut scratch = Scratch::new(alloc);
     let mut tree = tree;
     let mut rest = items;
     while !rest.is_empty() {
         if tree.levels() >= FULL || tree.size() >= MOST {
-            return built_with_rest(alloc, tree, rest, &mut scratch, steps);
+            return built_with_rest(alloc, tree, rest, scratch, steps);
         }
         let most = most_at_once(&tree, large);
         let (piece, more) = rest.split_at(most.min(rest.len()));
-        tree = put_piece(alloc, tree, large, piece, &mut scratch, steps)?;
+        tree = put_piece(alloc, tree, large, piece, scratch, steps)?;
         rest = more;
     }
     Ok(tree)
@@ -158,5 +160,5 @@ fn put_one<L: Ledger>(
 {
     let _size = tree.size();
     let tree = roomy(alloc, tree, steps)?;
-    put_below(alloc, tree, large, *item, Axis::X, steps)
+    put_below(alloc, tree, large, *item, Axis::X, Block::none(), steps)
 }

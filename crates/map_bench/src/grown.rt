@@ -3,7 +3,7 @@ ghost use Rattle.std.specs.Prelude.{◌<◌, ◌≤◌, ℕ, Contains};
 ghost use Rattle.kd_tree.specs.Shape.{numbers};
 
 use crate::course::Scan;
-use kd_tree::{Steps, Tree};
+use kd_tree::{Scratch, Steps, Tree};
 use kd_update::{marked, put_points};
 use map_fold::{NoMemory, Points, Tag};
 use point_geom::Cuboid;
@@ -21,15 +21,18 @@ const NUMBERS: u32 = 4_194_304;
 #[derive(Drop)]
 pub struct Grown {
     pub tree: Tree,
+    // What new nodes are made in.
+    scratch: Scratch,
     next: u32,
     ghost below: { (n : ℕ) → Contains (numbers tree) n → n < next },
     ghost few: { next ≤ 4194304 },
 }
 
 impl Grown {
-    pub fn new() -> Grown {
+    pub fn new(alloc: Global) -> Grown {
         Grown {
             tree: Tree::empty(),
+            scratch: Scratch::new(alloc),
             next: 0,
         }
     }
@@ -48,6 +51,21 @@ impl Grown {
         }
     }
 
+    /// The same map. A version that is let go gives its nodes' memory to the next scan.
+    pub fn letting_go(self, version: Tree) -> Grown {
+        let Grown {
+            tree,
+            mut scratch,
+            next,
+        } = self;
+        scratch.take_in(version);
+        Grown {
+            tree,
+            scratch,
+            next,
+        }
+    }
+
     // Where too few numbers are left for all of them, none is put.
     fn put_all<L: Ledger>(
         self,
@@ -59,11 +77,17 @@ impl Grown {
         if points.len() > (NUMBERS - self.next) as usize {
             return Ok(self);
         }
-        let _size = self.tree.size();
-        let tree = put_points(alloc, self.tree, LARGE, self.next, points, steps)?;
+        let Grown {
+            tree,
+            mut scratch,
+            next,
+        } = self;
+        let _size = tree.size();
+        let tree = put_points(alloc, tree, LARGE, next, points, &mut scratch, steps)?;
         Ok(Grown {
             tree,
-            next: self.next + points.len() as u32,
+            scratch,
+            next: next + points.len() as u32,
         })
     }
 
@@ -76,6 +100,7 @@ impl Grown {
         let tree = marked(alloc, self.tree, LARGE, within, Tag::DELETE, steps)?;
         Ok(Grown {
             tree,
+            scratch: self.scratch,
             next: self.next,
         })
     }

@@ -110,7 +110,7 @@ fn grown<L: Ledger>(
     scans: &[Scan],
     steps: &mut Steps<L>,
 ) -> Result<Grown, NoMemory> {
-    let mut map = Grown::new();
+    let mut map = Grown::new(alloc);
     for scan in scans {
         map = map.after(alloc, scan, steps)?;
     }
@@ -137,12 +137,13 @@ fn grown_beside_versions<L: Ledger>(
     scans: &[Scan],
     steps: &mut Steps<L>,
 ) -> Result<(Grown, u64), NoMemory> {
-    let mut map = Grown::new();
+    let mut map = Grown::new(alloc);
     let mut sum = 0;
     for scan in scans {
         let before = map.tree.copy(alloc, steps)?;
         map = map.after(alloc, scan, steps)?;
         sum = with(sum, before.counts().live, 0);
+        map = map.letting_go(before);
     }
     Ok((map, sum))
 }
@@ -167,7 +168,7 @@ fn turned<L: Ledger>(
     scans: &[Scan],
     steps: &mut Steps<L>,
 ) -> Result<(Grown, u64), NoMemory> {
-    let mut map = Grown::new();
+    let mut map = Grown::new(alloc);
     let mut sum = 0;
     for scan in scans {
         sum = with_answers(sum, alloc, &map.tree, &scan.points)?;

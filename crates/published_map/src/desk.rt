@@ -33,7 +33,7 @@ impl<L: MapName> Desk for Shared<L> {
         let mut locked = self.lock.lock(rt);
         let former = locked.version();
         let done = locked.swap(rt, alloc, &built, force);
-        let spent = locked.keep(former, done.is_ok());
+        let spent = locked.keep(former, done.is_ok(), false);
         MutexGuard::unlock(locked);
         drop(spent);
         match done {

@@ -38,6 +38,8 @@ where
     // The version before the published one. The next step writes over the last other copy of it, the one on the side that readers
     // don't take, and would free it under the lock.
     pub(crate) former: Option<Arc<Version>>,
+    // Whether an update, which makes few nodes anew, came after the former version.
+    pub(crate) by_update: bool,
 }
 
 impl<L: MapName> Model for Locked<L>
@@ -67,12 +69,14 @@ impl<L: MapName> Locked<L> {
         Arc::try_clone(self.state.version()).ok()
     }
 
-    /// Ends a turn before which this version was published. What it answers may be all that keeps a version now: it is to be let
-    /// go of after the lock was given back.
+    /// Ends a turn before which this version was published, and in which an update was made or something else. What it answers may
+    /// be all that keeps a version now: it is to be let go of after the lock was given back. What an update left behind it is the
+    /// state's again, for the next one.
     pub fn keep(
         &mut self,
         former: Option<Arc<Version>>,
         has_published: bool,
+        is_update: bool,
     ) -> Option<Arc<Version>>
         ensures same { self.new ≡ self.old }
     {
@@ -80,7 +84,15 @@ impl<L: MapName> Locked<L> {
         if !has_published {
             return former;
         }
-        replace(&mut self.former, former)
+        let spent = replace(&mut self.former, former);
+        let by_update = replace(&mut self.by_update, is_update);
+        match spent {
+            Some(version) if by_update => {
+                self.state.recycle(version);
+                None
+            }
+            spent => spent,
+        }
     }
 
     /// Lets the pass's reader get the version of the whole history, which shows that it begins with what the pass has seen.

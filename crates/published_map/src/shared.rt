@@ -60,6 +60,7 @@ impl<L: MapName> Shared<L> {
                     book,
                     purse,
                     former: None,
+                    by_update: false,
                 });
                 Ok((Shared { lock }, passes))
             }
@@ -86,7 +87,7 @@ impl<L: MapName> Shared<L> {
         let mut locked = self.lock.lock(rt);
         let former = locked.version();
         let done = locked.update(rt, alloc, pass, update);
-        let spent = locked.keep(former, done.is_ok());
+        let spent = locked.keep(former, done.is_ok(), true);
         MutexGuard::unlock(locked);
         drop(kept);
         drop(spent);
@@ -98,7 +99,7 @@ impl<L: MapName> Shared<L> {
         let mut locked = self.lock.lock(rt);
         let former = locked.version();
         let done = locked.settle(rt, alloc);
-        let spent = locked.keep(former, done.is_ok());
+        let spent = locked.keep(former, done.is_ok(), false);
         MutexGuard::unlock(locked);
         drop(spent);
         done
@@ -144,6 +145,7 @@ impl<L: MapName> Shared<L> {
             book: _book,
             purse: _purse,
             former: _former,
+            by_update: _by_update,
         } = locked;
         writer.take(rt);
         let _history = state.history();
@@ -160,6 +162,7 @@ impl<L: MapName> Shared<L> {
             book: _book,
             purse: _purse,
             former: _former,
+            by_update: _by_update,
         } = lock.into_inner();
         writer.take(rt);
     }

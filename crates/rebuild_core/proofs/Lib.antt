@@ -13,6 +13,7 @@ pub mod Balance
 pub mod OtherParts
 pub mod Swapping
 pub mod Both
+pub mod Crossing
 pub mod AtOnce
 pub mod Voxels
 pub mod Entering

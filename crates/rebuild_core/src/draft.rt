@@ -17,7 +17,7 @@ ghost use Rattle.rebuild_core.specs.Single.{IsQuiet, entered_nodes, only_mark, o
 use crate::scan::SCAN;
 use crate::thin::thinned;
 use crate::work::Work;
-use kd_tree::Steps;
+use kd_tree::{Scratch, Steps};
 use map_fold::{Cuboids, NoMemory, Points, Settings, Tag, Update};
 use point_geom::Point;
 use std::alloc::Global;
@@ -30,6 +30,7 @@ pub(crate) fn changed<L: Ledger>(
     settings: &Settings,
     next: u32,
     update: &Update,
+    scratch: &mut Scratch,
     steps: &mut Steps<L>,
 ) -> Result<Work, NoMemory>
     requires draft { IsWork settings.now.large next work }
@@ -48,8 +49,8 @@ pub(crate) fn changed<L: Ledger>(
 {
     let large = settings.large();
     match update {
-        Update::Add(points) => added(alloc, work, large, next, points, steps),
-        Update::Thin(points) => thinned(alloc, work, settings, next, points, steps),
+        Update::Add(points) => added(alloc, work, large, next, points, scratch, steps),
+        Update::Thin(points) => thinned(alloc, work, settings, next, points, scratch, steps),
         Update::Delete(boxes) => marked_each(alloc, work, large, next, boxes, Tag::DELETE, steps),
         Update::Suspend(boxes) => marked_each(alloc, work, large, next, boxes, Tag::SUSPEND, steps),
         Update::Restore(boxes) => marked_each(alloc, work, large, next, boxes, Tag::RESTORE, steps),
@@ -62,6 +63,7 @@ fn added<L: Ledger>(
     large: u32,
     next: u32,
     points: &Points,
+    scratch: &mut Scratch,
     steps: &mut Steps<L>,
 ) -> Result<Work, NoMemory>
     requires draft { IsWork large next work }
@@ -75,7 +77,8 @@ fn added<L: Ledger>(
         → steps.new ≤ steps.old + (5 * entered_nodes op work.tree + 1) }
 {
     if points.len() >= SCAN && work.watches.len() == 0 {
-        return work.put_scan(alloc, large, next, points.as_slice(), steps);
+        let points = points.as_slice();
+        return work.put_scan(alloc, large, next, points, scratch, steps);
     }
     let mut work = work;
     let mut next = next;

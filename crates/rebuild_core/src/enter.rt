@@ -7,6 +7,7 @@ ghost use Rattle.rebuild_core.specs.Steps.{entered, listed};
 use crate::logs::relog_all;
 use crate::{MapState, Planned};
 use map_fold::Entry;
+use std::mem;
 
 impl MapState {
     /// Puts in what was planned, and answers how many entries the history has then. It takes no memory.
@@ -27,7 +28,8 @@ impl MapState {
         relog_all(&mut self.parts, logs);
         self.tree = tree;
         self.next = next;
-        self.version = version;
+        let former = mem::replace(&mut self.version, version);
+        self.former = Some(former);
         self.history.len() as u64
     }
 }

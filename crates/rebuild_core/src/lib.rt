@@ -14,6 +14,7 @@ mod logs;
 mod part;
 mod plan;
 mod planned;
+mod recycle;
 mod scan;
 mod state;
 mod swap;

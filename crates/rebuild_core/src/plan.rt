@@ -12,7 +12,7 @@ use crate::logs::{PartLog, forgotten, logs_of};
 use crate::part::watched;
 use crate::work::Work;
 use crate::{MapState, Planned, StateFault, Version};
-use kd_tree::{Steps, Tree};
+use kd_tree::{Scratch, Steps, Tree};
 use kd_update::settled;
 use map_fold::{Entry, NoMemory, Update};
 use std::alloc::Global;
@@ -98,6 +98,40 @@ impl MapState {
             → IfOk result (λ q. q.tree ≡ self.old.state.tree) }
         ensures still { (p : Place) → update ≡ Update.Thin (p ∷ []) → IsTurnedAwayFrom self.old.state p → steps.new ≡ steps.old }
     {
+        let mut scratch = self.lent(alloc);
+        let planned = self.planned_in(alloc, caller, update, &mut scratch, steps);
+        self.returned(scratch);
+        planned
+    }
+
+    // The same. The nodes are made in the memory of the scratch, as far as that goes.
+    fn planned_in<L: Ledger>(
+        &mut self,
+        alloc: Global,
+        caller: u8,
+        update: Update,
+        scratch: &mut Scratch,
+        steps: &mut Steps<L>,
+    ) -> Result<Planned, StateFault>
+        requires caller_from { 1 ≤ caller }
+        requires caller_to { caller ≤ 8 }
+        ensures same { self.new.state ≡ self.old.state }
+        ensures planned { IfOk result (IsUpdatePlan caller update self.old.state) }
+        ensures room { OnOk result (HasRoom update self.old.state) }
+        ensures spare { OnOk result (1 ≤ self.new.spare) }
+
+        ensures refused { IfErr result (IsFault update self.old.state) }
+
+        // As of `update`.
+        ensures unrebuilt { (op : Op) → IsQuietUpdate update op self.old.state
+            → IfOk result (λ p. p.tree ≡ unrebuilt op self.old.state.tree) }
+        ensures ticks { (op : Op) → IsQuietUpdate update op self.old.state
+            → steps.new ≤ steps.old + (5 * entered_nodes op self.old.state.tree + 1) }
+        ensures thinned { (p : Place) → update ≡ Update.Thin (p ∷ []) → IfOk result (λ q. IsThinnedFrom self.old.state p q.tree) }
+        ensures turned_away { (p : Place) → update ≡ Update.Thin (p ∷ []) → IsTurnedAwayFrom self.old.state p
+            → IfOk result (λ q. q.tree ≡ self.old.state.tree) }
+        ensures still { (p : Place) → update ≡ Update.Thin (p ∷ []) → IsTurnedAwayFrom self.old.state p → steps.new ≡ steps.old }
+    {
         let len = self.history.len() as u64;
         if len == MOST_UPDATES {
             return Err(StateFault::TooManyUpdates { len });
@@ -107,7 +141,7 @@ impl MapState {
         if MOST_POINTS - (next as u64) < asked {
             return Err(StateFault::TooManyPoints { next, asked });
         }
-        let Drafted { tree, logs } = self.drafted(alloc, &update, steps)?;
+        let Drafted { tree, logs } = self.drafted(alloc, &update, scratch, steps)?;
         let _size = tree.size();
         self.history.reserve(1)?;
         let next = next + asked as u32;
@@ -132,6 +166,7 @@ impl MapState {
         &self,
         alloc: Global,
         update: &Update,
+        scratch: &mut Scratch,
         steps: &mut Steps<L>,
     ) -> Result<Drafted, NoMemory>
         requires few { self.now.state.next + points_in update.now ≤ 4194304 }
@@ -148,7 +183,8 @@ impl MapState {
         let tree = self.tree.copy(alloc, steps)?;
         let watches = watched(alloc, parts)?;
         let work = Work { tree, watches };
-        let work = changed(alloc, work, &self.settings, self.next, update, steps)?;
+        let (settings, next) = (&self.settings, self.next);
+        let work = changed(alloc, work, settings, next, update, scratch, steps)?;
         let Work { tree, watches } = work;
         let logs = logs_of(alloc, parts, watches)?;
         Ok(Drafted { tree, logs })

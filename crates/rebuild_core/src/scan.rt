@@ -7,7 +7,7 @@ ghost use Rattle.rebuild_core.specs.Parts.{PartAt};
 
 use crate::waiting::thinned_at_once;
 use crate::work::Work;
-use kd_tree::Steps;
+use kd_tree::{Scratch, Steps};
 use kd_update::put_points;
 use map_fold::{NoMemory, Settings};
 use point_geom::Point;
@@ -26,6 +26,7 @@ impl Work {
         large: u32,
         next: u32,
         points: &[Point],
+        scratch: &mut Scratch,
         steps: &mut Steps<L>,
     ) -> Result<Work, NoMemory>
         requires draft { IsWork large next self }
@@ -37,7 +38,7 @@ impl Work {
     {
         let Work { tree, watches } = self;
         let _size = tree.size();
-        let tree = put_points(alloc, tree, large, next, points, steps)?;
+        let tree = put_points(alloc, tree, large, next, points, scratch, steps)?;
         Ok(Work { tree, watches })
     }
 
@@ -48,6 +49,7 @@ impl Work {
         settings: &Settings,
         next: u32,
         points: &[Point],
+        scratch: &mut Scratch,
         steps: &mut Steps<L>,
     ) -> Result<Work, NoMemory>
         requires draft { IsWork settings.now.large next self }
@@ -58,7 +60,7 @@ impl Work {
             → IfOk result (IsDraftLeft settings.now.large (next + length points.now) last ps) }
     {
         let Work { tree, watches } = self;
-        let tree = thinned_at_once(alloc, tree, settings, next, points, steps)?;
+        let tree = thinned_at_once(alloc, tree, settings, next, points, scratch, steps)?;
         Ok(Work { tree, watches })
     }
 }

@@ -6,7 +6,7 @@ ghost use Rattle.rebuild_core.specs.StateView.{info_of};
 
 use crate::part::{Part, part_in};
 use crate::{PartInfo, Version};
-use kd_tree::Tree;
+use kd_tree::{Scratch, Tree};
 use map_fold::{Entry, NoMemory, Settings};
 use std::alloc::Global;
 use std::marker::Model;
@@ -26,6 +26,10 @@ pub struct MapState {
     pub(crate) parts: Vec<Part>,
     // The last ticket that was given, or 0.
     pub(crate) last: u64,
+    // The version before, which the next update lets go of.
+    pub(crate) former: Option<Arc<Version>>,
+    // What the nodes of the next update are made in.
+    pub(crate) scratch: Scratch,
 }
 
 impl Model for MapState {
@@ -60,6 +64,8 @@ impl MapState {
             made: [0; 8],
             parts: Vec::new(alloc),
             last: 0,
+            former: None,
+            scratch: Scratch::new(alloc),
         })
     }
 

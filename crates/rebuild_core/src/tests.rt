@@ -2,6 +2,7 @@
 ghost use Rattle.std.specs.Prelude.{◌≡◌, ◌≤◌, ◌<◌, ◌^◌};
 
 mod drawn;
+mod held;
 mod parts;
 mod rows;
 mod scans;

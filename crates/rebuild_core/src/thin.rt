@@ -16,7 +16,7 @@ use crate::draft::added_one;
 use crate::scan::SCAN;
 use crate::work::Work;
 use kd_search::{Rivals, rivals_in};
-use kd_tree::Steps;
+use kd_tree::{Scratch, Steps};
 use map_fold::{Item, Label, NoMemory, Points, Settings, Tag};
 use point_geom::{Cuboid, Point, voxel};
 use std::alloc::Global;
@@ -29,6 +29,7 @@ pub(crate) fn thinned<L: Ledger>(
     settings: &Settings,
     next: u32,
     points: &Points,
+    scratch: &mut Scratch,
     steps: &mut Steps<L>,
 ) -> Result<Work, NoMemory>
     requires draft { IsWork settings.now.large next work }
@@ -42,7 +43,8 @@ pub(crate) fn thinned<L: Ledger>(
         → steps.new ≡ steps.old }
 {
     if points.len() >= SCAN && work.watches.len() == 0 {
-        return work.thin_scan(alloc, settings, next, points.as_slice(), steps);
+        let points = points.as_slice();
+        return work.thin_scan(alloc, settings, next, points, scratch, steps);
     }
     let mut work = work;
     let mut next = next;

@@ -14,7 +14,7 @@ use std::sync::ledger::Ledger;
 /// A version of a map, which stays as it is while the map goes on.
 #[derive(Debug, Drop)]
 pub struct Version {
-    tree: Tree,
+    pub(crate) tree: Tree,
     next: u32,
     len: u64,
 }

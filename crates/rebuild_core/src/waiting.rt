@@ -17,7 +17,7 @@ ghost use Rattle.rebuild_core.specs.Waiting.{IsClear, IsJoined, IsWaiting, held_
 
 use crate::entrants::{Entrant, firsts};
 use kd_search::{Rivals, rivals_in};
-use kd_tree::{Steps, Tree};
+use kd_tree::{Scratch, Steps, Tree};
 use kd_update::{marked, put_all};
 use map_fold::{Item, NoMemory, Settings, Tag};
 use point_geom::{Cuboid, Point};
@@ -40,6 +40,7 @@ pub(crate) fn thinned_at_once<L: Ledger>(
     settings: &Settings,
     next: u32,
     points: &[Point],
+    scratch: &mut Scratch,
     steps: &mut Steps<L>,
 ) -> Result<Tree, NoMemory>
     requires few { next + length points.now ≤ 4194304 }
@@ -57,7 +58,7 @@ pub(crate) fn thinned_at_once<L: Ledger>(
     for entrant in entrants.as_slice() {
         waiting = waiting.thinned(alloc, settings, high, entrant, steps)?;
     }
-    waiting.put(alloc, large, high, steps)
+    waiting.put(alloc, large, high, scratch, steps)
 }
 
 impl Waiting {
@@ -79,6 +80,7 @@ impl Waiting {
         alloc: Global,
         large: u32,
         high: u32,
+        scratch: &mut Scratch,
         steps: &mut Steps<L>,
     ) -> Result<Tree, NoMemory>
         requires waiting { IsWaiting large high self }
@@ -89,7 +91,7 @@ impl Waiting {
     {
         let Waiting { tree, items } = self;
         let _size = tree.size();
-        put_all(alloc, tree, large, items.as_slice(), steps)
+        put_all(alloc, tree, large, items.as_slice(), scratch, steps)
     }
 
     // With the entrant, or without it where the voxel's best item stays. Nothing that waits lies in its voxel, so that the tree

@@ -78,6 +78,16 @@ fn built_anew<L: Ledger>(rt: &impl Abort, alloc: Global, blank: Blank) -> Result
     let third = with_hundredth(alloc, copy, &mut scratch, &mut steps)?;
     assert_eq!(rt; third.flatten(alloc)?.as_slice(), items.as_slice());
     assert_eq!(rt; counts(&other), (0, 21, 19));
+
+    // A tree that is let go gives up its nodes, but for those that another tree has.
+    let tree = half_left(alloc, &mut steps)?;
+    let copy = tree.copy(alloc, &mut steps)?;
+    let restored = copy.tagged(alloc, Tag::RESTORE, &mut steps)?;
+    scratch.take_in(tree);
+    let copy = other.copy(alloc, &mut steps)?;
+    let fourth = with_hundredth(alloc, copy, &mut scratch, &mut steps)?;
+    assert_eq!(rt; fourth.flatten(alloc)?.as_slice(), items.as_slice());
+    assert_eq!(rt; counts(&restored), (21, 0, 19));
     Ok(())
 }
 

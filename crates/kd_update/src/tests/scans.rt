@@ -3,7 +3,7 @@ ghost use Rattle.std.specs.Prelude.{◌≡◌, ◌+◌, ◌≤◌, length};
 
 use super::{Draw, Numbered, between};
 use crate::put_points;
-use kd_tree::Steps;
+use kd_tree::{Scratch, Steps};
 use map_fold::{NoMemory, Tag};
 use point_geom::{Cuboid, Point};
 use std::alloc::Global;
@@ -25,8 +25,17 @@ fn put_next_points<L: Ledger>(
     requires few { map.next + length points.now ≤ 4194304 }
 {
     let mut steps: Steps<L> = Steps::new(blank);
+    let mut scratch = Scratch::new(alloc);
     let _size = map.tree.size();
-    let tree = put_points(alloc, map.tree, large, map.next, points, &mut steps)?;
+    let tree = put_points(
+        alloc,
+        map.tree,
+        large,
+        map.next,
+        points,
+        &mut scratch,
+        &mut steps,
+    )?;
     Ok(Numbered {
         tree,
         next: map.next + points.len() as u32,

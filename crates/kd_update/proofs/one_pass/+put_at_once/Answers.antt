@@ -1,6 +1,7 @@
 use Rattle.std.proofs.Common.{◌≡◌, ◌∙◌, List, [], ◌∷◌, sym, subst, arith, length, true, ap}
 use Rattle.std.specs.Prelude.{◌==◌}
 use Rattle.std.proofs.lemmas.Bool.{eqb-true}
+use Rattle.std.proofs.lemmas.List.{nil_from_length}
 use Rattle.std.proofs.lemmas.Result.{IfOk-weaker}
 use Rattle.std.proofs.lemmas.List.Elements.{All-head}
 use Rattle.node_labels.specs.declared.label.Label.TheVariants.{Live}
@@ -9,7 +10,7 @@ use Rattle.kd_tree.specs.Parts.{fork_in, fork_of}
 use Rattle.kd_update.specs.Update.{IsEven}
 use Rattle.kd_update.specs.Scan.{AreLive, IsGrown}
 use Rattle.kd_update.proofs.Trees.{pushed_smaller}
-use Rattle.kd_update.proofs.Grown.{grown_moved, grown_put, piece_moved, piece_new, step_at, step_pieces, step_sound, step_grown, step_even}
+use Rattle.kd_update.proofs.Grown.{grown_moved, grown_none, grown_put, piece_moved, piece_new, step_at, step_pieces, step_sound, step_grown, step_even}
 use Rattle.kd_update.proofs.one_pass.+put_at_once.Goals as goal
 
 -- a list whose rest is empty
@@ -19,6 +20,9 @@ alone is (j ∷ rest) i e k = absurd (let h = eqb-true (length (j ∷ rest)) 0 k
 
 pub put_below-requires-clause-new : goal.put_below-requires-clause-new
 put_below-requires-clause-new g t c = piece_new c.args.large c.args.tree c.args.items.now c.in-Some.rest.now c.in-Some.first.now c.in-Some.ensures.cases.0 c.requires
+
+pub returns-in_default-clause-grown : goal.returns-in_default-clause-grown
+returns-in_default-clause-grown g t c = subst (λ (xs : List Item). IsGrown c.args.tree xs c.args.tree) (sym (nil_from_length c.args.items.now c.in_default.ensures.cases)) (grown_none c.args.tree)
 
 pub returns-then-is_empty-clause-grown : goal.returns-then-is_empty-clause-grown
 returns-then-is_empty-clause-grown g t c =

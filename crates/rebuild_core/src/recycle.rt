@@ -1,0 +1,48 @@
+//! Memory of old nodes that a state's next update makes its nodes in. Nothing here changes what the state holds.
+ghost use Rattle.std.specs.Prelude.{◌≡◌};
+
+use crate::{MapState, Version};
+use kd_tree::{Scratch, Tree};
+use std::alloc::Global;
+use std::mem;
+use std::sync::Arc;
+
+impl MapState {
+    /// Takes a version that the caller lets go, in the place of one that the state would have taken itself: the next update makes
+    /// its nodes in the memory of those that nobody else holds then. The version itself stays as long as somebody holds it.
+    pub fn recycle(&mut self, version: Arc<Version>)
+        ensures same { self.new.state ≡ self.old.state }
+        ensures spare { self.new.spare ≡ self.old.spare }
+    {
+        self.former = Some(version);
+    }
+
+    // The scratch, with the memory of the version before. One without memory is left in its place.
+    pub(crate) fn lent(&mut self, alloc: Global) -> Scratch
+        ensures same { self.new.state ≡ self.old.state }
+        ensures spare { self.new.spare ≡ self.old.spare }
+    {
+        let mut scratch = mem::replace(&mut self.scratch, Scratch::new(alloc));
+        if let Some(version) = self.former.take() {
+            take_in(version, &mut scratch);
+        }
+        scratch
+    }
+
+    // Takes the scratch back.
+    pub(crate) fn returned(&mut self, scratch: Scratch)
+        ensures same { self.new.state ≡ self.old.state }
+        ensures spare { self.new.spare ≡ self.old.spare }
+    {
+        self.scratch = scratch;
+    }
+}
+
+// Lets the version go. Where nobody else holds it, the memory of its nodes is taken in.
+fn take_in(version: Arc<Version>, scratch: &mut Scratch) {
+    let mut version = version;
+    if let Some(version) = Arc::get_mut(&mut version) {
+        let tree = mem::replace(&mut version.tree, Tree::empty());
+        scratch.take_in(tree);
+    }
+}
