@@ -1,11 +1,16 @@
 // A straightforward incremental k-d tree in plain Rust, to be measured beside map_bench: the same words, points, works and
 // checksums. Build with `rustc -O`. It is changed in place and holds no versions, so `held` is here the work of `scans`, and it
 // builds everything anew in place, so `longest` has one figure here.
+//
+// Built with `--cfg shared`, its nodes are shared by versions as ours are, and the version before each scan is held while the scan is
+// taken in, in `held`, `thin` and `odometry`: what a version costs in plain Rust.
 use std::collections::HashMap;
 use std::env;
 use std::time::{Duration, Instant};
 mod drive;
+mod pointers;
 mod readers;
+use pointers::{Pointer, held, owned, taken};
 
 const KEEP: [u8; 2] = [0, 1];
 const DELETE: [u8; 2] = [2, 2];
@@ -28,6 +33,7 @@ struct Item {
     label: u8,
 }
 
+#[cfg_attr(shared, derive(Clone))]
 struct Node {
     item: Item,
     axis: usize,
@@ -40,7 +46,7 @@ struct Node {
     right: Tree,
 }
 
-type Tree = Option<Box<Node>>;
+type Tree = Option<Pointer<Node>>;
 
 fn counts_after(counts: [u32; 3], tag: [u8; 2]) -> [u32; 3] {
     let mut after = [0, 0, counts[2]];
@@ -79,7 +85,7 @@ impl Node {
         let pending = std::mem::replace(&mut self.pending, KEEP);
         if pending != KEEP {
             for son in [&mut self.left, &mut self.right].into_iter().flatten() {
-                son.tag(pending);
+                owned(son).tag(pending);
             }
         }
     }
@@ -96,6 +102,7 @@ impl Node {
 
 fn flatten(tree: Tree, owed: [u8; 2], items: &mut Vec<Item>) {
     if let Some(node) = tree {
+        let node = taken(node);
         let label = apply(owed, node.item.label);
         if label != DROPPED {
             items.push(Item { label, ..node.item });
@@ -141,7 +148,7 @@ fn build(items: &mut [Item]) -> Tree {
         right: build(back),
     };
     node.pull_up();
-    Some(Box::new(node))
+    Some(Pointer::new(node))
 }
 
 fn refreshed(tree: Tree, large: u32) -> Tree {
@@ -170,16 +177,17 @@ fn put(tree: Tree, large: u32, number: u32, point: [i64; 3], axis: usize) -> Tre
             right: None,
         };
         node.pull_up();
-        return Some(Box::new(node));
+        return Some(Pointer::new(node));
     };
-    node.push_down();
-    let next = (node.axis + 1) % 3;
-    if point[node.axis] < node.item.point[node.axis] {
-        node.left = put(node.left.take(), large, number, point, next);
+    let own = owned(&mut node);
+    own.push_down();
+    let next = (own.axis + 1) % 3;
+    if point[own.axis] < own.item.point[own.axis] {
+        own.left = put(own.left.take(), large, number, point, next);
     } else {
-        node.right = put(node.right.take(), large, number, point, next);
+        own.right = put(own.right.take(), large, number, point, next);
     }
-    node.pull_up();
+    own.pull_up();
     refreshed(Some(node), large)
 }
 
@@ -204,11 +212,12 @@ fn put_all(tree: Tree, large: u32, items: &mut [Item], axis: usize) -> Tree {
         all.extend_from_slice(items);
         return build(&mut all);
     }
-    node.push_down();
-    let next = (node.axis + 1) % 3;
-    node.left = put_all(node.left.take(), large, left, next);
-    node.right = put_all(node.right.take(), large, right, next);
-    node.pull_up();
+    let own = owned(&mut node);
+    own.push_down();
+    let next = (own.axis + 1) % 3;
+    own.left = put_all(own.left.take(), large, left, next);
+    own.right = put_all(own.right.take(), large, right, next);
+    own.pull_up();
     refreshed(Some(node), large)
 }
 
@@ -223,17 +232,18 @@ fn mark(tree: Tree, large: u32, c: &Cuboid, tag: [u8; 2]) -> Tree {
     if !(0..3).all(|i| c[0][i] <= node.hi[i] && node.lo[i] < c[1][i]) {
         return Some(node);
     }
-    if holds(c, &node.lo) && holds(c, &node.hi) {
-        node.tag(tag);
+    let own = owned(&mut node);
+    if holds(c, &own.lo) && holds(c, &own.hi) {
+        own.tag(tag);
         return Some(node);
     }
-    node.push_down();
-    if holds(c, &node.item.point) {
-        node.item.label = apply(tag, node.item.label);
+    own.push_down();
+    if holds(c, &own.item.point) {
+        own.item.label = apply(tag, own.item.label);
     }
-    node.left = mark(node.left.take(), large, c, tag);
-    node.right = mark(node.right.take(), large, c, tag);
-    node.pull_up();
+    own.left = mark(own.left.take(), large, c, tag);
+    own.right = mark(own.right.take(), large, c, tag);
+    own.pull_up();
     refreshed(Some(node), large)
 }
 
@@ -390,6 +400,7 @@ impl Map {
     // Of the points that meet in a voxel, and of what is live there, the one nearest to the centre stays. One search a voxel,
     // and what is new goes in in one pass.
     fn thin(&mut self, points: &[[i64; 3]]) {
+        let _before = held(&self.tree);
         let mut firsts: HashMap<Cuboid, Rank> = HashMap::new();
         for (number, &point) in (self.next..).zip(points) {
             let cube = voxel(&point);
@@ -476,6 +487,7 @@ fn main() {
         "ask" | "after" => map.ask(&places),
         "scans" => map.grow(&points, Map::add),
         "held" => map.grow(&points, |map, points| {
+            let _before = held(&map.tree);
             map.sum = with(map.sum, live_of(&map.tree), 0);
             map.add(points);
         }),
