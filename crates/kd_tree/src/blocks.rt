@@ -27,7 +27,7 @@ impl Blocks {
         Ok(())
     }
 
-    // Takes in a tree in the place of those before it, of which nothing was wanted.
+    // Takes in a tree in the place of what is left of those before it, which is let go.
     pub(crate) fn take_in(&mut self, tree: Tree) {
         self.ready.truncate(MOST);
         self.trees.clear();
