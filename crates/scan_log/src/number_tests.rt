@@ -9,22 +9,19 @@ fn a_bad_number_is_told_wherever_it_stands(rt: HostRuntime) -> Result<(), Fail> 
     assert_faults(
         &rt,
         rt.alloc(),
-        2,
         LogCause::BadNumber,
-        &[
-            b"@1 add x 2 3\n".as_slice(),
-            b"@1 add 1 x 3\n".as_slice(),
-            b"@1 add 1 2 x\n".as_slice(),
-            b"@1 add 00 0 0\n".as_slice(),
-            b"@1 add 0 -00 0\n".as_slice(),
-            b"@1 add 0 0- 0\n".as_slice(),
-            b"@1 add - 0 0\n".as_slice(),
-            b"@1 add 0 0 0x\n".as_slice(),
-            b"@1 thin 1 2 3 4 5 6/\n".as_slice(),
-            b"@1 thin 1 2 3 4 5 :\n".as_slice(),
-            b"@1 erase 1000000001x 0 0\n".as_slice(),
-            b"@1 add x 1000000001 0\n".as_slice(),
-        ],
+        b"@1 add x 2 3\n\
+          @1 add 1 x 3\n\
+          @1 add 1 2 x\n\
+          @1 add 00 0 0\n\
+          @1 add 0 -00 0\n\
+          @1 add 0 0- 0\n\
+          @1 add - 0 0\n\
+          @1 add 0 0 0x\n\
+          @1 thin 1 2 3 4 5 6/\n\
+          @1 thin 1 2 3 4 5 :\n\
+          @1 erase 1000000001x 0 0\n\
+          @1 add x 1000000001 0\n",
     )?;
     Ok(())
 }
@@ -34,17 +31,14 @@ fn a_number_far_out_is_not_taken_for_a_near_one(rt: HostRuntime) -> Result<(), F
     assert_faults(
         &rt,
         rt.alloc(),
-        2,
         LogCause::OutOfRange,
-        &[
-            b"@1 add 4294967296 0 0\n".as_slice(),
-            b"@1 add 0 -9223372036854775808 0\n".as_slice(),
-            b"@1 add 0 0 18446744073709551616\n".as_slice(),
-            b"@1 thin 0 -18446744073709551617 0\n".as_slice(),
-            b"@1 erase 340282366920938463463374607431768211457 0 0\n".as_slice(),
-            b"@1 near 18446744073709551617 0 0 0\n".as_slice(),
-            b"@1 add 1000000001 x 0\n".as_slice(),
-        ],
+        b"@1 add 4294967296 0 0\n\
+          @1 add 0 -9223372036854775808 0\n\
+          @1 add 0 0 18446744073709551616\n\
+          @1 thin 0 -18446744073709551617 0\n\
+          @1 erase 340282366920938463463374607431768211457 0 0\n\
+          @1 near 18446744073709551617 0 0 0\n\
+          @1 add 1000000001 x 0\n",
     )?;
     Ok(())
 }

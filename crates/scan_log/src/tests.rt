@@ -26,18 +26,22 @@ pub fn fault_of(alloc: Global, log: &[u8]) -> Option<ParseFault> {
     read(alloc, log).err()
 }
 
-// Each of these lines after the header has this fault, in the line of this number.
+fn is_end(byte: &u8) -> bool {
+    *byte == b'\n'
+}
+
+// Each of these lines, alone behind the header, has this fault.
 pub fn assert_faults(
     rt: &impl Abort,
     alloc: Global,
-    line: u32,
     cause: LogCause,
-    logs: &[&[u8]],
+    lines: &[u8],
 ) -> Result<(), AllocError> {
-    for lines in logs {
-        let log = log_of(alloc, lines)?;
+    let line = 2;
+    for text in lines.split_inclusive(is_end) {
+        let log = log_of(alloc, text)?;
         let fault = fault_of(alloc, log.as_slice());
-        assert_eq!(rt; fault, Some(ParseFault::Bad { line, cause }), "{lines:?}");
+        assert_eq!(rt; fault, Some(ParseFault::Bad { line, cause }), "{text:?}");
     }
     Ok(())
 }
@@ -66,40 +70,36 @@ fn a_log_without_its_header_is_refused_where_it_would_stand(rt: HostRuntime) {
     }
 }
 
-#[test]
-fn a_header_has_its_limits(rt: HostRuntime) {
-    for (cause, log) in [
-        (
-            LogCause::OutOfRange,
-            b"ikdmap 1 voxel 0 large 1500".as_slice(),
-        ),
-        (
-            LogCause::OutOfRange,
-            b"ikdmap 1 voxel 1000001 large 15".as_slice(),
-        ),
-        (
-            LogCause::OutOfRange,
-            b"ikdmap 1 voxel 200 large 15".as_slice(),
-        ),
-        (
-            LogCause::OutOfRange,
-            b"ikdmap 1 voxel 200 large 1000001".as_slice(),
-        ),
-        (
-            LogCause::BadNumber,
-            b"ikdmap 1 voxel 200 large 1500\r\n".as_slice(),
-        ),
-        (
-            LogCause::BadNumber,
-            b"ikdmap 1 voxel 0200 large 15\n".as_slice(),
-        ),
-    ] {
+// Each of these lines, as all of a log, has this fault.
+fn assert_first_faults(rt: &impl Abort, alloc: Global, cause: LogCause, lines: &[u8]) {
+    let line = 1;
+    for log in lines.split_inclusive(is_end) {
         assert_eq!(rt;
-            fault_of(rt.alloc(), log),
-            Some(ParseFault::Bad { line: 1, cause }),
+            fault_of(alloc, log),
+            Some(ParseFault::Bad { line, cause }),
             "{log:?}"
         );
     }
+}
+
+#[test]
+fn a_header_has_its_limits(rt: HostRuntime) {
+    assert_first_faults(
+        &rt,
+        rt.alloc(),
+        LogCause::OutOfRange,
+        b"ikdmap 1 voxel 0 large 1500\n\
+          ikdmap 1 voxel 1000001 large 15\n\
+          ikdmap 1 voxel 200 large 15\n\
+          ikdmap 1 voxel 200 large 1000001",
+    );
+    assert_first_faults(
+        &rt,
+        rt.alloc(),
+        LogCause::BadNumber,
+        b"ikdmap 1 voxel 200 large 1500\r\n\
+          ikdmap 1 voxel 0200 large 15\n",
+    );
     for log in [
         b"ikdmap 1 voxel 1 large 16".as_slice(),
         b"\n# the coarsest\nikdmap 1 voxel 1000000 large 1000000\n".as_slice(),
@@ -113,19 +113,16 @@ fn what_is_no_command_is_refused(rt: HostRuntime) -> Result<(), Fail> {
     assert_faults(
         &rt,
         rt.alloc(),
-        2,
         LogCause::UnknownCommand,
-        &[
-            b"\0\0\0\0\n".as_slice(),
-            b"sync\r\n".as_slice(),
-            b" @1 add 1 2 3\n".as_slice(),
-            b"add 1 2 3\n".as_slice(),
-            b"@1\n".as_slice(),
-            b"@1 sync\n".as_slice(),
-            b"@1  add 1 2 3\n".as_slice(),
-            b"@1 Add 1 2 3\n".as_slice(),
-            b"@8 near5 0\n".as_slice(),
-        ],
+        b"\0\0\0\0\n\
+          sync\r\n\
+          \x20@1 add 1 2 3\n\
+          add 1 2 3\n\
+          @1\n\
+          @1 sync\n\
+          @1  add 1 2 3\n\
+          @1 Add 1 2 3\n\
+          @8 near5 0\n",
     )?;
     Ok(())
 }
@@ -135,15 +132,12 @@ fn a_caller_is_a_digit_from_1_to_8(rt: HostRuntime) -> Result<(), Fail> {
     assert_faults(
         &rt,
         rt.alloc(),
-        2,
         LogCause::BadCaller,
-        &[
-            b"@ add 1 2 3\n".as_slice(),
-            b"@0 add 1 2 3\n".as_slice(),
-            b"@9 what\n".as_slice(),
-            b"@11 add 1 2 3\n".as_slice(),
-            b"@1\tadd 1 2 3\n".as_slice(),
-        ],
+        b"@ add 1 2 3\n\
+          @0 add 1 2 3\n\
+          @9 what\n\
+          @11 add 1 2 3\n\
+          @1\tadd 1 2 3\n",
     )?;
     Ok(())
 }
@@ -153,26 +147,23 @@ fn each_command_has_its_fields(rt: HostRuntime) -> Result<(), Fail> {
     assert_faults(
         &rt,
         rt.alloc(),
-        2,
         LogCause::WrongCount,
-        &[
-            b"sync now\n".as_slice(),
-            b"sync \n".as_slice(),
-            b"@1 add\n".as_slice(),
-            b"@1 add 1  2 3\n".as_slice(),
-            b"@1 add 1 2 3 \n".as_slice(),
-            b"@1 thin +1 2 3 4\n".as_slice(),
-            b"@1 erase 1 2\n".as_slice(),
-            b"@1 delete 9 9 9 1 1\n".as_slice(),
-            b"@1 suspend 0 0 0 1 1 1 2\n".as_slice(),
-            b"@1 restore\n".as_slice(),
-            b"@1 near 0 1 2\n".as_slice(),
-            b"@1 near x 0 0 0 within\n".as_slice(),
-            b"@1 near 1 0 0 0 upto 5\n".as_slice(),
-            b"@1 near 1 0 0 0 within 5 \n".as_slice(),
-            b"@1 box 5 0 0 0 9 9\n".as_slice(),
-            b"@1 box 5 0 0 0 9 9 9 9\n".as_slice(),
-        ],
+        b"sync now\n\
+          sync \n\
+          @1 add\n\
+          @1 add 1  2 3\n\
+          @1 add 1 2 3 \n\
+          @1 thin +1 2 3 4\n\
+          @1 erase 1 2\n\
+          @1 delete 9 9 9 1 1\n\
+          @1 suspend 0 0 0 1 1 1 2\n\
+          @1 restore\n\
+          @1 near 0 1 2\n\
+          @1 near x 0 0 0 within\n\
+          @1 near 1 0 0 0 upto 5\n\
+          @1 near 1 0 0 0 within 5 \n\
+          @1 box 5 0 0 0 9 9\n\
+          @1 box 5 0 0 0 9 9 9 9\n",
     )?;
     Ok(())
 }
@@ -182,21 +173,18 @@ fn a_number_has_one_spelling(rt: HostRuntime) -> Result<(), Fail> {
     assert_faults(
         &rt,
         rt.alloc(),
-        2,
         LogCause::BadNumber,
-        &[
-            b"@1 add +5 0 0\n".as_slice(),
-            b"@1 add 007 0 0\n".as_slice(),
-            b"@1 add -0 0 0\n".as_slice(),
-            b"@1 add 1 2 -\n".as_slice(),
-            b"@1 add 1 2 --3\n".as_slice(),
-            b"@1 add 1 2 3\r\n".as_slice(),
-            b"@1 thin 1 2 3 4  6\n".as_slice(),
-            b"@1 erase 1e3 2000000000 0\n".as_slice(),
-            b"@1 near 0x1 0 0 0\n".as_slice(),
-            b"@1 near 1 0 0 0 within -0\n".as_slice(),
-            b"@1 box 1 0 0 0 -1 0 .5\n".as_slice(),
-        ],
+        b"@1 add +5 0 0\n\
+          @1 add 007 0 0\n\
+          @1 add -0 0 0\n\
+          @1 add 1 2 -\n\
+          @1 add 1 2 --3\n\
+          @1 add 1 2 3\r\n\
+          @1 thin 1 2 3 4  6\n\
+          @1 erase 1e3 2000000000 0\n\
+          @1 near 0x1 0 0 0\n\
+          @1 near 1 0 0 0 within -0\n\
+          @1 box 1 0 0 0 -1 0 .5\n",
     )?;
     Ok(())
 }
@@ -206,20 +194,17 @@ fn each_number_has_its_limits(rt: HostRuntime) -> Result<(), Fail> {
     assert_faults(
         &rt,
         rt.alloc(),
-        2,
         LogCause::OutOfRange,
-        &[
-            b"@1 add 1000000001 0 0\n".as_slice(),
-            b"@1 thin 0 0 -1000000001 0 0 x\n".as_slice(),
-            b"@1 erase 0 1000000001 0\n".as_slice(),
-            b"@1 delete 0 0 0 9 9 1000000002\n".as_slice(),
-            b"@1 restore -1000000001 0 0 1 1 1\n".as_slice(),
-            b"@1 near 0 0 0 0\n".as_slice(),
-            b"@1 near 257 0 0 0\n".as_slice(),
-            b"@1 near 5 0 0 0 within -1\n".as_slice(),
-            b"@1 near 5 0 0 0 within 4000000001\n".as_slice(),
-            b"@1 box 0 0 0 0 9 9 9\n".as_slice(),
-        ],
+        b"@1 add 1000000001 0 0\n\
+          @1 thin 0 0 -1000000001 0 0 x\n\
+          @1 erase 0 1000000001 0\n\
+          @1 delete 0 0 0 9 9 1000000002\n\
+          @1 restore -1000000001 0 0 1 1 1\n\
+          @1 near 0 0 0 0\n\
+          @1 near 257 0 0 0\n\
+          @1 near 5 0 0 0 within -1\n\
+          @1 near 5 0 0 0 within 4000000001\n\
+          @1 box 0 0 0 0 9 9 9\n",
     )?;
     Ok(())
 }
@@ -229,13 +214,10 @@ fn no_box_is_inverted(rt: HostRuntime) -> Result<(), Fail> {
     assert_faults(
         &rt,
         rt.alloc(),
-        2,
         LogCause::InvertedBox,
-        &[
-            b"@1 box 5 0 0 0 -1 9 9\n".as_slice(),
-            b"@1 delete 0 5 0 9 4 9\n".as_slice(),
-            b"@1 suspend 0 0 9 9 9 8 x 0 0 1 1 1\n".as_slice(),
-        ],
+        b"@1 box 5 0 0 0 -1 9 9\n\
+          @1 delete 0 5 0 9 4 9\n\
+          @1 suspend 0 0 9 9 9 8 x 0 0 1 1 1\n",
     )?;
     Ok(())
 }
@@ -243,17 +225,18 @@ fn no_box_is_inverted(rt: HostRuntime) -> Result<(), Fail> {
 #[test]
 fn the_first_faulty_line_is_named_and_all_lines_count(rt: HostRuntime) -> Result<(), Fail> {
     let alloc = rt.alloc();
-    assert_faults(
-        &rt,
-        alloc,
-        4,
-        LogCause::BadCaller,
-        &[
-            b"# scan\n\n@9 add 1 2 3\n".as_slice(),
-            b"@1 add 1 2 3\nsync\n@9 add 1 2 3\n@1 add\n".as_slice(),
-            b"\n\n@0".as_slice(),
-        ],
-    )?;
+    let fault = Some(ParseFault::Bad {
+        line: 4,
+        cause: LogCause::BadCaller,
+    });
+    for lines in [
+        b"# scan\n\n@9 add 1 2 3\n".as_slice(),
+        b"@1 add 1 2 3\nsync\n@9 add 1 2 3\n@1 add\n".as_slice(),
+        b"\n\n@0".as_slice(),
+    ] {
+        let log = log_of(alloc, lines)?;
+        assert_eq!(rt; fault_of(alloc, log.as_slice()), fault, "{lines:?}");
+    }
     let log = log_of(alloc, b"# one\n@1 add 1 2 3\n\n#\nsync\n# two")?;
     assert_eq!(rt; fault_of(alloc, log.as_slice()), None);
     Ok(())
@@ -261,20 +244,24 @@ fn the_first_faulty_line_is_named_and_all_lines_count(rt: HostRuntime) -> Result
 
 #[test]
 fn each_command_is_read(rt: HostRuntime) -> Result<(), Fail> {
-    for lines in [
-        b"".as_slice(),
-        b"@1 add 1 2 3".as_slice(),
-        b"@2 thin 1 2 3 -4 0 1000000000\n".as_slice(),
-        b"@3 delete 1 2 3 4 5 6 -1000000000 0 0 1000000001 1000000001 1000000001\n".as_slice(),
-        b"@4 suspend 4 5 6 4 5 6\n@4 restore 0 0 0 9 9 9\n".as_slice(),
-        b"@5 erase 1 2 3 1000000000 -1000000000 0\n".as_slice(),
-        b"@6 near 256 -1000000000 0 7\n@6 near 1 0 0 0 within 0\n".as_slice(),
-        b"@7 near 1 0 0 0 within 4000000000\n".as_slice(),
-        b"@8 box 256 0 0 0 9 9 9\nsync\n".as_slice(),
-    ] {
-        let log = log_of(rt.alloc(), lines)?;
-        assert_eq!(rt; fault_of(rt.alloc(), log.as_slice()), None, "{lines:?}");
+    let alloc = rt.alloc();
+    let lines = b"@2 thin 1 2 3 -4 0 1000000000\n\
+          @3 delete 1 2 3 4 5 6 -1000000000 0 0 1000000001 1000000001 1000000001\n\
+          @4 suspend 4 5 6 4 5 6\n\
+          @4 restore 0 0 0 9 9 9\n\
+          @5 erase 1 2 3 1000000000 -1000000000 0\n\
+          @6 near 256 -1000000000 0 7\n\
+          @6 near 1 0 0 0 within 0\n\
+          @7 near 1 0 0 0 within 4000000000\n\
+          @8 box 256 0 0 0 9 9 9\n\
+          sync\n\
+          @1 add 1 2 3";
+    for line in lines.split_inclusive(is_end) {
+        let log = log_of(alloc, line)?;
+        assert_eq!(rt; fault_of(alloc, log.as_slice()), None, "{line:?}");
     }
+    let log = log_of(alloc, lines)?;
+    assert_eq!(rt; fault_of(alloc, log.as_slice()), None);
     Ok(())
 }
 
