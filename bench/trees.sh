@@ -4,9 +4,9 @@
 #
 #   bench/trees.sh [PROGRAM]
 #
-# The programs get the same points, do the same works in turn, three times each, and have to print the same checksums; the
-# least times and the ratios to ours are printed. SIZES='10000' takes other numbers of points. Needs bash 5 and rustc, and writes
-# only to a folder that it removes.
+# The programs get the same points, do the same works in turn, three times each or RUNS times, and have to print the same checksums;
+# the least times and the ratios of ours to the others' are printed. SIZES='10000' takes other numbers of points. Needs bash 5 and
+# rustc, and writes only to a folder that it removes.
 set -euo pipefail
 
 here=$(dirname "$0")
@@ -18,7 +18,7 @@ rustc --edition 2021 -O --cfg shared -o "$folder/shared" "$here/plain.rs"
 
 # Runs the programs, that with shared nodes where versions are held: run_all WORK POINTS ASKED
 run_all() {
-    for _ in 1 2 3; do
+    for ((run = 0; run < ${RUNS:-3}; run++)); do
         "$program" "$@" >>"$folder/sums" 2>>"$folder/ours"
         "$folder/plain" "$@" >>"$folder/sums" 2>>"$folder/alone"
         case $1 in held | thin | odometry) "$folder/shared" "$@" >>"$folder/sums" 2>>"$folder/with_versions" ;; esac
