@@ -3,8 +3,8 @@ use crate::{Block, Tree};
 use map_fold::NoMemory;
 use std::alloc::Global;
 
-// So much as a scan of some thousand points makes anew: 7 MB.
-const MOST: usize = 65_536;
+// So many blocks are kept at the most: 1 MB.
+pub(crate) const MOST: usize = 8_192;
 
 // The memory of old nodes, and trees that are let go. These are taken apart node by node, as memory is wanted: so a node is written
 // just after it was read, while the processor has it at hand.
@@ -22,14 +22,16 @@ impl Blocks {
         }
     }
 
+    // Keeps the block, or lets it go where so many are kept.
     pub(crate) fn push(&mut self, block: Block) -> Result<(), NoMemory> {
-        self.ready.push(block)?;
+        if self.ready.len() < MOST {
+            self.ready.push(block)?;
+        }
         Ok(())
     }
 
     // Takes in a tree in the place of what is left of those before it, which is let go.
     pub(crate) fn take_in(&mut self, tree: Tree) {
-        self.ready.truncate(MOST);
         self.trees.clear();
         keep(&mut self.trees, tree)
     }

@@ -8,7 +8,7 @@ ghost use Rattle.kd_tree.specs.Contents.{AreDistinct, AreKept, by_number, conten
 ghost use Rattle.kd_tree.specs.Criteria.{IsCalm};
 ghost use Rattle.kd_tree.specs.Build.{IsBuilt};
 
-use crate::blocks::Blocks;
+use crate::blocks::{Blocks, MOST};
 use crate::build::built;
 use crate::flatten::{gather_owed, push_kept};
 use crate::{Block, Steps, Tree};
@@ -46,8 +46,9 @@ impl Scratch {
 
 impl Tree {
     /// What is left of the tree and these items, built by medians as `build` does it. The list of them all is the scratch's.
-    /// The new nodes are made in the memory of the old ones that nobody else holds, as far as that goes; what is left over is
-    /// the scratch's until it is used or let go with it. Where memory is wanting, the tree is let go.
+    /// Fewer than 8,192 new nodes are made in the memory of old ones that nobody else holds, as far as that goes; what is left
+    /// over is the scratch's until it is used or let go with it. More are made in fresh memory, for which a second list is taken
+    /// meanwhile. Where memory is wanting, the tree is let go.
     pub fn built_anew<L: Ledger>(
         self,
         alloc: Global,
@@ -74,13 +75,34 @@ impl Tree {
         scratch.items.reserve(held + more.len())?;
         empty_owed(self, Tag::KEEP, &mut scratch.items, &mut scratch.blocks)?;
         scratch.items.extend_from_slice(more)?;
-        built(
+        built_in(
             alloc,
             scratch.items.as_mut_slice(),
             &mut scratch.blocks,
             steps,
         )
     }
+}
+
+// Moves the items. Few nodes are made in these blocks, while there are any. Many are made in fresh memory, where they lie side by
+// side: what was let go in small pieces, glibc joins when it is asked for a large one, as it is for the list in `build`.
+fn built_in<L: Ledger>(
+    alloc: Global,
+    items: &mut [Item],
+    blocks: &mut Blocks,
+    steps: &mut Steps<L>,
+) -> Result<Tree, NoMemory>
+    requires kept { AreKept items.old }
+    requires distinct { AreDistinct items.old }
+    requires few { length items.old ≤ 4194304 }
+    ensures shape { IfOk result (λ t. IsBuilt items.old t) }
+    ensures once { OnOk result (steps.new ≡ steps.old + length items.old) }
+    ensures ticks { steps.new ≤ steps.old + length items.old }
+{
+    if items.len() < MOST {
+        return built(alloc, items, blocks, steps);
+    }
+    Tree::build(alloc, items, steps)
 }
 
 // Puts what is left of a tree that owes this action behind the items, and the memory of the nodes that nobody else holds

@@ -29,11 +29,13 @@ impl MapState {
         scratch
     }
 
-    // Takes the scratch back.
-    pub(crate) fn returned(&mut self, scratch: Scratch)
+    // Takes the scratch back. What it hasn't used of a version is let go now, lest it be the last to hold a subtree that is
+    // swapped out before the next update.
+    pub(crate) fn returned(&mut self, mut scratch: Scratch)
         ensures same { self.new.state ≡ self.old.state }
         ensures spare { self.new.spare ≡ self.old.spare }
     {
+        scratch.take_in(Tree::empty());
         self.scratch = scratch;
     }
 }
