@@ -2,9 +2,9 @@
 // is deleted.
 use crate::{live_of, near, Draws, Hit, Map, KEEP, POINTS_OF_SCAN};
 
-const WITHIN: u64 = 2_000;
+const WITHIN: u128 = 2_000;
 
-fn near_robot(map: &Map, scan: u32, within: u64) -> usize {
+fn near_robot(map: &Map, scan: u32, within: u128) -> usize {
     let mut hits: Vec<Hit> = Vec::with_capacity(5);
     near(&map.tree, KEEP, 5, &[1000 * scan as i64, 0, 0], &mut hits);
     hits.iter().filter(|hit| hit.dist2 <= within).count()
@@ -18,7 +18,7 @@ pub fn summary(scans: u32) -> String {
     for scan in 0..scans {
         let points: Vec<_> = (0..POINTS_OF_SCAN).map(|_| draws.point(scan)).collect();
         map.thin(&points);
-        hits += near_robot(&map, scan, u64::MAX) + near_robot(&map, scan, WITHIN * WITHIN);
+        hits += near_robot(&map, scan, u128::MAX) + near_robot(&map, scan, WITHIN * WITHIN);
         if scan % 10 == 9 {
             map.leave(scan);
         }

@@ -5,7 +5,7 @@
 
 It takes the marks from the transcript, looks whether they are legal, folds the updates in the order of their marks in a plain
 dictionary, and writes each reply anew by looking at every point. So it is slow, and for small logs. It prints `legal`, or what is
-wrong, with status 1. It knows nothing of the program, and the log has to be one that the program doesn't refuse.
+wrong, with status 1. It knows nothing of the program, and the log, of either version, has to be one that the program doesn't refuse.
 """
 
 import sys
@@ -14,7 +14,7 @@ from collections import namedtuple
 # A kept line after the header: caller 0 is a sync's.
 Command = namedtuple("Command", "caller word numbers")
 
-UPDATES = {"add", "thin", "delete", "erase", "suspend", "restore"}
+UPDATES = {"add", "thin", "delete", "erase", "suspend", "restore", "expire"}
 
 
 class Wrong(Exception):
@@ -30,10 +30,10 @@ def require(holds, what):
 
 
 def read_log(text):
-    """The voxel's edge, and the commands."""
+    """How many numbers a point that is held has, the voxel's edge, and the commands."""
     kept = [line.split(" ") for line in text.split("\n") if line and not line.startswith("#")]
-    edge = int(kept[0][3])
-    return edge, [command_of(fields) for fields in kept[1:]]
+    size, edge = {"1": 3, "2": 4}[kept[0][1]], int(kept[0][3])
+    return size, edge, [command_of(fields) for fields in kept[1:]]
 
 
 def command_of(fields):
@@ -43,13 +43,13 @@ def command_of(fields):
     return Command(int(fields[0][1:]), fields[1], numbers)
 
 
-def by_threes(numbers):
-    return [tuple(numbers[i : i + 3]) for i in range(0, len(numbers), 3)]
+def parted(numbers, size):
+    return [tuple(numbers[i : i + size]) for i in range(0, len(numbers), size)]
 
 
 def boxes_of(command):
     """Pairs of corners, lo and hi. What is erased lies in boxes of edge 1."""
-    corners = by_threes(command.numbers)
+    corners = parted(command.numbers, 3)
     if command.word == "erase":
         return [(p, (p[0] + 1, p[1] + 1, p[2] + 1)) for p in corners]
     return list(zip(corners[::2], corners[1::2]))
@@ -98,20 +98,23 @@ def check_marks(commands, marks):
 
 
 class Map:
-    """Points by their numbers, each with whether it is live."""
+    """Points by their numbers, each with whether it is live. A point of version 2 has its intensity behind its coordinates."""
 
-    def __init__(self, edge):
+    def __init__(self, size, edge):
+        self.size = size
         self.edge = edge
         self.held = {}
         self.next = 0
 
     def update(self, command):
         if command.word == "add":
-            for point in by_threes(command.numbers):
+            for point in parted(command.numbers, self.size):
                 self.put(point)
         elif command.word == "thin":
-            for point in by_threes(command.numbers):
+            for point in parted(command.numbers, self.size):
                 self.thin(point)
+        elif command.word == "expire":
+            self.held = {number: held for number, held in self.held.items() if number >= command.numbers[0]}
         else:
             for box in boxes_of(command):
                 self.mark(box, command.word)
@@ -121,14 +124,14 @@ class Map:
         self.next += 1
 
     def thin(self, point):
-        lo = tuple(x // self.edge * self.edge for x in point)
+        lo = tuple(x // self.edge * self.edge for x in place(point))
         box = (lo, tuple(x + self.edge for x in lo))
         number = self.next
         self.put(point)
         rivals = self.live_in(box)
         # Twice the coordinates, so that the centre is whole.
         centre = tuple(2 * x + self.edge for x in lo)
-        winner = min(rivals, key=lambda n: (distance(tuple(2 * x for x in self.held[n][0]), centre), self.held[n][0], n))
+        winner = min(rivals, key=lambda n: (distance(tuple(2 * x for x in self.place(n)), centre), self.place(n), n))
         for rival in rivals:
             if rival != winner:
                 del self.held[rival]
@@ -141,6 +144,9 @@ class Map:
             else:
                 self.held[number] = (self.held[number][0], word == "restore")
 
+    def place(self, number):
+        return place(self.held[number][0])
+
     def live(self):
         return [number for number, (_, is_live) in self.held.items() if is_live]
 
@@ -149,18 +155,27 @@ class Map:
 
     def near(self, numbers):
         k, query, within = numbers[0], tuple(numbers[1:4]), numbers[4:]
-        hits = sorted((distance(self.held[n][0], query), self.held[n][0], n) for n in self.live())
+        hits = sorted((distance(self.place(n), query), self.place(n), n) for n in self.live())
         hits = [hit for hit in hits if not within or hit[0] <= within[0] ** 2][:k]
-        return "".join(" | %d %d %d %d %d" % (n, *point, far) for far, point, n in hits)
+        return "".join(" | " + spelled(n, *self.held[n][0], far) for far, _, n in hits)
 
     def box(self, numbers):
         k, box = numbers[0], (tuple(numbers[1:4]), tuple(numbers[4:7]))
         found = self.live_in(box)
-        return " %d" % len(found) + "".join(" | %d %d %d %d" % (n, *self.held[n][0]) for n in found[:k])
+        return " %d" % len(found) + "".join(" | " + spelled(n, *self.held[n][0]) for n in found[:k])
 
     def totals(self):
         live = len(self.live())
         return " live %d suspended %d" % (live, len(self.held) - live)
+
+
+def place(point):
+    """A point's coordinates."""
+    return point[:3]
+
+
+def spelled(*numbers):
+    return " ".join(map(str, numbers))
 
 
 def distance(p, q):
@@ -168,7 +183,7 @@ def distance(p, q):
 
 
 def is_in(point, box):
-    return all(lo <= x < hi for lo, x, hi in zip(box[0], point, box[1]))
+    return all(lo <= x < hi for lo, x, hi in zip(box[0], place(point), box[1]))
 
 
 # --- The replies
@@ -186,14 +201,14 @@ def reply(command, mark, held):
 
 
 def check(log, transcript):
-    edge, commands = read_log(log)
+    size, edge, commands = read_log(log)
     commands.append(Command(0, "end", []))
     require(transcript.endswith("\n"), "the last line isn't ended")
     lines = transcript.split("\n")[:-1]
     require(len(lines) == len(commands), "%d lines for %d commands and the end" % (len(lines), len(commands) - 1))
     marks = [mark_of(command, line) for command, line in zip(commands, lines)]
     check_marks(commands, marks)
-    held, done = Map(edge), 0
+    held, done = Map(size, edge), 0
     # In the order of the marks; at one mark the update comes first.
     for place in sorted(range(len(commands)), key=lambda i: (marks[i], commands[i].word not in UPDATES)):
         command, mark = commands[place], marks[place]

@@ -1,5 +1,6 @@
 // A straightforward incremental k-d tree in plain Rust, to be measured beside map_bench: the same words, points, works and
-// checksums. Build with `rustc -O`. It is changed in place and holds no versions, so `held` is here the work of `scans`, and it
+// checksums. Build with `rustc -O`. It admits the same coordinates, so its squared distances have 128 bits, and keeps an
+// intensity with each point. It is changed in place and holds no versions, so `held` is here the work of `scans`, and it
 // builds everything anew in place, so `longest` has one figure here.
 //
 // Built with `--cfg shared`, its nodes are shared by versions as ours are, and the version before each scan is held while the scan is
@@ -30,6 +31,7 @@ fn then(first: [u8; 2], second: [u8; 2]) -> [u8; 2] {
 struct Item {
     number: u32,
     point: [i64; 3],
+    intensity: u16,
     label: u8,
 }
 
@@ -162,15 +164,14 @@ fn refreshed(tree: Tree, large: u32) -> Tree {
     }
 }
 
-fn put(tree: Tree, large: u32, number: u32, point: [i64; 3], axis: usize) -> Tree {
+fn put(tree: Tree, large: u32, item: Item, axis: usize) -> Tree {
     let Some(mut node) = tree else {
-        let item = Item { number, point, label: LIVE };
         let mut node = Node {
             item,
             axis,
             pending: KEEP,
-            lo: point,
-            hi: point,
+            lo: item.point,
+            hi: item.point,
             size: 0,
             counts: [0; 3],
             left: None,
@@ -182,10 +183,10 @@ fn put(tree: Tree, large: u32, number: u32, point: [i64; 3], axis: usize) -> Tre
     let own = owned(&mut node);
     own.push_down();
     let next = (own.axis + 1) % 3;
-    if point[own.axis] < own.item.point[own.axis] {
-        own.left = put(own.left.take(), large, number, point, next);
+    if item.point[own.axis] < own.item.point[own.axis] {
+        own.left = put(own.left.take(), large, item, next);
     } else {
-        own.right = put(own.right.take(), large, number, point, next);
+        own.right = put(own.right.take(), large, item, next);
     }
     own.pull_up();
     refreshed(Some(node), large)
@@ -194,7 +195,7 @@ fn put(tree: Tree, large: u32, number: u32, point: [i64; 3], axis: usize) -> Tre
 // Puts the items in one pass: they are parted at each node that they meet, and what would breach is built anew with them.
 fn put_all(tree: Tree, large: u32, items: &mut [Item], axis: usize) -> Tree {
     if let [] | [_] = items {
-        return items.iter().fold(tree, |tree, i| put(tree, large, i.number, i.point, axis));
+        return items.iter().fold(tree, |tree, item| put(tree, large, *item, axis));
     }
     let Some(mut node) = tree else { return build(items) };
     let at = node.item.point[node.axis];
@@ -249,9 +250,12 @@ fn mark(tree: Tree, large: u32, c: &Cuboid, tag: [u8; 2]) -> Tree {
 
 #[derive(Clone, Copy)]
 struct Hit {
-    dist2: u64,
+    dist2: u128,
     point: [i64; 3],
     number: u32,
+    // Found with the point; no checksum has it.
+    #[allow(dead_code)]
+    intensity: u16,
 }
 
 fn live(node: &Node, owed: [u8; 2]) -> u32 {
@@ -262,12 +266,16 @@ fn live_of(tree: &Tree) -> u32 {
     tree.as_ref().map_or(0, |node| live(node, KEEP))
 }
 
-fn dist2(a: &[i64; 3], b: &[i64; 3]) -> u64 {
-    (0..3).map(|i| a[i].abs_diff(b[i]).pow(2)).sum()
+fn gap2(a: i64, b: i64) -> u128 {
+    (a.abs_diff(b) as u128).pow(2)
 }
 
-fn reach(node: &Node, q: &[i64; 3]) -> u64 {
-    (0..3).map(|i| q[i].abs_diff(q[i].clamp(node.lo[i], node.hi[i])).pow(2)).sum()
+fn dist2(a: &[i64; 3], b: &[i64; 3]) -> u128 {
+    (0..3).map(|i| gap2(a[i], b[i])).sum()
+}
+
+fn reach(node: &Node, q: &[i64; 3]) -> u128 {
+    (0..3).map(|i| gap2(q[i], q[i].clamp(node.lo[i], node.hi[i]))).sum()
 }
 
 fn near(tree: &Tree, owed: [u8; 2], k: usize, q: &[i64; 3], hits: &mut Vec<Hit>) {
@@ -276,8 +284,8 @@ fn near(tree: &Tree, owed: [u8; 2], k: usize, q: &[i64; 3], hits: &mut Vec<Hit>)
         return;
     }
     if apply(owed, node.item.label) == LIVE {
-        let point = node.item.point;
-        let hit = Hit { dist2: dist2(q, &point), point, number: node.item.number };
+        let Item { number, point, intensity, .. } = node.item;
+        let hit = Hit { dist2: dist2(q, &point), point, number, intensity };
         let key = (hit.dist2, hit.point, hit.number);
         let at = hits.iter().take_while(|h| (h.dist2, h.point, h.number) < key).count();
         if at < k {
@@ -302,12 +310,12 @@ fn voxel(p: &[i64; 3]) -> Cuboid {
     [lo, lo.map(|c| c + VOXEL)]
 }
 
-type Rank = (u64, [i64; 3], u32);
+type Rank = (u128, [i64; 3], u32, u16);
 
-// The order in which the points of a voxel win.
-fn rank(c: &Cuboid, point: [i64; 3], number: u32) -> Rank {
-    let away = (0..3).map(|i| (2 * point[i]).abs_diff(c[0][i] + c[1][i]).pow(2)).sum();
-    (away, point, number)
+// The order in which the points of a voxel win. No two have the same number, so the intensity after it decides nothing.
+fn rank(c: &Cuboid, item: &Item) -> Rank {
+    let away = (0..3).map(|i| gap2(2 * item.point[i], c[0][i] + c[1][i])).sum();
+    (away, item.point, item.number, item.intensity)
 }
 
 // The first live item of the cuboid in that order, and how many there are.
@@ -317,7 +325,7 @@ fn best(tree: &Tree, owed: [u8; 2], c: &Cuboid, found: &mut (Option<Rank>, u32))
         return;
     }
     if apply(owed, node.item.label) == LIVE && holds(c, &node.item.point) {
-        let new = rank(c, node.item.point, node.item.number);
+        let new = rank(c, &node.item);
         found.0 = Some(found.0.map_or(new, |old| old.min(new)));
         found.1 += 1;
     }
@@ -355,12 +363,12 @@ const POINTS_OF_SCAN: u32 = 2_000;
 // As in map_bench: the update itself builds anew whatever lost its balance.
 const LARGE: u32 = 1_000_000;
 
-fn with(sum: u64, number: u32, dist2: u64) -> u64 {
-    sum.wrapping_mul(31).wrapping_add(number as u64).wrapping_add(dist2)
+fn with(sum: u64, number: u32, dist2: u128) -> u64 {
+    sum.wrapping_mul(31).wrapping_add(number as u64).wrapping_add(dist2 as u64)
 }
 
 fn numbered(first: u32, points: &[[i64; 3]]) -> Vec<Item> {
-    (first..).zip(points).map(|(number, &point)| Item { number, point, label: LIVE }).collect()
+    (first..).zip(points).map(|(number, &point)| Item { number, point, intensity: 0, label: LIVE }).collect()
 }
 
 struct Map {
@@ -402,9 +410,9 @@ impl Map {
     fn thin(&mut self, points: &[[i64; 3]]) {
         let _before = held(&self.tree);
         let mut firsts: HashMap<Cuboid, Rank> = HashMap::new();
-        for (number, &point) in (self.next..).zip(points) {
-            let cube = voxel(&point);
-            let new = rank(&cube, point, number);
+        for item in numbered(self.next, points) {
+            let cube = voxel(&item.point);
+            let new = rank(&cube, &item);
             firsts.entry(cube).and_modify(|old| *old = new.min(*old)).or_insert(new);
         }
         self.next += points.len() as u32;
@@ -412,14 +420,14 @@ impl Map {
         for (cube, new) in firsts {
             let mut found = (None, 0);
             best(&self.tree, KEEP, &cube, &mut found);
-            let (_, point, number) = found.0.map_or(new, |old| old.min(new));
+            let (_, point, number, intensity) = found.0.map_or(new, |old| old.min(new));
             if found.1 == 1 && number != new.2 {
                 continue;
             }
             if found.1 > 0 {
                 self.tree = mark(self.tree.take(), LARGE, &cube, THIN);
             }
-            items.push(Item { number, point, label: LIVE });
+            items.push(Item { number, point, intensity, label: LIVE });
         }
         self.tree = put_all(self.tree.take(), LARGE, &mut items, 0);
     }

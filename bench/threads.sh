@@ -3,11 +3,12 @@
 #
 #   bench/threads.sh [PROGRAM [RUNS [WORD..]]]
 #
-# Each run has a log of its own, of eight callers and many syncs, with points in a small grid, so that many are equal or equally far,
-# and with small subtrees, so that the workers have much to do. The program runs it with the words, `run` where none are given, and
-# bench/legal.py looks whether the transcript is a legal one. The last line says how many were, and in how many the callers' commands
-# came in another order than the log's, which is no fault: where it is 0 nothing ran side by side. Before that, some wrong transcripts
-# show that bench/legal.py finds what is wrong. Needs bash 5 and python3.
+# Each run has a log of its own, of version 1 and 2 in turn, of eight callers and many syncs, with points in a small grid, so that
+# many are equal, or differ in their intensity alone, or are equally far, and with small subtrees, so that the workers have much to
+# do. The program runs it with the words, `run` where none are given, and bench/legal.py looks whether the transcript is a legal one.
+# The last line says how many were, and in how many the callers' commands came in another order than the log's, which is no fault:
+# where it is 0 nothing ran side by side. Before that, some wrong transcripts show that bench/legal.py finds what is wrong. Needs
+# bash 5 and python3.
 set -euo pipefail
 
 bench=$(realpath "$(dirname "$0")")
@@ -25,10 +26,16 @@ write_log() {
 import random, sys
 
 draw = random.Random(int(sys.argv[1]))
+version = 2 - int(sys.argv[1]) % 2
 
 
 def point():
     return [draw.randint(-9, 9), draw.randint(-5, 5), draw.randint(-2, 2)]
+
+
+# What is held has an intensity in version 2.
+def seen():
+    return point() + [draw.randint(0, 2) for _ in range(version - 1)]
 
 
 def box():
@@ -46,24 +53,25 @@ def near():
 
 
 WORDS = {
-    "add": (5, lambda: several(point, 12)),
-    "thin": (2, lambda: several(point, 6)),
+    "add": (5, lambda: several(seen, 12)),
+    "thin": (2, lambda: several(seen, 6)),
     "delete": (1, lambda: several(box, 1)),
     "erase": (1, lambda: several(point, 3)),
     "suspend": (1, lambda: several(box, 2)),
     "restore": (1, lambda: several(box, 2)),
+    "expire": (1 if version == 2 else 0, lambda: [draw.randint(0, 200)]),
     "near": (4, near),
     "box": (3, lambda: [draw.randint(1, 20)] + box()),
 }
 
-print("ikdmap 1 voxel %d large 16" % draw.randint(1, 6))
+print("ikdmap %d voxel %d large 16" % (version, draw.randint(1, 6)))
 for _ in range(draw.randint(4, 12)):
     for _ in range(draw.randint(0, 60)):
         word = draw.choices(list(WORDS), [weight for weight, _ in WORDS.values()])[0]
         print("@%d" % draw.randint(1, 8), word, *WORDS[word][1]())
     print("sync")
 for _ in range(20):
-    print("@%d" % draw.randint(1, 8), "add", *several(point, 12))
+    print("@%d" % draw.randint(1, 8), "add", *several(seen, 12))
 PYTHON
 }
 
@@ -127,6 +135,25 @@ TRANSCRIPT
     is_refused 'totals' '5s/live 1/live 4/'
     is_refused 'a line too few' '10d'
     is_refused 'another caller'"'"'s reply' '1s/@1/@2/'
+    cat > "$log" <<'LOG'
+ikdmap 2 voxel 10 large 16
+@1 add 1 0 0 9 1 0 0 5
+@1 near 2 0 0 0
+@1 thin 5 5 5 7 5 5 5 6
+@1 box 1 5 5 5 6 6 6
+LOG
+    cat > "$folder/serial" <<'TRANSCRIPT'
+@1 ok 1
+@1 near 1 | 0 1 0 0 9 1 | 1 1 0 0 5 1
+@1 ok 2
+@1 box 2 1 | 2 5 5 5 7
+end 2 live 1 suspended 0
+TRANSCRIPT
+    echo "right: $(legal "$folder/serial")"
+    is_refused 'the lesser intensity first' '2s/.*/@1 near 1 | 1 1 0 0 5 1 | 0 1 0 0 9 1/'
+    is_refused 'no intensity' '2s/.*/@1 near 1 | 0 1 0 0 1 | 1 1 0 0 1/'
+    is_refused 'a winner by its intensity' '4s/.*/@1 box 2 1 | 3 5 5 5 6/'
+    is_refused 'a winner with the other'"'"'s intensity' '4s/7$/6/'
 }
 
 try_wrong_ones

@@ -83,5 +83,5 @@ longest of 200 more scans that are added, the longest of each step: what is done
 
 Both build subtrees below 1,000,000 nodes anew in place, put a scan in one pass, and leave out subtrees without a live item
 when they search.
-The plain tree has 8 bytes a coordinate.
+Both admit the same coordinates, in 8 bytes each, and keep an intensity with each point.
 LEGEND

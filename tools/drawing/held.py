@@ -6,23 +6,24 @@ import math
 from collections import defaultdict
 from typing import NamedTuple
 
-from .log import Point
+from .log import Place
 
 
 class Gone(NamedTuple):
-    """A point that is gone for good: by the update of this mark, and by its word."""
+    """The place of a point that is gone for good: by the update of this mark, and by its word."""
 
-    point: Point
+    place: Place
     mark: int
     word: str
 
 
 class Hit(NamedTuple):
-    """A live point near a place; hits are ordered as their parts are."""
+    """A live point near a place; hits are ordered as their parts are, of which no two have the same number."""
 
     dist2: int
-    point: Point
+    place: Place
     number: int
+    intensity: int
 
 
 class Held:
@@ -49,24 +50,26 @@ class Held:
             self.next += 1
         for box in update.boxes:
             for number, point in self.held_in(box):
-                self.change(update.word, number, point)
+                self.change(update.word, number, point.place)
+        for number in [number for number in (*self.live, *self.suspended) if number < update.below]:
+            self.drop(number, self.point(number).place, update.word)
 
     def hold(self, number, point):
         """Holds a live point."""
         self.live[number] = point
-        self.cells[self.cell(point)].add(number)
+        self.cells[self.cell(point.place)].add(number)
 
-    def drop(self, number, point, word):
+    def drop(self, number, place, word):
         """A held point is gone for good."""
         self.live.pop(number, None)
         self.suspended.pop(number, None)
-        self.cells[self.cell(point)].discard(number)
-        self.gone.append(Gone(point, self.mark, word))
+        self.cells[self.cell(place)].discard(number)
+        self.gone.append(Gone(place, self.mark, word))
 
-    def change(self, word, number, point):
+    def change(self, word, number, place):
         """What becomes of a held point that is in an update's box."""
         if word in ("delete", "erase"):
-            self.drop(number, point, word)
+            self.drop(number, place, word)
         elif word == "suspend" and number in self.live:
             self.suspended[number] = self.live.pop(number)
         elif word == "restore" and number in self.suspended:
@@ -74,33 +77,35 @@ class Held:
 
     def thin(self, point):
         """Of a new point and the live ones in its voxel, the one nearest to the voxel's centre stays alone."""
-        cell = self.cell(point)
-        rivals = [Hit(self.to_centre(cell, point), point, self.next)]
+        cell = self.cell(point.place)
+        self.hold(self.next, point)
+        rivals = []
         for number in self.cells[cell]:
             if number in self.live:
-                rivals.append(Hit(self.to_centre(cell, self.live[number]), self.live[number], number))
-        self.hold(self.next, point)
+                place, intensity = self.live[number]
+                rivals.append(Hit(self.to_centre(cell, place), place, number, intensity))
         for loser in sorted(rivals)[1:]:
-            self.drop(loser.number, loser.point, "thin")
+            self.drop(loser.number, loser.place, "thin")
 
-    def cell(self, point):
-        """The voxel that a point lies in, counted from the origin's."""
-        return tuple(at // self.voxel for at in point)
+    def cell(self, place):
+        """The voxel that a place lies in, counted from the origin's."""
+        return tuple(at // self.voxel for at in place)
 
-    def to_centre(self, cell, point):
-        """Four times the squared distance from a point to a voxel's centre."""
-        return sum((2 * at - (2 * place + 1) * self.voxel) ** 2 for at, place in zip(point, cell))
+    def to_centre(self, cell, place):
+        """Four times the squared distance from a place to a voxel's centre."""
+        return sum((2 * at - (2 * low + 1) * self.voxel) ** 2 for at, low in zip(place, cell))
 
     def held_in(self, box):
         """The held points in a box, with their numbers."""
         edges = [range(low // self.voxel, (high - 1) // self.voxel + 1) for low, high in zip(*box)]
-        # A small box is looked up voxel by voxel, a large one by all voxels that are in use.
-        if math.prod(map(len, edges)) < len(self.cells):
+        # A small box is looked up voxel by voxel, a large one by all voxels that are in use; so is one without a voxel, since it
+        # may be long.
+        if 0 < math.prod(map(len, edges)) < len(self.cells):
             cells = [cell for cell in itertools.product(*edges) if cell in self.cells]
         else:
             cells = self.cells
         held = ((number, self.point(number)) for cell in cells for number in self.cells[cell])
-        return [(number, point) for number, point in held if box.holds(point)]
+        return [(number, point) for number, point in held if box.holds(point.place)]
 
     def point(self, number):
         """The point that is held under a number."""
@@ -111,7 +116,8 @@ class Held:
         x, y, z = query.place
         # Most are no hits, so they are plain tuples, which take half the time.
         near = (
-            ((at[0] - x) ** 2 + (at[1] - y) ** 2 + (at[2] - z) ** 2, at, number) for number, at in self.live.items()
+            ((at[0] - x) ** 2 + (at[1] - y) ** 2 + (at[2] - z) ** 2, at, number, intensity)
+            for number, (at, intensity) in self.live.items()
         )
         if query.reach is not None:
             near = (hit for hit in near if hit[0] <= query.reach**2)

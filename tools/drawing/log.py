@@ -8,7 +8,9 @@ MOST_BYTES = 268_435_456
 MOST_COMMANDS = 65_536
 MOST_IN_A_LINE = 262_144
 MOST_POINTS = 4_194_304
-FARTHEST = 1_000_000_000
+MOST_INTENSITY = 65_535
+# The farthest coordinate from 0, by the log's version. Boxes reach one farther, and queries four times as far.
+FARTHEST = {1: 1_000_000_000, 2: 2**40}
 
 NUMBER = re.compile(rb"0|-?[1-9][0-9]*")
 CALLER = re.compile(rb"@([1-8])")
@@ -18,7 +20,7 @@ class LogFault(Exception):
     """A log is refused: its text is the line's number and the cause, as the program tells them."""
 
 
-class Point(NamedTuple):
+class Place(NamedTuple):
     """A place in whole millimetres."""
 
     x: int
@@ -26,25 +28,33 @@ class Point(NamedTuple):
     z: int
 
 
+class Point(NamedTuple):
+    """What was seen: where, and with which intensity, which is 0 in version 1."""
+
+    place: Place
+    intensity: int = 0
+
+
 class Box(NamedTuple):
     """A half-open box: its upper sides are left out."""
 
-    lo: Point
-    hi: Point
+    lo: Place
+    hi: Place
 
-    def holds(self, point):
-        """Tells whether a point lies in the box."""
-        return all(low <= at < high for low, at, high in zip(self.lo, point, self.hi))
+    def holds(self, place):
+        """Tells whether a place lies in the box."""
+        return all(low <= at < high for low, at, high in zip(self.lo, place, self.hi))
 
 
 @dataclass(frozen=True)
 class Update:
-    """A change of the map: `add` and `thin` have points, the other words have boxes."""
+    """A change of the map: `add` and `thin` have points, `expire` has a bound on numbers, the other words have boxes."""
 
     caller: int
     word: str
     points: list[Point] = field(default_factory=list)
     boxes: list[Box] = field(default_factory=list)
+    below: int = 0
 
 
 @dataclass(frozen=True)
@@ -53,7 +63,7 @@ class Near:
 
     caller: int
     most: int
-    place: Point
+    place: Place
     reach: int | None = None
 
 
@@ -73,8 +83,9 @@ class Sync:
 
 @dataclass(frozen=True)
 class Log:
-    """A log: the edge of its voxels, and its commands."""
+    """A log: its version, the edge of its voxels, and its commands."""
 
+    version: int
     voxel: int
     commands: list[Update | Near | Inside | Sync]
 
@@ -84,28 +95,35 @@ class Log:
 
 
 class Fields:
-    """The arguments of a line, read from left to right."""
+    """The arguments of a line, read from left to right, in a log of this version."""
 
-    def __init__(self, fields):
+    def __init__(self, version, fields):
         self.left = iter(fields)
+        self.version = version
+        self.farthest = FARTHEST[version]
 
     def number(self, low, high):
         """The next field's number, which lies from low to high."""
         text = next(self.left)
         if not NUMBER.fullmatch(text):
             raise LogFault("bad number")
-        # The longest number in any range has 11 characters, and a very long text is no number to Python.
-        if len(text) > 11 or not low <= int(text) <= high:
+        # The longest number in any range has 14 characters, and a very long text is no number to Python.
+        if len(text) > 14 or not low <= int(text) <= high:
             raise LogFault("out of range")
         return int(text)
 
-    def point(self, farthest=FARTHEST):
-        """The next three fields as a point."""
-        return Point(*(self.number(-FARTHEST, farthest) for _ in range(3)))
+    def place(self, beyond=0):
+        """The next three fields as a place, which may lie so far beyond the farthest coordinate."""
+        return Place(*(self.number(-self.farthest, self.farthest + beyond) for _ in range(3)))
+
+    def point(self):
+        """The next fields as a point, in version 2 with its intensity."""
+        place = self.place()
+        return Point(place, self.number(0, MOST_INTENSITY)) if self.version == 2 else Point(place)
 
     def box(self):
         """The next six fields as a box."""
-        box = Box(self.point(FARTHEST + 1), self.point(FARTHEST + 1))
+        box = Box(self.place(1), self.place(1))
         if any(high < low for low, high in zip(box.lo, box.hi)):
             raise LogFault("inverted box")
         return box
@@ -125,22 +143,24 @@ def read_log(content):
             reader.take(line.split(b" ")) if place else reader.take_header(line.split(b" "))
         except LogFault as fault:
             raise LogFault(f"line {number}: {fault}") from None
-    return Log(reader.voxel, reader.commands)
+    return Log(reader.version, reader.voxel, reader.commands)
 
 
 class Reader:
     """Takes the kept lines of a log in turn."""
 
     def __init__(self):
+        self.version = 1
         self.voxel = 0
         self.commands = []
         self.points = 0
 
     def take_header(self, fields):
         """Takes the first kept line."""
-        if len(fields) != 6 or [*fields[:3], fields[4]] != [b"ikdmap", b"1", b"voxel", b"large"]:
+        if len(fields) != 6 or fields[::2] != [b"ikdmap", b"voxel", b"large"] or fields[1] not in (b"1", b"2"):
             raise LogFault("no header")
-        numbers = Fields([fields[3], fields[5]])
+        self.version = int(fields[1])
+        numbers = Fields(self.version, [fields[3], fields[5]])
         self.voxel = numbers.number(1, 1_000_000)
         numbers.number(16, 1_000_000)
 
@@ -164,17 +184,19 @@ class Reader:
         words = {b"near": self.near, b"box": self.inside}
         words |= dict.fromkeys((b"add", b"thin"), self.points_in)
         words |= dict.fromkeys((b"delete", b"erase", b"suspend", b"restore"), self.boxes_in)
+        if self.version == 2:
+            words[b"expire"] = self.expiry
         if len(fields) < 2 or fields[1] not in words:
             raise LogFault("unknown command")
         return words[fields[1]](int(caller[1]), fields[1].decode(), fields[2:])
 
     def points_in(self, caller, word, fields):
         """An update by points."""
-        count = parts(fields, 3)
+        count = parts(fields, 4 if self.version == 2 else 3)
         if count > MOST_IN_A_LINE or self.points + count > MOST_POINTS:
             raise LogFault("too many points")
         self.points += count
-        numbers = Fields(fields)
+        numbers = Fields(self.version, fields)
         return Update(caller, word, points=[numbers.point() for _ in range(count)])
 
     def boxes_in(self, caller, word, fields):
@@ -182,26 +204,32 @@ class Reader:
         count = parts(fields, 3 if word == "erase" else 6)
         if count > MOST_IN_A_LINE:
             raise LogFault("too many points")
-        numbers = Fields(fields)
+        numbers = Fields(self.version, fields)
         if word == "erase":
-            erased = [numbers.point() for _ in range(count)]
-            return Update(caller, word, boxes=[Box(at, Point(*(c + 1 for c in at))) for at in erased])
+            erased = [numbers.place() for _ in range(count)]
+            return Update(caller, word, boxes=[Box(at, Place(*(c + 1 for c in at))) for at in erased])
         return Update(caller, word, boxes=[numbers.box() for _ in range(count)])
+
+    def expiry(self, caller, word, fields):
+        """An update by a bound on numbers."""
+        if len(fields) != 1:
+            raise LogFault("wrong count")
+        return Update(caller, word, below=Fields(self.version, fields).number(0, MOST_POINTS))
 
     def near(self, caller, _word, fields):
         """A query for the nearest points."""
         if len(fields) != 4 and (len(fields) != 6 or fields[4] != b"within"):
             raise LogFault("wrong count")
-        numbers = Fields(fields[:4] + fields[5:])
-        most, place = numbers.number(1, 256), numbers.point()
-        reach = numbers.number(0, 4 * FARTHEST) if len(fields) == 6 else None
+        numbers = Fields(self.version, fields[:4] + fields[5:])
+        most, place = numbers.number(1, 256), numbers.place()
+        reach = numbers.number(0, 4 * numbers.farthest) if len(fields) == 6 else None
         return Near(caller, most, place, reach)
 
     def inside(self, caller, _word, fields):
         """A query for what is in a box."""
         if len(fields) != 7:
             raise LogFault("wrong count")
-        numbers = Fields(fields)
+        numbers = Fields(self.version, fields)
         return Inside(caller, numbers.number(1, 256), numbers.box())
 
 

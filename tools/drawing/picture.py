@@ -5,12 +5,13 @@ import math
 from collections import defaultdict
 from dataclasses import dataclass
 
-from .log import Inside, Near, Point, Update
+from .log import Inside, Near, Place, Update
 
-WIDTH, HEIGHT, MARGIN, FOOT = 960, 720, 12, 58
+# The foot has two lines, and one more of so many pixels where intensities are told.
+WIDTH, HEIGHT, MARGIN, FOOT, LINE = 960, 720, 12, 58, 24
 # Of the points of one kind that lie in the same square of the picture, with sides of so many pixels, one is drawn.
 SQUARE = 5
-# What was deleted has one of so many colours, by when.
+# What was deleted has one of so many colours, by when. What is live has one of as many in version 2, by its intensity.
 SHADES = 8
 
 # What is drawn, by its class, and its name in the legend.
@@ -86,16 +87,19 @@ class View:
 def draw(log, result):
     """The text of the SVG of a log's run."""
     view = view_of(log, result.held)
-    size, label = f'width="{view.width}" height="{view.height + FOOT}"', html.escape(summary(result.held))
-    drawn = [*points(view, log, result.held), *boxes(view, log), *queries(view, log, result)]
+    span, label = intensities(log, result.held), html.escape(summary(result.held))
+    height = view.height + FOOT + (LINE if span else 0)
+    size = f'width="{view.width}" height="{height}"'
+    drawn = [*points(view, log, result.held, span), *boxes(view, log), *queries(view, log, result)]
     parts = [
-        f'<svg xmlns="http://www.w3.org/2000/svg" viewBox="0 0 {view.width} {view.height + FOOT}" role="img">',
+        f'<svg xmlns="http://www.w3.org/2000/svg" viewBox="0 0 {view.width} {height}" role="img">',
         f"<title>{label}</title><style>{STYLE}</style>",
         f'<rect class="ground" {size}/><svg width="{view.width}" height="{view.height}">',
         *drawn,
         "</svg>",
-        *legend(view, log, "".join(drawn)),
-        *foot(view, label),
+        *legend(view, log, result.held, "".join(drawn)),
+        *intensity_legend(view, span),
+        *foot(view, label, height - MARGIN),
         "</svg>",
     ]
     return "\n".join(parts) + "\n"
@@ -103,9 +107,10 @@ def draw(log, result):
 
 def view_of(log, held):
     """The view of all points that were ever held, of the places that were asked for theirs, and of boxes around."""
-    seen = [*held.live.values(), *held.suspended.values(), *(gone.point for gone in held.gone)]
+    seen = [point.place for point in (*held.live.values(), *held.suspended.values())]
+    seen += [gone.place for gone in held.gone]
     seen += [command.place for command in log.commands if isinstance(command, Near)]
-    return View.of(seen or [Point(0, 0, 0)], [box for box, _ in outlines(log)])
+    return View.of(seen or [Place(0, 0, 0)], [box for box, _ in outlines(log)])
 
 
 def outlines(log):
@@ -117,25 +122,53 @@ def outlines(log):
             yield from ((box, command.word) for box in command.boxes)
 
 
-def points(view, log, held):
+def points(view, log, held, span):
     """The points: what was deleted undermost, by its colours, then what is live, then what is suspended."""
     marks, deleted = log.updates(), defaultdict(list)
     for gone in held.gone:
         if gone.word != "thin":
-            deleted[shade(gone.mark, marks)].append(gone.point)
+            deleted[shade(gone.mark, marks)].append(gone.place)
     # A few points are drawn larger than many.
     yield f'<g class="dots" stroke-width="{7 if held.next < 1_000 else 3}">'
-    yield from (f'<path stroke="{colour}" d="{dots(view, places)}"/>' for colour, places in deleted.items())
-    for kind, places in (("live", held.live), ("suspended", held.suspended)):
-        if places:
-            yield f'<path class="{kind}" d="{dots(view, places.values())}"/>'
+    yield from in_colours(view, deleted)
+    if span:
+        yield from in_colours(view, by_darkness(held.live, span))
+    for kind, held_points in (("live", {} if span else held.live), ("suspended", held.suspended)):
+        if held_points:
+            yield f'<path class="{kind}" d="{dots(view, (point.place for point in held_points.values()))}"/>'
     yield "</g>"
+
+
+def in_colours(view, places):
+    """The dots at places that stand by their colours."""
+    for colour, at in places.items():
+        yield f'<path stroke="{colour}" d="{dots(view, at)}"/>'
 
 
 def shade(mark, marks):
     """The colour of what the update of this mark deleted: from yellow for the first updates to violet for the last."""
     step = (mark - 1) * SHADES // marks
     return f"hsl({(408 - 18 * step) % 360},85%,{60 - 2 * step}%)"
+
+
+def intensities(log, held):
+    """The least and the greatest intensity of what is live, which version 2 alone has."""
+    seen = [point.intensity for point in held.live.values()] if log.version == 2 else []
+    return (min(seen), max(seen)) if seen else None
+
+
+def by_darkness(live, span):
+    """The places of live points by their colours, from pale for the least intensity to dark, which lies on top."""
+    least, greatest = span
+    places = defaultdict(list)
+    for place, intensity in sorted(live.values(), key=lambda point: point.intensity):
+        places[dark((intensity - least) * SHADES // (greatest - least + 1))].append(place)
+    return places
+
+
+def dark(step):
+    """One of the colours of intensities, from pale to dark."""
+    return f"hsl(211,{24 + 6 * step}%,{76 - 8 * step}%)"
 
 
 def dots(view, places):
@@ -160,28 +193,41 @@ def boxes(view, log):
 def queries(view, log, result):
     """A ring at each place that was asked for its nearest points, and lines from it to its hits."""
     places = {place: view.at(log.commands[place].place) for place in result.hits}
-    lines = {(places[place], view.at(hit.point)) for place, hits in result.hits.items() for hit in hits}
+    lines = {(places[place], view.at(hit.place)) for place, hits in result.hits.items() for hit in hits}
     rings = "".join(f"M{x - 3} {y}a3 3 0 1 0 6 0a3 3 0 1 0-6 0" for x, y in sorted(set(places.values())))
     spokes = "".join(f"M{x} {y}L{to_x} {to_y}" for (x, y), (to_x, to_y) in sorted(lines))
     if rings:
         yield f'<path class="asked" d="{rings}{spokes}"/>'
 
 
-def legend(view, log, drawn):
+def legend(view, log, held, drawn):
     """What the colours mean that were drawn, in a line below the picture."""
     line, names = view.height + 22, [name for name in NAMES if f'{name}"' in drawn]
     for x, name in zip(range(MARGIN, view.width, 120), names):
         yield f'<path class="sample {name}" d="M{x} {line - 4}h20"/><text x="{x + 26}" y="{line}">{NAMES[name]}</text>'
     x = MARGIN + 120 * len(names)
-    if 'stroke="hsl' in drawn:
-        for step in range(SHADES):
-            yield f'<path class="shade" stroke="{shade(step + 1, SHADES)}" d="M{x + 9 * step} {line - 4}h9"/>'
-        yield f'<text x="{x + 9 * SHADES + 6}" y="{line}">deleted by update 1 to {log.updates()}</text>'
+    if any(gone.word != "thin" for gone in held.gone):
+        colours = [shade(step + 1, SHADES) for step in range(SHADES)]
+        yield from strip(x, line, colours, f"deleted by update 1 to {log.updates()}")
 
 
-def foot(view, label):
+def intensity_legend(view, span):
+    """What the shades of live points mean, where they are drawn, in a line of its own."""
+    if span:
+        text = "live, of intensity " + " to ".join(f"{intensity:,}" for intensity in span)
+        yield from strip(MARGIN, view.height + 22 + LINE, [dark(step) for step in range(SHADES)], text)
+
+
+def strip(x, line, colours, text):
+    """Colours side by side, and what they mean."""
+    for step, colour in enumerate(colours):
+        yield f'<path class="shade" stroke="{colour}" d="M{x + 9 * step} {line - 4}h9"/>'
+    yield f'<text x="{x + 9 * len(colours) + 6}" y="{line}">{text}</text>'
+
+
+def foot(view, label, line):
     """The totals and the scale, at the foot."""
-    line, length = view.height + 46, round_length(WIDTH / 8 / view.scale)
+    length = round_length(WIDTH / 8 / view.scale)
     pixels = round(length * view.scale)
     x = WIDTH - MARGIN - pixels
     yield f'<text x="{MARGIN}" y="{line}">{label}</text>'

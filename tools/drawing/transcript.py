@@ -37,28 +37,28 @@ def run(log, marks):
     turns = sorted(range(len(marks)), key=lambda place: (marks[place], not isinstance(commands[place], Update)))
     for place in turns:
         head = "end" if place == len(log.commands) else head_of(commands[place])
-        result.lines[place] = f"{head} {marks[place]}" + answer(result, place, commands[place])
+        result.lines[place] = f"{head} {marks[place]}" + answer(log, result, place, commands[place])
     return result
 
 
-def answer(result, place, command):
-    """Does a command, and tells what its line says after the mark."""
+def answer(log, result, place, command):
+    """Does a command of the log, and tells what its line says after the mark."""
     held = result.held
     if isinstance(command, Update):
         held.update(command)
         return ""
     if isinstance(command, Near):
-        result.hits[place] = held.nearest(command)
-        return "".join(f" | {hit.number} {spelled(hit.point)} {hit.dist2}" for hit in result.hits[place])
+        result.hits[place] = hits = held.nearest(command)
+        return "".join(f" | {hit.number} {spelled(log, hit.place, hit.intensity)} {hit.dist2}" for hit in hits)
     if isinstance(command, Inside):
         count, found = held.inside(command)
-        return f" {count}" + "".join(f" | {number} {spelled(point)}" for number, point in found)
+        return f" {count}" + "".join(f" | {number} {spelled(log, *point)}" for number, point in found)
     return f" live {len(held.live)} suspended {len(held.suspended)}"
 
 
-def spelled(point):
-    """A point's three numbers."""
-    return f"{point.x} {point.y} {point.z}"
+def spelled(log, place, intensity):
+    """A point's numbers, in a log of version 2 with its intensity."""
+    return f"{place.x} {place.y} {place.z}" + (f" {intensity}" if log.version == 2 else "")
 
 
 def head_of(command):

@@ -2,7 +2,6 @@
 use Rattle.std.proofs.Common.{◌≡◌, inl, true, false, cond, List, [], ◌∷◌, ◌++◌, refl, sym, ap, ◌∙◌, subst, Option, Some, None}
 use Rattle.std.specs.Prelude.{IfSome, IsNone, ◌↔◌}
 use Rattle.point_geom.specs.Place.{Bounds}
-use Rattle.node_labels.specs.Labels.{is_live}
 use Rattle.map_fold.specs.declared.item.Item.{Item}
 use Rattle.map_fold.specs.Contents.{centre_cmp, comes_before, least, live_items, in_box, kept}
 use Rattle.map_fold.specs.Answers.{inside_all}
@@ -10,8 +9,8 @@ use Rattle.map_fold.specs.Nearest.{Member}
 use Rattle.map_fold.proofs.Centre.{least_first, least_member, one_best}
 use Rattle.map_fold.proofs.Found.{member-filter, member-filter_of}
 use Rattle.map_fold.proofs.Thinning.{inside_is}
-use Rattle.kd_tree.specs.Contents.{by_number}
-use Rattle.kd_tree.proofs.Numbered.{numbered_from, numbered_in}
+use Rattle.kd_tree.specs.Contents.{AreDistinct, by_number}
+use Rattle.kd_tree.proofs.Numbered.{numbered_from, numbered_in, one_item}
 use Rattle.kd_search.specs.Best.{best_of, best_inside, IsBest, better, best_from}
 use Rattle.kd_search.proofs.Boxed.{inside-by_number, inside-top}
 
@@ -33,22 +32,23 @@ best_from-none c [] = refl
 best_from-none c (i ∷ m) = best_from-some c i m
 
 -- the same live items in another order have the same best
-pub best_of_same : (c : Bounds) (xs ys : List Item) → ((i : Item) → Member i xs → Member i ys) → ((i : Item) → Member i ys → Member i xs) → ((i : Item) → Member i xs → is_live i.label ≡ true) → best_of c xs ≡ best_of c ys
-best_of_same c [] [] to back live = refl
-best_of_same c [] (y ∷ ys) to back live = absurd (back y (inl refl))
-best_of_same c (x ∷ xs) [] to back live = absurd (to x (inl refl))
-best_of_same c (x ∷ xs) (y ∷ ys) to back live =
+pub best_of_same : (c : Bounds) (xs ys : List Item) → ((i : Item) → Member i xs → Member i ys) → ((i : Item) → Member i ys → Member i xs) → ((i j : Item) → Member i xs → Member j xs → i.number ≡ j.number → i ≡ j) → best_of c xs ≡ best_of c ys
+best_of_same c [] [] to back once = refl
+best_of_same c [] (y ∷ ys) to back once = absurd (back y (inl refl))
+best_of_same c (x ∷ xs) [] to back once = absurd (to x (inl refl))
+best_of_same c (x ∷ xs) (y ∷ ys) to back once =
     let i = least (centre_cmp c) x xs in
     let j = least (centre_cmp c) y ys in
     let here = least_member c x xs in
     let there = back j (least_member c y ys) in
-    ap (λ (w : Item). Some w) (one_best c i j (live i here) (live j there) (least_first c y ys i (to i here)) (least_first c x xs j there))
+    ap (λ (w : Item). Some w) (once i j here there (one_best c i j (least_first c y ys i (to i here)) (least_first c x xs j there)))
 
 -- to put items in order changes no best
-pub best-by_number : (c : Bounds) (m : List Item) → best_inside (by_number m) c ≡ best_inside m c
-best-by_number c m =
+pub best-by_number : (c : Bounds) (m : List Item) → AreDistinct m → best_inside (by_number m) c ≡ best_inside m c
+best-by_number c m distinct =
     ap (best_of c) (inside-by_number c m)
-    ∙ sym (best_of_same c (inside_all m c) (by_number (inside_all m c)) (λ i. numbered_in i (inside_all m c)) (λ i. numbered_from i (inside_all m c)) (λ i n. (inside_is c m i n).1))
+    ∙ sym (best_of_same c (inside_all m c) (by_number (inside_all m c)) (λ i. numbered_in i (inside_all m c)) (λ i. numbered_from i (inside_all m c))
+    (λ i j n o. one_item m i j distinct (inside_is c m i n).0 (inside_is c m j o).0))
 
 -- the best of the live items in the box is what its name says
 pub best_is : (m : List Item) (c : Bounds) → IfSome (best_inside m c) (IsBest m c)

@@ -3,6 +3,7 @@ pub mod Planes
 pub mod Tops
 pub mod Boxed
 pub mod Inserted
+pub mod Others
 pub mod Offered
 pub mod Shortlist
 pub mod Bounds

@@ -12,10 +12,13 @@ use Rattle.map_fold.specs.Contents.{kept, live_items}
 use Rattle.map_fold.specs.Answers.{is_nearer, put_hit, in_order, hit_of, is_within, candidates}
 use Rattle.map_fold.proofs.Order.{nearer_not_back, nearer_chain, nearer_either}
 use Rattle.map_fold.proofs.Ranking.{put_hit-take}
-use Rattle.kd_tree.specs.Contents.{insert_item, by_number}
+use Rattle.map_fold.specs.Nearest.{Member}
+use Rattle.kd_tree.specs.Contents.{AreDistinct, insert_item, by_number}
+use Rattle.kd_tree.proofs.Numbered.{Apart, apart_once, numbered_from}
 use Rattle.kd_search.specs.Nearest.{put_all}
 use Rattle.kd_search.specs.Sides.{IsEitherWay}
 use Rattle.kd_search.proofs.Inserted.{take-take}
+use Rattle.kd_search.proofs.Others.{AreApart, HitsApart, candidates_apart, live_in, three_of}
 use Rattle.kd_search.proofs.Walks.{live-kept, live-append}
 
 past : (h x : Hit) (xs : List Hit) → is_nearer x h ≡ true → put_hit h (x ∷ xs) ≡ x ∷ put_hit h xs
@@ -42,21 +45,23 @@ nearer_first a b (x ∷ xs) e = elim (cases_Bool (is_nearer x a)) [
     later (inl xb) xa = ap (put_hit a) (past b x xs xb) ∙ front a x (put_hit b xs) xa ∙ ap (λ ys. a ∷ ys) (sym (past b x xs xb))
     later (inr xb) xa = ap (put_hit a) (front b x xs xb) ∙ front a b (x ∷ xs) (not_back a b e) ∙ ap (λ ys. a ∷ ys) (sym (front b x xs xb))
 
--- either of two hits may be put in first
-pub put_hit-put_hit : (a b : Hit) (xs : List Hit) → put_hit a (put_hit b xs) ≡ put_hit b (put_hit a xs)
-put_hit-put_hit a b xs = elim (nearer_either a b) [
-  | inl same ↦ ap (λ h. put_hit h (put_hit b xs)) same ∙ ap (λ h. put_hit b (put_hit h xs)) (sym same)
+-- either of two hits with different numbers may be put in first
+pub put_hit-put_hit : (a b : Hit) (xs : List Hit) → (a.number ≡ b.number → ⊥) → put_hit a (put_hit b xs) ≡ put_hit b (put_hit a xs)
+put_hit-put_hit a b xs other = elim (nearer_either a b) [
+  | inl same ↦ absurd (other same)
   | inr either ↦ elim either [ inl e ↦ nearer_first a b xs e | inr e ↦ sym (nearer_first b a xs e) ]
 ]
 
-put_all-put_hit : (found : List Hit) (h : Hit) (hits : List Hit) → put_all found (put_hit h hits) ≡ put_hit h (put_all found hits)
-put_all-put_hit [] h hits = refl
-put_all-put_hit (g ∷ found) h hits = ap (put_hit g) (put_all-put_hit found h hits) ∙ put_hit-put_hit g h (put_all found hits)
+put_all-put_hit : (found : List Hit) (h : Hit) (hits : List Hit) → ((g : Hit) → Member g found → g.number ≡ h.number → ⊥) → put_all found (put_hit h hits) ≡ put_hit h (put_all found hits)
+put_all-put_hit [] h hits k = refl
+put_all-put_hit (g ∷ found) h hits k = ap (put_hit g) (put_all-put_hit found h hits (λ f m. k f (inr m))) ∙ put_hit-put_hit g h (put_all found hits) (k g (inl refl))
 
 -- so may either of two lists
-pub put_all-put_all : (xs ys hits : List Hit) → put_all xs (put_all ys hits) ≡ put_all ys (put_all xs hits)
-put_all-put_all [] ys hits = refl
-put_all-put_all (x ∷ xs) ys hits = ap (put_hit x) (put_all-put_all xs ys hits) ∙ sym (put_all-put_hit ys x (put_all xs hits))
+pub put_all-put_all : (xs ys hits : List Hit) → HitsApart xs ys → put_all xs (put_all ys hits) ≡ put_all ys (put_all xs hits)
+put_all-put_all [] ys hits k = refl
+put_all-put_all (x ∷ xs) ys hits k =
+    ap (put_hit x) (put_all-put_all xs ys hits (λ g h m. k g h (inr m)))
+    ∙ sym (put_all-put_hit ys x (put_all xs hits) (λ h m e. k x h (inl refl) m (sym e)))
 
 pub put_all-append : (xs ys hits : List Hit) → put_all (xs ++ ys) hits ≡ put_all xs (put_all ys hits)
 put_all-append [] ys hits = refl
@@ -94,69 +99,86 @@ in_order-cons q r i m =
     ap in_order (candidates-append q r (i ∷ []) m) ∙ sym (put_all-nil (candidates (i ∷ []) q r ++ candidates m q r))
     ∙ put_all-append (candidates (i ∷ []) q r) (candidates m q r) [] ∙ ap (put_all (candidates (i ∷ []) q r)) (put_all-nil (candidates m q r))
 
-in_order-insert : (q : Place) (r : Option ℕ) (i : Item) (m : List Item) → in_order (candidates (insert_item i m) q r) ≡ in_order (candidates (i ∷ m) q r)
-in_order-insert q r i [] = refl
-in_order-insert q r i (j ∷ m) =
+in_order-insert : (q : Place) (r : Option ℕ) (i : Item) (m : List Item) → ((z : Item) → Member z m → z.number ≡ i.number → ⊥) → in_order (candidates (insert_item i m) q r) ≡ in_order (candidates (i ∷ m) q r)
+in_order-insert q r i [] k = refl
+in_order-insert q r i (j ∷ m) k =
     elim (nat_lt i.number j.number) as (λ b. in_order (candidates (cond b (i ∷ j ∷ m) (j ∷ insert_item i m)) q r) ≡ in_order (candidates (i ∷ j ∷ m) q r)) [
       | true ↦ refl
       | false ↦
           let one = candidates (i ∷ []) q r in
           let two = candidates (j ∷ []) q r in
+          let apart : HitsApart two one = candidates_apart q r (j ∷ []) (i ∷ []) (λ a b m n e. k j (inl refl) (sym (own j a m) ∙ e ∙ own i b n)) in
           in_order-cons q r j (insert_item i m)
-          ∙ ap (put_all two) (in_order-insert q r i m ∙ in_order-cons q r i m)
-          ∙ put_all-put_all two one (in_order (candidates m q r))
+          ∙ ap (put_all two) (in_order-insert q r i m (λ z n. k z (inr n)) ∙ in_order-cons q r i m)
+          ∙ put_all-put_all two one (in_order (candidates m q r)) apart
           ∙ ap (put_all one) (sym (in_order-cons q r j m)) ∙ sym (in_order-cons q r i (j ∷ m))
     ]
+  where
+    own : (i a : Item) → Member a (live_items (i ∷ [])) → a.number ≡ i.number
+    own i a m = elim (live_in a (i ∷ []) m) [ inl same ↦ ap (λ (w : Item). w.number) same | inr none ↦ absurd none ]
+
+by_number_apart : (q : Place) (r : Option ℕ) (m : List Item) → Apart m → in_order (candidates (by_number m) q r) ≡ in_order (candidates m q r)
+by_number_apart q r [] k = refl
+by_number_apart q r (i ∷ m) k =
+    in_order-insert q r i (by_number m) (λ z n. k.0 z (numbered_from z m n)) ∙ in_order-cons q r i (by_number m)
+    ∙ ap (put_all (candidates (i ∷ []) q r)) (by_number_apart q r m k.1) ∙ sym (in_order-cons q r i m)
 
 -- to put items in order changes no order of hits
-pub in_order-by_number : (q : Place) (r : Option ℕ) (m : List Item) → in_order (candidates (by_number m) q r) ≡ in_order (candidates m q r)
-in_order-by_number q r [] = refl
-in_order-by_number q r (i ∷ m) =
-    in_order-insert q r i (by_number m) ∙ in_order-cons q r i (by_number m)
-    ∙ ap (put_all (candidates (i ∷ []) q r)) (in_order-by_number q r m) ∙ sym (in_order-cons q r i m)
+pub in_order-by_number : (q : Place) (r : Option ℕ) (m : List Item) → AreDistinct m → in_order (candidates (by_number m) q r) ≡ in_order (candidates m q r)
+in_order-by_number q r m k = by_number_apart q r m (apart_once m k)
 
-in_turn : (k : ℕ) (top left right hits one two three : List Hit) → one ≡ take k (put_all top hits) → two ≡ take k (put_all left one) → three ≡ take k (put_all right two)
+member_either : (h : Hit) (xs ys : List Hit) → Member h (xs ++ ys) → Member h xs ⊎ Member h ys
+member_either h [] ys m = inr m
+member_either h (x ∷ xs) ys (inl e) = inl (inl e)
+member_either h (x ∷ xs) ys (inr m) = elim (member_either h xs ys m) [ inl l ↦ inl (inr l) | inr r ↦ inr r ]
+
+in_turn : (k : ℕ) (top left right hits one two three : List Hit) → HitsApart top left → HitsApart top right → HitsApart right left → one ≡ take k (put_all top hits) → two ≡ take k (put_all left one) → three ≡ take k (put_all right two)
     → three ≡ take k (put_all (top ++ (left ++ right)) hits)
-in_turn k top left right hits one two three e f g =
+in_turn k top left right hits one two three a b d e f g =
     g ∙ ap (λ z. take k (put_all right z)) f ∙ put_all-take k right (put_all left one)
     ∙ ap (λ z. take k (put_all right (put_all left z))) e
     ∙ sym (ap (take k) (put_all-append right left (take k (put_all top hits))))
     ∙ put_all-take k (right ++ left) (put_all top hits)
     ∙ ap (take k) (
-    put_all-append right left (put_all top hits) ∙ put_all-put_all right left (put_all top hits) ∙ sym (put_all-append left right (put_all top hits))
-    ∙ put_all-put_all (left ++ right) top hits ∙ sym (put_all-append top (left ++ right) hits)
+    put_all-append right left (put_all top hits) ∙ put_all-put_all right left (put_all top hits) d ∙ sym (put_all-append left right (put_all top hits))
+    ∙ sym (put_all-put_all top (left ++ right) hits (λ g h m n. elim (member_either h left right n) [ inl l ↦ a g h m l | inr r ↦ b g h m r ]))
+    ∙ sym (put_all-append top (left ++ right) hits)
     )
 
-turned : (top left right hits : List Hit) → put_all (top ++ (right ++ left)) hits ≡ put_all (top ++ (left ++ right)) hits
-turned top left right hits =
+turned : (top left right hits : List Hit) → HitsApart right left → put_all (top ++ (right ++ left)) hits ≡ put_all (top ++ (left ++ right)) hits
+turned top left right hits d =
     put_all-append top (right ++ left) hits
-    ∙ ap (put_all top) (put_all-append right left hits ∙ put_all-put_all right left hits ∙ sym (put_all-append left right hits))
+    ∙ ap (put_all top) (put_all-append right left hits ∙ put_all-put_all right left hits d ∙ sym (put_all-append left right hits))
     ∙ sym (put_all-append top (left ++ right) hits)
 
-swapped : (xs ys zs hits : List Hit) → put_all (xs ++ (ys ++ zs)) hits ≡ put_all (ys ++ (xs ++ zs)) hits
-swapped xs ys zs hits =
+swapped : (xs ys zs hits : List Hit) → HitsApart xs ys → put_all (xs ++ (ys ++ zs)) hits ≡ put_all (ys ++ (xs ++ zs)) hits
+swapped xs ys zs hits d =
     put_all-append xs (ys ++ zs) hits
     ∙ ap (put_all xs) (put_all-append ys zs hits)
-    ∙ put_all-put_all xs ys (put_all zs hits)
+    ∙ put_all-put_all xs ys (put_all zs hits) d
     ∙ ap (put_all ys) (sym (put_all-append xs zs hits))
     ∙ sym (put_all-append ys (xs ++ zs) hits)
 
-either_way : (q : Place) (r : Option ℕ) (i : Item) (near far sons : List Item) (hits : List Hit) → IsEitherWay sons near far
+either_way : (q : Place) (r : Option ℕ) (i : Item) (near far sons : List Item) (hits : List Hit) → AreApart near far → IsEitherWay sons near far
     → put_all (candidates (i ∷ []) q r ++ (candidates near q r ++ candidates far q r)) hits ≡ put_all (candidates (kept (i ∷ []) ++ sons) q r) hits
-either_way q r i near far sons hits (inl e) =
+either_way q r i near far sons hits d (inl e) =
     ap (λ z. put_all z hits) (sym (ap (λ m. candidates (kept (i ∷ []) ++ m) q r) e ∙ candidates-top q r i near far))
-either_way q r i near far sons hits (inr e) =
-    turned (candidates (i ∷ []) q r) (candidates far q r) (candidates near q r) hits
+either_way q r i near far sons hits d (inr e) =
+    turned (candidates (i ∷ []) q r) (candidates far q r) (candidates near q r) hits (candidates_apart q r near far d)
     ∙ ap (λ z. put_all z hits) (sym (ap (λ m. candidates (kept (i ∷ []) ++ m) q r) e ∙ candidates-top q r i far near))
 
 -- the near son, then a node's item, then the far son
-pub near_first : (k : ℕ) (q : Place) (r : Option ℕ) (i : Item) (near far sons whole : List Item) (hits one two three : List Hit) → whole ≡ kept (i ∷ []) ++ sons → IsEitherWay sons near far
+pub near_first : (k : ℕ) (q : Place) (r : Option ℕ) (i : Item) (near far sons whole : List Item) (hits one two three : List Hit) → AreDistinct whole → whole ≡ kept (i ∷ []) ++ sons → IsEitherWay sons near far
     → one ≡ take k (put_all (candidates near q r) hits) → two ≡ take k (put_all (candidates (i ∷ []) q r) one) → three ≡ take k (put_all (candidates far q r) two)
     → three ≡ take k (put_all (candidates whole q r) hits)
-near_first k q r i near far sons whole hits one two three all way e f g =
-    in_turn k (candidates near q r) (candidates (i ∷ []) q r) (candidates far q r) hits one two three e f g
+near_first k q r i near far sons whole hits one two three distinct all way e f g =
+    let d = three_of i near far sons whole distinct all way in
+    let near_item : HitsApart (candidates near q r) (candidates (i ∷ []) q r) = candidates_apart q r near (i ∷ []) (λ a b m n x. d.item_one b a n m (sym x)) in
+    let near_far : HitsApart (candidates near q r) (candidates far q r) = candidates_apart q r near far d.sons in
+    let far_item : HitsApart (candidates far q r) (candidates (i ∷ []) q r) = candidates_apart q r far (i ∷ []) (λ a b m n x. d.item_other b a n m (sym x)) in
+    in_turn k (candidates near q r) (candidates (i ∷ []) q r) (candidates far q r) hits one two three near_item near_far far_item e f g
     ∙ ap (take k) (
-    swapped (candidates near q r) (candidates (i ∷ []) q r) (candidates far q r) hits
-    ∙ either_way q r i near far sons hits way
+    swapped (candidates near q r) (candidates (i ∷ []) q r) (candidates far q r) hits near_item
+    ∙ either_way q r i near far sons hits d.sons way
     ∙ ap (λ m. put_all (candidates m q r) hits) (sym all)
     )

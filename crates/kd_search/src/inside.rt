@@ -63,7 +63,8 @@ fn add(item: &Item, c: &Cuboid, most: usize, items: &mut Vec<Item>) -> Result<()
     put(item, most, items)
 }
 
-fn put(item: &Item, most: usize, items: &mut Vec<Item>) -> Result<(), NoMemory>
+/// Puts an item in its place among items in the order of their numbers, of which the first `most` are kept.
+pub fn put(item: &Item, most: usize, items: &mut Vec<Item>) -> Result<(), NoMemory>
     requires most_from { 1 ≤ most }
     requires few { length items.old.items ≤ most }
     ensures { OnOk result (items.new.items ≡ take most (insert_item item.now items.old.items)) }

@@ -13,6 +13,7 @@ mod tests;
 
 pub use best::best_in;
 pub use count::count_in;
-pub use inside::in_cuboid;
+pub use inside::{in_cuboid, put};
 pub use near::nearest;
+pub use part::live;
 pub use rivals::{Rivals, rivals_in};

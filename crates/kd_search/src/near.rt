@@ -27,7 +27,7 @@ pub fn nearest(
 ) -> Result<Hits, NoMemory>
     requires k_from { 1 ≤ k }
     requires k_to { k ≤ 256 }
-    requires within_to { ForSome within (λ r. r ≤ 4000000000) }
+    requires within_to { ForSome within (λ r. r ≤ 4398046511104) }
     ensures found { IfOk result (λ hits. hits ≡ nearest (contents tree.now) k q.now within) }
 
     // What that list is, said without the way it is made.

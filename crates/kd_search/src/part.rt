@@ -86,7 +86,7 @@ impl<'a> Part<'a> {
 }
 
 /// How many items of a tree that owes this action are live, in the same time for each tree.
-pub(crate) fn live(tree: &Tree, owed: Tag) -> u32
+pub fn live(tree: &Tree, owed: Tag) -> u32
     ensures { result ≡ length (live_items (walk owed tree.now)) }
 {
     let _size = tree.size();

@@ -203,7 +203,7 @@ fn taken(block: Arc<Node>) -> Result<Opened, NoMemory>
     match taken_if_own(block) {
         Ok(node) => Ok(node),
         Err(block) => Ok(Opened {
-            item: block.item,
+            item: block.item(),
             axis: block.axis,
             pending: block.pending,
             left: block.left.twin()?,
@@ -219,7 +219,7 @@ fn taken_if_own(mut block: Arc<Node>) -> Result<Opened, Arc<Node>>
     ensures own { IfOk result (λ o. IsTakenOf (arc_value block) o) }
     ensures stays { IfErr result (λ b. arc_value b ≡ arc_value block) }
 {
-    let item = block.item;
+    let item = block.item();
     let axis = block.axis;
     let pending = block.pending;
     match Arc::get_mut(&mut block) {

@@ -1,18 +1,22 @@
--- A tree after an action in a box, without rebuilding.
-use Rattle.std.proofs.Common.{◌≡◌, ℕ, ◌+◌, ◌≤◌, max, true, false, cond, refl, ap, ◌∙◌, sym, arith, subst, Option, Some, None, [], ◌∷◌, ◌++◌}
+-- A tree after an action on chosen items, without rebuilding.
+use Rattle.std.proofs.Common.{◌≡◌, ℕ, ◌+◌, ◌≤◌, max, true, false, cond, refl, ap, ◌∙◌, sym, arith, subst, Option, Some, None, List, [], ◌∷◌, ◌++◌}
 use Rattle.std.specs.Prelude.{All, count_by, ◌==◌, ◌≤ℤ◌}
-use Rattle.std.proofs.lemmas.Bool.{cond_both, cond-true, cond-false, false_from_ne_true, false≢true}
-use Rattle.std.proofs.lemmas.List.Elements.{All-weaker}
+use Rattle.std.proofs.lemmas.Bool.{cond_both, cond-true, cond-false, false_from_ne_true, false≢true, and_parts}
+use Rattle.std.proofs.lemmas.Bool.Decides.{nat_tests}
+use Rattle.std.specs.Cmp.Derive.{both_true}
+use Rattle.std.proofs.lemmas.List.Elements.{All-weaker, All-nil, All-cons, All-head, All-tail}
 use Rattle.point_geom.specs.Place.{Place, Bounds, Span}
+use Rattle.map_fold.specs.declared.choice.Choice.{Choice}
 use Rattle.point_geom.specs.Axes.{on}
-use Rattle.point_geom.specs.Boxes.{holds}
-use Rattle.point_geom.specs.Extents.{IsIn, spot, covers, meets}
+use Rattle.point_geom.specs.Extents.{IsIn, spot}
+use Rattle.kd_update.specs.Reach.{covers, covers_box, meets, meets_box, reach, reach_of}
+use Rattle.kd_update.specs.declared.reach.Reach.{Reach}
 use Rattle.point_geom.proofs.Laws.{IsPart-same, held_meets, covered_held}
 use Rattle.node_labels.specs.Labels.{composed, keep_tag}
 use Rattle.node_labels.specs.declared.tag.Tag.{Tag}
 use Rattle.node_labels.proofs.Laws.{composed-keep_right}
 use Rattle.map_fold.specs.declared.item.Item.{Item}
-use Rattle.map_fold.specs.Contents.{relabelled, marked_item, kept, mark, in_box, everything}
+use Rattle.map_fold.specs.Contents.{relabelled, marked_item, kept, mark, chosen_by, everything, is_above, is_inside}
 use Rattle.kd_tree.specs.Shape.{Head, Shape, leaf, fork, nodes, levels, numbers}
 use Rattle.kd_tree.specs.Walk.{walk, extent, grown, tagged, AllLeft, times}
 use Rattle.kd_tree.specs.Sound.{IsSound, IsSoundFork}
@@ -20,10 +24,13 @@ use Rattle.kd_tree.specs.Contents.{contents, by_number}
 use Rattle.kd_tree.specs.Parts.{pushed}
 use Rattle.kd_tree.specs.declared.change.Fork.{Fork}
 use Rattle.kd_tree.proofs.Actions.{tagged-keep, tagged_nodes, tagged_levels}
+use Rattle.kd_tree.specs.Numbers.{one_number, widened, range}
+use Rattle.kd_tree.specs.declared.numbers.Numbers.{Numbers}
 use Rattle.kd_tree.proofs.Extents.{walk_in}
+use Rattle.kd_tree.proofs.Ranges.{IsInRange, ranged_itself, walk_ranged}
 use Rattle.kd_tree.proofs.Held.{walk_kept}
 use Rattle.kd_tree.proofs.Contents.{parts_alike, mark-append, by_number-mark, relabelled-keep, walk-composed, walk-tagged, times_walk}
-use Rattle.kd_update.specs.Mark.{box_of, marked_under, marked_shape, is_entered, IsVisitCalm}
+use Rattle.kd_update.specs.Mark.{marked_under, marked_shape, is_entered, IsVisitCalm}
 use Rattle.kd_update.specs.Refresh.{IsSpared}
 use Rattle.kd_update.specs.Update.{IsEven, IsUpdated}
 use Rattle.kd_tree.proofs.Left.{all_left, left_all}
@@ -32,45 +39,45 @@ use Rattle.kd_update.proofs.Lists.{marked-point, marked-number, own-marked, mark
 use Rattle.kd_update.proofs.Refresh.{head}
 use Rattle.kd_update.proofs.Update.{even_sons, even_tagged, updated_plain}
 
--- an action in a box after one on all
-pub marked-tagged : (c : Bounds) (a p : Tag) (t : Shape) → marked_under c a keep_tag (tagged p t) ≡ marked_under c a p t
+-- an action on chosen items after one on all
+pub marked-tagged : (c : Choice) (a p : Tag) (t : Shape) → marked_under c a keep_tag (tagged p t) ≡ marked_under c a p t
 unfolding marked_under
 marked-tagged c a p leaf = refl
 marked-tagged c a p (fork h l r) =
-    let F : Shape → Item → Tag → Shape = λ s i q. cond (meets c (box_of h l r)) (cond (covers c (box_of h l r)) (tagged a s) (fork (record h { item = marked_item (in_box c) a i; pending = keep_tag }) (marked_under c a q l) (marked_under c a q r))) s in
+    let F : Shape → Item → Tag → Shape = λ s i q. cond (meets c (reach_of h l r)) (cond (covers c (reach_of h l r)) (tagged a s) (fork (record h { item = marked_item (chosen_by c) a i; pending = keep_tag }) (marked_under c a q l) (marked_under c a q r))) s in
     ap (λ s. F s (relabelled keep_tag (relabelled p h.item)) (composed (composed h.pending p) keep_tag)) (tagged-keep (tagged p (fork h l r)))
     ∙ ap (λ i. F (tagged p (fork h l r)) i (composed (composed h.pending p) keep_tag)) (relabelled-keep (relabelled p h.item))
     ∙ ap (λ q. F (tagged p (fork h l r)) (relabelled p h.item) q) (composed-keep_right (composed h.pending p))
 
-pub nodes-marked : (c : Bounds) (a p : Tag) (t : Shape) → nodes (marked_under c a p t) ≡ nodes t
+pub nodes-marked : (c : Choice) (a p : Tag) (t : Shape) → nodes (marked_under c a p t) ≡ nodes t
 unfolding marked_under
 nodes-marked c a p leaf = refl
 nodes-marked c a p (fork h l r) =
     let P : Shape → Type 0 = λ s. nodes s ≡ nodes l + nodes r + 1 in
-    cond_both (meets c (box_of h l r)) _ _ P
-    (λ _. cond_both (covers c (box_of h l r)) _ _ P (λ _. refl)
+    cond_both (meets c (reach_of h l r)) _ _ P
+    (λ _. cond_both (covers c (reach_of h l r)) _ _ P (λ _. refl)
     (λ _. omega (arith, nodes-marked c a (composed h.pending p) l, nodes-marked c a (composed h.pending p) r)))
     (λ _. refl)
 
-levels-marked : (c : Bounds) (a p : Tag) (t : Shape) → levels (marked_under c a p t) ≡ levels t
+levels-marked : (c : Choice) (a p : Tag) (t : Shape) → levels (marked_under c a p t) ≡ levels t
 unfolding marked_under
 levels-marked c a p leaf = refl
 levels-marked c a p (fork h l r) =
     let P : Shape → Type 0 = λ s. levels s ≡ max (levels l) (levels r) + 1 in
-    cond_both (meets c (box_of h l r)) _ _ P
-    (λ _. cond_both (covers c (box_of h l r)) _ _ P (λ _. refl)
+    cond_both (meets c (reach_of h l r)) _ _ P
+    (λ _. cond_both (covers c (reach_of h l r)) _ _ P (λ _. refl)
     (λ _. omega (arith, levels-marked c a (composed h.pending p) l, levels-marked c a (composed h.pending p) r)))
     (λ _. refl)
 
-pub numbers-marked : (c : Bounds) (a p : Tag) (t : Shape) → numbers (marked_under c a p t) ≡ numbers t
+pub numbers-marked : (c : Choice) (a p : Tag) (t : Shape) → numbers (marked_under c a p t) ≡ numbers t
 unfolding marked_under
 numbers-marked c a p leaf = refl
 numbers-marked c a p (fork h l r) =
     let P : Shape → Type 0 = λ s. numbers s ≡ h.item.number ∷ (numbers l ++ numbers r) in
-    cond_both (meets c (box_of h l r)) _ _ P
-    (λ _. cond_both (covers c (box_of h l r)) _ _ P (λ _. refl)
+    cond_both (meets c (reach_of h l r)) _ _ P
+    (λ _. cond_both (covers c (reach_of h l r)) _ _ P (λ _. refl)
     (λ _.
-    ap (λ n. n ∷ (numbers (marked_under c a (composed h.pending p) l) ++ numbers (marked_under c a (composed h.pending p) r))) (marked-number (in_box c) a (relabelled p h.item))
+    ap (λ n. n ∷ (numbers (marked_under c a (composed h.pending p) l) ++ numbers (marked_under c a (composed h.pending p) r))) (marked-number (chosen_by c) a (relabelled p h.item))
     ∙ ap (λ x. h.item.number ∷ (x ++ numbers (marked_under c a (composed h.pending p) r))) (numbers-marked c a (composed h.pending p) l)
     ∙ ap (λ x. h.item.number ∷ (numbers l ++ x)) (numbers-marked c a (composed h.pending p) r)))
     (λ _. refl)
@@ -78,106 +85,161 @@ numbers-marked c a p (fork h l r) =
 extents_alike : (p q : Place) (a b c d : Option Span) → p ≡ q → a ≡ b → c ≡ d → grown (grown (spot p) a) c ≡ grown (grown (spot q) b) d
 extents_alike p q a b c d e f g = ap (λ x. grown (grown (spot x) a) c) e ∙ ap (λ x. grown (grown (spot q) x) c) f ∙ ap (λ x. grown (grown (spot q) b) x) g
 
-extent-marked : (c : Bounds) (a p : Tag) (t : Shape) → extent (marked_under c a p t) ≡ extent t
+extent-marked : (c : Choice) (a p : Tag) (t : Shape) → extent (marked_under c a p t) ≡ extent t
 unfolding marked_under
 extent-marked c a p leaf = refl
 extent-marked c a p (fork h l r) =
-    let P : Shape → Type 0 = λ s. extent s ≡ Some (box_of h l r) in
-    cond_both (meets c (box_of h l r)) _ _ P
-    (λ _. cond_both (covers c (box_of h l r)) _ _ P (λ _. refl)
-    (λ _. ap Some (extents_alike _ _ _ _ _ _ (marked-point (in_box c) a (relabelled p h.item)) (extent-marked c a (composed h.pending p) l) (extent-marked c a (composed h.pending p) r))))
+    let P : Shape → Type 0 = λ s. extent s ≡ Some (grown (grown (spot h.item.point) (extent l)) (extent r)) in
+    cond_both (meets c (reach_of h l r)) _ _ P
+    (λ _. cond_both (covers c (reach_of h l r)) _ _ P (λ _. refl)
+    (λ _. ap Some (extents_alike _ _ _ _ _ _ (marked-point (chosen_by c) a (relabelled p h.item)) (extent-marked c a (composed h.pending p) l) (extent-marked c a (composed h.pending p) r))))
+    (λ _. refl)
+
+ranges_alike : (n m : ℕ) (a b c d : Option Numbers) → n ≡ m → a ≡ b → c ≡ d → widened (widened (one_number n) a) c ≡ widened (widened (one_number m) b) d
+ranges_alike n m a b c d e f g = ap (λ x. widened (widened (one_number x) a) c) e ∙ ap (λ x. widened (widened (one_number m) x) c) f ∙ ap (λ x. widened (widened (one_number m) b) x) g
+
+range-marked : (c : Choice) (a p : Tag) (t : Shape) → range (marked_under c a p t) ≡ range t
+unfolding marked_under
+range-marked c a p leaf = refl
+range-marked c a p (fork h l r) =
+    let P : Shape → Type 0 = λ s. range s ≡ Some (widened (widened (one_number h.item.number) (range l)) (range r)) in
+    cond_both (meets c (reach_of h l r)) _ _ P
+    (λ _. cond_both (covers c (reach_of h l r)) _ _ P (λ _. refl)
+    (λ _. ap Some (ranges_alike _ _ _ _ _ _ (marked-number (chosen_by c) a (relabelled p h.item)) (range-marked c a (composed h.pending p) l) (range-marked c a (composed h.pending p) r))))
     (λ _. refl)
 
 extent-tagged : (a : Tag) (t : Shape) → extent (tagged a t) ≡ extent t
 extent-tagged a leaf = refl
 extent-tagged a (fork h l r) = refl
 
-mark-fork : (c : Bounds) (a p : Tag) (h : Head) (l r : Shape) → mark (walk p (fork h l r)) (in_box c) a ≡ mark (kept (relabelled p h.item ∷ [])) (in_box c) a ++ (mark (walk (composed h.pending p) l) (in_box c) a ++ mark (walk (composed h.pending p) r) (in_box c) a)
+range-tagged : (a : Tag) (t : Shape) → range (tagged a t) ≡ range t
+range-tagged a leaf = refl
+range-tagged a (fork h l r) = refl
+
+mark-fork : (c : Choice) (a p : Tag) (h : Head) (l r : Shape) → mark (walk p (fork h l r)) (chosen_by c) a ≡ mark (kept (relabelled p h.item ∷ [])) (chosen_by c) a ++ (mark (walk (composed h.pending p) l) (chosen_by c) a ++ mark (walk (composed h.pending p) r) (chosen_by c) a)
 mark-fork c a p h l r =
-    mark-append (in_box c) a (kept (relabelled p h.item ∷ [])) (walk (composed h.pending p) l ++ walk (composed h.pending p) r)
-    ∙ ap (λ z. mark (kept (relabelled p h.item ∷ [])) (in_box c) a ++ z) (mark-append (in_box c) a (walk (composed h.pending p) l) (walk (composed h.pending p) r))
+    mark-append (chosen_by c) a (kept (relabelled p h.item ∷ [])) (walk (composed h.pending p) l ++ walk (composed h.pending p) r)
+    ∙ ap (λ z. mark (kept (relabelled p h.item ∷ [])) (chosen_by c) a ++ z) (mark-append (chosen_by c) a (walk (composed h.pending p) l) (walk (composed h.pending p) r))
 
--- all that is left lies in the tree's box
-box_all : (p : Tag) (h : Head) (l r : Shape) → All (λ i. IsIn (box_of h l r) i.point) (walk p (fork h l r))
-box_all p h l r = walk_in p (fork h l r) (box_of h l r) (IsPart-same (box_of h l r))
+all_both : (P Q : Item → Type 0) (xs : List Item) → All P xs → All Q xs → All (λ i. P i × Q i) xs
+all_both P Q [] k l = All-nil (λ (i : Item). P i × Q i)
+all_both P Q (x ∷ xs) k l = All-cons (λ (i : Item). P i × Q i) x xs (All-head P x xs k, All-head Q x xs l) (all_both P Q xs (All-tail P x xs k) (All-tail Q x xs l))
 
--- what the box covers
-covered : (c : Bounds) (a p : Tag) (h : Head) (l r : Shape) → covers c (box_of h l r) ≡ true → walk keep_tag (tagged a (tagged p (fork h l r))) ≡ mark (walk p (fork h l r)) (in_box c) a
+-- the item lies where the tree reaches
+abbrev IsReached : Reach → Item → Type 0
+IsReached e i = IsIn e.extent i.point × IsInRange e.numbers i.number
+
+-- so does all that is left
+reached_all : (p : Tag) (h : Head) (l r : Shape) → All (IsReached (reach_of h l r)) (walk p (fork h l r))
+reached_all p h l r =
+    let e = reach_of h l r in
+    all_both (λ i. IsIn e.extent i.point) (λ i. IsInRange e.numbers i.number) (walk p (fork h l r)) (walk_in p (fork h l r) e.extent (IsPart-same e.extent)) (walk_ranged p (fork h l r) e.numbers (ranged_itself e.numbers))
+
+-- what the choice covers it chooses
+covered_chosen : (c : Choice) (e : Reach) (i : Item) → covers c e ≡ true → IsReached e i → chosen_by c i ≡ true
+covered_chosen c e i k r = let q = and_parts _ _ k in both_true (below c.below q.0 r.1.1) (inside c.within q.1 r.0)
+  where
+    below : (o : Option ℕ) → is_above o e.numbers.greatest ≡ true → i.number ≤ e.numbers.greatest → is_above o i.number ≡ true
+    below None k n = refl
+    below (Some bound) k n = grind (arith, nat_tests)
+
+    inside : (o : Option Bounds) → covers_box o e.extent ≡ true → IsIn e.extent i.point → is_inside o i.point ≡ true
+    inside None k n = refl
+    inside (Some b) k n = covered_held b e.extent i.point k n
+
+-- and it meets what it chooses something of
+chosen_met : (c : Choice) (e : Reach) (i : Item) → IsReached e i → chosen_by c i ≡ true → meets c e ≡ true
+chosen_met c e i r k = let q = and_parts _ _ k in both_true (below c.below q.0 r.1.0) (inside c.within q.1 r.0)
+  where
+    below : (o : Option ℕ) → is_above o i.number ≡ true → e.numbers.least ≤ i.number → is_above o e.numbers.least ≡ true
+    below None k n = refl
+    below (Some bound) k n = grind (arith, nat_tests)
+
+    inside : (o : Option Bounds) → is_inside o i.point ≡ true → IsIn e.extent i.point → meets_box o e.extent ≡ true
+    inside None k n = refl
+    inside (Some b) k n = held_meets b e.extent i.point k n
+
+-- what the choice covers
+covered : (c : Choice) (a p : Tag) (h : Head) (l r : Shape) → covers c (reach_of h l r) ≡ true → walk keep_tag (tagged a (tagged p (fork h l r))) ≡ mark (walk p (fork h l r)) (chosen_by c) a
 covered c a p h l r k =
     walk-tagged_keep a (tagged p (fork h l r)) ∙ walk-tagged p a (fork h l r) ∙ walk-composed p a (fork h l r)
-    ∙ sym (mark_agree (in_box c) everything a (walk p (fork h l r)) (All-weaker (λ i. IsIn (box_of h l r) i.point) (λ i. in_box c i ≡ true) (λ i q. covered_held c (box_of h l r) i.point k q) (walk p (fork h l r)) (box_all p h l r)))
+    ∙ sym (mark_agree (chosen_by c) everything a (walk p (fork h l r)) (All-weaker (IsReached (reach_of h l r)) (λ i. chosen_by c i ≡ true) (λ i q. covered_chosen c (reach_of h l r) i k q) (walk p (fork h l r)) (reached_all p h l r)))
 
-not_held : (c : Bounds) (e : Span) (p : Place) → meets c e ≡ false → IsIn e p → holds c p ≡ false
-not_held c e p k i = false_from_ne_true _ (λ held. false≢true (sym k ∙ held_meets c e p held i))
+not_chosen : (c : Choice) (e : Reach) (i : Item) → meets c e ≡ false → IsReached e i → chosen_by c i ≡ false
+not_chosen c e i k r = false_from_ne_true _ (λ chosen. false≢true (sym k ∙ chosen_met c e i r chosen))
 
--- what the box misses
-missed : (c : Bounds) (a p : Tag) (h : Head) (l r : Shape) → meets c (box_of h l r) ≡ false → walk keep_tag (tagged p (fork h l r)) ≡ mark (walk p (fork h l r)) (in_box c) a
+-- what the choice misses
+missed : (c : Choice) (a p : Tag) (h : Head) (l r : Shape) → meets c (reach_of h l r) ≡ false → walk keep_tag (tagged p (fork h l r)) ≡ mark (walk p (fork h l r)) (chosen_by c) a
 missed c a p h l r k =
     walk-tagged_keep p (fork h l r)
-    ∙ sym (mark_none (in_box c) a (walk p (fork h l r)) (All-weaker (λ i. IsIn (box_of h l r) i.point) (λ i. in_box c i ≡ false) (λ i q. not_held c (box_of h l r) i.point k q) (walk p (fork h l r)) (box_all p h l r)) (walk_kept p (fork h l r)))
+    ∙ sym (mark_none (chosen_by c) a (walk p (fork h l r)) (All-weaker (IsReached (reach_of h l r)) (λ i. chosen_by c i ≡ false) (λ i q. not_chosen c (reach_of h l r) i k q) (walk p (fork h l r)) (reached_all p h l r)) (walk_kept p (fork h l r)))
 
--- what is left after an action in a box is what it leaves of what was left
-pub walk-marked : (c : Bounds) (a p : Tag) (t : Shape) → walk keep_tag (marked_under c a p t) ≡ mark (walk p t) (in_box c) a
+-- what is left after an action on chosen items is what it leaves of what was left
+pub walk-marked : (c : Choice) (a p : Tag) (t : Shape) → walk keep_tag (marked_under c a p t) ≡ mark (walk p t) (chosen_by c) a
 unfolding marked_under
 walk-marked c a p leaf = refl
 walk-marked c a p (fork h l r) =
-    let Q : Shape → Type 0 = λ s. walk keep_tag s ≡ mark (walk p (fork h l r)) (in_box c) a in
-    let i = marked_item (in_box c) a (relabelled p h.item) in
-    cond_both (meets c (box_of h l r)) _ _ Q
-    (λ m. cond_both (covers c (box_of h l r)) _ _ Q (covered c a p h l r)
-    (λ k. parts_alike _ _ _ _ _ _ (ap (λ j. kept (j ∷ [])) (relabelled-keep i) ∙ own-marked (in_box c) a (relabelled p h.item)) (walk-marked c a (composed h.pending p) l) (walk-marked c a (composed h.pending p) r)
+    let Q : Shape → Type 0 = λ s. walk keep_tag s ≡ mark (walk p (fork h l r)) (chosen_by c) a in
+    let i = marked_item (chosen_by c) a (relabelled p h.item) in
+    cond_both (meets c (reach_of h l r)) _ _ Q
+    (λ m. cond_both (covers c (reach_of h l r)) _ _ Q (covered c a p h l r)
+    (λ k. parts_alike _ _ _ _ _ _ (ap (λ j. kept (j ∷ [])) (relabelled-keep i) ∙ own-marked (chosen_by c) a (relabelled p h.item)) (walk-marked c a (composed h.pending p) l) (walk-marked c a (composed h.pending p) r)
     ∙ sym (mark-fork c a p h l r)))
     (missed c a p h l r)
 
-pub contents-marked : (c : Bounds) (a : Tag) (t : Shape) → contents (marked_shape c a t) ≡ mark (contents t) (in_box c) a
-contents-marked c a t = ap by_number (walk-marked c a keep_tag t) ∙ by_number-mark (in_box c) a (walk keep_tag t)
+pub contents-marked : (c : Choice) (a : Tag) (t : Shape) → contents (marked_shape c a t) ≡ mark (contents t) (chosen_by c) a
+contents-marked c a t = ap by_number (walk-marked c a keep_tag t) ∙ by_number-mark (chosen_by c) a (walk keep_tag t)
 
-AllLeft-marked : (P : Place → Type 0) (c : Bounds) (a p : Tag) (t : Shape) → AllLeft P p t → AllLeft P keep_tag (marked_under c a p t)
-AllLeft-marked P c a p t k = left_all P keep_tag (marked_under c a p t) (subst (All (λ (i : Item). P i.point)) (sym (walk-marked c a p t)) (mark_points P (in_box c) a (walk p t) (all_left P p t k)))
+AllLeft-marked : (P : Place → Type 0) (c : Choice) (a p : Tag) (t : Shape) → AllLeft P p t → AllLeft P keep_tag (marked_under c a p t)
+AllLeft-marked P c a p t k = left_all P keep_tag (marked_under c a p t) (subst (All (λ (i : Item). P i.point)) (sym (walk-marked c a p t)) (mark_points P (chosen_by c) a (walk p t) (all_left P p t k)))
 
-times-marked : (n : ℕ) (c : Bounds) (a : Tag) (t : Shape) → times n keep_tag (marked_shape c a t) ≤ times n keep_tag t
+times-marked : (n : ℕ) (c : Choice) (a : Tag) (t : Shape) → times n keep_tag (marked_shape c a t) ≤ times n keep_tag t
 times-marked n c a t =
-    omega (arith, times_walk n keep_tag (marked_shape c a t), times_walk n keep_tag t, mark_counts n (in_box c) a (walk keep_tag t), ap (count_by (λ (i : Item). n == i.number)) (walk-marked c a keep_tag t))
+    omega (arith, times_walk n keep_tag (marked_shape c a t), times_walk n keep_tag t, mark_counts n (chosen_by c) a (walk keep_tag t), ap (count_by (λ (i : Item). n == i.number)) (walk-marked c a keep_tag t))
 
 -- no number is left twice after the action
-pub once-marked : (c : Bounds) (a : Tag) (t : Shape) → ((n : ℕ) → times n keep_tag t ≤ 1) → (n : ℕ) → times n keep_tag (marked_shape c a t) ≤ 1
+pub once-marked : (c : Choice) (a : Tag) (t : Shape) → ((n : ℕ) → times n keep_tag t ≤ 1) → (n : ℕ) → times n keep_tag (marked_shape c a t) ≤ 1
 once-marked c a t k n = omega (arith, times-marked n c a t, k n)
 
--- what holds where the box enters the top of s, which is taken apart to f
-pub record IsEntered (c : Bounds) (a : Tag) (s : Shape) (f : Fork) : Type 0 where
-  pub value : fork (head (marked_item (in_box c) a f.item) f.axis) (marked_shape c a f.left) (marked_shape c a f.right) ≡ marked_shape c a s
-  pub sound : IsSoundFork (head (marked_item (in_box c) a f.item) f.axis) (marked_shape c a f.left) (marked_shape c a f.right)
-  pub calm : (large : ℕ) → IsVisitCalm large c (marked_shape c a s) → IsSpared large (fork (head (marked_item (in_box c) a f.item) f.axis) (marked_shape c a f.left) (marked_shape c a f.right)) × IsVisitCalm large c (marked_shape c a f.left) × IsVisitCalm large c (marked_shape c a f.right)
+-- what holds where the choice enters the top of s, which is taken apart to f
+pub record IsEntered (c : Choice) (a : Tag) (s : Shape) (f : Fork) : Type 0 where
+  pub value : fork (head (marked_item (chosen_by c) a f.item) f.axis) (marked_shape c a f.left) (marked_shape c a f.right) ≡ marked_shape c a s
+  pub sound : IsSoundFork (head (marked_item (chosen_by c) a f.item) f.axis) (marked_shape c a f.left) (marked_shape c a f.right)
+  pub calm : (large : ℕ) → IsVisitCalm large c (marked_shape c a s) → IsSpared large (fork (head (marked_item (chosen_by c) a f.item) f.axis) (marked_shape c a f.left) (marked_shape c a f.right)) × IsVisitCalm large c (marked_shape c a f.left) × IsVisitCalm large c (marked_shape c a f.right)
   pub even : (large : ℕ) → IsEven large s → IsEven large f.left × IsEven large f.right
 
-enters : (c : Bounds) (a : Tag) (h : Head) (l r : Shape) → meets c (box_of h l r) ≡ true → covers c (box_of h l r) ≡ false → fork (head (marked_item (in_box c) a h.item) h.axis) (marked_shape c a (tagged h.pending l)) (marked_shape c a (tagged h.pending r)) ≡ marked_shape c a (fork h l r)
+enters : (c : Choice) (a : Tag) (h : Head) (l r : Shape) → meets c (reach_of h l r) ≡ true → covers c (reach_of h l r) ≡ false → fork (head (marked_item (chosen_by c) a h.item) h.axis) (marked_shape c a (tagged h.pending l)) (marked_shape c a (tagged h.pending r)) ≡ marked_shape c a (fork h l r)
 unfolding marked_under
 enters c a h l r m k =
-    let F : Item → Shape → Shape → Shape = λ i x y. fork (head (marked_item (in_box c) a i) h.axis) x y in
+    let F : Item → Shape → Shape → Shape = λ i x y. fork (head (marked_item (chosen_by c) a i) h.axis) x y in
     let q : composed h.pending keep_tag ≡ h.pending = composed-keep_right h.pending in
     let x : marked_shape c a (tagged h.pending l) ≡ marked_under c a (composed h.pending keep_tag) l = marked-tagged c a h.pending l ∙ ap (λ t. marked_under c a t l) (sym q) in
     let y : marked_shape c a (tagged h.pending r) ≡ marked_under c a (composed h.pending keep_tag) r = marked-tagged c a h.pending r ∙ ap (λ t. marked_under c a t r) (sym q) in
     ap (λ i. F i (marked_shape c a (tagged h.pending l)) (marked_shape c a (tagged h.pending r))) (sym (relabelled-keep h.item))
     ∙ ap (λ z. F (relabelled keep_tag h.item) z (marked_shape c a (tagged h.pending r))) x
     ∙ ap (λ z. F (relabelled keep_tag h.item) (marked_under c a (composed h.pending keep_tag) l) z) y
-    ∙ sym (cond-true (meets c (box_of h l r)) _ _ m ∙ cond-false (covers c (box_of h l r)) _ _ k)
+    ∙ sym (cond-true (meets c (reach_of h l r)) _ _ m ∙ cond-false (covers c (reach_of h l r)) _ _ k)
 
-entered_is : (c : Bounds) (e : Span) → meets c e ≡ true → covers c e ≡ false → is_entered c e ≡ true
+entered_is : (c : Choice) (e : Reach) → meets c e ≡ true → covers c e ≡ false → is_entered c e ≡ true
 entered_is c e m k = rw (m, k) refl
 
-box-entered : (c : Bounds) (a : Tag) (h : Head) (l r : Shape) → box_of (head (marked_item (in_box c) a h.item) h.axis) (marked_shape c a (tagged h.pending l)) (marked_shape c a (tagged h.pending r)) ≡ box_of h l r
-box-entered c a h l r =
-    extents_alike _ _ _ _ _ _ (marked-point (in_box c) a h.item) (extent-marked c a keep_tag (tagged h.pending l) ∙ extent-tagged h.pending l) (extent-marked c a keep_tag (tagged h.pending r) ∙ extent-tagged h.pending r)
+reaches_alike : (a b : Span) (m n : Numbers) → a ≡ b → m ≡ n → ◌≡◌ {A = Reach} (record { extent = a; numbers = m }) (record { extent = b; numbers = n })
+reaches_alike a b m n e f = λ i. record { extent = e i; numbers = f i }
 
-calm_parts : (large : ℕ) (c : Bounds) (h : Head) (l r : Shape) → is_entered c (box_of h l r) ≡ true → IsVisitCalm large c (fork h l r) → IsSpared large (fork h l r) × IsVisitCalm large c l × IsVisitCalm large c r
+reach-entered : (c : Choice) (a : Tag) (h : Head) (l r : Shape) → reach_of (head (marked_item (chosen_by c) a h.item) h.axis) (marked_shape c a (tagged h.pending l)) (marked_shape c a (tagged h.pending r)) ≡ reach_of h l r
+reach-entered c a h l r = reaches_alike _ _ _ _
+    (extents_alike _ _ _ _ _ _ (marked-point (chosen_by c) a h.item) (extent-marked c a keep_tag (tagged h.pending l) ∙ extent-tagged h.pending l) (extent-marked c a keep_tag (tagged h.pending r) ∙ extent-tagged h.pending r))
+    (ranges_alike _ _ _ _ _ _ (marked-number (chosen_by c) a h.item) (range-marked c a keep_tag (tagged h.pending l) ∙ range-tagged h.pending l) (range-marked c a keep_tag (tagged h.pending r) ∙ range-tagged h.pending r))
+
+calm_parts : (large : ℕ) (c : Choice) (h : Head) (l r : Shape) → is_entered c (reach_of h l r) ≡ true → IsVisitCalm large c (fork h l r) → IsSpared large (fork h l r) × IsVisitCalm large c l × IsVisitCalm large c r
 unfolding IsVisitCalm
 calm_parts large c h l r e k = k e
 
-entered_fork : (c : Bounds) (a : Tag) (h : Head) (l r : Shape) → meets c (box_of h l r) ≡ true → covers c (box_of h l r) ≡ false → IsSoundFork h l r → IsEntered c a (fork h l r) (forked h l r)
+entered_fork : (c : Choice) (a : Tag) (h : Head) (l r : Shape) → meets c (reach_of h l r) ≡ true → covers c (reach_of h l r) ≡ false → IsSoundFork h l r → IsEntered c a (fork h l r) (forked h l r)
 entered_fork c a h l r m k s =
     let value = enters c a h l r m k in
-    let i = marked_item (in_box c) a h.item in
-    let point = marked-point (in_box c) a h.item in
+    let i = marked_item (chosen_by c) a h.item in
+    let point = marked-point (chosen_by c) a h.item in
     let ml = marked_shape c a (tagged h.pending l) in
     let mr = marked_shape c a (tagged h.pending r) in
     let below : AllLeft (λ p. on h.axis p ≤ℤ on h.axis h.item.point) keep_tag ml = rw (marked-tagged c a h.pending l) (AllLeft-marked (λ p. on h.axis p ≤ℤ on h.axis h.item.point) c a h.pending l s.below) in
@@ -191,47 +253,47 @@ entered_fork c a h l r m k s =
         few = omega (arith, s.few, nodes-marked c a keep_tag (tagged h.pending l), nodes-marked c a keep_tag (tagged h.pending r), tagged_nodes h.pending l, tagged_nodes h.pending r);
         low = omega (arith, s.low, levels-marked c a keep_tag (tagged h.pending l), levels-marked c a keep_tag (tagged h.pending r), tagged_levels h.pending l, tagged_levels h.pending r);
       };
-      calm = λ large all. calm_parts large c (head i h.axis) ml mr (entered_is c _ (rw (box-entered c a h l r) m) (rw (box-entered c a h l r) k)) (subst (IsVisitCalm large c) (sym value) all);
+      calm = λ large all. calm_parts large c (head i h.axis) ml mr (entered_is c (reach_of (head i h.axis) ml mr) (subst (λ (e : Reach). meets c e ≡ true) (sym (reach-entered c a h l r)) m) (subst (λ (e : Reach). covers c e ≡ false) (sym (reach-entered c a h l r)) k)) (subst (IsVisitCalm large c) (sym value) all);
       even = λ large e. even_sons large h l r e;
     }
 
-some_box : (a b : Span) → ◌≡◌ {A = Option Span} (Some a) (Some b) → a ≡ b
-some_box a b e = cc
+some_reach : (a b : Reach) → ◌≡◌ {A = Option Reach} (Some a) (Some b) → a ≡ b
+some_reach a b e = cc
 
-pub entered_all : (c : Bounds) (a : Tag) (s : Shape) (f : Fork) (e : Span) → Some e ≡ extent s → meets c e ≡ true → covers c e ≡ false → IsSound s → Some f ≡ pushed s → IsEntered c a s f
+pub entered_all : (c : Choice) (a : Tag) (s : Shape) (f : Fork) (e : Reach) → Some e ≡ reach s → meets c e ≡ true → covers c e ≡ false → IsSound s → Some f ≡ pushed s → IsEntered c a s f
 entered_all c a leaf f e x m k s p = absurd (cc)
 entered_all c a (fork h l r) f e x m k s p =
-    let b = some_box e (box_of h l r) x in
+    let b = some_reach e (reach_of h l r) x in
     let g = some_fork f (forked h l r) p in
     subst (IsEntered c a (fork h l r)) (sym g) (entered_fork c a h l r (rw b at m) (rw b at k) s.0)
 
-pub marked_none : (c : Bounds) (a : Tag) (s : Shape) → ◌≡◌ {A = Option Span} None (extent s) → s ≡ marked_shape c a s
+pub marked_none : (c : Choice) (a : Tag) (s : Shape) → ◌≡◌ {A = Option Reach} None (reach s) → s ≡ marked_shape c a s
 unfolding marked_under
 marked_none c a leaf x = refl
 marked_none c a (fork h l r) x = absurd (cc)
 
-pub marked_missed : (c : Bounds) (a : Tag) (s : Shape) (e : Span) → Some e ≡ extent s → meets c e ≡ false → s ≡ marked_shape c a s
+pub marked_missed : (c : Choice) (a : Tag) (s : Shape) (e : Reach) → Some e ≡ reach s → meets c e ≡ false → s ≡ marked_shape c a s
 unfolding marked_under
 marked_missed c a leaf e x m = refl
 marked_missed c a (fork h l r) e x m =
-    let b = some_box e (box_of h l r) x in
-    sym (cond-false (meets c (box_of h l r)) _ _ (rw b at m) ∙ tagged-keep (fork h l r))
+    let b = some_reach e (reach_of h l r) x in
+    sym (cond-false (meets c (reach_of h l r)) _ _ (rw b at m) ∙ tagged-keep (fork h l r))
 
-pub marked_covered : (c : Bounds) (a : Tag) (s : Shape) (e : Span) → Some e ≡ extent s → meets c e ≡ true → covers c e ≡ true → tagged a s ≡ marked_shape c a s
+pub marked_covered : (c : Choice) (a : Tag) (s : Shape) (e : Reach) → Some e ≡ reach s → meets c e ≡ true → covers c e ≡ true → tagged a s ≡ marked_shape c a s
 unfolding marked_under
 marked_covered c a leaf e x m k = refl
 marked_covered c a (fork h l r) e x m k =
-    let b = some_box e (box_of h l r) x in
-    sym (cond-true (meets c (box_of h l r)) _ _ (rw b at m) ∙ cond-true (covers c (box_of h l r)) _ _ (rw b at k) ∙ ap (tagged a) (tagged-keep (fork h l r)))
+    let b = some_reach e (reach_of h l r) x in
+    sym (cond-true (meets c (reach_of h l r)) _ _ (rw b at m) ∙ cond-true (covers c (reach_of h l r)) _ _ (rw b at k) ∙ ap (tagged a) (tagged-keep (fork h l r)))
 
 -- an empty tree stays so
-pub updated_none : (large : ℕ) (c : Bounds) (a : Tag) (s : Shape) (C : Type 0) → ◌≡◌ {A = Option Span} None (extent s) → IsUpdated large s (marked_shape c a s) C s
+pub updated_none : (large : ℕ) (c : Choice) (a : Tag) (s : Shape) (C : Type 0) → ◌≡◌ {A = Option Reach} None (reach s) → IsUpdated large s (marked_shape c a s) C s
 updated_none large c a s C x = subst (λ t. IsUpdated large s t C s) (marked_none c a s x) (updated_plain large s s C (λ e. e))
 
--- and so does what the box misses
-pub updated_missed : (large : ℕ) (c : Bounds) (a : Tag) (s : Shape) (C : Type 0) (e : Span) → Some e ≡ extent s → meets c e ≡ false → IsUpdated large s (marked_shape c a s) C s
+-- and so does what the choice misses
+pub updated_missed : (large : ℕ) (c : Choice) (a : Tag) (s : Shape) (C : Type 0) (e : Reach) → Some e ≡ reach s → meets c e ≡ false → IsUpdated large s (marked_shape c a s) C s
 updated_missed large c a s C e x m = subst (λ t. IsUpdated large s t C s) (marked_missed c a s e x m) (updated_plain large s s C (λ e. e))
 
 -- what it covers has the action done to it
-pub updated_covered : (large : ℕ) (c : Bounds) (a : Tag) (s : Shape) (C : Type 0) (e : Span) → Some e ≡ extent s → meets c e ≡ true → covers c e ≡ true → IsUpdated large s (marked_shape c a s) C (tagged a s)
+pub updated_covered : (large : ℕ) (c : Choice) (a : Tag) (s : Shape) (C : Type 0) (e : Reach) → Some e ≡ reach s → meets c e ≡ true → covers c e ≡ true → IsUpdated large s (marked_shape c a s) C (tagged a s)
 updated_covered large c a s C e x m k = subst (λ t. IsUpdated large s t C (tagged a s)) (marked_covered c a s e x m k) (updated_plain large s (tagged a s) C (even_tagged large a s))

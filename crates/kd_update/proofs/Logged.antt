@@ -3,43 +3,46 @@ use Rattle.std.proofs.Common.{◌≡◌, ℕ, ◌+◌, ◌≤◌, Bool, true, fa
 use Rattle.std.specs.Prelude.{All}
 use Rattle.std.proofs.lemmas.List.Elements.{All-cons, All-nil}
 use Rattle.std.proofs.lemmas.Bool.{cond_both, cond-true, cond-false}
-use Rattle.point_geom.specs.Place.{Place, Bounds, Span}
-use Rattle.point_geom.specs.Extents.{covers, meets}
+use Rattle.point_geom.specs.Place.{Place}
+use Rattle.map_fold.specs.declared.choice.Choice.{Choice}
+use Rattle.kd_update.specs.Reach.{covers, meets, reach, reach_of}
+use Rattle.kd_update.specs.declared.reach.Reach.{Reach}
 use Rattle.node_labels.specs.Labels.{composed}
 use Rattle.node_labels.specs.declared.tag.Tag.{Tag}
+use Rattle.map_fold.specs.Contents.{all_items}
 use Rattle.map_fold.specs.declared.op.Op.{Op}
 use Rattle.map_fold.specs.declared.op.Op.TheVariants.{Mark, Put}
 use Rattle.map_fold.specs.Ops.{numbers_put}
 use Rattle.kd_tree.specs.Shape.{Head, Shape, leaf, fork}
-use Rattle.kd_tree.specs.Walk.{extent, tagged}
+use Rattle.kd_tree.specs.Walk.{tagged}
 use Rattle.kd_tree.specs.declared.path.Side.{Side}
-use Rattle.kd_update.specs.Mark.{box_of, is_entered}
+use Rattle.kd_update.specs.Mark.{is_entered}
 use Rattle.kd_update.specs.Put.{goes_left}
 use Rattle.kd_update.specs.Watch.{is_keep, handed, goes_to, is_met, logged_mark, logged_put, son}
 
 -- at most two operations are logged
 
 handed_few : (path : List Side) (q : Tag) (ops : List Op) → length ops ≤ 1 → length (handed path q ++ ops) ≤ 2
-handed_few [] q ops k = cond_both (is_keep q) [] (Mark None q ∷ []) (λ os. length (os ++ ops) ≤ 2) (λ _. omega (arith, k)) (λ _. omega (arith, k))
+handed_few [] q ops k = cond_both (is_keep q) [] (Mark all_items q ∷ []) (λ os. length (os ++ ops) ≤ 2) (λ _. omega (arith, k)) (λ _. omega (arith, k))
 handed_few (side ∷ path) q ops k = omega (arith, k)
 
 handed_few_on : (path : List Side) (q : Tag) (ops : List Op) → length ops ≤ 2 → (path ≡ [] → length ops ≤ 1) → length (handed path q ++ ops) ≤ 2
 handed_few_on [] q ops k f = handed_few [] q ops (f refl)
 handed_few_on (side ∷ path) q ops k f = k
 
-mark_root_few : (c : Bounds) (a : Tag) (t : Shape) → length (logged_mark c a [] t) ≤ 1
+mark_root_few : (c : Choice) (a : Tag) (t : Shape) → length (logged_mark c a [] t) ≤ 1
 unfolding logged_mark
-mark_root_few c a t = cond_both (is_met c t) (Mark (Some c) a ∷ []) [] (λ os. length os ≤ 1) (λ _. omega arith) (λ _. omega arith)
+mark_root_few c a t = cond_both (is_met c t) (Mark c a ∷ []) [] (λ os. length os ≤ 1) (λ _. omega arith) (λ _. omega arith)
 
-mark_root_at : (c : Bounds) (a : Tag) (path : List Side) (t : Shape) → path ≡ [] → length (logged_mark c a path t) ≤ 1
+mark_root_at : (c : Choice) (a : Tag) (path : List Side) (t : Shape) → path ≡ [] → length (logged_mark c a path t) ≤ 1
 mark_root_at c a path t e = subst (λ p. length (logged_mark c a p t) ≤ 1) (sym e) (mark_root_few c a t)
 
-pub logged_mark_few : (c : Bounds) (a : Tag) (path : List Side) (t : Shape) → length (logged_mark c a path t) ≤ 2
+pub logged_mark_few : (c : Choice) (a : Tag) (path : List Side) (t : Shape) → length (logged_mark c a path t) ≤ 2
 unfolding logged_mark
 logged_mark_few c a [] t = let few = mark_root_few c a t in omega arith
 logged_mark_few c a (side ∷ path) leaf = omega arith
 logged_mark_few c a (side ∷ path) (fork h l r) =
-    cond_both (is_entered c (box_of h l r)) (handed path h.pending ++ logged_mark c a path (tagged h.pending (son side l r))) [] (λ os. length os ≤ 2)
+    cond_both (is_entered c (reach_of h l r)) (handed path h.pending ++ logged_mark c a path (tagged h.pending (son side l r))) [] (λ os. length os ≤ 2)
     (λ _. handed_few_on path h.pending _ (logged_mark_few c a path (tagged h.pending (son side l r))) (mark_root_at c a path (tagged h.pending (son side l r))))
     (λ _. omega arith)
 
@@ -59,15 +62,15 @@ logged_put_few n p (side ∷ path) (fork h l r) =
 -- no number is put by what is handed down, or by a mark
 
 handed_puts : (path : List Side) (q : Tag) (ops : List Op) → numbers_put (handed path q ++ ops) ≡ numbers_put ops
-handed_puts [] q ops = cond_both (is_keep q) [] (Mark None q ∷ []) (λ os. numbers_put (os ++ ops) ≡ numbers_put ops) (λ _. refl) (λ _. refl)
+handed_puts [] q ops = cond_both (is_keep q) [] (Mark all_items q ∷ []) (λ os. numbers_put (os ++ ops) ≡ numbers_put ops) (λ _. refl) (λ _. refl)
 handed_puts (side ∷ path) q ops = refl
 
-pub mark_puts : (c : Bounds) (a : Tag) (path : List Side) (t : Shape) → numbers_put (logged_mark c a path t) ≡ []
+pub mark_puts : (c : Choice) (a : Tag) (path : List Side) (t : Shape) → numbers_put (logged_mark c a path t) ≡ []
 unfolding logged_mark
-mark_puts c a [] t = cond_both (is_met c t) (Mark (Some c) a ∷ []) [] (λ os. numbers_put os ≡ []) (λ _. refl) (λ _. refl)
+mark_puts c a [] t = cond_both (is_met c t) (Mark c a ∷ []) [] (λ os. numbers_put os ≡ []) (λ _. refl) (λ _. refl)
 mark_puts c a (side ∷ path) leaf = refl
 mark_puts c a (side ∷ path) (fork h l r) =
-    cond_both (is_entered c (box_of h l r)) (handed path h.pending ++ logged_mark c a path (tagged h.pending (son side l r))) [] (λ os. numbers_put os ≡ [])
+    cond_both (is_entered c (reach_of h l r)) (handed path h.pending ++ logged_mark c a path (tagged h.pending (son side l r))) [] (λ os. numbers_put os ≡ [])
     (λ _. handed_puts path h.pending (logged_mark c a path (tagged h.pending (son side l r))) ∙ mark_puts c a path (tagged h.pending (son side l r))) (λ _. refl)
 
 -- and a point puts its own number alone
@@ -104,73 +107,73 @@ logged_all before mid after xs ys zs e f g = g ∙ ap (λ z. z ++ zs) f ∙ appe
 
 -- a mark, read from the tree
 
-some_box : (a b : Span) → ◌≡◌ {A = Option Span} (Some a) (Some b) → a ≡ b
-some_box a b e = cc
+some_reach : (a b : Reach) → ◌≡◌ {A = Option Reach} (Some a) (Some b) → a ≡ b
+some_reach a b e = cc
 
 -- nothing is logged of what isn't entered
-logged_passed : (c : Bounds) (a : Tag) (side : Side) (path : List Side) (s : Shape) (e : Span) → Some e ≡ extent s → is_entered c e ≡ false → logged_mark c a (side ∷ path) s ≡ []
+logged_passed : (c : Choice) (a : Tag) (side : Side) (path : List Side) (s : Shape) (e : Reach) → Some e ≡ reach s → is_entered c e ≡ false → logged_mark c a (side ∷ path) s ≡ []
 unfolding logged_mark
 logged_passed c a side path leaf e x k = refl
-logged_passed c a side path (fork h l r) e x k = cond-false (is_entered c (box_of h l r)) _ _ (rw (some_box e (box_of h l r) x) at k)
+logged_passed c a side path (fork h l r) e x k = cond-false (is_entered c (reach_of h l r)) _ _ (rw (some_reach e (reach_of h l r) x) at k)
 
-not_met : (c : Bounds) (e : Span) → meets c e ≡ false → is_entered c e ≡ false
+not_met : (c : Choice) (e : Reach) → meets c e ≡ false → is_entered c e ≡ false
 not_met c e m = rw m refl
 
-is_covered : (c : Bounds) (e : Span) → covers c e ≡ true → is_entered c e ≡ false
+is_covered : (c : Choice) (e : Reach) → covers c e ≡ true → is_entered c e ≡ false
 is_covered c e k = rw k (and_none (meets c e))
   where
     and_none : (b : Bool) → (b && false) ≡ false
     and_none true = refl
     and_none false = refl
 
-logged_missed : (c : Bounds) (a : Tag) (side : Side) (path : List Side) (s : Shape) (e : Span) → Some e ≡ extent s → meets c e ≡ false → logged_mark c a (side ∷ path) s ≡ []
+logged_missed : (c : Choice) (a : Tag) (side : Side) (path : List Side) (s : Shape) (e : Reach) → Some e ≡ reach s → meets c e ≡ false → logged_mark c a (side ∷ path) s ≡ []
 logged_missed c a side path s e x m = logged_passed c a side path s e x (not_met c e m)
 
-logged_covered : (c : Bounds) (a : Tag) (side : Side) (path : List Side) (s : Shape) (e : Span) → Some e ≡ extent s → covers c e ≡ true → logged_mark c a (side ∷ path) s ≡ []
+logged_covered : (c : Choice) (a : Tag) (side : Side) (path : List Side) (s : Shape) (e : Reach) → Some e ≡ reach s → covers c e ≡ true → logged_mark c a (side ∷ path) s ≡ []
 logged_covered c a side path s e x k = logged_passed c a side path s e x (is_covered c e k)
 
-logged_met : (c : Bounds) (a : Tag) (t : Shape) → is_met c t ≡ true → logged_mark c a [] t ≡ Mark (Some c) a ∷ []
+logged_met : (c : Choice) (a : Tag) (t : Shape) → is_met c t ≡ true → logged_mark c a [] t ≡ Mark c a ∷ []
 unfolding logged_mark
 logged_met c a t e = cond-true (is_met c t) _ _ e
 
-logged_unmet : (c : Bounds) (a : Tag) (t : Shape) → is_met c t ≡ false → logged_mark c a [] t ≡ []
+logged_unmet : (c : Choice) (a : Tag) (t : Shape) → is_met c t ≡ false → logged_mark c a [] t ≡ []
 unfolding logged_mark
 logged_unmet c a t e = cond-false (is_met c t) _ _ e
 
-met_tagged : (c : Bounds) (q : Tag) (t : Shape) → is_met c (tagged q t) ≡ is_met c t
+met_tagged : (c : Choice) (q : Tag) (t : Shape) → is_met c (tagged q t) ≡ is_met c t
 met_tagged c q leaf = refl
 met_tagged c q (fork h l r) = refl
 
-extent_tagged : (q : Tag) (t : Shape) → extent (tagged q t) ≡ extent t
-extent_tagged q leaf = refl
-extent_tagged q (fork h l r) = refl
+reach_tagged : (q : Tag) (t : Shape) → reach (tagged q t) ≡ reach t
+reach_tagged q leaf = refl
+reach_tagged q (fork h l r) = refl
 
-pub ahead_met : (c : Bounds) (a q : Tag) (t : Shape) → is_met c t ≡ true → logged_mark c a [] (tagged q t) ≡ Mark (Some c) a ∷ []
+pub ahead_met : (c : Choice) (a q : Tag) (t : Shape) → is_met c t ≡ true → logged_mark c a [] (tagged q t) ≡ Mark c a ∷ []
 ahead_met c a q t e = logged_met c a (tagged q t) (met_tagged c q t ∙ e)
 
-pub ahead_unmet : (c : Bounds) (a q : Tag) (t : Shape) → is_met c t ≡ false → logged_mark c a [] (tagged q t) ≡ []
+pub ahead_unmet : (c : Choice) (a q : Tag) (t : Shape) → is_met c t ≡ false → logged_mark c a [] (tagged q t) ≡ []
 ahead_unmet c a q t e = logged_unmet c a (tagged q t) (met_tagged c q t ∙ e)
 
-pub ahead_none : (c : Bounds) (a q : Tag) (side : Side) (path : List Side) (t : Shape) → ◌≡◌ {A = Option Span} None (extent t) → logged_mark c a (side ∷ path) (tagged q t) ≡ []
+pub ahead_none : (c : Choice) (a q : Tag) (side : Side) (path : List Side) (t : Shape) → ◌≡◌ {A = Option Reach} None (reach t) → logged_mark c a (side ∷ path) (tagged q t) ≡ []
 unfolding logged_mark
 ahead_none c a q side path leaf x = refl
 ahead_none c a q side path (fork h l r) x = absurd (cc)
 
-pub ahead_missed : (c : Bounds) (a q : Tag) (side : Side) (path : List Side) (t : Shape) (e : Span) → Some e ≡ extent t → meets c e ≡ false → logged_mark c a (side ∷ path) (tagged q t) ≡ []
-ahead_missed c a q side path t e x m = logged_missed c a side path (tagged q t) e (x ∙ sym (extent_tagged q t)) m
+pub ahead_missed : (c : Choice) (a q : Tag) (side : Side) (path : List Side) (t : Shape) (e : Reach) → Some e ≡ reach t → meets c e ≡ false → logged_mark c a (side ∷ path) (tagged q t) ≡ []
+ahead_missed c a q side path t e x m = logged_missed c a side path (tagged q t) e (x ∙ sym (reach_tagged q t)) m
 
-pub ahead_covered : (c : Bounds) (a q : Tag) (side : Side) (path : List Side) (t : Shape) (e : Span) → Some e ≡ extent t → covers c e ≡ true → logged_mark c a (side ∷ path) (tagged q t) ≡ []
-ahead_covered c a q side path t e x k = logged_covered c a side path (tagged q t) e (x ∙ sym (extent_tagged q t)) k
+pub ahead_covered : (c : Choice) (a q : Tag) (side : Side) (path : List Side) (t : Shape) (e : Reach) → Some e ≡ reach t → covers c e ≡ true → logged_mark c a (side ∷ path) (tagged q t) ≡ []
+ahead_covered c a q side path t e x k = logged_covered c a side path (tagged q t) e (x ∙ sym (reach_tagged q t)) k
 
-pub ahead_entered : (c : Bounds) (a q p : Tag) (side : Side) (path : List Side) (t s : Shape) (e : Span) (h : Head) (l r : Shape) → Some e ≡ extent t → meets c e ≡ true → covers c e ≡ false → t ≡ fork h l r → p ≡ composed h.pending q → s ≡ son side l r
+pub ahead_entered : (c : Choice) (a q p : Tag) (side : Side) (path : List Side) (t s : Shape) (e : Reach) (h : Head) (l r : Shape) → Some e ≡ reach t → meets c e ≡ true → covers c e ≡ false → t ≡ fork h l r → p ≡ composed h.pending q → s ≡ son side l r
     → logged_mark c a (side ∷ path) (tagged q t) ≡ handed path p ++ logged_mark c a path (tagged p s)
 unfolding logged_mark
 ahead_entered c a q p side path t s e h l r x m k is owed on =
     let o = composed h.pending q in
-    let b = some_box e (box_of h l r) (x ∙ ap extent is) in
-    let into_it : is_entered c (box_of h l r) ≡ true = subst (λ z. is_entered c z ≡ true) b (rw (m, k) refl) in
+    let b = some_reach e (reach_of h l r) (x ∙ ap reach is) in
+    let into_it : is_entered c (reach_of h l r) ≡ true = subst (λ z. is_entered c z ≡ true) b (rw (m, k) refl) in
     ap (λ z. logged_mark c a (side ∷ path) (tagged q z)) is
-    ∙ cond-true (is_entered c (box_of h l r)) (handed path o ++ logged_mark c a path (tagged o (son side l r))) [] into_it
+    ∙ cond-true (is_entered c (reach_of h l r)) (handed path o ++ logged_mark c a path (tagged o (son side l r))) [] into_it
     ∙ ap (λ z. handed path z ++ logged_mark c a path (tagged z (son side l r))) (sym owed)
     ∙ ap (λ z. handed path p ++ logged_mark c a path (tagged p z)) (sym on)
 

@@ -1,6 +1,7 @@
 -- Several watches.
 use Rattle.std.proofs.Common.{◌≡◌, ℕ, ◌+◌, ◌≤◌, refl, ap, ◌∙◌, sym, arith, length, List, [], ◌∷◌, ◌++◌, append-nil}
-use Rattle.point_geom.specs.Place.{Place, Bounds}
+use Rattle.point_geom.specs.Place.{Place}
+use Rattle.map_fold.specs.declared.choice.Choice.{Choice}
 use Rattle.node_labels.specs.Labels.{keep_tag}
 use Rattle.node_labels.specs.declared.tag.Tag.{Tag}
 use Rattle.map_fold.specs.declared.op.Op.{Op}
@@ -20,7 +21,7 @@ extended_itself (w ∷ ws) = (refl, ([], sym (append-nil w.log)), extended_itsel
 pub extended_front : (all ws new : List Watch) (w : Watch) (log : List Op) → all ≡ w ∷ ws → Extends w.log log → AreExtended ws new → AreExtended all (record w { log = log } ∷ new)
 extended_front all ws new w log e k f = rw e (refl, k, f)
 
-pub marked_front : (c : Bounds) (a : Tag) (t : Shape) (all ws new : List Watch) (w : Watch) (log : List Op) → all ≡ w ∷ ws → log ≡ w.log ++ logged_mark c a w.path (tagged keep_tag t) → new ≡ with_marks c a t ws → ◌≡◌ {A = List Watch} (record w { log = log } ∷ new) (with_marks c a t all)
+pub marked_front : (c : Choice) (a : Tag) (t : Shape) (all ws new : List Watch) (w : Watch) (log : List Op) → all ≡ w ∷ ws → log ≡ w.log ++ logged_mark c a w.path (tagged keep_tag t) → new ≡ with_marks c a t ws → ◌≡◌ {A = List Watch} (record w { log = log } ∷ new) (with_marks c a t all)
 marked_front c a t all ws new w log e k f =
     let own : log ≡ w.log ++ logged_mark c a w.path t = k ∙ ap (λ s. w.log ++ logged_mark c a w.path s) (tagged-keep t) in
     ap (λ (x : List Op). let v : Watch = record w { log = x } in v ∷ new) own ∙ ap (λ (x : List Watch). let v : Watch = record w { log = w.log ++ logged_mark c a w.path t } in v ∷ x) f ∙ ap (with_marks c a t) (sym e)

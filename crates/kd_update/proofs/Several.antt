@@ -1,21 +1,23 @@
 -- Updates while several subtrees are watched.
 use Rattle.std.proofs.Common.{◌≡◌, ℕ, ◌+◌, ◌≤◌, true, false, refl, ap, sym, subst, arith, List, [], ◌∷◌, Option, Some, None}
-use Rattle.point_geom.specs.Place.{Place, Bounds, Span}
-use Rattle.point_geom.specs.Extents.{covers, meets}
+use Rattle.point_geom.specs.Place.{Place}
+use Rattle.map_fold.specs.declared.choice.Choice.{Choice}
+use Rattle.kd_update.specs.Reach.{covers, meets, reach}
+use Rattle.kd_update.specs.declared.reach.Reach.{Reach}
 use Rattle.point_geom.specs.Axes.{next_axis}
 use Rattle.point_geom.specs.declared.axis.Axis.{Axis}
 use Rattle.node_labels.specs.Labels.{keep_tag}
 use Rattle.node_labels.specs.declared.tag.Tag.{Tag}
 use Rattle.map_fold.specs.declared.item.Item.{Item}
 use Rattle.kd_tree.specs.Shape.{Head, Shape, leaf, fork, nodes}
-use Rattle.kd_tree.specs.Walk.{extent, tagged, times}
+use Rattle.kd_tree.specs.Walk.{tagged, times}
 use Rattle.kd_tree.specs.Sound.{IsSound}
 use Rattle.kd_tree.specs.Parts.{pushed}
 use Rattle.kd_tree.specs.Apart.{is_here, onward}
 use Rattle.kd_tree.specs.declared.change.Fork.{Fork}
 use Rattle.kd_tree.specs.declared.path.Side.{Side}
 use Rattle.kd_tree.specs.declared.path.Side.TheVariants.{Left, Right}
-use Rattle.map_fold.specs.Contents.{in_box, marked_item}
+use Rattle.map_fold.specs.Contents.{chosen_by, marked_item}
 use Rattle.kd_update.specs.Mark.{marked_shape, IsVisitCalm}
 use Rattle.kd_update.specs.Put.{goes_left, put_from, IsRouteCalm}
 use Rattle.kd_update.specs.Update.{IsEven, IsUpdated}
@@ -136,7 +138,7 @@ clear_fork large ps old i a ol or l r l' r' C Cl Cr here big u v even calm = rec
 
 -- each watch by itself
 
-pub large_all_marked : (large : ℕ) (c : Bounds) (a : Tag) (ps : List (List Side)) (t : Shape) → AreLargeAt large ps t → AreLargeAt large ps (marked_shape c a t)
+pub large_all_marked : (large : ℕ) (c : Choice) (a : Tag) (ps : List (List Side)) (t : Shape) → AreLargeAt large ps t → AreLargeAt large ps (marked_shape c a t)
 large_all_marked large c a [] t k = tt
 large_all_marked large c a (p ∷ ps) t k = (large_after large p t (marked_shape c a t) _ k.0 (watched-mark c a p t k.0.node k.0.there), large_all_marked large c a ps t k.1)
 
@@ -144,7 +146,7 @@ pub large_all_put : (large n : ℕ) (p : Place) (axis : Axis) (ps : List (List S
 large_all_put large n p axis [] t s e f k = tt
 large_all_put large n p axis (q ∷ ps) t s e f k = (large_after large q t (put_from n p axis t) _ k.0 (watched-put n p axis q t k.0.node k.0.there s e f), large_all_put large n p axis ps t s e f k.1)
 
-pub all_watched-mark : (large : ℕ) (c : Bounds) (a : Tag) (ps : List (List Side)) (t new : Shape) → AreLargeAt large ps t → AreSameAt ps new (marked_shape c a t) → AreWatched (λ p. IsWatched p t new (logged_mark c a p t)) ps
+pub all_watched-mark : (large : ℕ) (c : Choice) (a : Tag) (ps : List (List Side)) (t new : Shape) → AreLargeAt large ps t → AreSameAt ps new (marked_shape c a t) → AreWatched (λ p. IsWatched p t new (logged_mark c a p t)) ps
 all_watched-mark large c a [] t new k e = tt
 all_watched-mark large c a (p ∷ ps) t new k e = (watched_new p t (marked_shape c a t) new _ e.0 (watched-mark c a p t k.0.node k.0.there), all_watched-mark large c a ps t new k.1 e.1)
 
@@ -154,13 +156,13 @@ all_watched-put large n p axis [] t new s o f k e = tt
 all_watched-put large n p axis (q ∷ ps) t new s o f k e = (watched_new q t (put_from n p axis t) new _ e.0 (watched-put n p axis q t k.0.node k.0.there s o f), all_watched-put large n p axis ps t new s o f k.1 e.1)
 
 -- what a mark leaves alone, and what it covers
-pub clear_none_there : (large : ℕ) (c : Bounds) (a : Tag) (ps : List (List Side)) (s : Shape) (C : Type 0) → ◌≡◌ {A = Option Span} None (extent s) → IsUpdatedClear large ps s (marked_shape c a s) C s
+pub clear_none_there : (large : ℕ) (c : Choice) (a : Tag) (ps : List (List Side)) (s : Shape) (C : Type 0) → ◌≡◌ {A = Option Reach} None (reach s) → IsUpdatedClear large ps s (marked_shape c a s) C s
 clear_none_there large c a ps s C x = subst (λ t. IsUpdatedClear large ps s t C s) (marked_none c a s x) (clear_plain large ps s s C (λ e. e))
 
-pub clear_missed : (large : ℕ) (c : Bounds) (a : Tag) (ps : List (List Side)) (s : Shape) (C : Type 0) (e : Span) → Some e ≡ extent s → meets c e ≡ false → IsUpdatedClear large ps s (marked_shape c a s) C s
+pub clear_missed : (large : ℕ) (c : Choice) (a : Tag) (ps : List (List Side)) (s : Shape) (C : Type 0) (e : Reach) → Some e ≡ reach s → meets c e ≡ false → IsUpdatedClear large ps s (marked_shape c a s) C s
 clear_missed large c a ps s C e x m = subst (λ t. IsUpdatedClear large ps s t C s) (marked_missed c a s e x m) (clear_plain large ps s s C (λ e. e))
 
-pub clear_covered : (large : ℕ) (c : Bounds) (a : Tag) (ps : List (List Side)) (s : Shape) (C : Type 0) (e : Span) → Some e ≡ extent s → meets c e ≡ true → covers c e ≡ true → IsUpdatedClear large ps s (marked_shape c a s) C (tagged a s)
+pub clear_covered : (large : ℕ) (c : Choice) (a : Tag) (ps : List (List Side)) (s : Shape) (C : Type 0) (e : Reach) → Some e ≡ reach s → meets c e ≡ true → covers c e ≡ true → IsUpdatedClear large ps s (marked_shape c a s) C (tagged a s)
 clear_covered large c a ps s C e x m k = subst (λ t. IsUpdatedClear large ps s t C (tagged a s)) (marked_covered c a s e x m k) (clear_plain large ps s (tagged a s) C (even_clear_tagged large ps a s))
 
 some_of : (large : ℕ) (ps : List (List Side)) (t : Shape) → (ps ≡ [] → ⊥) → AreLargeAt large ps t → large ≤ nodes t
@@ -168,12 +170,12 @@ some_of large [] t n k = absurd (n refl)
 some_of large (p ∷ ps) t n k = some_large large p ps t k
 
 -- an entered node, above the ends of the paths
-pub marked_joined : (large : ℕ) (c : Bounds) (a : Tag) (ps : List (List Side)) (s : Shape) (f : Fork) (l r : Shape) → IsEntered c a s f → Some f ≡ pushed s → AreLargeAt large ps s → is_here ps ≡ false → (ps ≡ [] → ⊥)
+pub marked_joined : (large : ℕ) (c : Choice) (a : Tag) (ps : List (List Side)) (s : Shape) (f : Fork) (l r : Shape) → IsEntered c a s f → Some f ≡ pushed s → AreLargeAt large ps s → is_here ps ≡ false → (ps ≡ [] → ⊥)
     → IsUpdatedClear large (onward Left ps) f.left (marked_shape c a f.left) (IsVisitCalm large c (marked_shape c a f.left)) l
     → IsUpdatedClear large (onward Right ps) f.right (marked_shape c a f.right) (IsVisitCalm large c (marked_shape c a f.right)) r
-    → IsUpdatedClear large ps s (marked_shape c a s) (IsVisitCalm large c (marked_shape c a s)) (fork (head (marked_item (in_box c) a f.item) f.axis) l r)
+    → IsUpdatedClear large ps s (marked_shape c a s) (IsVisitCalm large c (marked_shape c a s)) (fork (head (marked_item (chosen_by c) a f.item) f.axis) l r)
 marked_joined large c a ps s f l r w x k here some u v =
-    let i = marked_item (in_box c) a f.item in
+    let i = marked_item (chosen_by c) a f.item in
     let ml = marked_shape c a f.left in
     let mr = marked_shape c a f.right in
     let C = IsVisitCalm large c (marked_shape c a s) in

@@ -1,12 +1,13 @@
 -- What an update does to a watched subtree.
-use Rattle.std.proofs.Common.{◌≡◌, ℕ, ◌≤◌, true, false, not, ◌&&◌, cond, refl, ap, ◌∙◌, sym, subst, arith, List, [], ◌∷◌, ◌++◌, Some, None}
+use Rattle.std.proofs.Common.{◌≡◌, ℕ, ◌≤◌, true, false, not, ◌&&◌, cond, refl, ap, ◌∙◌, sym, subst, arith, List, [], ◌∷◌, ◌++◌, Some}
 use Rattle.std.specs.Prelude.{◌==◌}
 use Rattle.std.proofs.lemmas.Bool.{cond_both, and_parts}
 use Rattle.std.proofs.lemmas.List.Sorted.{sum_by-IsPermutation}
-use Rattle.point_geom.specs.Place.{Place, Bounds}
+use Rattle.point_geom.specs.Place.{Place}
+use Rattle.map_fold.specs.declared.choice.Choice.{Choice}
 use Rattle.point_geom.specs.Axes.{next_axis}
 use Rattle.point_geom.specs.declared.axis.Axis.{Axis}
-use Rattle.point_geom.specs.Extents.{covers, meets}
+use Rattle.kd_update.specs.Reach.{covers, meets, reach_of}
 use Rattle.node_labels.specs.Labels.{composed, keep_tag, is_live, is_suspended}
 use Rattle.node_labels.specs.declared.label.Label.{Label}
 use Rattle.node_labels.specs.declared.label.Label.TheVariants.{Live, Suspended, Dropped}
@@ -15,7 +16,7 @@ use Rattle.node_labels.proofs.Laws.{tags_alike, composed-keep_right}
 use Rattle.map_fold.specs.declared.item.Item.{Item}
 use Rattle.map_fold.specs.declared.op.Op.{Op}
 use Rattle.map_fold.specs.declared.op.Op.TheVariants.{Mark}
-use Rattle.map_fold.specs.Contents.{everything, in_box, mark, marked_item, relabelled}
+use Rattle.map_fold.specs.Contents.{all_items, everything, chosen_by, mark, marked_item, relabelled}
 use Rattle.map_fold.specs.Ops.{IsUnheld, Fit, replay}
 use Rattle.kd_tree.specs.Shape.{Head, Shape, leaf, fork, nodes}
 use Rattle.kd_tree.specs.Walk.{tagged, times, walk}
@@ -28,7 +29,7 @@ use Rattle.kd_tree.proofs.Actions.{tagged-keep, tagged_nodes, sound_once, pushed
 use Rattle.kd_tree.proofs.Contents.{contents-tagged, times_walk}
 use Rattle.kd_tree.proofs.Held.{contents_few}
 use Rattle.kd_tree.proofs.Numbered.{by_number_moves}
-use Rattle.kd_update.specs.Mark.{box_of, marked_under, marked_shape}
+use Rattle.kd_update.specs.Mark.{marked_under, marked_shape}
 use Rattle.kd_update.specs.Put.{goes_left, put_under, put_from}
 use Rattle.kd_update.specs.Watch.{is_keep, handed, is_met, logged_mark, logged_put, IsWatched}
 use Rattle.kd_update.proofs.Large.{some_shape}
@@ -60,7 +61,7 @@ handed_first q t u ops w =
     let is : contents w.before ≡ mark (contents t) everything q = ap contents (sym top) ∙ contents-tagged q t in
     let size : nodes t ≤ nodes w.after = omega (arith, tagged_nodes q t, w.size, ap nodes top) in
     let P : List Op → Type 0 = λ os. IsWatched [] t u (os ++ ops) in
-    cond_both (is_keep q) [] (Mark None q ∷ []) P
+    cond_both (is_keep q) [] (Mark all_items q ∷ []) P
     (λ e.
     let same : contents w.before ≡ contents t = ap contents (sym top) ∙ ap (λ a. contents (tagged a t)) (only_keep q e) ∙ ap contents (tagged-keep t) in
     record { before = t; after = w.after; was = refl; is = w.is; size = size; fit = subst (λ m. Fit m ops) same w.fit; replayed = w.replayed ∙ ap (λ m. replay m ops) same })
@@ -89,32 +90,32 @@ at-tagged (Right ∷ path) q (fork h l r) s e = (s, e)
 
 -- marks
 
-pub mark_missed : (c : Bounds) (a : Tag) (t : Shape) → is_met c t ≡ false → marked_shape c a t ≡ t
+pub mark_missed : (c : Choice) (a : Tag) (t : Shape) → is_met c t ≡ false → marked_shape c a t ≡ t
 unfolding marked_under
 mark_missed c a leaf e = refl
-mark_missed c a (fork h l r) e = sym (marked_missed c a (fork h l r) (box_of h l r) refl e)
+mark_missed c a (fork h l r) e = sym (marked_missed c a (fork h l r) (reach_of h l r) refl e)
 
 -- the watched root itself
-mark_root : (c : Bounds) (a : Tag) (t : Shape) → IsWatched [] t (marked_shape c a t) (logged_mark c a [] t)
+mark_root : (c : Choice) (a : Tag) (t : Shape) → IsWatched [] t (marked_shape c a t) (logged_mark c a [] t)
 unfolding logged_mark
 mark_root c a t =
     let size : nodes t ≤ nodes (marked_shape c a t) = omega (arith, nodes-marked c a keep_tag t) in
     let P : List Op → Type 0 = IsWatched [] t (marked_shape c a t) in
-    cond_both (is_met c t) (Mark (Some c) a ∷ []) [] P
+    cond_both (is_met c t) (Mark c a ∷ []) [] P
     (λ e. record { before = t; after = marked_shape c a t; was = refl; is = refl; size = size; fit = tt; replayed = contents-marked c a t })
     (λ e. record { before = t; after = marked_shape c a t; was = refl; is = refl; size = size; fit = tt; replayed = ap contents (mark_missed c a t e) })
 
 -- a son that was handed the action owed, marked
-son-marked : (c : Bounds) (a q : Tag) (t : Shape) → marked_shape c a (tagged q t) ≡ marked_under c a (composed q keep_tag) t
+son-marked : (c : Choice) (a q : Tag) (t : Shape) → marked_shape c a (tagged q t) ≡ marked_under c a (composed q keep_tag) t
 son-marked c a q t = marked-tagged c a q t ∙ ap (λ p. marked_under c a p t) (sym (composed-keep_right q))
 
 -- A mark on a tree is, for the subtree at a path, what is logged of it.
-pub watched-mark : (c : Bounds) (a : Tag) (path : List Side) (t s : Shape) → at path t ≡ Some s → IsWatched path t (marked_shape c a t) (logged_mark c a path t)
+pub watched-mark : (c : Choice) (a : Tag) (path : List Side) (t s : Shape) → at path t ≡ Some s → IsWatched path t (marked_shape c a t) (logged_mark c a path t)
 unfolding marked_under logged_mark
 watched-mark c a [] t s e = mark_root c a t
 watched-mark c a (side ∷ path) leaf s e = absurd (cc)
 watched-mark c a (Left ∷ path) (fork h l r) s e =
-    let top : Head = record h { item = marked_item (in_box c) a (relabelled keep_tag h.item); pending = keep_tag } in
+    let top : Head = record h { item = marked_item (chosen_by c) a (relabelled keep_tag h.item); pending = keep_tag } in
     let l' = marked_under c a (composed h.pending keep_tag) l in
     let r' = marked_under c a (composed h.pending keep_tag) r in
     let same : IsWatched (Left ∷ path) (fork h l r) (tagged keep_tag (fork h l r)) [] = watched_left path h _ l r l r [] (watched_same path l s e) in
@@ -124,15 +125,15 @@ watched-mark c a (Left ∷ path) (fork h l r) s e =
     (subst (λ x. IsWatched path (tagged h.pending l) x (logged_mark c a path (tagged h.pending l))) (son-marked c a h.pending l) (watched-mark c a path (tagged h.pending l) u.0 u.1)) in
     let entered = watched_left path h top l r l' r' _ below in
     let ops = handed path h.pending ++ logged_mark c a path (tagged h.pending l) in
-    elim (meets c (box_of h l r)) as (λ m. IsWatched (Left ∷ path) (fork h l r) (cond m (cond (covers c (box_of h l r)) (tagged a (tagged keep_tag (fork h l r))) (fork top l' r')) (tagged keep_tag (fork h l r))) (cond (m && not (covers c (box_of h l r))) ops [])) [
-      | true ↦ elim (covers c (box_of h l r)) as (λ k. IsWatched (Left ∷ path) (fork h l r) (cond k (tagged a (tagged keep_tag (fork h l r))) (fork top l' r')) (cond (true && not k) ops [])) [
+    elim (meets c (reach_of h l r)) as (λ m. IsWatched (Left ∷ path) (fork h l r) (cond m (cond (covers c (reach_of h l r)) (tagged a (tagged keep_tag (fork h l r))) (fork top l' r')) (tagged keep_tag (fork h l r))) (cond (m && not (covers c (reach_of h l r))) ops [])) [
+      | true ↦ elim (covers c (reach_of h l r)) as (λ k. IsWatched (Left ∷ path) (fork h l r) (cond k (tagged a (tagged keep_tag (fork h l r))) (fork top l' r')) (cond (true && not k) ops [])) [
         | true ↦ covered
         | false ↦ entered
       ]
       | false ↦ same
     ]
 watched-mark c a (Right ∷ path) (fork h l r) s e =
-    let top : Head = record h { item = marked_item (in_box c) a (relabelled keep_tag h.item); pending = keep_tag } in
+    let top : Head = record h { item = marked_item (chosen_by c) a (relabelled keep_tag h.item); pending = keep_tag } in
     let l' = marked_under c a (composed h.pending keep_tag) l in
     let r' = marked_under c a (composed h.pending keep_tag) r in
     let same : IsWatched (Right ∷ path) (fork h l r) (tagged keep_tag (fork h l r)) [] = watched_right path h _ l r l r [] (watched_same path r s e) in
@@ -142,8 +143,8 @@ watched-mark c a (Right ∷ path) (fork h l r) s e =
     (subst (λ x. IsWatched path (tagged h.pending r) x (logged_mark c a path (tagged h.pending r))) (son-marked c a h.pending r) (watched-mark c a path (tagged h.pending r) u.0 u.1)) in
     let entered = watched_right path h top l r l' r' _ below in
     let ops = handed path h.pending ++ logged_mark c a path (tagged h.pending r) in
-    elim (meets c (box_of h l r)) as (λ m. IsWatched (Right ∷ path) (fork h l r) (cond m (cond (covers c (box_of h l r)) (tagged a (tagged keep_tag (fork h l r))) (fork top l' r')) (tagged keep_tag (fork h l r))) (cond (m && not (covers c (box_of h l r))) ops [])) [
-      | true ↦ elim (covers c (box_of h l r)) as (λ k. IsWatched (Right ∷ path) (fork h l r) (cond k (tagged a (tagged keep_tag (fork h l r))) (fork top l' r')) (cond (true && not k) ops [])) [
+    elim (meets c (reach_of h l r)) as (λ m. IsWatched (Right ∷ path) (fork h l r) (cond m (cond (covers c (reach_of h l r)) (tagged a (tagged keep_tag (fork h l r))) (fork top l' r')) (tagged keep_tag (fork h l r))) (cond (m && not (covers c (reach_of h l r))) ops [])) [
+      | true ↦ elim (covers c (reach_of h l r)) as (λ k. IsWatched (Right ∷ path) (fork h l r) (cond k (tagged a (tagged keep_tag (fork h l r))) (fork top l' r')) (cond (true && not k) ops [])) [
         | true ↦ covered
         | false ↦ entered
       ]

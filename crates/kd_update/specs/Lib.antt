@@ -1,5 +1,6 @@
 pub mod Refresh
 pub mod Update
+pub mod Reach
 pub mod Mark
 pub mod Put
 pub mod Made

@@ -1,9 +1,11 @@
 -- What an update does to the subtree at a path, as operations on that subtree's own items.
-use Rattle.std.specs.Prelude.{◌≡◌, ℕ, ◌+◌, ◌<◌, ◌≤◌, Bool, false, not, ◌&&◌, List, [], ◌∷◌, ◌++◌, Some, None, if◌then◌else◌}
-use Rattle.point_geom.specs.Place.{Place, Bounds}
-use Rattle.point_geom.specs.Extents.{meets}
+use Rattle.std.specs.Prelude.{◌≡◌, ℕ, ◌+◌, ◌<◌, ◌≤◌, Bool, false, not, ◌&&◌, List, [], ◌∷◌, ◌++◌, Some, if◌then◌else◌}
+use Rattle.point_geom.specs.Place.{Place}
+use Rattle.map_fold.specs.declared.choice.Choice.{Choice}
+use Rattle.kd_update.specs.Reach.{meets, reach_of}
 use Rattle.node_labels.specs.Labels.{is_live, is_suspended}
 use Rattle.node_labels.specs.declared.tag.Tag.{Tag}
+use Rattle.map_fold.specs.Contents.{all_items}
 use Rattle.map_fold.specs.declared.op.Op.{Op}
 use Rattle.map_fold.specs.declared.op.Op.TheVariants.{Mark, Put}
 use Rattle.map_fold.specs.Ops.{Fit, replay}
@@ -14,7 +16,7 @@ use Rattle.kd_tree.specs.Parts.{at}
 use Rattle.kd_tree.specs.Criteria.{IsBalanced}
 use Rattle.kd_tree.specs.declared.path.Side.{Side}
 use Rattle.kd_tree.specs.declared.path.Side.TheVariants.{Left, Right}
-use Rattle.kd_update.specs.Mark.{box_of, is_entered}
+use Rattle.kd_update.specs.Mark.{is_entered}
 use Rattle.kd_update.specs.Put.{goes_left}
 
 -- a node of at least so many nodes stands at the path
@@ -38,20 +40,20 @@ is_keep a = is_live a.live && is_suspended a.suspended
 -- What a father hands down to his son, where the path goes on from the son: where the son is the watched root, an action other
 -- than KEEP is an operation on all of it.
 abbrev pub handed : List Side → Tag → List Op
-handed [] a = if is_keep a then [] else Mark None a ∷ []
+handed [] a = if is_keep a then [] else Mark all_items a ∷ []
 handed (side ∷ path) a = []
 
 -- the box meets the extent of what is there
-abbrev pub is_met : Bounds → Shape → Bool
+abbrev pub is_met : Choice → Shape → Bool
 is_met c leaf = false
-is_met c (fork h l r) = meets c (box_of h l r)
+is_met c (fork h l r) = meets c (reach_of h l r)
 
 -- What is logged of an action in a box, for the subtree at the path. Where each node above is entered, it is what the last of
 -- them hands down to the watched root, and the action in the box, if the box meets the root's extent.
-unfoldable pub logged_mark : Bounds → Tag → List Side → Shape → List Op
-logged_mark c a [] t = if is_met c t then Mark (Some c) a ∷ [] else []
+unfoldable pub logged_mark : Choice → Tag → List Side → Shape → List Op
+logged_mark c a [] t = if is_met c t then Mark c a ∷ [] else []
 logged_mark c a (side ∷ path) leaf = []
-logged_mark c a (side ∷ path) (fork h l r) = if is_entered c (box_of h l r) then handed path h.pending ++ logged_mark c a path (tagged h.pending (son side l r)) else []
+logged_mark c a (side ∷ path) (fork h l r) = if is_entered c (reach_of h l r) then handed path h.pending ++ logged_mark c a path (tagged h.pending (son side l r)) else []
 
 -- whether what goes left, or doesn't, goes to this side
 abbrev pub goes_to : Side → Bool → Bool

@@ -1,6 +1,7 @@
 -- Several watches at once.
 use Rattle.std.specs.Prelude.{◌≡◌, ℕ, ◌+◌, ◌≤◌, List, [], ◌∷◌, ◌++◌, length}
-use Rattle.point_geom.specs.Place.{Place, Bounds}
+use Rattle.point_geom.specs.Place.{Place}
+use Rattle.map_fold.specs.declared.choice.Choice.{Choice}
 use Rattle.node_labels.specs.declared.tag.Tag.{Tag}
 use Rattle.map_fold.specs.Ops.{Extends}
 use Rattle.kd_tree.specs.Shape.{Shape}
@@ -19,7 +20,7 @@ HaveRoom [] = Unit {0}
 HaveRoom (w ∷ ws) = (length w.log + 2 ≤ 65536) × HaveRoom ws
 
 -- the same watches, each log with what the action in the box does to its subtree
-abbrev pub with_marks : Bounds → Tag → Shape → List Watch → List Watch
+abbrev pub with_marks : Choice → Tag → Shape → List Watch → List Watch
 with_marks c a t [] = []
 with_marks c a t (w ∷ ws) = record w { log = w.log ++ logged_mark c a w.path t } ∷ with_marks c a t ws
 

@@ -13,6 +13,7 @@ mod numbered;
 mod one_pass;
 mod part_items;
 mod put_clear;
+mod reach;
 mod rebuild;
 mod replace;
 mod replacement;

@@ -1,39 +1,39 @@
-//! What an action in a box does to watched subtrees, logged before it is done. Nothing here takes a node apart.
+//! What an action on chosen items does to watched subtrees, logged before it is done. Nothing here takes a node apart.
 ghost use Rattle.std.specs.Prelude.{◌≡◌, ◌+◌, ◌≤◌, ◌++◌, length, OnOk};
 ghost use Rattle.map_fold.specs.Ops.{Extends};
 ghost use Rattle.kd_tree.specs.Walk.{tagged};
 ghost use Rattle.kd_update.specs.Watch.{handed, is_met, logged_mark};
 ghost use Rattle.kd_update.specs.Watches.{AreExtended, AreFewMore, HaveRoom, with_marks};
 
+use crate::reach::{covers, meets, reach_of};
 use crate::watch::{is_keep, note_mark};
 use crate::{Watch, Watches};
 use kd_tree::{Side, Tree};
-use map_fold::{NoMemory, Tag};
+use map_fold::{Choice, NoMemory, Tag};
 use op_logger::OpLog;
-use point_geom::Cuboid;
 
 pub(crate) fn log_marks(
     tree: &Tree,
     watches: &mut Watches,
-    within: &Cuboid,
+    choice: &Choice,
     tag: Tag,
 ) -> Result<(), NoMemory>
     requires { HaveRoom watches.old }
-    ensures logged { OnOk result (watches.new ≡ with_marks within.now tag tree.now watches.old) }
+    ensures logged { OnOk result (watches.new ≡ with_marks choice.now tag tree.now watches.old) }
     ensures begins { AreExtended watches.old watches.new }
     ensures few { AreFewMore watches.old watches.new }
 {
-    log_each_mark(tree, watches.items.as_mut_slice(), within, tag)
+    log_each_mark(tree, watches.items.as_mut_slice(), choice, tag)
 }
 
 fn log_each_mark(
     tree: &Tree,
     watches: &mut [Watch],
-    within: &Cuboid,
+    choice: &Choice,
     tag: Tag,
 ) -> Result<(), NoMemory>
     requires { HaveRoom watches.old }
-    ensures logged { OnOk result (watches.new ≡ with_marks within.now tag tree.now watches.old) }
+    ensures logged { OnOk result (watches.new ≡ with_marks choice.now tag tree.now watches.old) }
     ensures begins { AreExtended watches.old watches.new }
     ensures few { AreFewMore watches.old watches.new }
 {
@@ -44,11 +44,11 @@ fn log_each_mark(
         tree,
         Tag::KEEP,
         watch.path.as_slice(),
-        within,
+        choice,
         tag,
         &mut watch.log,
     )?;
-    log_each_mark(tree, rest, within, tag)
+    log_each_mark(tree, rest, choice, tag)
 }
 
 // For the subtree at the sides. The tree owes the action `owed` before.
@@ -56,28 +56,28 @@ fn log_mark(
     tree: &Tree,
     owed: Tag,
     sides: &[Side],
-    within: &Cuboid,
+    choice: &Choice,
     tag: Tag,
     log: &mut OpLog,
 ) -> Result<(), NoMemory>
-    requires { length log.old + length (logged_mark within.now tag sides.now (tagged owed tree.now)) ≤ 65536 }
-    ensures logged { OnOk result (log.new ≡ log.old ++ logged_mark within.now tag sides.now (tagged owed tree.now)) }
+    requires { length log.old + length (logged_mark choice.now tag sides.now (tagged owed tree.now)) ≤ 65536 }
+    ensures logged { OnOk result (log.new ≡ log.old ++ logged_mark choice.now tag sides.now (tagged owed tree.now)) }
     ensures begins { Extends log.old log.new }
-    ensures few { length log.new ≤ length log.old + length (logged_mark within.now tag sides.now (tagged owed tree.now)) }
+    ensures few { length log.new ≤ length log.old + length (logged_mark choice.now tag sides.now (tagged owed tree.now)) }
 {
     let Some((side, rest)) = sides.split_first() else {
-        if !is_met(within, tree) {
+        if !is_met(choice, tree) {
             return Ok(());
         }
-        return note_mark(log, Some(*within), tag);
+        return note_mark(log, *choice, tag);
     };
-    let Some(extent) = tree.extent() else {
+    let Some(reach) = reach_of(tree) else {
         return Ok(());
     };
-    if !within.meets(&extent) {
+    if !meets(choice, &reach) {
         return Ok(());
     }
-    if within.covers(&extent) {
+    if covers(choice, &reach) {
         return Ok(());
     }
     let Some(top) = tree.top() else {
@@ -86,8 +86,8 @@ fn log_mark(
     let owed = top.pending.then(owed);
     note_owed(owed, rest, log)?;
     match side {
-        Side::Left => log_mark(top.left, owed, rest, within, tag, log),
-        Side::Right => log_mark(top.right, owed, rest, within, tag, log),
+        Side::Left => log_mark(top.left, owed, rest, choice, tag, log),
+        Side::Right => log_mark(top.right, owed, rest, choice, tag, log),
     }
 }
 
@@ -101,14 +101,14 @@ pub(crate) fn note_owed(owed: Tag, rest: &[Side], log: &mut OpLog) -> Result<(),
     if !rest.is_empty() || is_keep(owed) {
         return Ok(());
     }
-    note_mark(log, None, owed)
+    note_mark(log, Choice::ALL, owed)
 }
 
-fn is_met(within: &Cuboid, tree: &Tree) -> bool
-    ensures { result ≡ is_met within.now tree.now }
+fn is_met(choice: &Choice, tree: &Tree) -> bool
+    ensures { result ≡ is_met choice.now tree.now }
 {
-    match tree.extent() {
+    match reach_of(tree) {
         None => false,
-        Some(extent) => within.meets(&extent),
+        Some(reach) => meets(choice, &reach),
     }
 }

@@ -1,6 +1,6 @@
-//! Actions on the items in a box. What the box covers is labelled at its top, and what it misses is left alone.
+//! Actions on chosen items. What the choice covers is labelled at its top, and what it misses is left alone.
 ghost use Rattle.std.specs.Prelude.{◌≡◌, ◌+◌, ◌*◌, ◌≤◌, IfOk};
-ghost use Rattle.map_fold.specs.Contents.{in_box, mark, marked_item};
+ghost use Rattle.map_fold.specs.Contents.{chosen_by, mark, marked_item};
 ghost use Rattle.kd_tree.specs.Shape.{numbers};
 ghost use Rattle.kd_tree.specs.Contents.{contents};
 ghost use Rattle.kd_update.specs.Refresh.{AreAmong, IsRefresh};
@@ -8,40 +8,42 @@ ghost use Rattle.kd_update.specs.Update.{IsEven, IsUpdated};
 ghost use Rattle.kd_update.specs.Made.{entered_mark, made_mark};
 ghost use Rattle.kd_update.specs.Mark.{IsVisitCalm, marked_shape};
 
+use crate::reach::{covers, meets, reach_of};
 use crate::rebuild::rejoined;
 use kd_tree::{OpenNode, Steps, Tree};
-use map_fold::{Item, NoMemory, Tag};
-use point_geom::Cuboid;
+use map_fold::{Choice, Item, NoMemory, Tag};
 use std::alloc::Global;
 use std::sync::ledger::Ledger;
 
-/// The tree after this action on each of its items in the box.
+/// The tree after this action on each of its items that the choice chooses.
 ///
 /// On the way out each node that was entered, and has from 10 nodes on and fewer than `large`, is built anew where it
-/// breaches a criterion. A node is entered where its extent meets the box and isn't covered by it, and so is its father's.
+/// breaches a criterion. A node is entered where it is neither covered nor missed, and its father is entered. The choice
+/// covers a node where the box, if there is one, covers its extent, and its greatest number is below the bound, if there is one. It
+/// misses a node where the box doesn't meet its extent, or its least number isn't below the bound.
 /// Only these nodes and their sons are made. Where memory is wanting, the tree is let go.
 pub fn marked<L: Ledger>(
     alloc: Global,
     tree: Tree,
     large: u32,
-    within: &Cuboid,
+    choice: &Choice,
     tag: Tag,
     steps: &mut Steps<L>,
 ) -> Result<Tree, NoMemory>
-    ensures contents { IfOk result (λ t. contents t ≡ mark (contents tree) (in_box within.now) tag) }
+    ensures contents { IfOk result (λ t. contents t ≡ mark (contents tree) (chosen_by choice.now) tag) }
     ensures numbers { IfOk result (λ t. AreAmong (numbers t) (numbers tree)) }
     ensures balance { IsEven large tree → IfOk result (λ t. IsEven large t) }
     // The unrebuilt result, with some subtrees built anew.
-    ensures refresh { IfOk result (λ t. IsRefresh (marked_shape within.now tag tree) t) }
+    ensures refresh { IfOk result (λ t. IsRefresh (marked_shape choice.now tag tree) t) }
     // Where no node that was entered is to be built anew, none is.
-    ensures unrebuilt { IsVisitCalm large within.now (marked_shape within.now tag tree)
-        → IfOk result (λ t. t ≡ marked_shape within.now tag tree) }
+    ensures unrebuilt { IsVisitCalm large choice.now (marked_shape choice.now tag tree)
+        → IfOk result (λ t. t ≡ marked_shape choice.now tag tree) }
     // Then at most so many nodes are made, whatever the call answers.
-    ensures ticks { IsVisitCalm large within.now (marked_shape within.now tag tree)
-        → steps.new ≤ steps.old + 5 * entered_mark within.now tree + 1 }
+    ensures ticks { IsVisitCalm large choice.now (marked_shape choice.now tag tree)
+        → steps.new ≤ steps.old + 5 * entered_mark choice.now tree + 1 }
 {
     let _size = tree.size();
-    marked_within(alloc, tree, large, within, tag, steps)
+    marked_within(alloc, tree, large, choice, tag, steps)
 }
 
 // The same, by shape.
@@ -49,31 +51,31 @@ pub(crate) fn marked_within<L: Ledger>(
     alloc: Global,
     tree: Tree,
     large: u32,
-    within: &Cuboid,
+    choice: &Choice,
     tag: Tag,
     steps: &mut Steps<L>,
 ) -> Result<Tree, NoMemory>
-    ensures updated { let plain = marked_shape within.now tag tree in
-        IfOk result (λ t. IsUpdated large tree plain (IsVisitCalm large within.now plain) t) }
-    ensures ticks { IsVisitCalm large within.now (marked_shape within.now tag tree)
-        → steps.new ≤ steps.old + made_mark within.now tree }
+    ensures updated { let plain = marked_shape choice.now tag tree in
+        IfOk result (λ t. IsUpdated large tree plain (IsVisitCalm large choice.now plain) t) }
+    ensures ticks { IsVisitCalm large choice.now (marked_shape choice.now tag tree)
+        → steps.new ≤ steps.old + made_mark choice.now tree }
 {
     let _size = tree.size();
-    let Some(extent) = tree.extent() else {
+    let Some(reach) = reach_of(&tree) else {
         return Ok(tree);
     };
-    if !within.meets(&extent) {
+    if !meets(choice, &reach) {
         return Ok(tree);
     }
-    if within.covers(&extent) {
+    if covers(choice, &reach) {
         return tree.tagged(alloc, tag, steps);
     }
     let Some(node) = tree.take_apart(alloc, steps)? else {
         return Ok(Tree::empty());
     };
-    let item = marked_item(node.item, within, tag);
-    let left = marked_within(alloc, node.left, large, within, tag, steps)?;
-    let right = marked_within(alloc, node.right, large, within, tag, steps)?;
+    let item = marked_item(node.item, choice, tag);
+    let left = marked_within(alloc, node.left, large, choice, tag, steps)?;
+    let right = marked_within(alloc, node.right, large, choice, tag, steps)?;
     let node = OpenNode {
         item,
         left,
@@ -83,10 +85,10 @@ pub(crate) fn marked_within<L: Ledger>(
     rejoined(alloc, node, large, steps)
 }
 
-pub(crate) fn marked_item(item: Item, within: &Cuboid, tag: Tag) -> Item
-    ensures { result ≡ marked_item (in_box within.now) tag item }
+pub(crate) fn marked_item(item: Item, choice: &Choice, tag: Tag) -> Item
+    ensures { result ≡ marked_item (chosen_by choice.now) tag item }
 {
-    if within.holds(&item.point) {
+    if choice.chooses(&item) {
         let label = tag.apply(item.label);
         Item { label, ..item }
     } else {

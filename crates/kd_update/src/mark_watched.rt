@@ -1,6 +1,6 @@
-//! Actions on the items in a box, while subtrees are watched: what each meets is logged first, and then the tree is changed.
+//! Actions on chosen items, while subtrees are watched: what each meets is logged first, and then the tree is changed.
 ghost use Rattle.std.specs.Prelude.{◌≡◌, ◌+◌, ◌*◌, ◌≤◌, IfOk, OnOk};
-ghost use Rattle.map_fold.specs.Contents.{in_box, mark};
+ghost use Rattle.map_fold.specs.Contents.{chosen_by, mark};
 ghost use Rattle.kd_tree.specs.Shape.{numbers};
 ghost use Rattle.kd_tree.specs.Contents.{contents};
 ghost use Rattle.kd_update.specs.Refresh.{AreAmong, IsRefresh};
@@ -15,8 +15,7 @@ use crate::log_mark::log_marks;
 use crate::mark_clear::marked_clear;
 use crate::ways::Ways;
 use kd_tree::{Steps, Tree};
-use map_fold::{NoMemory, Tag};
-use point_geom::Cuboid;
+use map_fold::{Choice, NoMemory, Tag};
 use std::alloc::Global;
 use std::sync::ledger::Ledger;
 
@@ -27,35 +26,35 @@ pub fn marked_watched<L: Ledger>(
     alloc: Global,
     tree: Tree,
     large: u32,
-    within: &Cuboid,
+    choice: &Choice,
     tag: Tag,
     watches: &mut Watches,
     steps: &mut Steps<L>,
 ) -> Result<Tree, NoMemory>
     requires there { AreLargeAt large (paths_in watches.old) tree }
     requires room { HaveRoom watches.old }
-    ensures contents { IfOk result (λ t. contents t ≡ mark (contents tree) (in_box within.now) tag) }
+    ensures contents { IfOk result (λ t. contents t ≡ mark (contents tree) (chosen_by choice.now) tag) }
     ensures numbers { IfOk result (λ t. AreAmong (numbers t) (numbers tree)) }
     // Outside the watched subtrees.
     ensures balance { IsEvenClear large (paths_in watches.old) tree
         → IfOk result (λ t. IsEvenClear large (paths_in watches.old) t) }
-    ensures refresh { IfOk result (λ t. IsRefresh (marked_shape within.now tag tree) t) }
+    ensures refresh { IfOk result (λ t. IsRefresh (marked_shape choice.now tag tree) t) }
     ensures there { IfOk result (λ t. AreLargeAt large (paths_in watches.old) t) }
     // Whatever the call answers.
     ensures begins { AreExtended watches.old watches.new }
     ensures few { AreFewMore watches.old watches.new }
-    ensures logged { OnOk result (watches.new ≡ with_marks within.now tag tree watches.old) }
+    ensures logged { OnOk result (watches.new ≡ with_marks choice.now tag tree watches.old) }
     // Of each watched subtree the new tree has what these operations make of the old one's own contents.
-    ensures watched { IfOk result (λ t. AreWatched (λ p. IsWatched p tree t (logged_mark within.now tag p tree)) (paths_in watches.old)) }
+    ensures watched { IfOk result (λ t. AreWatched (λ p. IsWatched p tree t (logged_mark choice.now tag p tree)) (paths_in watches.old)) }
     // Where no node that was entered is to be built anew, none is.
-    ensures unrebuilt { IsVisitCalm large within.now (marked_shape within.now tag tree)
-        → IfOk result (λ t. t ≡ marked_shape within.now tag tree) }
+    ensures unrebuilt { IsVisitCalm large choice.now (marked_shape choice.now tag tree)
+        → IfOk result (λ t. t ≡ marked_shape choice.now tag tree) }
     // Then at most so many nodes are made, whatever the call answers.
-    ensures ticks { IsVisitCalm large within.now (marked_shape within.now tag tree)
-        → steps.new ≤ steps.old + 5 * entered_mark within.now tree + 1 }
+    ensures ticks { IsVisitCalm large choice.now (marked_shape choice.now tag tree)
+        → steps.new ≤ steps.old + 5 * entered_mark choice.now tree + 1 }
 {
     let _size = tree.size();
-    log_marks(&tree, watches, within, tag)?;
+    log_marks(&tree, watches, choice, tag)?;
     let ways = Ways::of(watches.as_slice());
-    marked_clear(alloc, tree, large, within, tag, &ways, steps)
+    marked_clear(alloc, tree, large, choice, tag, &ways, steps)
 }

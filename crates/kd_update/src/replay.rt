@@ -65,10 +65,7 @@ fn performed<L: Ledger>(
     ensures balance { IsEven large tree → IfOk result (λ t. IsEven large t) }
 {
     match op {
-        Op::Mark { within, tag } => match within {
-            None => tree.tagged(alloc, *tag, steps),
-            Some(within) => marked(alloc, tree, large, within, *tag, steps),
-        },
+        Op::Mark { choice, tag } => marked(alloc, tree, large, choice, *tag, steps),
         Op::Put { number, point } => {
             let tree = roomy(alloc, tree, steps)?;
             put(alloc, tree, large, *number, *point, steps)

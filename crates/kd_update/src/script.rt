@@ -2,8 +2,8 @@
 ghost use Rattle.std.specs.Prelude.{◌≡◌, [], IfOk};
 ghost use Rattle.map_fold.specs.Ops.{Fit};
 
-use map_fold::{NoMemory, Op, Tag};
-use point_geom::{Cuboid, Point};
+use map_fold::{Choice, NoMemory, Op, Tag};
+use point_geom::Point;
 use std::alloc::Global;
 use std::marker::Model;
 use std::process::Abort;
@@ -57,9 +57,9 @@ impl Script {
         })
     }
 
-    pub(crate) fn mark(self, within: Option<Cuboid>, tag: Tag) -> Result<Script, NoMemory> {
+    pub(crate) fn mark(self, choice: Choice, tag: Tag) -> Result<Script, NoMemory> {
         let Script { mut ops, next } = self;
-        ops.push(Op::Mark { within, tag })?;
+        ops.push(Op::Mark { choice, tag })?;
         Ok(Script { ops, next })
     }
 

@@ -5,9 +5,9 @@ ghost use Rattle.map_fold.specs.declared.op.Op.TheVariants.{Mark, Put};
 ghost use Rattle.kd_update.specs.Watch.{is_keep};
 
 use kd_tree::Path;
-use map_fold::{Label, NoMemory, Op, Tag};
+use map_fold::{Choice, Label, NoMemory, Op, Tag};
 use op_logger::OpLog;
-use point_geom::{Cuboid, Point};
+use point_geom::Point;
 
 /// A subtree that is watched: its path, and the operations on its own items that were met since the log was empty.
 #[derive(Debug, Drop)]
@@ -16,13 +16,13 @@ pub struct Watch {
     pub log: OpLog,
 }
 
-pub(crate) fn note_mark(log: &mut OpLog, within: Option<Cuboid>, tag: Tag) -> Result<(), NoMemory>
+pub(crate) fn note_mark(log: &mut OpLog, choice: Choice, tag: Tag) -> Result<(), NoMemory>
     requires { length log.old < 65536 }
-    ensures logged { OnOk result (log.new ≡ log.old ++ Mark within tag ∷ []) }
+    ensures logged { OnOk result (log.new ≡ log.old ++ Mark choice tag ∷ []) }
     ensures begins { Extends log.old log.new }
     ensures few { length log.new ≤ length log.old + 1 }
 {
-    match log.push(Op::Mark { within, tag }) {
+    match log.push(Op::Mark { choice, tag }) {
         Ok(()) => Ok(()),
         Err(_) => Err(NoMemory),
     }

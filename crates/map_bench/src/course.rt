@@ -7,7 +7,8 @@ use map_fold::{Cuboids, Item, Items, Label, NoMemory, Points};
 use point_geom::{Corner, Cuboid, Point};
 use std::alloc::Global;
 
-const POINTS_OF_SCAN: u32 = 2_000;
+/// How many points a scan has.
+pub const POINTS_OF_SCAN: u32 = 2_000;
 
 const SCANS_OF_DELETION: u32 = 10;
 

@@ -5,8 +5,7 @@ ghost use Rattle.kd_tree.specs.Shape.{numbers};
 use crate::course::Scan;
 use kd_tree::{Scratch, Steps, Tree};
 use kd_update::{marked, put_points};
-use map_fold::{NoMemory, Points, Tag};
-use point_geom::Cuboid;
+use map_fold::{Choice, NoMemory, Points, Tag};
 use std::alloc::Global;
 use std::sync::ledger::Ledger;
 
@@ -47,7 +46,7 @@ impl Grown {
         let map = self.put_all(alloc, &scan.points, steps)?;
         match &scan.left {
             None => Ok(map),
-            Some(within) => map.deleted(alloc, within, steps),
+            Some(within) => map.without(alloc, &Choice::within(within), steps),
         }
     }
 
@@ -91,13 +90,14 @@ impl Grown {
         })
     }
 
-    fn deleted<L: Ledger>(
+    /// The map without what a choice chooses.
+    pub fn without<L: Ledger>(
         self,
         alloc: Global,
-        within: &Cuboid,
+        choice: &Choice,
         steps: &mut Steps<L>,
     ) -> Result<Grown, NoMemory> {
-        let tree = marked(alloc, self.tree, LARGE, within, Tag::DELETE, steps)?;
+        let tree = marked(alloc, self.tree, LARGE, choice, Tag::DELETE, steps)?;
         Ok(Grown {
             tree,
             scratch: self.scratch,

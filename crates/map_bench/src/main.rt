@@ -11,6 +11,8 @@
 //! - `thin`: the state of a map thins such scans, at half a metre, and after each tenth the slab that is left is deleted;
 //! - `odometry`: the same, but each point is asked for its 5 nearest before its scan is thinned;
 //! - `drawn`, `rising`, `equal`: a state takes N points that lie so, 262,144 an update, with Q as the size of a large subtree;
+//! - `expire`, `cut`, `mixed`: the older half of N points is forgotten at once, of a road by their numbers, of a road by a box, and by
+//!   their numbers where these stand all over the road; Q has no meaning, and how long it took and how many nodes it touched is told;
 //! - `longest`: a state grows by scans to N points and then by Q more, of which the longest steps are told;
 //! - `readers`: a shared map grows so to N points, and then Q readers, from 1 to 7, ask it beside a writer that adds a hundred scans more;
 //! - `paced`: the same, but the writer sleeps for 50 milliseconds before each scan.
@@ -23,6 +25,7 @@ ghost use Rattle.std.specs.Prelude.{◌≡◌, ◌<◌, ◌≤◌, IfOk};
 
 mod course;
 mod draws;
+mod forgotten;
 mod grown;
 mod longest;
 mod readers;
@@ -34,6 +37,7 @@ mod works;
 mod worst;
 
 use crate::course::Lie;
+use crate::forgotten::{Forgotten, Way, forget};
 use crate::longest::{Longest, longest_steps};
 use crate::readers::{Beside, readers};
 use crate::stop::Stop;
@@ -68,6 +72,9 @@ fn measure<R: AllocGlobal + Env + Print + Eprint + Clock + Threads + Wait + Sync
     };
     let count = number(count, 4_194_304)?;
     match work.as_str() {
+        "expire" => tell_forgotten(rt, Way::Expire, count),
+        "cut" => tell_forgotten(rt, Way::Cut, count),
+        "mixed" => tell_forgotten(rt, Way::Mixed, count),
         "longest" => tell_longest(rt, count, number(asked, MOST_ASKED)?),
         "readers" => tell_readers(rt, work, count, number(asked, 7)?, Duration::ZERO),
         "paced" => tell_readers(
@@ -99,6 +106,16 @@ fn tell<R: AllocGlobal + Print + Eprint + Clock>(
 fn tell_longest<R: AllocGlobal + Print + Clock>(rt: &R, count: u32, more: u32) -> Result<(), Stop> {
     let longest = looked_at::<Brand, R>(rt, count, more, Blank::new(1))?;
     println!(rt; "{longest}")?;
+    Ok(())
+}
+
+fn tell_forgotten<R: AllocGlobal + Print + Clock>(
+    rt: &R,
+    way: Way,
+    count: u32,
+) -> Result<(), Stop> {
+    let forgotten = half_forgotten::<Brand, R>(rt, way, count, Blank::new(1))?;
+    println!(rt; "{forgotten}")?;
     Ok(())
 }
 
@@ -166,6 +183,20 @@ fn looked_at<L: Ledger, R: AllocGlobal + Clock>(
 {
     let steps: &mut Steps<L> = &mut Steps::new(blank);
     longest_steps(rt, rt.alloc(), count, more, steps)
+}
+
+fn half_forgotten<L: Ledger, R: AllocGlobal + Clock>(
+    rt: &R,
+    way: Way,
+    count: u32,
+    blank: Blank,
+) -> Result<Forgotten, Stop>
+    requires name { blank.name ≡ L.name }
+    requires parts { blank.parts ≡ L.parts }
+    requires some { 0 < blank.parts }
+{
+    let steps: &mut Steps<L> = &mut Steps::new(blank);
+    forget(rt, rt.alloc(), way, count, steps)
 }
 
 #[derive(Clone, Copy, Debug, PartialEq, Eq)]

@@ -10,7 +10,7 @@ use crate::stop::Stop;
 use crate::sums::{with, with_answers, with_items};
 use kd_tree::{Steps, Tree};
 use kd_update::marked;
-use map_fold::{Cuboids, Items, NoMemory, Points, Tag};
+use map_fold::{Choice, Cuboids, Items, NoMemory, Points, Tag};
 use std::alloc::Global;
 use std::sync::ledger::Ledger;
 use std::time::{Clock, Instant};
@@ -105,7 +105,8 @@ pub fn grow<L: Ledger>(
     Ok(Measured { micros, sum })
 }
 
-fn grown<L: Ledger>(
+/// A tree that grew by these scans.
+pub fn grown<L: Ledger>(
     alloc: Global,
     scans: &[Scan],
     steps: &mut Steps<L>,
@@ -205,7 +206,14 @@ fn without<L: Ledger>(
 ) -> Result<Tree, NoMemory> {
     let mut tree = tree;
     for cube in cubes.as_slice() {
-        tree = marked(alloc, tree, LARGE, cube, Tag::DELETE, steps)?;
+        tree = marked(
+            alloc,
+            tree,
+            LARGE,
+            &Choice::within(cube),
+            Tag::DELETE,
+            steps,
+        )?;
     }
     Ok(tree)
 }

@@ -1,4 +1,4 @@
--- The order of items towards the centre of a box. Of live items one stands first.
+-- The order of items towards the centre of a box. Of items with different numbers one stands first.
 use Rattle.std.proofs.Common.{◌≡◌, ℕ, inl, inr, Bool, true, false, cond, List, [], ◌∷◌, refl, sym, ap, ◌∙◌, subst}
 use Rattle.std.specs.Cmp.{IsTotalOrder, IsStrictWeakOrder}
 use Rattle.std.specs.FinMap.{nat_cmp-IsAntisymmetric}
@@ -17,7 +17,7 @@ use Rattle.map_fold.specs.declared.item.Item.{Item}
 use Rattle.map_fold.specs.Contents.{centre_cmp, comes_before, least}
 use Rattle.map_fold.specs.Nearest.{Member}
 use Rattle.map_fold.specs.Thinned.{NoneBefore}
-use Rattle.map_fold.proofs.Order.{place_cmp_total, place_cmp-Equal, then_equal}
+use Rattle.map_fold.proofs.Order.{place_cmp_total, then_equal}
 
 pub centre_cmp_total : (c : Bounds) → IsTotalOrder (centre_cmp c)
 centre_cmp_total c = then_total (on_total (λ (i : Item). centre_dist2 c i.point) nat_cmp_total) (then_total (on_total (λ (i : Item). i.point) place_cmp_total) (on_total (λ (i : Item). i.number) nat_cmp_total))
@@ -70,10 +70,10 @@ items_alike i j e f g =
     let F : ℕ → Place → Label → Item = λ x y z. record { number = x; point = y; label = z } in
     ap (λ x. F x i.point i.label) e ∙ ap (λ y. F j.number y i.label) f ∙ ap (λ z. F j.number j.point z) g
 
--- of live items only one stands where none comes before it
-pub one_best : (c : Bounds) (i j : Item) → is_live i.label ≡ true → is_live j.label ≡ true → comes_before c i j ≡ false → comes_before c j i ≡ false → i ≡ j
-one_best c i j a b e f =
+-- items of which neither comes before the other have one number
+pub one_best : (c : Bounds) (i j : Item) → comes_before c i j ≡ false → comes_before c j i ≡ false → i.number ≡ j.number
+one_best c i j e f =
     let equal = neither (centre_cmp c i j) (centre_cmp c j i) ((centre_cmp_total c).antisymm i j) e f in
     let s = then_equal (nat_cmp (centre_dist2 c i.point) (centre_dist2 c j.point)) _ equal in
     let t = then_equal (place_cmp i.point j.point) _ s.1 in
-    items_alike i j (nat_cmp-IsAntisymmetric i.number j.number t.1) (place_cmp-Equal i.point j.point t.0) (live_is _ a ∙ sym (live_is _ b))
+    nat_cmp-IsAntisymmetric i.number j.number t.1

@@ -5,10 +5,10 @@ use Rattle.map_fold.specs.Answers.{is_nearer, put_hit, in_order}
 use Rattle.map_fold.specs.Nearest.{Member, IsInOrder, AreFirst}
 use Rattle.map_fold.proofs.Order.{nearer_not_back, nearer_not_itself, nearer_chain, nearer_either}
 
--- no hit stands twice in the list
+-- no number stands twice in the list
 abbrev pub Apart : List Hit → Type 0
 Apart [] = Unit {0}
-Apart (h ∷ hits) = (Member h hits → ⊥) × Apart hits
+Apart (h ∷ hits) = ((g : Hit) → Member g hits → g.number ≡ h.number → ⊥) × Apart hits
 
 -- what is put in stands in the list
 pub member-put_hit : (g h : Hit) (xs : List Hit) → Member g (put_hit h xs) → (g ≡ h) ⊎ Member g xs
@@ -43,7 +43,7 @@ tested : (b : Bool) → (b ≡ true) ⊎ (b ≡ false)
 tested true = inl refl
 tested false = inr refl
 
-not_before : (x h : Hit) → is_nearer x h ≡ false → (h ≡ x → ⊥) → is_nearer h x ≡ true
+not_before : (x h : Hit) → is_nearer x h ≡ false → (h.number ≡ x.number → ⊥) → is_nearer h x ≡ true
 not_before x h e other =
     elim (nearer_either h x) [
       | inl same ↦ absurd (other same)
@@ -56,16 +56,16 @@ put_hit_by h x xs e = rw e refl
 put_hit_front : (h x : Hit) (xs : List Hit) → is_nearer x h ≡ false → put_hit h (x ∷ xs) ≡ h ∷ x ∷ xs
 put_hit_front h x xs e = rw e refl
 
-pub put_hit_in_order : (h : Hit) (xs : List Hit) → IsInOrder xs → (Member h xs → ⊥) → IsInOrder (put_hit h xs)
+pub put_hit_in_order : (h : Hit) (xs : List Hit) → IsInOrder xs → ((g : Hit) → Member g xs → g.number ≡ h.number → ⊥) → IsInOrder (put_hit h xs)
 put_hit_in_order h [] s new = ((λ g m. absurd m), tt)
 put_hit_in_order h (x ∷ xs) s new =
     elim (tested (is_nearer x h)) [
       | inl e ↦ subst IsInOrder (sym (put_hit_by h x xs e)) (
         (λ g m. elim (member-put_hit g h xs m) [ inl same ↦ subst (λ (w : Hit). is_nearer x w ≡ true) (sym same) e | inr n ↦ s.0 g n ]),
-        put_hit_in_order h xs s.1 (λ m. new (inr m)),
+        put_hit_in_order h xs s.1 (λ g m. new g (inr m)),
       )
       | inr e ↦
-          let first : is_nearer h x ≡ true = not_before x h e (λ same. new (inl same)) in
+          let first : is_nearer h x ≡ true = not_before x h e (λ same. new x (inl refl) (sym same)) in
           subst IsInOrder (sym (put_hit_front h x xs e)) (
             (λ g m. elim m [ inl same ↦ subst (λ (w : Hit). is_nearer h w ≡ true) (sym same) first | inr n ↦ nearer_chain h x g first (s.0 g n) ]),
             s,
@@ -74,7 +74,7 @@ put_hit_in_order h (x ∷ xs) s new =
 
 pub in_order_is : (xs : List Hit) → Apart xs → IsInOrder (in_order xs)
 in_order_is [] a = tt
-in_order_is (x ∷ xs) a = put_hit_in_order x (in_order xs) (in_order_is xs a.1) (λ m. a.0 (in_order_from x xs m))
+in_order_is (x ∷ xs) a = put_hit_in_order x (in_order xs) (in_order_is xs a.1) (λ g m. a.0 g (in_order_from g xs m))
 
 -- a member of the front is one of the list
 pub member-take : (g : Hit) (k : ℕ) (xs : List Hit) → Member g (take k xs) → Member g xs
@@ -108,7 +108,7 @@ take_rest (suc k) (x ∷ xs) h s (inr m) =
       )
     ]
 
--- the first k in order of a list without repetition
+-- the first k in order of a list in which no number stands twice
 pub first_are : (k : ℕ) (xs : List Hit) → Apart xs → AreFirst k xs (take k (in_order xs))
 first_are k xs a =
     let s = in_order_is xs a in

@@ -4,7 +4,7 @@ use Rattle.point_geom.specs.Place.{Place, Bounds}
 use Rattle.node_labels.specs.Labels.{delete_tag, suspend_tag, restore_tag}
 use Rattle.node_labels.specs.declared.tag.Tag.{Tag}
 use Rattle.map_fold.specs.declared.update.Update.{Update}
-use Rattle.map_fold.specs.declared.update.Update.TheVariants.{Add, Thin, Delete, Suspend, Restore}
+use Rattle.map_fold.specs.declared.update.Update.TheVariants.{Add, Thin, Delete, Suspend, Restore, Expire}
 use Rattle.map_fold.specs.Contents.{put, mark, thin, in_box}
 use Rattle.map_fold.specs.Fold.{MapAt, step, fold_from, points_in, add_points, thin_points, mark_boxes}
 
@@ -30,6 +30,7 @@ step_next voxel (Thin ps) m = thin_next voxel ps m
 step_next voxel (Delete cs) m = omega (arith, mark_next delete_tag cs m)
 step_next voxel (Suspend cs) m = omega (arith, mark_next suspend_tag cs m)
 step_next voxel (Restore cs) m = omega (arith, mark_next restore_tag cs m)
+step_next voxel (Expire n) m = omega arith
 
 -- one more update at the end is the last step
 pub fold_from-push : (voxel : ℕ) (us : List Update) (u : Update) (m : MapAt) → fold_from voxel (us ++ u ∷ []) m ≡ step voxel u (fold_from voxel us m)

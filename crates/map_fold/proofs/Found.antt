@@ -61,6 +61,14 @@ item_number low [] i h m = absurd m
 item_number low (j ∷ m) i h (inl e) = subst (λ (w : Item). low ≤ w.number) (sym e) h.0
 item_number low (j ∷ m) i h (inr n) = omega (arith, h.0, item_number (j.number + 1) m i h.1 n)
 
+-- items of one number are one
+pub one_number : (low : ℕ) (m : List Item) (i j : Item) → IsRising low m → Member i m → Member j m → i.number ≡ j.number → i ≡ j
+one_number low [] i j h m n e = absurd m
+one_number low (k ∷ m) i j h (inl e) (inl f) same = e ∙ sym f
+one_number low (k ∷ m) i j h (inl e) (inr n) same = absurd (omega (arith, item_number (k.number + 1) m j h.1 n, ap (λ (w : Item). w.number) e))
+one_number low (k ∷ m) i j h (inr n) (inl f) same = absurd (omega (arith, item_number (k.number + 1) m i h.1 n, ap (λ (w : Item). w.number) f))
+one_number low (k ∷ m) i j h (inr n) (inr o) same = one_number (k.number + 1) m i j h.1 n o same
+
 candidate_number : (low : ℕ) (m : List Item) (q : Place) (r : Option ℕ) (h : Hit) → IsRising low m → Member h (candidates m q r) → low ≤ h.number
 candidate_number low m q r h held c =
     let is = candidate_is m q r h c in
@@ -68,19 +76,22 @@ candidate_number low m q r h held c =
     let from = item_number low m is.item held live.0 in
     subst (λ (w : Hit). low ≤ w.number) (sym is.shown) from
 
--- no two candidates are the same
+-- no two candidates have the same number
 pub candidates_apart : (low : ℕ) (m : List Item) (q : Place) (r : Option ℕ) → IsRising low m → Apart (candidates m q r)
 candidates_apart low [] q r h = tt
 candidates_apart low (i ∷ m) q r h =
     let rest = candidates_apart (i.number + 1) m q r h.1 in
-    let new : Member (hit_of q i) (candidates m q r) → ⊥ = λ c. absurd (omega (arith, candidate_number (i.number + 1) m q r (hit_of q i) h.1 c)) in
+    let new : New = λ g c e. absurd (omega (arith, candidate_number (i.number + 1) m q r g h.1 c)) in
     by_live (is_live i.label) rest new
   where
-    by_near : (b : Bool) → Apart (candidates m q r) → (Member (hit_of q i) (candidates m q r) → ⊥) → Apart (cond b (hit_of q i ∷ candidates m q r) (candidates m q r))
+    New : Type 0
+    New = (g : Hit) → Member g (candidates m q r) → g.number ≡ i.number → ⊥
+
+    by_near : (b : Bool) → Apart (candidates m q r) → New → Apart (cond b (hit_of q i ∷ candidates m q r) (candidates m q r))
     by_near true rest new = (new, rest)
     by_near false rest new = rest
 
-    by_live : (b : Bool) → Apart (candidates m q r) → (Member (hit_of q i) (candidates m q r) → ⊥) → Apart (filter (is_within r) (map (hit_of q) (cond b (i ∷ live_items m) (live_items m))))
+    by_live : (b : Bool) → Apart (candidates m q r) → New → Apart (filter (is_within r) (map (hit_of q) (cond b (i ∷ live_items m) (live_items m))))
     by_live true rest new = by_near (is_within r (hit_of q i)) rest new
     by_live false rest new = rest
 

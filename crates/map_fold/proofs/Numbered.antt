@@ -5,12 +5,13 @@ use Rattle.std.proofs.lemmas.List.Sums.{sum_by-cons}
 use Rattle.std.proofs.Math.Seq.{drop-cons}
 use Rattle.std.proofs.Math.ListN.{set}
 use Rattle.std.proofs.lemmas.Bool.Decides.{nat_tests}
-use Rattle.point_geom.specs.Place.{Place}
+use Rattle.point_geom.specs.Place.{Place, Bounds}
 use Rattle.node_labels.specs.Labels.{is_dropped}
 use Rattle.node_labels.specs.declared.tag.Tag.{Tag}
+use Rattle.map_fold.specs.declared.choice.Choice.{Choice}
 use Rattle.map_fold.specs.declared.item.Item.{Item}
 use Rattle.map_fold.specs.Ops.{IsUnheld}
-use Rattle.map_fold.specs.Contents.{AreContents, IsRising, put, live_at, relabelled, marked_item, mark}
+use Rattle.map_fold.specs.Contents.{AreContents, IsRising, put, live_at, relabelled, marked_item, mark, in_box, chosen_by, inside_box}
 
 -- a number above all goes to the end
 pub put-above : (low n : ℕ) (m : List Item) (p : Place) → AreContents low n m → put m n p ≡ m ++ live_at n p ∷ []
@@ -83,3 +84,7 @@ pub get_or-mapped : {X : Type 0} (f : X → X) (i : ℕ) (xs : List X) (d : X) �
 get_or-mapped f i [] d below = absurd (omega arith)
 get_or-mapped f zero (y ∷ xs) d below = refl
 get_or-mapped f (suc i) (y ∷ xs) d below = get_or-mapped f i xs d (omega arith)
+
+-- a choice that is a box alone is that box
+pub mark-within : (choice : Choice) (c : Bounds) (m : List Item) (a : Tag) → choice ≡ inside_box c → mark m (chosen_by choice) a ≡ mark m (in_box c) a
+mark-within choice c m a e = ap (λ (d : Choice). mark m (chosen_by d) a) e

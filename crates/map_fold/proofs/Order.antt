@@ -8,9 +8,8 @@ use Rattle.std.specs.declared.cmp.Ordering.TheVariants.{Less, Equal, Greater}
 use Rattle.std.proofs.lemmas.Cmp.{then_total, on_total, nat_cmp_total, int_cmp_total}
 use Rattle.std.proofs.lemmas.List.MinMax.{ranks_by}
 use Rattle.std.proofs.lemmas.Bool.{false≢true}
-use Rattle.point_geom.specs.Place.{Place}
+use Rattle.point_geom.specs.Place.{Place, IsAt}
 use Rattle.point_geom.specs.Axes.{place_cmp}
-use Rattle.point_geom.proofs.Laws.{places_alike}
 use Rattle.map_fold.specs.declared.hits.Hit.{Hit}
 use Rattle.map_fold.specs.Answers.{hit_cmp, is_nearer}
 
@@ -30,22 +29,19 @@ then_equal Less p e = absurd (cc)
 then_equal Equal p e = (refl, e)
 then_equal Greater p e = absurd (cc)
 
-hit_alike : (a b : Hit) → a.number ≡ b.number → a.point ≡ b.point → a.dist2 ≡ b.dist2 → a ≡ b
-hit_alike a b e f g =
-    let F : ℕ → Place → ℕ → Hit = λ x y z. record { number = x; point = y; dist2 = z } in
-    ap (λ x. F x a.point a.dist2) e ∙ ap (λ y. F b.number y a.dist2) f ∙ ap (λ z. F b.number b.point z) g
-
-pub place_cmp-Equal : (p q : Place) → place_cmp p q ≡ Equal → p ≡ q
+-- no order of places tells points at one place apart
+pub place_cmp-Equal : (p q : Place) → place_cmp p q ≡ Equal → IsAt q p
 place_cmp-Equal p q e =
     let s = then_equal (int_cmp p.x q.x) _ e in
     let t = then_equal (int_cmp p.y q.y) _ s.1 in
-    places_alike p q (int_cmp-IsAntisymmetric p.x q.x s.0) (int_cmp-IsAntisymmetric p.y q.y t.0) (int_cmp-IsAntisymmetric p.z q.z t.1)
+    record { x = int_cmp-IsAntisymmetric p.x q.x s.0; y = int_cmp-IsAntisymmetric p.y q.y t.0; z = int_cmp-IsAntisymmetric p.z q.z t.1 }
 
-pub hit_cmp-Equal : (a b : Hit) → hit_cmp a b ≡ Equal → a ≡ b
+-- hits between which the order doesn't decide have one number
+pub hit_cmp-Equal : (a b : Hit) → hit_cmp a b ≡ Equal → a.number ≡ b.number
 hit_cmp-Equal a b e =
     let s = then_equal (nat_cmp a.dist2 b.dist2) _ e in
     let t = then_equal (place_cmp a.point b.point) _ s.1 in
-    hit_alike a b (nat_cmp-IsAntisymmetric a.number b.number t.1) (place_cmp-Equal a.point b.point t.0) (nat_cmp-IsAntisymmetric a.dist2 b.dist2 s.0)
+    nat_cmp-IsAntisymmetric a.number b.number t.1
 
 pub nearer_not_back : (a b : Hit) → is_nearer a b ≡ true → is_nearer b a ≡ true → ⊥
 nearer_not_back a b h k = absurd (false≢true (sym (nearer_order.one_way a b h) ∙ k))
@@ -61,7 +57,7 @@ less_is Greater e = absurd (cc)
 pub nearer_chain : (a b c : Hit) → is_nearer a b ≡ true → is_nearer b c ≡ true → is_nearer a c ≡ true
 nearer_chain a b c h k = ap is_lt (hit_cmp_total.trans a b c (less_is (hit_cmp a b) h) (less_is (hit_cmp b c) k))
 
-by_ordering : (a b : Hit) (o : Ordering) → hit_cmp a b ≡ o → (a ≡ b) ⊎ ((is_nearer a b ≡ true) ⊎ (is_nearer b a ≡ true))
+by_ordering : (a b : Hit) (o : Ordering) → hit_cmp a b ≡ o → (a.number ≡ b.number) ⊎ ((is_nearer a b ≡ true) ⊎ (is_nearer b a ≡ true))
 by_ordering a b Less e = inr (inl (ap is_lt e))
 by_ordering a b Equal e = inl (hit_cmp-Equal a b e)
 by_ordering a b Greater e = inr (inr (greater_back (hit_cmp b a) (sym e ∙ hit_cmp_total.antisymm a b)))
@@ -71,6 +67,6 @@ by_ordering a b Greater e = inr (inr (greater_back (hit_cmp b a) (sym e ∙ hit_
     greater_back Equal e = absurd (cc)
     greater_back Greater e = absurd (cc)
 
--- of two hits that differ one comes first
-pub nearer_either : (a b : Hit) → (a ≡ b) ⊎ ((is_nearer a b ≡ true) ⊎ (is_nearer b a ≡ true))
+-- of two hits with different numbers one comes first
+pub nearer_either : (a b : Hit) → (a.number ≡ b.number) ⊎ ((is_nearer a b ≡ true) ⊎ (is_nearer b a ≡ true))
 nearer_either a b = by_ordering a b (hit_cmp a b) refl

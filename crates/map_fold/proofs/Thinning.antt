@@ -1,5 +1,5 @@
 -- What downsampling makes of a list of items.
-use Rattle.std.proofs.Common.{◌≡◌, ℕ, ◌+◌, ◌<◌, ◌≤◌, inl, inr, Bool, true, false, not, cond, List, [], ◌∷◌, map, refl, ap, sym, ◌∙◌, subst, arith}
+use Rattle.std.proofs.Common.{◌≡◌, ◌≢◌, ℕ, ◌+◌, ◌<◌, ◌≤◌, inl, inr, Bool, true, false, not, cond, List, [], ◌∷◌, map, refl, ap, sym, ◌∙◌, subst, arith}
 use Rattle.std.specs.Prelude.{filter, ◌&&◌}
 use Rattle.std.proofs.lemmas.Bool.{and_parts, cases_Bool}
 use Rattle.std.specs.Cmp.Derive.{both_true}
@@ -10,15 +10,15 @@ use Rattle.node_labels.specs.Labels.{is_live, is_suspended, is_dropped, thin_tag
 use Rattle.node_labels.specs.declared.label.Label.{Label}
 use Rattle.node_labels.specs.declared.label.Label.TheVariants.{Live, Suspended, Dropped}
 use Rattle.map_fold.specs.declared.item.Item.{Item}
-use Rattle.map_fold.specs.Contents.{AreContents, centre_cmp, comes_before, in_box, kept, least, live_at, live_items, mark, marked_item, put, relabelled, thin, winner}
+use Rattle.map_fold.specs.Contents.{AreContents, IsRising, centre_cmp, comes_before, in_box, kept, least, live_at, live_items, mark, marked_item, put, relabelled, thin, winner}
 use Rattle.map_fold.specs.Answers.{inside_all}
 use Rattle.map_fold.specs.Nearest.{Member}
 use Rattle.map_fold.specs.Ops.{IsUnheld}
 use Rattle.map_fold.specs.Thinned.{IsThinned, NoneBefore, rivals}
 use Rattle.map_fold.proofs.Centre.{items_alike, least_first, least_member, live_is, not_itself, one_best}
-use Rattle.map_fold.proofs.Found.{member-filter, item_number}
+use Rattle.map_fold.proofs.Found.{member-filter, item_number, one_number}
 use Rattle.map_fold.proofs.Numbered.{contents_mark, contents_rise, contents_within, unheld_above}
-use Rattle.map_fold.proofs.Puts.{contents_put, filter_none, filter-put_only, filter-put_out, put_after, put_front, unheld_below, unheld_cons}
+use Rattle.map_fold.proofs.Puts.{contents_put, filter_none, filter-put_only, filter-put_out, put_after, put_front, unheld_below, unheld_cons, unheld_parts}
 
 -- live, and in the box
 abbrev pub is_live_in : Bounds → Item → Bool
@@ -150,12 +150,25 @@ pub rival_inside : (edge n : ℕ) (m : List Item) (p : Place) (i : Item) → 1 �
 rival_inside edge n m p i from (inl same) = ap (λ (j : Item). holds (voxel edge p) j.point) same ∙ voxel_held edge p from
 rival_inside edge n m p i from (inr held) = (inside_is (voxel edge p) m i held).2
 
+-- where a number isn't held, each item has another
+pub unheld_of : (n : ℕ) (m : List Item) (k : Item) → IsUnheld n m → Member k m → k.number ≢ n
+unheld_of n [] k h none = absurd none
+unheld_of n (i ∷ m) k h (inl same) = λ e. (unheld_parts n i m h).0 (sym (ap (λ (w : Item). w.number) same) ∙ e)
+unheld_of n (i ∷ m) k h (inr there) = unheld_of n m k (unheld_parts n i m h).1 there
+
+-- rivals of one number are one
+one_rival : (edge n : ℕ) (m : List Item) (p : Place) (i j : Item) → IsRising 0 m → IsUnheld n m → Member i (rivals edge m n p) → Member j (rivals edge m n p) → i.number ≡ j.number → i ≡ j
+one_rival edge n m p i j h new (inl e) (inl f) same = e ∙ sym f
+one_rival edge n m p i j h new (inl e) (inr held) same = absurd (unheld_of n m j new (inside_is (voxel edge p) m j held).0 (sym same ∙ ap (λ (w : Item). w.number) e))
+one_rival edge n m p i j h new (inr held) (inl f) same = absurd (unheld_of n m i new (inside_is (voxel edge p) m i held).0 (same ∙ ap (λ (w : Item). w.number) f))
+one_rival edge n m p i j h new (inr held) (inr other) same = one_number 0 m i j h (inside_is (voxel edge p) m i held).0 (inside_is (voxel edge p) m j other).0 same
+
 -- a rival before which none of the rivals comes is the winner
-pub winner_is : (edge n : ℕ) (m : List Item) (p : Place) (w : Item) → Member w (rivals edge m n p) → NoneBefore (voxel edge p) w (rivals edge m n p) → winner edge m n p ≡ w
-winner_is edge n m p w rival first =
+pub winner_is : (edge n : ℕ) (m : List Item) (p : Place) (w : Item) → IsRising 0 m → IsUnheld n m → Member w (rivals edge m n p) → NoneBefore (voxel edge p) w (rivals edge m n p) → winner edge m n p ≡ w
+winner_is edge n m p w h new rival first =
     let v = winner edge m n p in
     let is = winner_rival edge n m p in
-    one_best (voxel edge p) v w (rival_live edge n m p v is) (rival_live edge n m p w rival) (first v is) (winner_first edge n m p w rival)
+    one_rival edge n m p v w h new is rival (one_best (voxel edge p) v w (first v is) (winner_first edge n m p w rival))
 
 -- the winner's number is that of no item that is left in the voxel or elsewhere
 pub winner_unheld : (edge n : ℕ) (m : List Item) (p : Place) → AreContents 0 n m → IsUnheld (winner edge m n p).number (mark m (in_box (voxel edge p)) thin_tag)
@@ -232,7 +245,7 @@ pub thin_same : (edge n : ℕ) (m : List Item) (p : Place) (w : Item) → AreCon
 thin_same edge n m p w h alone behind =
     let c = voxel edge p in
     let rival : Member w (rivals edge m n p) = inr (subst (Member w) (sym alone) (inl refl)) in
-    let is = winner_is edge n m p w rival first in
+    let is = winner_is edge n m p w (contents_rise 0 n m h) (unheld_above 0 n n m (omega arith) h) rival first in
     ap (λ (i : Item). put (mark m (in_box c) thin_tag) i.number i.point) is
     ∙ ap (λ xs. put xs w.number w.point) (mark-thin c 0 n m h)
     ∙ put_back c 0 n m w h (sym (inside_by c m) ∙ alone)

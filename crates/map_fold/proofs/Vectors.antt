@@ -3,6 +3,7 @@ use Rattle.std.proofs.Common.{◌≡◌, ℕ, ℤ, pos, refl, List, [], ◌∷�
 use Rattle.std.specs.declared.option.Option.TheVariants.{None, Some}
 use Rattle.point_geom.specs.Place.{Place}
 use Rattle.point_geom.specs.Boxes.{unit_box}
+use Rattle.point_geom.specs.Corners.{corner_of}
 use Rattle.node_labels.specs.Labels.{suspend_tag, restore_tag, delete_tag}
 use Rattle.map_fold.specs.declared.item.Item.{Item}
 use Rattle.map_fold.specs.declared.update.Update.TheVariants.{Add}
@@ -13,7 +14,7 @@ use Rattle.map_fold.specs.Fold.{fold, thin_points, no_points}
 use lib.IntN.{negsuc}
 
 abbrev at : ℤ → ℤ → ℤ → Place
-at x y z = record { x = x; y = y; z = z }
+at x y z = record { x = x; y = y; z = z; intensity = 0 }
 
 abbrev origin : Place
 origin = at (pos 0) (pos 0) (pos 0)
@@ -32,6 +33,13 @@ sevens = (fold 200 (Add (at (pos 7) (pos 7) (pos 7) ∷ at (pos 7) (pos 7) (pos 
 
 tie_by_number : nearest sevens 1 (at (pos 7) (pos 7) (pos 7)) None ≡ hit 0 (at (pos 7) (pos 7) (pos 7)) 0 ∷ []
 tie_by_number = refl
+
+-- the intensity doesn't come before the number
+abbrev bright : List Item
+bright = (fold 200 (Add (record (at (pos 7) (pos 7) (pos 7)) { intensity = 9 } ∷ at (pos 7) (pos 7) (pos 7) ∷ []) ∷ [])).items
+
+tie_whatever_the_intensity : nearest bright 1 (at (pos 7) (pos 7) (pos 7)) None ≡ hit 0 (record (at (pos 7) (pos 7) (pos 7)) { intensity = 9 }) 0 ∷ []
+tie_whatever_the_intensity = refl
 
 -- a greatest distance admits its own value
 at_its_end : nearest three 1 origin (Some 5) ≡ hit 2 (at (pos 0) (pos 0) (pos 5)) 25 ∷ []
@@ -70,8 +78,8 @@ counted : totals (mark three (in_box (unit_box (at (pos 0) (pos 5) (pos 0)))) su
 counted = refl
 
 -- a box is half-open: its upper side is left out
-listed : inside three (record { lo = origin; hi = at (pos 5) (pos 9) (pos 9) }) 1 ≡ live_at 1 (at (pos 0) (pos 5) (pos 0)) ∷ []
+listed : inside three (record { lo = corner_of origin; hi = corner_of (at (pos 5) (pos 9) (pos 9)) }) 1 ≡ live_at 1 (at (pos 0) (pos 5) (pos 0)) ∷ []
 listed = refl
 
-all_counted : count three (record { lo = origin; hi = at (pos 5) (pos 9) (pos 9) }) ≡ 2
+all_counted : count three (record { lo = corner_of origin; hi = corner_of (at (pos 5) (pos 9) (pos 9)) }) ≡ 2
 all_counted = refl

@@ -47,6 +47,14 @@ candidates m q r = filter (is_within r) (map (hit_of q) (live_items m))
 abbrev pub nearest : List Item → ℕ → Place → Option ℕ → List Hit
 nearest m k q r = take k (in_order (candidates m q r))
 
+-- the same for each place, in the order of the places
+abbrev pub nearest_each : List Item → ℕ → List Place → Option ℕ → List (List Hit)
+nearest_each m k qs r = map (λ q. nearest m k q r) qs
+
+-- the k nearest of each place, however far they are
+abbrev pub nears : List Item → ℕ → List Place → List (List Hit)
+nears m k qs = nearest_each m k qs None
+
 -- the live items in the box, by number
 abbrev pub inside_all : List Item → Bounds → List Item
 inside_all m c = filter (in_box c) (live_items m)

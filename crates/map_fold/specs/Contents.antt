@@ -1,5 +1,5 @@
 -- What a map holds: its items in the order of their numbers, each number once, none of them dropped.
-use Rattle.std.specs.Prelude.{◌≡◌, ℕ, ◌+◌, ◌<◌, ◌≤◌, Bool, true, false, not, List, [], ◌∷◌, map, filter, nat_lt, ◌==◌, if◌then◌else◌}
+use Rattle.std.specs.Prelude.{◌≡◌, ℕ, ◌+◌, ◌<◌, ◌≤◌, Bool, true, false, not, ◌&&◌, List, [], ◌∷◌, map, filter, nat_lt, ◌==◌, if◌then◌else◌, Option, Some, None}
 use Rattle.std.specs.Ordering.{nat_cmp, ordering_then, is_lt}
 use Rattle.std.specs.declared.cmp.Ordering.{Ordering}
 use Rattle.point_geom.specs.Place.{Place, Bounds}
@@ -10,6 +10,7 @@ use Rattle.node_labels.specs.declared.label.Label.TheVariants.{Live}
 use Rattle.node_labels.specs.declared.tag.Tag.{Tag}
 use Rattle.node_labels.specs.Labels.{apply, is_live, is_dropped, thin_tag}
 use Rattle.map_fold.specs.declared.item.Item.{Item}
+use Rattle.map_fold.specs.declared.choice.Choice.{Choice}
 
 -- the numbers rise, from low on and below high, and no item is dropped
 abbrev pub AreContents : ℕ → ℕ → List Item → Type 0
@@ -52,9 +53,33 @@ mark m chosen a = kept (map (marked_item chosen a) m)
 abbrev pub in_box : Bounds → Item → Bool
 in_box c i = holds c i.point
 
--- chosen without a box
+-- chosen by nothing
 abbrev pub everything : Item → Bool
 everything i = true
+
+-- the number is below the bound, where there is one
+abbrev pub is_above : Option ℕ → ℕ → Bool
+is_above None n = true
+is_above (Some bound) n = nat_lt n bound
+
+-- the place is in the box, where there is one
+abbrev pub is_inside : Option Bounds → Place → Bool
+is_inside None p = true
+is_inside (Some c) p = holds c p
+
+-- chosen: in the choice's box, where there is one, and of a number below its bound, where there is one
+abbrev pub chosen_by : Choice → Item → Bool
+chosen_by c i = is_above c.below i.number && is_inside c.within i.point
+
+-- the choice of all, that of a box, and that of a bound
+abbrev pub all_items : Choice
+all_items = record { within = None; below = None }
+
+abbrev pub inside_box : Bounds → Choice
+inside_box c = record { within = Some c; below = None }
+
+abbrev pub below_number : ℕ → Choice
+below_number n = record { within = None; below = Some n }
 
 abbrev pub live_items : List Item → List Item
 live_items m = filter (λ i. is_live i.label) m

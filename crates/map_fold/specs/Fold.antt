@@ -5,8 +5,8 @@ use Rattle.node_labels.specs.declared.tag.Tag.{Tag}
 use Rattle.node_labels.specs.Labels.{delete_tag, suspend_tag, restore_tag}
 use Rattle.map_fold.specs.declared.item.Item.{Item}
 use Rattle.map_fold.specs.declared.update.Update.{Update}
-use Rattle.map_fold.specs.declared.update.Update.TheVariants.{Add, Thin, Delete, Suspend, Restore}
-use Rattle.map_fold.specs.Contents.{put, mark, thin, in_box}
+use Rattle.map_fold.specs.declared.update.Update.TheVariants.{Add, Thin, Delete, Suspend, Restore, Expire}
+use Rattle.map_fold.specs.Contents.{put, mark, thin, in_box, chosen_by, below_number}
 
 -- what is held, and how many points were submitted
 pub record MapAt : Type 0 where
@@ -38,6 +38,7 @@ step voxel (Thin ps) m = thin_points voxel ps m
 step voxel (Delete cs) m = mark_boxes delete_tag cs m
 step voxel (Suspend cs) m = mark_boxes suspend_tag cs m
 step voxel (Restore cs) m = mark_boxes restore_tag cs m
+step voxel (Expire n) m = record m { items = mark m.items (chosen_by (below_number n)) delete_tag }
 
 -- updates in order
 abbrev pub fold_from : ℕ → List Update → MapAt → MapAt
@@ -54,3 +55,4 @@ points_in (Thin ps) = length ps
 points_in (Delete cs) = 0
 points_in (Suspend cs) = 0
 points_in (Restore cs) = 0
+points_in (Expire n) = 0

@@ -5,3 +5,6 @@ pub mod Fold
 pub mod Ops
 pub mod Nearest
 pub mod Thinned
+pub mod Neighbours
+pub mod Clusters
+pub mod Rivals

@@ -4,7 +4,7 @@ ghost use Rattle.std.specs.List.{insert};
 ghost use Rattle.map_fold.specs.Answers.{put_hit, is_nearer};
 ghost use Rattle.map_fold.specs.Nearest.{AreRanked};
 
-use crate::NoMemory;
+use crate::{NoMemory, Sequence};
 use point_geom::Point;
 use smallvec::SmallVec;
 use std::alloc::Global;
@@ -26,6 +26,9 @@ pub struct Hits {
     // Each hit came by `put`, so they are in order.
     ranked: bool,
 }
+
+/// The hits of each of several searches, in their order.
+pub type HitLists = Sequence<Hits>;
 
 impl Model for Hits {
     ghost use Rattle.std.specs.Prelude.{List, ◌≡◌, ◌≤◌, true};
@@ -158,5 +161,10 @@ fn put_before_last(hits: &mut [Hit], at: usize, hit: Hit)
 fn is_nearer(a: &Hit, b: &Hit) -> bool
     ensures { result ≡ is_nearer a.now b.now }
 {
-    a.dist2 < b.dist2 || a.dist2 == b.dist2 && (a.point, a.number) < (b.point, b.number)
+    a.dist2 < b.dist2
+        || a.dist2 == b.dist2
+            && a.point
+                .cmp_place(&b.point)
+                .then(a.number.cmp(&b.number))
+                .is_lt()
 }

@@ -9,9 +9,9 @@ use point_geom::{Cuboid, Point, centre_dist2};
 /// What a map holds under a number.
 #[derive(Clone, Copy, Debug, PartialEq, Eq)]
 pub struct Item {
+    pub point: Point,
     /// Its place among all points that were submitted, from 0.
     pub number: u32,
-    pub point: Point,
     pub label: Label,
 }
 
@@ -28,13 +28,12 @@ impl Item {
     pub fn comes_before(&self, other: &Item, cuboid: &Cuboid) -> bool
         ensures { result ≡ comes_before cuboid.now self.now other.now }
     {
-        let one = (centre_dist2(&self.point, cuboid), self.point, self.number);
-        let two = (
-            centre_dist2(&other.point, cuboid),
-            other.point,
-            other.number,
-        );
-        one < two
+        let one = centre_dist2(&self.point, cuboid);
+        let two = centre_dist2(&other.point, cuboid);
+        let place = self.point.cmp_place(&other.point);
+        one.cmp(&two)
+            .then(place.then(self.number.cmp(&other.number)))
+            .is_lt()
     }
 }
 

@@ -1,7 +1,9 @@
 //! The plain map: what updates make of a map, and what queries answer.
 #![tactic(auto)]
 
+mod choice;
 mod entry;
+mod group;
 mod hits;
 mod item;
 mod memory;
@@ -15,14 +17,16 @@ mod tests;
 mod thin;
 mod update;
 
+pub use choice::Choice;
 pub use entry::Entry;
-pub use hits::{Hit, Hits};
+pub use group::{Group, Groups};
+pub use hits::{Hit, HitLists, Hits};
 pub use item::{Item, Items};
 pub use memory::NoMemory;
 pub use node_labels::{Counts, Label, Tag};
 pub use op::{Op, Ops};
 pub use plain_map::PlainMap;
-pub use reply::{BoxReply, NearReply};
+pub use reply::{BoxReply, ClusterReply, NearReply, NearsReply};
 pub use sequence::Sequence;
 pub use settings::Settings;
 pub use update::{Cuboids, Points, Update};

@@ -1,12 +1,12 @@
 //! Single operations.
-use crate::{Sequence, Tag};
-use point_geom::{Cuboid, Point};
+use crate::{Choice, Sequence, Tag};
+use point_geom::Point;
 
 /// One operation on what a map holds.
 #[derive(Clone, Copy, Debug, PartialEq, Eq)]
 pub enum Op {
-    /// Does the action to the items in the box, or to all where no box is given.
-    Mark { within: Option<Cuboid>, tag: Tag },
+    /// Does the action to the items that the choice chooses.
+    Mark { choice: Choice, tag: Tag },
     /// Holds the point, live, under this number.
     Put { number: u32, point: Point },
 }

@@ -1,17 +1,18 @@
 //! The plain map, a list of items.
-ghost use Rattle.std.specs.Prelude.{◌≡◌, ◌+◌, ◌≤◌, [], ◌∷◌, map, IfOk, IsOk};
+ghost use Rattle.std.specs.Prelude.{◌≡◌, ◌+◌, ◌≤◌, ◌&&◌, [], ◌∷◌, filter, length, map, IfOk, IsOk};
 ghost use Rattle.std.specs.Option.{ForSome};
 ghost use Rattle.point_geom.specs.Place.{Place};
-ghost use Rattle.map_fold.specs.Contents.{AreContents, in_box, mark, marked_item};
+ghost use Rattle.node_labels.specs.Labels.{is_live};
+ghost use Rattle.map_fold.specs.Contents.{AreContents, chosen_by, in_box, mark, marked_item};
 ghost use Rattle.map_fold.specs.Fold.{MapAt, mark_boxes, no_points, step, points_in, thin_points};
-ghost use Rattle.map_fold.specs.Answers.{inside, nearest, is_within, totals, live_count, suspended_count};
+ghost use Rattle.map_fold.specs.Answers.{count, inside, nearest, is_within, totals, live_count, suspended_count};
 ghost use Rattle.map_fold.specs.Nearest.{AreNearest};
 ghost use Rattle.map_fold.specs.Thinned.{IsThinned};
 ghost use Rattle.map_fold.specs.declared.update.Update.TheVariants as Update;
 
 use crate::thin::thin_one;
 use crate::{
-    Counts, Cuboids, Hit, Hits, Item, Items, Label, NoMemory, Points, Settings, Tag, Update,
+    Choice, Counts, Cuboids, Hit, Hits, Item, Items, Label, NoMemory, Points, Settings, Tag, Update,
 };
 use point_geom::{Cuboid, Point, dist2};
 use std::alloc::Global;
@@ -81,6 +82,7 @@ impl PlainMap {
             Update::Delete(boxes) => Ok(self.marked(boxes, Tag::DELETE)),
             Update::Suspend(boxes) => Ok(self.marked(boxes, Tag::SUSPEND)),
             Update::Restore(boxes) => Ok(self.marked(boxes, Tag::RESTORE)),
+            Update::Expire(number) => Ok(self.expired(*number)),
         }
     }
 
@@ -126,8 +128,16 @@ impl PlainMap {
     {
         let PlainMap { mut items, next } = self;
         for cuboid in boxes.as_slice() {
-            mark_items(&mut items, cuboid, tag);
+            mark_items(&mut items, &Choice::within(cuboid), tag);
         }
+        PlainMap { items, next }
+    }
+
+    fn expired(self, number: u32) -> PlainMap
+        ensures { result ≡ step 0 (Update.Expire number) self }
+    {
+        let PlainMap { mut items, next } = self;
+        mark_items(&mut items, &Choice::below(number), Tag::DELETE);
         PlainMap { items, next }
     }
 
@@ -142,7 +152,7 @@ impl PlainMap {
     ) -> Result<Hits, NoMemory>
         requires k_from { 1 ≤ k }
         requires k_to { k ≤ 256 }
-        requires within_to { ForSome within (λ r. r ≤ 4000000000) }
+        requires within_to { ForSome within (λ r. r ≤ 4398046511104) }
         ensures found { IfOk result (λ hits. hits ≡ nearest self.now.items k q.now within) }
 
         // What that list is, said without the way it is made.
@@ -160,28 +170,43 @@ impl PlainMap {
     {
         inside_of(alloc, self.items.as_slice(), c, most as usize)
     }
-}
 
-// Does the action to the items in the box, and lets go of what it drops.
-pub(crate) fn mark_items(items: &mut Vec<Item>, cuboid: &Cuboid, tag: Tag)
-    ensures { items.new.items ≡ mark items.old.items (in_box cuboid.now) tag }
-{
-    relabel(items, cuboid, tag);
-    items.retain(|i| i.label != Label::Dropped);
-}
+    /// How many live points are in the cuboid. Costs a step an item, and no memory.
+    pub fn count_in(&self, c: &Cuboid) -> u32
+        ensures { result ≡ count self.now.items c.now }
+    {
+        inside_count(self.items.as_slice(), self.next, c)
+    }
 
-fn relabel(items: &mut Vec<Item>, cuboid: &Cuboid, tag: Tag)
-    ensures { items.new.items ≡ map (marked_item (in_box cuboid.now) tag) items.old.items }
-{
-    for i in 0..items.len() {
-        items[i] = relabelled(&items[i], cuboid, tag);
+    /// All items, by number.
+    pub fn items(&self, alloc: Global) -> Result<Items, NoMemory>
+        ensures { IfOk result (λ items. items ≡ self.now.items) }
+    {
+        let items = Vec::from_slice(alloc, self.items.as_slice())?;
+        Ok(Items::from(items))
     }
 }
 
-fn relabelled(item: &Item, cuboid: &Cuboid, tag: Tag) -> Item
-    ensures { result ≡ marked_item (in_box cuboid.now) tag item.now }
+// Does the action to the chosen items, and lets go of what it drops.
+pub(crate) fn mark_items(items: &mut Vec<Item>, choice: &Choice, tag: Tag)
+    ensures { items.new.items ≡ mark items.old.items (chosen_by choice.now) tag }
 {
-    if cuboid.holds(&item.point) {
+    relabel(items, choice, tag);
+    items.retain(|i| i.label != Label::Dropped);
+}
+
+fn relabel(items: &mut Vec<Item>, choice: &Choice, tag: Tag)
+    ensures { items.new.items ≡ map (marked_item (chosen_by choice.now) tag) items.old.items }
+{
+    for i in 0..items.len() {
+        items[i] = relabelled(&items[i], choice, tag);
+    }
+}
+
+fn relabelled(item: &Item, choice: &Choice, tag: Tag) -> Item
+    ensures { result ≡ marked_item (chosen_by choice.now) tag item.now }
+{
+    if choice.chooses(item) {
         Item {
             label: tag.apply(item.label),
             ..*item
@@ -205,6 +230,13 @@ fn suspended_of(items: &[Item], next: u32) -> u32
     items.iter().filter(|i| i.label == Label::Suspended).count() as u32
 }
 
+fn inside_count(items: &[Item], next: u32, c: &Cuboid) -> u32
+    requires { AreContents 0 next items.now }
+    ensures { result ≡ length (filter (λ i. is_live i.label && in_box c.now i) items.now) }
+{
+    items.iter().filter(|i| i.is_live_in(c)).count() as u32
+}
+
 fn nearest_of(
     alloc: Global,
     items: &[Item],
@@ -213,7 +245,7 @@ fn nearest_of(
     within: Option<u64>,
 ) -> Result<Hits, NoMemory>
     requires k_from { 1 ≤ k }
-    requires within_to { ForSome within (λ r. r ≤ 4000000000) }
+    requires within_to { ForSome within (λ r. r ≤ 4398046511104) }
     ensures found { IfOk result (λ hits. hits ≡ nearest items.now k q.now within) }
     ensures inline { k ≤ 16 → IsOk result }
 {
@@ -237,7 +269,7 @@ fn nearest_of(
 }
 
 fn is_within(within: Option<u64>, hit: &Hit) -> bool
-    requires { ForSome within (λ r. r ≤ 4000000000) }
+    requires { ForSome within (λ r. r ≤ 4398046511104) }
     ensures { result ≡ is_within within hit.now }
 {
     match within {

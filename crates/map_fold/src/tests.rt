@@ -2,11 +2,12 @@
 mod thinning;
 
 use crate::{
-    Cuboids, Hit, Hits, Item, Items, Label, NoMemory, Op, Ops, PlainMap, Points, Settings, Tag,
-    Update,
+    Choice, Counts, Cuboids, Hit, Hits, Item, Items, Label, NoMemory, Op, Ops, PlainMap, Points,
+    Settings, Tag, Update,
 };
 use point_geom::{Corner, Cuboid, Point};
 use std::alloc::Global;
+use std::process::Abort;
 use std::test::Fail;
 
 #[test]
@@ -135,30 +136,63 @@ fn twenty_equal_points_are_found_by_number(rt: HostRuntime) -> Result<(), Fail> 
 #[test]
 fn what_is_deleted_is_gone_and_what_is_suspended_comes_back(rt: HostRuntime) -> Result<(), Fail> {
     let alloc = rt.alloc();
-    let settings = Settings::new(200, 16);
+    let map = row_of_three(&rt, alloc)?;
+    let first = Cuboid::unit(&Point::new(1, 0, 0)?);
+    let last = Cuboid::unit(&Point::new(3, 0, 0)?);
+    let map = after(&rt, map, Update::Delete(boxes(alloc, first)?), (2, 0))?;
+    let map = after(&rt, map, Update::Restore(boxes(alloc, all()?)?), (2, 0))?;
+    let map = after(&rt, map, Update::Suspend(boxes(alloc, all()?)?), (0, 2))?;
+    let map = after(&rt, map, Update::Restore(boxes(alloc, last)?), (1, 1))?;
+    assert_eq!(rt; map.items(alloc)?.len(), 2);
+    Ok(())
+}
+
+#[test]
+fn what_expires_is_gone_and_what_is_left_is_counted(rt: HostRuntime) -> Result<(), Fail> {
+    let alloc = rt.alloc();
+    let mut map = row_of_three(&rt, alloc)?;
+    for (bound, left) in [(0, 3), (2, 1), (4_194_304, 0)] {
+        map = after(&rt, map, Update::Expire(bound), (left, 0))?;
+        assert_eq!(rt; map.count_in(&all()?), left, "{bound}");
+    }
+    Ok(())
+}
+
+// The numbers 0, 1 and 2, live in a row.
+fn row_of_three(rt: &impl Abort, alloc: Global) -> Result<PlainMap, Fail> {
     let mut points = Points::new(alloc);
     for x in [1, 2, 3] {
         points.push(Point::new(x, 0, 0)?)?;
     }
     let add = Update::Add(points);
     assert!(rt; add.points() <= 3);
-    let mut map = PlainMap::new(alloc).apply(&settings, &add)?;
-    let all = Cuboid::new(Corner { x: 0, y: 0, z: 0 }, Corner { x: 9, y: 9, z: 9 })?;
-    let first = Cuboid::unit(&Point::new(1, 0, 0)?);
-    let last = Cuboid::unit(&Point::new(3, 0, 0)?);
-    for (update, live, suspended) in [
-        (Update::Delete(boxes(alloc, first)?), 2, 0),
-        (Update::Restore(boxes(alloc, all)?), 2, 0),
-        (Update::Suspend(boxes(alloc, all)?), 0, 2),
-        (Update::Restore(boxes(alloc, last)?), 1, 1),
-    ] {
-        assert!(rt; map.next() == 3);
-        assert!(rt; update.points() == 0);
-        map = map.apply(&settings, &update)?;
-        assert_eq!(rt; map.counts().live, live);
-        assert_eq!(rt; map.counts().suspended, suspended);
-    }
-    Ok(())
+    Ok(PlainMap::new(alloc).apply(&Settings::new(200, 16), &add)?)
+}
+
+// The map of three points after an update that submits none, and has then so many that are live and suspended.
+fn after(
+    rt: &impl Abort,
+    map: PlainMap,
+    update: Update,
+    counts: (u32, u32),
+) -> Result<PlainMap, Fail> {
+    assert!(rt; map.next() == 3);
+    assert!(rt; update.points() == 0);
+    let map = map.apply(&Settings::new(200, 16), &update)?;
+    let Counts {
+        live,
+        suspended,
+        ..
+    } = map.counts();
+    assert_eq!(rt; (live, suspended), counts);
+    Ok(map)
+}
+
+// A box round the row.
+fn all() -> Result<Cuboid, Fail> {
+    let lo = Corner { x: 0, y: 0, z: 0 };
+    let hi = Corner { x: 9, y: 9, z: 9 };
+    Ok(Cuboid::new(lo, hi)?)
 }
 
 fn boxes(alloc: Global, cuboid: Cuboid) -> Result<Cuboids, NoMemory> {
@@ -195,7 +229,7 @@ fn lists_hold_what_was_pushed(rt: HostRuntime) -> Result<(), Fail> {
     let mut ops = Ops::new(alloc);
     ops.push(put)?;
     ops.push(Op::Mark {
-        within: None,
+        choice: Choice::ALL,
         tag: Tag::SUSPEND,
     })?;
     assert_eq!(rt; ops.len(), 2);
@@ -205,8 +239,8 @@ fn lists_hold_what_was_pushed(rt: HostRuntime) -> Result<(), Fail> {
                 assert_eq!(rt; *number, 7);
                 assert!(rt; point.z() == 3);
             }
-            Op::Mark { within, tag } => {
-                assert!(rt; within.is_none());
+            Op::Mark { choice, tag } => {
+                assert!(rt; *choice == Choice::ALL);
                 assert!(rt; *tag == Tag::SUSPEND);
             }
         }

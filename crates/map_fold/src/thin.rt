@@ -2,13 +2,23 @@
 ghost use Rattle.std.specs.Prelude.{◌≡◌, ◌≤◌, List, ◌∷◌, ◌++◌, drop, filter, length, take, OnOk};
 ghost use Rattle.point_geom.specs.Place.{Place};
 ghost use Rattle.map_fold.specs.declared.item.Item.{Item};
-ghost use Rattle.map_fold.specs.Contents.{centre_cmp, in_box, least, live_at, live_items, put, thin};
+ghost use Rattle.map_fold.specs.Answers.{inside_all};
+ghost use Rattle.map_fold.specs.Rivals.{AreRivals};
+ghost use Rattle.map_fold.specs.Contents.{AreContents, centre_cmp, in_box, least, live_at, live_items, put, thin};
 
 use crate::plain_map::mark_items;
-use crate::{Item, Label, NoMemory, Tag};
+use crate::{Choice, Item, Label, NoMemory, Tag};
 use point_geom::{Cuboid, Point, voxel};
 
-// Keeps, of the live items in the point's voxel and the point under this number, the one nearest to the centre.
+// What is live in a voxel.
+enum Rivals {
+    None,
+    One(Item),
+    More,
+}
+
+// Keeps, of the live items in the point's voxel and the point under this number, the one nearest to the centre. Where it is
+// alone there, or one that is there stays, no item is moved.
 pub(crate) fn thin_one(
     items: &mut Vec<Item>,
     edge: u32,
@@ -17,12 +27,45 @@ pub(crate) fn thin_one(
 ) -> Result<(), NoMemory>
     requires edge_from { 1 ≤ edge }
     requires edge_to { edge ≤ 1000000 }
+    requires held { AreContents 0 number items.old.items }
     ensures { OnOk result (items.new.items ≡ thin edge items.old.items number point.now) }
 {
     let cube = voxel(point, edge);
+    let new = Item {
+        number,
+        point: *point,
+        label: Label::Live,
+    };
+    match rivals_in(items.as_slice(), &cube) {
+        Rivals::None => {
+            items.push(new)?;
+            return Ok(());
+        }
+        Rivals::One(rival) => {
+            if !new.comes_before(&rival, &cube) {
+                return Ok(());
+            }
+        }
+        Rivals::More => {}
+    }
     let winner = winner(items.as_slice(), &cube, number, point);
-    mark_items(items, &cube, Tag::THIN);
+    mark_items(items, &Choice::within(&cube), Tag::THIN);
     put_item(items, winner.number, winner.point)
+}
+
+fn rivals_in(items: &[Item], cube: &Cuboid) -> Rivals
+    ensures { AreRivals (inside_all items.now cube.now) result }
+{
+    let mut found = Rivals::None;
+    for item in items {
+        if item.is_live_in(cube) {
+            found = match found {
+                Rivals::None => Rivals::One(*item),
+                Rivals::One(_) | Rivals::More => return Rivals::More,
+            };
+        }
+    }
+    found
 }
 
 fn winner(items: &[Item], cube: &Cuboid, number: u32, point: &Point) -> Item

@@ -25,6 +25,8 @@ pub enum Update {
     Suspend(Cuboids),
     /// What is suspended in each box in turn is live again.
     Restore(Cuboids),
+    /// What is live or suspended under a number below this one is dropped for good. Points that come later aren't touched.
+    Expire(u32),
 }
 
 impl Update {
@@ -36,7 +38,7 @@ impl Update {
     {
         match self {
             Update::Add(points) | Update::Thin(points) => points.len(),
-            Update::Delete(_) | Update::Suspend(_) | Update::Restore(_) => 0,
+            Update::Delete(_) | Update::Suspend(_) | Update::Restore(_) | Update::Expire(_) => 0,
         }
     }
 
@@ -50,6 +52,7 @@ impl Update {
             Update::Delete(boxes) => Ok(Update::Delete(boxes.copy(alloc)?)),
             Update::Suspend(boxes) => Ok(Update::Suspend(boxes.copy(alloc)?)),
             Update::Restore(boxes) => Ok(Update::Restore(boxes.copy(alloc)?)),
+            Update::Expire(number) => Ok(Update::Expire(*number)),
         }
     }
 }

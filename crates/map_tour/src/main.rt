@@ -7,7 +7,7 @@ ghost use Rattle.point_geom.specs.Place.{IsPlace};
 use kd_search::nearest;
 use kd_tree::{Steps, Tree};
 use kd_update::{marked, put};
-use map_fold::{Hits, Item, Label, NoMemory, Tag};
+use map_fold::{Choice, Hits, Item, Label, NoMemory, Tag};
 use point_geom::{Corner, Cuboid, Point};
 use std::alloc::{AllocError, Global};
 use std::io;
@@ -32,7 +32,7 @@ fn tour<L: Ledger>(alloc: Global, blank: Blank) -> Result<(Hits, Hits), NoMemory
     let more = Point::new(-40, 0, 905).unwrap();
     let lo = Corner { x: 0, y: 0, z: 0 };
     let hi = Corner { x: 9, y: 9, z: 9 };
-    let aside = Cuboid::new(lo, hi).unwrap();
+    let aside = Choice::within(&Cuboid::new(lo, hi).unwrap());
 
     // A scan, in millimetres, each point under its number.
     let scan = [seen(0, 1, 2, 3), seen(1, -40, 0, 900), seen(2, 2_500, 0, 0)];
@@ -50,7 +50,7 @@ fn tour<L: Ledger>(alloc: Global, blank: Blank) -> Result<(Hits, Hits), NoMemory
 
 // A live point under this number.
 fn seen(number: u32, x: i64, y: i64, z: i64) -> Item
-    requires { IsPlace (record { x = x; y = y; z = z }) }
+    requires { IsPlace (record { x = x; y = y; z = z; intensity = 0 }) }
     ensures number { result.number ≡ number }
     ensures live { result.label ≡ Label.Live }
 {

@@ -1,28 +1,27 @@
 -- What is known where all callers have met: that none of them was stopped, and at the end that the replies are legal.
-use Rattle.std.proofs.Common.{◌≡◌, ℕ, zero, suc, ◌+◌, ◌<◌, ◌≤◌, ◌⊎◌, ⊎_elim, ◌==◌, Bool, true, false, List, [], ◌∷◌, ◌++◌, length, Some, slice_get, refl, ap, sym, ◌∙◌, subst, arith}
-use Rattle.std.proofs.lemmas.Bool.Decides.{nat_tests}
+use Rattle.std.proofs.Common.{◌≡◌, ℕ, zero, suc, ◌+◌, ◌<◌, ◌≤◌, ⊎_elim, ◌==◌, true, List, [], ◌∷◌, ◌++◌, length, Some, slice_get, refl, ap, sym, ◌∙◌, subst, arith}
 use Rattle.std.proofs.lemmas.List.{length-map, map-append}
 use mathlib.Core.List.{IsPrefix}
 use Rattle.map_fold.specs.declared.entry.Entry.{Entry}
 use Rattle.map_fold.specs.declared.update.Update.{Update}
 use Rattle.map_fold.specs.Fold.{fold, points_in}
 use Rattle.rebuild_core.specs.History.{updates}
-use Rattle.published_map.specs.Marks.{Seen, keep_if, times, AllOf, callers_of, AllMet, AllGrown, AllMetNow}
+use Rattle.published_map.specs.Marks.{Seen, times, AllOf, callers_of, AllMet, AllGrown, AllMetNow}
 use Rattle.scan_log.specs.declared.command.Command.{Command}
 use Rattle.scan_log.specs.declared.command.Command.TheVariants.{Change, Near, Inside, Sync}
 use Rattle.scan_log.specs.declared.reply.Reply.{Reply}
 use Rattle.scan_log.specs.Scripts.{ScriptAt, submitted, points_of}
 use Rattle.scan_log.specs.Legal.{AreLegalReplies}
-use Rattle.scan_log.specs.Transcript.{updates_in, totals_reply, mark_of}
-use Rattle.mapper_core.specs.Told.{is_by, IsReply, raised, Told}
-use Rattle.mapper_core.specs.Mine.{updates_by, IsOver, Ran, Stopped, Turned}
+use Rattle.scan_log.specs.Transcript.{totals_reply, mark_of}
+use Rattle.mapper_core.specs.Told.{is_by, raised, Told}
+use Rattle.mapper_core.specs.Mine.{updates_by, Ran, Stopped, Turned}
 use Rattle.mapper_core.specs.Meetings.{AllDone, Standing, StandingAtEnd}
 use Rattle.mapper_core.specs.Ended.{AllReplied, HaveEnded}
 use Rattle.mapper_core.proofs.Whose.{anyone, anyone_concerned}
 use Rattle.mapper_core.proofs.LegalMarks.{told_is_legal}
 use Rattle.mapper_core.proofs.OneCaller.{updates_own}
 use Rattle.mapper_core.proofs.CameBack.{AllBack, back_rest}
-use Rattle.mapper_core.proofs.Meeting.{updates_append, grown_callers, standing_distinct}
+use Rattle.mapper_core.proofs.Meeting.{updates_append, standing_distinct}
 use Rattle.mapper_core.proofs.Weights.{weigh, weigh_append, weigh_one, weigh_points, entries_whole, commands_of, commands_most, commands_whole, AllChangesOf, weigh_all, all_ones, all_points, updates_few, made, made_met, made_done}
 
 -- there are no more commands and points than a script may have

@@ -1,7 +1,6 @@
 -- Where callers were told so, and the history has the script's updates alone, the marks are legal, and the replies those under them.
-use Rattle.std.proofs.Common.{◌≡◌, ℕ, zero, suc, ◌+◌, ◌<◌, ◌≤◌, ◌≢◌, ◌==◌, Bool, true, false, List, [], ◌∷◌, ◌++◌, length, take, drop, drop_of_length-le, map, Some, slice_get, refl, ap, sym, ◌∙◌, subst, arith, nat_lt, add-one, if◌then◌else◌}
+use Rattle.std.proofs.Common.{◌≡◌, ℕ, ◌+◌, ◌<◌, ◌≤◌, ◌≢◌, Bool, true, false, List, [], ◌∷◌, ◌++◌, length, drop, drop_of_length-le, map, Some, slice_get, refl, ap, sym, ◌∙◌, subst, arith, nat_lt, add-one}
 use Rattle.std.proofs.lemmas.Bool.Decides.{nat_tests}
-use Rattle.std.proofs.lemmas.List.{length-map}
 use Rattle.std.specs.List.{AllByRecursion}
 use Rattle.map_fold.specs.declared.entry.Entry.{Entry}
 use Rattle.map_fold.specs.declared.update.Update.{Update}
@@ -10,8 +9,8 @@ use Rattle.scan_log.specs.declared.command.Command.{Command}
 use Rattle.scan_log.specs.declared.command.Command.TheVariants.{Change, Near, Inside, Sync}
 use Rattle.scan_log.specs.declared.reply.Reply.{Reply}
 use Rattle.scan_log.specs.Scripts.{ScriptAt}
-use Rattle.scan_log.specs.Legal.{counted, Concerns, IsLater, AllFollow, AreInOrder, IsLegal, AreLegalReplies}
-use Rattle.scan_log.specs.Transcript.{updates_in, put_update, marked_updates, reply_to, totals_reply, replies_from, replies, mark_of}
+use Rattle.scan_log.specs.Legal.{counted, Concerns, AllFollow, AreInOrder, IsLegal, AreLegalReplies}
+use Rattle.scan_log.specs.Transcript.{updates_in, put_update, marked_updates, totals_reply, replies_from, replies, mark_of}
 use Rattle.mapper_core.specs.Told.{IsPlaced, IsReply, Answers, raised, Told}
 use Rattle.mapper_core.proofs.Beginnings.{get_below, drop_get}
 use Rattle.mapper_core.proofs.Whose.{anyone, anyone_concerned, concerns_for, may_follow, later_less, later_le, raised_own, raises}

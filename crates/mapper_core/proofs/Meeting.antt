@@ -1,23 +1,22 @@
 -- All callers meet, and what they were told stands in one history.
-use Rattle.std.proofs.Common.{◌≡◌, ℕ, zero, suc, ◌+◌, ◌<◌, ◌≤◌, ◌==◌, Bool, true, false, List, [], ◌∷◌, ◌++◌, length, take, drop, drop_of_length-le, Some, slice_get, refl, ap, sym, ◌∙◌, subst, arith, append_assoc, append-nil, length-append}
+use Rattle.std.proofs.Common.{◌≡◌, ℕ, zero, suc, ◌+◌, ◌<◌, ◌≤◌, ◌==◌, Bool, true, false, List, [], ◌∷◌, ◌++◌, length, take, drop, drop_of_length-le, Some, slice_get, refl, ap, sym, ◌∙◌, subst, arith, append-nil}
 use Rattle.std.proofs.Math.Seq.{take-length}
 use Rattle.std.proofs.lemmas.Bool.Decides.{nat_tests}
 use Rattle.std.proofs.lemmas.List.{take-map}
 use mathlib.Core.List.{IsPrefix}
 use Rattle.map_fold.specs.declared.entry.Entry.{Entry}
-use Rattle.map_fold.specs.declared.update.Update.{Update}
 use Rattle.rebuild_core.specs.History.{updates}
-use Rattle.published_map.specs.Marks.{Seen, Grown, keep_if, times, IsDistinct, AllOf, callers_of, AllMet, AllGrown, AllMetNow, newcomer_of}
+use Rattle.published_map.specs.Marks.{Seen, keep_if, times, IsDistinct, AllOf, callers_of, AllMet, AllGrown, AllMetNow, newcomer_of}
 use Rattle.scan_log.specs.declared.command.Command.{Command}
 use Rattle.scan_log.specs.declared.command.Command.TheVariants.{Change, Near, Inside, Sync}
 use Rattle.scan_log.specs.declared.reply.Reply.{Reply}
-use Rattle.scan_log.specs.Legal.{counted, Concerns, IsLater}
+use Rattle.scan_log.specs.Legal.{counted}
 use Rattle.scan_log.specs.Transcript.{mark_of, totals_reply}
-use Rattle.mapper_core.specs.Told.{is_by, is_for, IsPlaced, IsReply, Answers, raised, Told}
+use Rattle.mapper_core.specs.Told.{is_by, is_for, IsPlaced, IsReply, raised, Told}
 use Rattle.mapper_core.specs.Mine.{updates_by, Mine, Ran}
-use Rattle.mapper_core.specs.Meetings.{AllMine, AllBelow, MergedFrom, MergedTo, AllDone, Standing, IsTotal}
+use Rattle.mapper_core.specs.Meetings.{AllMine, MergedFrom, MergedTo, AllDone, Standing, IsTotal}
 use Rattle.mapper_core.proofs.Beginnings.{prefix_trans, prefix_length, get_prefix, take_early}
-use Rattle.mapper_core.proofs.Whose.{later_less, raised_own, raised_other, reply_take}
+use Rattle.mapper_core.proofs.Whose.{later_less, reply_take}
 use Rattle.mapper_core.proofs.LegalMarks.{placed_below}
 use Rattle.mapper_core.proofs.OneCaller.{mine_other, mine_next, mine_skip}
 use Rattle.mapper_core.proofs.CameBack.{AllBack, back_rest, back_callers}

@@ -5,11 +5,10 @@ use Rattle.std.specs.List.{AllByRecursion}
 use Rattle.map_fold.specs.declared.entry.Entry.{Entry}
 use Rattle.scan_log.specs.declared.command.Command.{Command}
 use Rattle.scan_log.specs.declared.reply.Reply.{Reply}
-use Rattle.scan_log.specs.Legal.{Concerns}
 use Rattle.scan_log.specs.Transcript.{mark_of}
 use Rattle.mapper_core.specs.Told.{is_by, is_for, Answers, raised, Told}
 use Rattle.mapper_core.specs.Mine.{Mine}
-use Rattle.mapper_core.specs.Meetings.{IsBy, IsOfCallers, AllMine, AllBelow, AreReplies, HasReply, Takes, MergedFrom, MergedTo}
+use Rattle.mapper_core.specs.Meetings.{IsBy, IsOfCallers, AllMine, AllBelow, AreReplies, HasReply, Takes, MergedTo}
 use Rattle.mapper_core.proofs.OneCaller.{mine_next, mine_skip}
 use Rattle.mapper_core.proofs.Whose.{later_le, raised_own, raised_other, is_by_own, is_by_other, for_own, for_other, concerns_by}
 

@@ -1,5 +1,5 @@
 -- What a caller's thread shows of its pass.
-use Rattle.std.proofs.Common.{◌≡◌, ℕ, ◌+◌, ◌<◌, ◌≤◌, ◌==◌, Bool, true, false, List, [], ◌∷◌, ◌++◌, length, take, Option, Some, None, slice_get, inl, inr, refl, ap, sym, ◌∙◌, subst, arith, append_assoc, append-nil, length-append, MatchBool}
+use Rattle.std.proofs.Common.{◌≡◌, ℕ, ◌+◌, ◌==◌, Bool, true, false, List, [], ◌∷◌, ◌++◌, length, take, Option, Some, None, slice_get, inl, inr, refl, ap, sym, ◌∙◌, subst, arith, append_assoc, append-nil, length-append, MatchBool}
 use Rattle.std.proofs.Math.Seq.{take-length}
 use Rattle.std.proofs.lemmas.Bool.Decides.{nat_tests}
 use Rattle.std.proofs.lemmas.List.{length-map, take-map}
@@ -10,16 +10,15 @@ use Rattle.map_fold.specs.declared.update.Update.{Update}
 use Rattle.map_fold.specs.Answers.{nearest, inside, count}
 use Rattle.map_fold.specs.Fold.{fold}
 use Rattle.rebuild_core.specs.History.{updates, entry_by}
-use Rattle.rebuild_core.specs.declared.fault.StateFault.TheVariants.{TooManyUpdates, TooManyPoints}
 use Rattle.published_map.specs.Marks.{Seen, Grown, Added, keep_if}
-use Rattle.published_map.specs.Answers.{Updated, near_reply, box_reply}
+use Rattle.published_map.specs.Answers.{near_reply, box_reply}
 use Rattle.scan_log.specs.declared.command.Command.{Command}
 use Rattle.scan_log.specs.declared.command.Command.TheVariants.{Change, Near, Inside, Sync}
 use Rattle.scan_log.specs.declared.reply.Reply.{Reply}
 use Rattle.scan_log.specs.declared.reply.Reply.TheVariants as reply
 use Rattle.scan_log.specs.Transcript.{reply_to, mark_of}
 use Rattle.mapper_core.specs.Told.{is_by, Answers}
-use Rattle.mapper_core.specs.Mine.{updates_by, Mine, Answered, IsOver, Tried, Ran, RanTo, Stopped, Turned}
+use Rattle.mapper_core.specs.Mine.{updates_by, Mine, Answered, Tried, RanTo, Turned}
 use Rattle.mapper_core.proofs.Beginnings.{prefix_self, prefix_trans, prefix_length, take_prefix, get_prefix, get_last}
 use Rattle.mapper_core.proofs.Whose.{reply_take}
 

@@ -3,32 +3,34 @@ use Rattle.std.proofs.Common.{◌≡◌, ℕ, ◌*◌, ◌<◌, ◌≤◌, ℤ, 
 use lib.IntN.{negsuc}
 use Rattle.std.specs.Prelude.{◌-ℤ◌, ◌*ℤ◌, int_le}
 use Rattle.std.proofs.lemmas.Int.{ints}
-use Rattle.point_geom.specs.Place.{Place, Bounds, IsCoordinate, IsBelow}
+use Rattle.point_geom.specs.Place.{Bounds, IsUpright}
+use Rattle.point_geom.specs.declared.cuboid.Corner.{Corner}
 use Rattle.point_geom.specs.Refusals.{within, point_of, corner_within, corner_check, upright_check, cuboid_of}
 use Rattle.point_geom.specs.declared.axis.Axis.{Axis}
-use Rattle.scan_log.specs.Scripts.{IsBoxNumber, IsBoxCorner, IsCallerBox}
+use Rattle.scan_log.specs.Scripts.{IsLogCoordinate, IsBoxNumber, IsBoxCorner, IsCallerBox}
+use Rattle.scan_log.specs.declared.format.Format.TheVariants.{One}
 use Rattle.mapper_core.specs.Generated.{behind}
 
-coordinate_fits : (axis : Axis) (c : ℤ) → IsCoordinate c → within axis c ≡ Ok tt
+coordinate_fits : (axis : Axis) (c : ℤ) → IsLogCoordinate One c → within axis c ≡ Ok tt
 coordinate_fits axis c h =
-    let low : int_le (negsuc 999999999) c ≡ true = grind (arith, ints, h.0) in
-    let high : int_le c (pos 1000000000) ≡ true = grind (arith, ints, h.1) in
+    let low : int_le (negsuc 1099511627775) c ≡ true = grind (arith, ints, h.0) in
+    let high : int_le c (pos 1099511627776) ≡ true = grind (arith, ints, h.1) in
     rw (low, high) refl
 
 -- a point in its limits is not refused
-pub point_fits : (x y z : ℤ) → IsCoordinate x → IsCoordinate y → IsCoordinate z → point_of x y z ≡ Ok (record { x = x; y = y; z = z })
+pub point_fits : (x y z : ℤ) → IsLogCoordinate One x → IsLogCoordinate One y → IsLogCoordinate One z → point_of x y z ≡ Ok (record { x = x; y = y; z = z; intensity = 0 })
 point_fits x y z p q r = rw (coordinate_fits _ x p, coordinate_fits _ y q, coordinate_fits _ z r) refl
 
-number_fits : (axis : Axis) (c : ℤ) → IsBoxNumber c → corner_within axis c ≡ Ok tt
+number_fits : (axis : Axis) (c : ℤ) → IsBoxNumber One c → corner_within axis c ≡ Ok tt
 number_fits axis c h =
-    let low : int_le (negsuc 999999999) c ≡ true = grind (arith, ints, h.0) in
-    let high : int_le c (pos 1000000001) ≡ true = grind (arith, ints, h.1) in
+    let low : int_le (negsuc 1099511627775) c ≡ true = grind (arith, ints, h.0) in
+    let high : int_le c (pos 1099511627777) ≡ true = grind (arith, ints, h.1) in
     rw (low, high) refl
 
-corner_fits : (p : Place) → IsBoxCorner p → corner_check p ≡ Ok tt
+corner_fits : (p : Corner) → IsBoxCorner One p → corner_check p ≡ Ok tt
 corner_fits p h = rw (number_fits _ p.x h.0, number_fits _ p.y h.1, number_fits _ p.z h.2) refl
 
-upright_fits : (lo hi : Place) → IsBelow lo hi → upright_check lo hi ≡ Ok tt
+upright_fits : (lo hi : Corner) → IsUpright lo hi → upright_check lo hi ≡ Ok tt
 upright_fits lo hi h =
     let x : int_le lo.x hi.x ≡ true = grind (arith, ints, h.x) in
     let y : int_le lo.y hi.y ≡ true = grind (arith, ints, h.y) in
@@ -36,11 +38,11 @@ upright_fits lo hi h =
     rw (x, y, z) refl
 
 -- a box in its limits is not refused
-pub box_fits : (b : Bounds) → IsCallerBox b → cuboid_of b.lo b.hi ≡ Ok b
+pub box_fits : (b : Bounds) → IsCallerBox One b → cuboid_of b.lo b.hi ≡ Ok b
 box_fits b h = rw (corner_fits b.lo h.lo, corner_fits b.hi h.hi, upright_fits b.lo b.hi h.below) refl
 
 -- what lies behind is a box of a caller
-pub behind_good : (i : ℕ) → i < 200 → IsCallerBox (behind i)
+pub behind_good : (i : ℕ) → i < 200 → IsCallerBox One (behind i)
 behind_good i few = record {
   lo = ((grind (arith, ints, few), grind (arith, ints, few)), (omega arith, omega arith), (omega arith, omega arith));
   hi = ((grind (arith, ints, few), grind (arith, ints, few)), (omega arith, omega arith), (omega arith, omega arith));

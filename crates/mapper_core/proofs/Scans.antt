@@ -2,7 +2,10 @@
 use Rattle.std.proofs.Common.{◌≡◌, ℕ, zero, suc, ◌+◌, ◌*◌, ◌<◌, ◌≤◌, List, [], ◌∷◌, ◌++◌, length, refl, sym, ap, ap₂, ◌∙◌, arith, append_assoc, append-nil, length-append}
 use Rattle.std.proofs.lemmas.List.{take_at, drop_at}
 use Rattle.std.specs.List.{AllByRecursion}
-use Rattle.point_geom.specs.Place.{Place, IsPlace}
+use Rattle.point_geom.specs.Place.{Place}
+use Rattle.scan_log.specs.declared.format.Format.{Format}
+use Rattle.scan_log.specs.declared.format.Format.TheVariants.{One}
+use Rattle.scan_log.specs.Scripts.{IsScannedPlace}
 use Rattle.map_fold.specs.Sizes.{Sizes}
 use Rattle.scan_log.specs.declared.command.Command.{Command}
 use Rattle.scan_log.specs.Scripts.{ScriptAt, IsScript, IsCommand, points_of, submitted, with_command}
@@ -44,7 +47,7 @@ pub record HasSeen (i s left t : ℕ) (ps : List Place) : Type 0 where
   pub rest : ps ++ points_of_draws i (next_draws (3 * left) t) ≡ points_of_draws i (next_draws 6000 s)
   pub moved : after (3 * left) t ≡ after 6000 s
   pub many : length ps + left ≡ 2000
-  pub each : AllByRecursion IsPlace ps
+  pub each : AllByRecursion (IsScannedPlace One) ps
 
 pub seen_start : (i s : ℕ) → HasSeen i s 2000 s []
 seen_start i s = record { rest = refl; moved = refl; many = refl; each = tt }
@@ -62,16 +65,16 @@ points_push [] c = omega arith
 points_push (d ∷ cs) c = omega (arith, points_push cs c)
 
 -- a script with one more command is in its limits, where there was room
-pub script_push : (s : ScriptAt) (c : Command) → IsScript s → IsCommand c → length s.commands < 65536 → points_of s.commands + submitted c ≤ 4194304
+pub script_push : (s : ScriptAt) (c : Command) → IsScript s → IsCommand s.format c → length s.commands < 65536 → points_of s.commands + submitted c ≤ 4194304
     → IsScript (with_command s c)
 script_push s c is good few room = record {
   sizes = is.sizes;
-  each = each_push IsCommand s.commands c is.each good;
+  each = each_push (IsCommand s.format) s.commands c is.each good;
   few = omega (arith, few, length_push s.commands c);
   room = omega (arith, room, points_push s.commands c);
 }
 
-pub seen_next : (i s left k t u : ℕ) (ps : List Place) (p : Place) → HasSeen i s left t ps → left ≡ suc k → IsPlace p
+pub seen_next : (i s left k t u : ℕ) (ps : List Place) (p : Place) → HasSeen i s left t ps → left ≡ suc k → IsScannedPlace One p
     → p ≡ point i (drawn (next t)) (drawn (next (next t))) (drawn (next (next (next t)))) → u ≡ next (next (next t)) → HasSeen i s k u (ps ++ p ∷ [])
 seen_next i s left k t u ps p seen one place made moved =
     let all : ps ++ points_of_draws i (next_draws (3 * suc k) t) ≡ points_of_draws i (next_draws 6000 s) = rw one at seen.rest in
@@ -80,7 +83,7 @@ seen_next i s left k t u ps p seen one place made moved =
       rest = append_assoc ps (p ∷ []) (points_of_draws i (next_draws (3 * k) u)) ∙ rw (made, moved, ← points_next i k t) all;
       moved = rw (moved, ← after_next k t) on;
       many = omega (arith, seen.many, one, length_push ps p);
-      each = each_push IsPlace ps p seen.each place;
+      each = each_push (IsScannedPlace One) ps p seen.each place;
     }
 
 pub seen_all : (i s left t : ℕ) (ps : List Place) → HasSeen i s left t ps → left ≡ 0 → (ps ≡ points_of_draws i (next_draws 6000 s)) × (t ≡ after 6000 s)
@@ -104,20 +107,22 @@ no_scans i ds = refl
 
 -- How many scans are made: the commands so far and those of the scans that are left are the script's.
 pub record HasMade (n left i t : ℕ) (z : ScriptAt) : Type 0 where
+  pub format : z.format ≡ One
   pub sizes : z.sizes ≡ (generated n).sizes
   pub rest : z.commands ++ commands_from i left (next_draws (6000 * left) t) ≡ (generated n).commands
   pub few : length z.commands ≤ 5 * i
   pub room : points_of z.commands ≡ 2000 * i
 
-pub made_start : (n : ℕ) (z : ScriptAt) → z ≡ record { sizes = record { voxel = 500; large = 1500 }; commands = [] } → HasMade n n 0 1 z
-made_start n z e = rw e (record { sizes = refl; rest = refl; few = omega arith; room = refl })
+pub made_start : (n : ℕ) (z : ScriptAt) → z ≡ record { format = One; sizes = record { voxel = 500; large = 1500 }; commands = [] } → HasMade n n 0 1 z
+made_start n z e = rw e (record { format = refl; sizes = refl; rest = refl; few = omega arith; room = refl })
 
-pub made_next : (n left k i t u : ℕ) (z w : ScriptAt) → HasMade n left i t z → left ≡ suc k → w.sizes ≡ z.sizes
+pub made_next : (n left k i t u : ℕ) (z w : ScriptAt) → HasMade n left i t z → left ≡ suc k → w.format ≡ One → w.sizes ≡ z.sizes
     → w.commands ≡ z.commands ++ scan_commands i (points_of_draws i (next_draws 6000 t)) → length w.commands ≤ length z.commands + 5
     → points_of w.commands ≡ points_of z.commands + 2000 → u ≡ after 6000 t → HasMade n k (i + 1) u w
-made_next n left k i t u z w made one sizes commands few room moved =
+made_next n left k i t u z w made one format sizes commands few room moved =
     let all : z.commands ++ commands_from i (suc k) (next_draws (6000 * suc k) t) ≡ (generated n).commands = rw one at made.rest in
     record {
+      format = format;
       sizes = sizes ∙ made.sizes;
       rest = rw (commands, moved) (append_assoc z.commands (scan_commands i (points_of_draws i (next_draws 6000 t))) _ ∙ ap (λ cs. z.commands ++ cs) (sym (scans_next i k t)) ∙ all);
       few = omega (arith, few, made.few);
@@ -129,7 +134,8 @@ made_all n left i t z made none =
     let all : z.commands ++ commands_from i 0 (next_draws (6000 * 0) t) ≡ (generated n).commands = rw none at made.rest in
     let own : z.commands ≡ (generated n).commands = sym (append-nil z.commands) ∙ ap (λ cs. z.commands ++ cs) (sym (no_scans i (next_draws (6000 * 0) t))) ∙ all in
     let sizes : z.sizes ≡ (generated n).sizes = made.sizes in
-    ap₂ (λ (a : Sizes) (cs : List Command). record { sizes = a; commands = cs }) sizes own
+    let format : z.format ≡ (generated n).format = made.format in
+    ap₂ (λ (f : Format) (r : Sizes × List Command). record { format = f; sizes = r.0; commands = r.1 }) format (ap₂ (λ (a : Sizes) (cs : List Command). (a, cs)) sizes own)
 
 -- the commands of a scan, one after another
 pub in_turn : (cs ds : List Command) (a b c d : Command) → ((((cs ++ a ∷ []) ++ b ∷ []) ++ c ∷ []) ++ ds) ++ d ∷ [] ≡ cs ++ a ∷ b ∷ c ∷ ds ++ d ∷ []

@@ -1,9 +1,9 @@
 -- Slices of a script's commands.
-use Rattle.std.proofs.Common.{◌≡◌, ℕ, zero, suc, ◌+◌, ◌-◌, ◌<◌, ◌≤◌, ◌==◌, Bool, true, false, List, [], ◌∷◌, ◌++◌, length, take, drop, Some, slice_get, refl, ap, sym, ◌∙◌, subst, arith, add-one}
+use Rattle.std.proofs.Common.{◌≡◌, ℕ, zero, suc, ◌+◌, ◌-◌, ◌≤◌, true, false, List, [], ◌∷◌, ◌++◌, length, take, drop, Some, slice_get, refl, ap, ◌∙◌, subst, arith}
 use Rattle.std.specs.List.{AllByRecursion}
 use Rattle.scan_log.specs.declared.command.Command.{Command}
 use Rattle.scan_log.specs.declared.command.Command.TheVariants.{Change, Near, Inside, Sync}
-use Rattle.scan_log.specs.Scripts.{submitted, points_of}
+use Rattle.scan_log.specs.Scripts.{points_of}
 use Rattle.mapper_core.specs.Meetings.{is_barrier, IsOfCallers, HasCaller}
 use Rattle.mapper_core.proofs.Beginnings.{take_next}
 

@@ -1,7 +1,6 @@
 -- How much the updates of some callers weigh together, each update by a weight of its own.
-use Rattle.std.proofs.Common.{◌≡◌, ℕ, ◌+◌, ◌<◌, ◌≤◌, ◌==◌, Bool, true, false, List, [], ◌∷◌, ◌++◌, length, refl, ap, sym, ◌∙◌, subst, arith}
+use Rattle.std.proofs.Common.{◌≡◌, ℕ, ◌+◌, ◌≤◌, ◌==◌, Bool, true, false, List, [], ◌∷◌, ◌++◌, length, refl, ap, ◌∙◌, subst, arith}
 use Rattle.std.proofs.lemmas.Bool.Decides.{nat_tests}
-use mathlib.Core.List.{IsPrefix}
 use Rattle.map_fold.specs.declared.entry.Entry.{Entry}
 use Rattle.map_fold.specs.declared.update.Update.{Update}
 use Rattle.map_fold.specs.Fold.{MapAt, step, fold, fold_from, no_points, points_in}
@@ -10,7 +9,7 @@ use Rattle.rebuild_core.specs.History.{updates}
 use Rattle.published_map.specs.Marks.{Seen, keep_if, updates_of, one_if, times, IsDistinct, AllOf, callers_of, AllMet}
 use Rattle.scan_log.specs.declared.command.Command.{Command}
 use Rattle.scan_log.specs.declared.command.Command.TheVariants.{Change, Near, Inside, Sync}
-use Rattle.scan_log.specs.Scripts.{submitted, points_of}
+use Rattle.scan_log.specs.Scripts.{points_of}
 use Rattle.scan_log.specs.Transcript.{updates_in}
 use Rattle.mapper_core.specs.Mine.{updates_by}
 use Rattle.mapper_core.specs.Meetings.{AllDone}

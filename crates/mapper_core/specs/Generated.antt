@@ -4,6 +4,7 @@ use Rattle.point_geom.specs.Place.{Place, Bounds}
 use Rattle.map_fold.specs.declared.update.Update.TheVariants.{Thin, Delete}
 use Rattle.scan_log.specs.declared.command.Command.{Command}
 use Rattle.scan_log.specs.declared.command.Command.TheVariants.{Change, Near, Sync}
+use Rattle.scan_log.specs.declared.format.Format.TheVariants.{One}
 use Rattle.scan_log.specs.Scripts.{ScriptAt}
 
 -- the number that comes after the number s
@@ -26,7 +27,7 @@ after (suc k) s = after k (next s)
 
 -- a point of scan i, from three draws
 unfoldable pub point : ℕ → ℕ → ℕ → ℕ → Place
-point i a b c = record { x = pos (1000 * i + a % 60001) -ℤ pos 30000; y = pos (b % 60001) -ℤ pos 30000; z = pos (c % 6001) -ℤ pos 3000 }
+point i a b c = record { x = pos (1000 * i + a % 60001) -ℤ pos 30000; y = pos (b % 60001) -ℤ pos 30000; z = pos (c % 6001) -ℤ pos 3000; intensity = 0 }
 
 -- the points of scan i, each from the next three draws
 unfoldable pub points_of_draws : ℕ → List ℕ → List Place
@@ -35,7 +36,7 @@ points_of_draws i ds = []
 
 -- where the robot is at scan i
 abbrev pub robot : ℕ → Place
-robot i = record { x = pos (1000 * i); y = pos 0; z = pos 0 }
+robot i = record { x = pos (1000 * i); y = pos 0; z = pos 0; intensity = 0 }
 
 -- what lies 30 to 60 metres behind it
 abbrev pub behind : ℕ → Bounds
@@ -57,6 +58,6 @@ unfoldable pub commands_from : ℕ → ℕ → List ℕ → List Command
 commands_from i zero ds = []
 commands_from i (suc n) ds = scan_commands i (points_of_draws i (take 6000 ds)) ++ commands_from (i + 1) n (drop 6000 ds)
 
--- the script of so many scans, whose draws begin after the number 1
+-- the script of so many scans, of version 1, whose draws begin after the number 1
 abbrev pub generated : ℕ → ScriptAt
-generated n = record { sizes = record { voxel = 500; large = 1500 }; commands = commands_from 0 n (next_draws (6000 * n) 1) }
+generated n = record { format = One; sizes = record { voxel = 500; large = 1500 }; commands = commands_from 0 n (next_draws (6000 * n) 1) }

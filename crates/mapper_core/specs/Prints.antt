@@ -13,7 +13,7 @@ use Rattle.mapper_core.specs.Summary.{summary_of}
 pub record AreLegalLines (s : ScriptAt) (lines : List ℕ) : Type 0 where
   pub told : List Reply
   pub legal : AreLegalReplies s told
-  pub text : lines ≡ lines_text s.commands told
+  pub text : lines ≡ lines_text s.format s.commands told
 
 -- A run prints the lines of legal replies, a serial one those of the replies in the log's order. Of a generated script the log
 -- is printed, or the line of its sums.

@@ -2,6 +2,7 @@
 ghost use Rattle.std.specs.Prelude.{◌≡◌, ◌≤◌, ◌<◌, ◌+◌, length, IfOk, OnOk};
 ghost use Rattle.std.specs.Option.{ForSome};
 ghost use Rattle.rebuild_core.specs.Steps.{HasRoom, IsUpdateStep};
+ghost use Rattle.scan_log.specs.declared.format.Format.TheVariants.{Two};
 ghost use Rattle.scan_log.specs.Scripts.{IsCommand, submitted};
 ghost use Rattle.mapper_core.specs.Turns.{Follows, IsTended, reply_of};
 
@@ -17,7 +18,7 @@ use std::sync::ledger::{Blank, Ledger};
 
 /// Does what the command asks for, and answers the reply. At a barrier the map is settled.
 pub fn answer(alloc: Global, state: &mut MapState, command: &Command) -> Result<Reply, NoMemory>
-    requires good { IsCommand command.now }
+    requires good { IsCommand Two command.now }
     requires updates { length state.old.state.history < 1048576 }
     requires points { state.old.state.next + submitted command.now ≤ 4194304 }
     ensures follows { OnOk result (Follows command.now state.old.state state.new.state) }
@@ -127,7 +128,7 @@ fn near(
 ) -> Result<Reply, NoMemory>
     requires k_from { 1 ≤ k }
     requires k_to { k ≤ 256 }
-    requires within_to { ForSome within (λ r. r ≤ 4000000000) }
+    requires within_to { ForSome within (λ r. r ≤ 4398046511104) }
     ensures { IfOk result (λ r. r ≡ reply_of state.now.state (Command.Near 1 k point.now within)) }
 {
     let mark = state.history().len() as u64;

@@ -1,6 +1,7 @@
 //! Draws: numbers that look as if by chance, and are the same at each run.
 ghost use Rattle.std.specs.Prelude.{◌≡◌, ◌<◌};
-ghost use Rattle.point_geom.specs.Place.{IsPlace};
+ghost use Rattle.scan_log.specs.declared.format.Format.TheVariants.{One};
+ghost use Rattle.scan_log.specs.Scripts.{IsLogPlace};
 
 use point_geom::Point;
 use std::marker::Model;
@@ -20,7 +21,8 @@ impl Model for Draws {
 }
 
 impl Draws {
-    ghost use Rattle.point_geom.specs.Place.{IsPlace};
+    ghost use Rattle.scan_log.specs.declared.format.Format.TheVariants.{One};
+    ghost use Rattle.scan_log.specs.Scripts.{IsScannedPlace};
     ghost use Rattle.mapper_core.specs.Generated.{drawn, next, point};
 
     /// The generator before its first draw.
@@ -45,7 +47,7 @@ impl Draws {
     pub fn point(&mut self, scan: u32) -> Point
         requires { scan < 200 }
         ensures point { result ≡ point scan (drawn (next self.old)) (drawn (next (next self.old))) (drawn (next (next (next self.old)))) }
-        ensures place { IsPlace result }
+        ensures place { IsScannedPlace One result }
         ensures moved { self.new ≡ next (next (next self.old)) }
     {
         let x = 1_000 * scan + self.draw() % 60_001;
@@ -57,8 +59,9 @@ impl Draws {
 
 /// The point of these coordinates, which are in their limits.
 pub fn point_at(x: i64, y: i64, z: i64) -> Point
-    requires { IsPlace (record { x = x; y = y; z = z }) }
-    ensures { result ≡ record { x = x; y = y; z = z } }
+    requires { IsLogPlace One (record { x = x; y = y; z = z; intensity = 0 }) }
+    ensures value { result ≡ record { x = x; y = y; z = z; intensity = 0 } }
+    ensures place { IsLogPlace One result }
 {
     match Point::new(x, y, z) {
         Ok(point) => point,

@@ -2,14 +2,14 @@
 ghost use Rattle.std.specs.Prelude.{◌≡◌, ◌≤◌, ◌<◌, ◌+◌, ◌++◌, length, IfOk, OnOk};
 ghost use Rattle.std.specs.List.{AllByRecursion};
 ghost use Rattle.std.specs.Option.{ForSome};
-ghost use Rattle.point_geom.specs.Place.{IsPlace};
-ghost use Rattle.scan_log.specs.Scripts.{IsCaller, IsCallerBox, IsCommand, points_of, submitted, with_command};
+ghost use Rattle.scan_log.specs.declared.format.Format.TheVariants.{One};
+ghost use Rattle.scan_log.specs.Scripts.{IsCaller, IsCallerBox, IsCommand, IsScannedPlace, points_of, submitted, with_command};
 ghost use Rattle.mapper_core.specs.Generated.{after, behind, deletions, generated, next_draws, points_of_draws, robot, scan_commands};
 
 use crate::draws::{Draws, point_at};
 use map_fold::{Cuboids, NoMemory, Points, Settings, Update};
 use point_geom::{Corner, Cuboid};
-use scan_log::{Command, Script};
+use scan_log::{Command, Format, Script};
 use std::alloc::Global;
 
 /// The edge of the grid's voxels, in millimetres.
@@ -35,7 +35,7 @@ pub fn made(alloc: Global, scans: u32) -> Result<Script, NoMemory>
     requires few { scans ≤ 200 }
     ensures { IfOk result (λ s. s ≡ generated scans) }
 {
-    let mut script = Script::new(alloc, Settings::new(VOXEL, LARGE));
+    let mut script = Script::new(alloc, Format::One, Settings::new(VOXEL, LARGE));
     let mut draws = Draws::new();
     for scan in 0..scans {
         push_scan(alloc, &mut script, &mut draws, scan)?;
@@ -49,9 +49,11 @@ fn push_scan(
     draws: &mut Draws,
     scan: u32,
 ) -> Result<(), NoMemory>
+    requires format { script.old.format ≡ One }
     requires scan { scan < 200 }
     requires few { length script.old.commands + 5 ≤ 65536 }
     requires room { points_of script.old.commands + 2000 ≤ 4194304 }
+    ensures format { OnOk result (script.new.format ≡ One) }
     ensures sizes { OnOk result (script.new.sizes ≡ script.old.sizes) }
     ensures commands { OnOk result (script.new.commands ≡ script.old.commands ++ scan_commands scan (points_of_draws scan (next_draws 6000 draws.old))) }
     ensures few { OnOk result (length script.new.commands ≤ length script.old.commands + 5) }
@@ -70,7 +72,7 @@ fn scan_points(alloc: Global, draws: &mut Draws, scan: u32) -> Result<Points, No
     requires { scan < 200 }
     ensures points { IfOk result (λ ps. ps ≡ points_of_draws scan (next_draws 6000 draws.old)) }
     ensures many { IfOk result (λ ps. length ps ≡ 2000) }
-    ensures places { IfOk result (AllByRecursion IsPlace) }
+    ensures places { IfOk result (AllByRecursion (IsScannedPlace One)) }
     ensures moved { OnOk result (draws.new ≡ after 6000 draws.old) }
 {
     let mut points = Points::new(alloc);
@@ -86,7 +88,7 @@ fn question(caller: u8, scan: u32, within: Option<u64>) -> Command
     requires scan { scan < 200 }
     requires within { ForSome within (λ r. r ≤ 4000000000) }
     ensures value { result ≡ Command.Near caller 5 (robot scan) within }
-    ensures good { IsCommand result }
+    ensures good { IsCommand One result }
 {
     let point = point_at(1_000 * scan as i64, 0, 0);
     Command::Near {
@@ -98,9 +100,11 @@ fn question(caller: u8, scan: u32, within: Option<u64>) -> Command
 }
 
 fn push_deletions(alloc: Global, script: &mut Script, scan: u32) -> Result<(), NoMemory>
+    requires format { script.old.format ≡ One }
     requires scan { scan < 200 }
     requires few { length script.old.commands < 65536 }
     requires room { points_of script.old.commands ≤ 4194304 }
+    ensures format { OnOk result (script.new.format ≡ One) }
     ensures sizes { OnOk result (script.new.sizes ≡ script.old.sizes) }
     ensures commands { OnOk result (script.new.commands ≡ script.old.commands ++ deletions scan) }
     ensures few { OnOk result (length script.new.commands ≤ length script.old.commands + 1) }
@@ -119,7 +123,7 @@ fn push_deletions(alloc: Global, script: &mut Script, scan: u32) -> Result<(), N
 fn behind(scan: u32) -> Cuboid
     requires { scan < 200 }
     ensures value { result ≡ behind scan }
-    ensures good { IsCallerBox result }
+    ensures good { IsCallerBox One result }
 {
     let x = 1_000 * scan as i64;
     let lo = Corner {
@@ -140,9 +144,11 @@ fn behind(scan: u32) -> Cuboid
 
 // One more command, for which there is room.
 fn push(script: &mut Script, command: Command) -> Result<(), NoMemory>
-    requires good { IsCommand command }
+    requires format { script.old.format ≡ One }
+    requires good { IsCommand One command }
     requires few { length script.old.commands < 65536 }
     requires room { points_of script.old.commands + submitted command ≤ 4194304 }
+    ensures format { OnOk result (script.new.format ≡ One) }
     ensures pushed { OnOk result (script.new ≡ with_command script.old command) }
     ensures few { OnOk result (length script.new.commands ≡ length script.old.commands + 1) }
     ensures points { OnOk result (points_of script.new.commands ≡ points_of script.old.commands + submitted command) }

@@ -28,21 +28,22 @@ pub fn serial(alloc: Global, script: &Script) -> Result<Replies, NoMemory>
 
 /// The lines of the replies.
 pub fn transcript(alloc: Global, script: &Script, replies: &Replies) -> Result<Vec<u8>, NoMemory>
-    ensures { IfOk result (λ v. v.items ≡ lines_text script.now.commands replies.now) }
+    ensures { IfOk result (λ v. v.items ≡ lines_text script.now.format script.now.commands replies.now) }
 {
     let mut out = Vec::new(alloc);
+    let format = script.format();
     let mut left = replies.as_slice();
     for command in script.commands() {
         match left {
             [reply, rest @ ..] => {
-                reply_line(&mut out, Some(command), reply)?;
+                reply_line(&mut out, format, Some(command), reply)?;
                 left = rest;
             }
             [] => return Ok(out),
         }
     }
     if let [reply, ..] = left {
-        reply_line(&mut out, None, reply)?;
+        reply_line(&mut out, format, None, reply)?;
     }
     Ok(out)
 }

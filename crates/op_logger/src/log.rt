@@ -85,7 +85,7 @@ impl OpLog {
     {
         // Made anew, since the borrow checker can't yet carry an operation that was passed in.
         let op = match op {
-            Op::Mark { within, tag } => Op::Mark { within, tag },
+            Op::Mark { choice, tag } => Op::Mark { choice, tag },
             Op::Put { number, point } => Op::Put { number, point },
         };
         push_below(&mut self.ops, op)

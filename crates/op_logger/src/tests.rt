@@ -1,6 +1,6 @@
 //! A logger with ample memory, up to its end.
 use crate::{OpLog, PushFault};
-use map_fold::{Op, Tag};
+use map_fold::{Choice, Op, Tag};
 use point_geom::{Cuboid, Point};
 use std::test::Fail;
 
@@ -14,7 +14,7 @@ fn a_full_logger_takes_no_more_and_stays_as_it_was(rt: HostRuntime) -> Result<()
     }
     assert_eq!(rt; (log.len(), log.room()), (65_536, 0));
     let one_more = Op::Mark {
-        within: None,
+        choice: Choice::ALL,
         tag: Tag::DELETE,
     };
     assert_eq!(rt; log.push(one_more), Err(PushFault::Full));
@@ -28,14 +28,14 @@ fn a_full_logger_takes_no_more_and_stays_as_it_was(rt: HostRuntime) -> Result<()
 fn what_comes_after_and_what_comes_first(rt: HostRuntime) -> Result<(), Fail> {
     let alloc = rt.alloc();
     let point = Point::new(1, 2, 3)?;
-    let within = Some(Cuboid::unit(&point));
+    let choice = Choice::within(&Cuboid::unit(&point));
     let mut ops = Vec::new(alloc);
     ops.push(Op::Mark {
-        within: None,
+        choice: Choice::ALL,
         tag: Tag::SUSPEND,
     })?;
     ops.push(Op::Mark {
-        within,
+        choice,
         tag: Tag::RESTORE,
     })?;
     ops.push(Op::Put { number: 7, point })?;

@@ -1,11 +1,11 @@
 -- Laws of points and boxes.
-use Rattle.std.proofs.Common.{◌≡◌, ℕ, ◌+◌, ◌≤◌, ℤ, pos, ◌≤ℤ◌, ◌+ℤ◌, ◌-ℤ◌, ◌*◌, ◌/◌, ◌%◌, ◌<◌, suc, Bool, true, ◌&&◌, refl, ap, ◌∙◌, arith}
+use Rattle.std.proofs.Common.{◌≡◌, ℕ, ◌+◌, ◌≤◌, ℤ, pos, ◌≤ℤ◌, ◌+ℤ◌, ◌-ℤ◌, ◌*◌, ◌/◌, ◌%◌, ◌<◌, suc, Bool, true, ◌&&◌, refl, sym, subst, ap, arith}
 use Rattle.std.specs.Prelude.{negsuc, ◌<ℤ◌, int_le, int_lt, unsigned_abs}
 use Rattle.std.specs.Int.{int_min, int_max, int_rem_euclid}
 use Rattle.std.proofs.Math.Nat.{mul-le-mul}
 use Rattle.std.proofs.lemmas.Bool.{and_parts}
 use Rattle.std.proofs.lemmas.Int.{ints, clamps}
-use Rattle.point_geom.specs.Place.{Place, Bounds, Span, IsBelow}
+use Rattle.point_geom.specs.Place.{Place, Bounds, Span, IsAt, IsBelow}
 use Rattle.point_geom.specs.Distances.{gap2, dist2}
 use Rattle.point_geom.specs.Boxes.{is_between, holds, unit_box, cell_start, voxel, IsMultiple, IsOnGrid}
 use Rattle.point_geom.specs.Extents.{IsIn, IsPart, HoldsAll, HoldsSome, spot, low_corner, high_corner, joined_span, covers, is_crossed, meets, clamped, nearest_in, span_dist2}
@@ -112,11 +112,13 @@ all_by x y z h k l = rw (h, k, l) refl
 
 -- points
 
--- points that agree on each axis are the same
-pub places_alike : (p q : Place) → p.x ≡ q.x → p.y ≡ q.y → p.z ≡ q.z → p ≡ q
-places_alike p q e f g =
-    let F : ℤ → ℤ → ℤ → Place = λ x y z. record { x = x; y = y; z = z } in
-    ap (λ x. F x p.y p.z) e ∙ ap (λ y. F q.x y p.z) f ∙ ap (λ z. F q.x q.y z) g
+-- points that agree on each axis and in their intensity are the same
+pub places_alike : (p q : Place) → p.x ≡ q.x → p.y ≡ q.y → p.z ≡ q.z → p.intensity ≡ q.intensity → p ≡ q
+places_alike p q e f g h = λ i. record { x = e i; y = f i; z = g i; intensity = h i }
+
+-- a point is where it is itself
+pub IsAt-same : (p : Place) → IsAt p p
+IsAt-same p = record { x = refl; y = refl; z = refl }
 
 -- the distance is the same from either end
 pub dist2-swap : (p q : Place) → dist2 p q ≡ dist2 q p
@@ -141,7 +143,10 @@ IsBelow-trans p q r h k = record {
 
 -- a point is in the box of itself
 pub spot_in : (p : Place) → IsIn (spot p) p
-spot_in p = record { from = IsBelow-same p; to = IsBelow-same p }
+spot_in p = record {
+  from = record { x = ≤ℤ-same p.x; y = ≤ℤ-same p.y; z = ≤ℤ-same p.z };
+  to = record { x = ≤ℤ-same p.x; y = ≤ℤ-same p.y; z = ≤ℤ-same p.z };
+}
 
 -- a closed box is part of itself
 pub IsPart-same : (e : Span) → IsPart e e
@@ -246,7 +251,7 @@ meets_held c e u h =
     let x = crossed_high c.lo.x c.hi.x e.lo.x e.hi.x u.x t.0 in
     let y = crossed_high c.lo.y c.hi.y e.lo.y e.hi.y u.y t.1 in
     let z = crossed_high c.lo.z c.hi.z e.lo.z e.hi.z u.z t.2 in record {
-      point = high_corner c.lo e.lo;
+      point = record { x = int_max c.lo.x e.lo.x; y = int_max c.lo.y e.lo.y; z = int_max c.lo.z e.lo.z; intensity = 0 };
       inside = record {
         from = record { x = crossed_low c.lo.x e.lo.x; y = crossed_low c.lo.y e.lo.y; z = crossed_low c.lo.z e.lo.z };
         to = record { x = x; y = y; z = z };
@@ -282,15 +287,18 @@ number_alone c q h =
 between_alone : (c : ℤ) → is_between c c (c +ℤ pos 1) ≡ true
 between_alone c = is_between_by c c (c +ℤ pos 1) (≤ℤ-same c) (omega (arith, ints))
 
--- the box of one point holds no other
-pub unit_alone : (p q : Place) → holds (unit_box p) q ≡ true → q ≡ p
+-- the box of one point holds no point elsewhere
+pub unit_alone : (p q : Place) → holds (unit_box p) q ≡ true → IsAt p q
 unit_alone p q h =
     let t = all_parts _ _ _ h in
-    places_alike q p (number_alone p.x q.x t.0) (number_alone p.y q.y t.1) (number_alone p.z q.z t.2)
+    record { x = number_alone p.x q.x t.0; y = number_alone p.y q.y t.1; z = number_alone p.z q.z t.2 }
 
--- the box of one point holds it
-pub unit_held : (p : Place) → holds (unit_box p) p ≡ true
-unit_held p = all_by _ _ _ (between_alone p.x) (between_alone p.y) (between_alone p.z)
+-- and holds those that are there
+pub unit_held : (p q : Place) → IsAt p q → holds (unit_box p) q ≡ true
+unit_held p q h =
+    all_by _ _ _ (subst (λ c. is_between p.x c (p.x +ℤ pos 1) ≡ true) (sym h.x) (between_alone p.x))
+    (subst (λ c. is_between p.y c (p.y +ℤ pos 1) ≡ true) (sym h.y) (between_alone p.y))
+    (subst (λ c. is_between p.z c (p.z +ℤ pos 1) ≡ true) (sym h.z) (between_alone p.z))
 
 rem_parts : (n : ℕ) (c : ℤ) → 1 ≤ n → (pos 0 ≤ℤ int_rem_euclid c (pos n)) × (int_rem_euclid c (pos n) <ℤ pos n)
 rem_parts n (pos a) h = (omega (arith, ints), omega (arith, ints))

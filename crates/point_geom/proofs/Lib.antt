@@ -1,3 +1,5 @@
+pub mod Packing
 pub mod Laws
 mod Vectors
 pub mod Same
+pub mod Farthest

@@ -1,8 +1,8 @@
 -- Closed boxes, and what half-open ones share with them.
-use Rattle.std.specs.Prelude.{ℕ, ◌≡◌, ℤ, Bool, true, ◌&&◌, int_le, int_lt}
+use Rattle.std.specs.Prelude.{ℕ, ◌+◌, max, ◌≡◌, ℤ, Bool, true, ◌&&◌, int_le, int_lt}
 use Rattle.std.specs.Int.{int_min, int_max}
-use Rattle.point_geom.specs.Place.{Place, Bounds, Span, IsBelow}
-use Rattle.point_geom.specs.Distances.{dist2}
+use Rattle.point_geom.specs.Place.{Place, Bounds, Span, IsBelow, bare}
+use Rattle.point_geom.specs.Distances.{gap2, dist2}
 use Rattle.point_geom.specs.Boxes.{holds}
 
 -- the point is in the closed box
@@ -17,13 +17,13 @@ pub record IsPart (a b : Span) : Type 0 where
 
 -- the closed box of one point
 abbrev pub spot : Place → Span
-spot p = record { lo = p; hi = p }
+spot p = record { lo = bare p; hi = bare p }
 
 abbrev pub low_corner : Place → Place → Place
-low_corner p q = record { x = int_min p.x q.x; y = int_min p.y q.y; z = int_min p.z q.z }
+low_corner p q = record { x = int_min p.x q.x; y = int_min p.y q.y; z = int_min p.z q.z; intensity = 0 }
 
 abbrev pub high_corner : Place → Place → Place
-high_corner p q = record { x = int_max p.x q.x; y = int_max p.y q.y; z = int_max p.z q.z }
+high_corner p q = record { x = int_max p.x q.x; y = int_max p.y q.y; z = int_max p.z q.z; intensity = 0 }
 
 -- the least closed box that covers both
 abbrev pub joined_span : Span → Span → Span
@@ -58,8 +58,13 @@ clamped low high c = int_max low (int_min c high)
 
 -- the point of the closed box that is nearest to p
 abbrev pub nearest_in : Span → Place → Place
-nearest_in e p = record { x = clamped e.lo.x e.hi.x p.x; y = clamped e.lo.y e.hi.y p.y; z = clamped e.lo.z e.hi.z p.z }
+nearest_in e p = record { x = clamped e.lo.x e.hi.x p.x; y = clamped e.lo.y e.hi.y p.y; z = clamped e.lo.z e.hi.z p.z; intensity = 0 }
 
 -- the least squared distance from p to a point of the closed box
 abbrev pub span_dist2 : Span → Place → ℕ
 span_dist2 e p = dist2 p (nearest_in e p)
+
+-- the greatest squared distance from p to a point of the closed box
+abbrev pub span_far2 : Span → Place → ℕ
+span_far2 e p =
+    max (gap2 p.x e.lo.x) (gap2 p.x e.hi.x) + max (gap2 p.y e.lo.y) (gap2 p.y e.hi.y) + max (gap2 p.z e.lo.z) (gap2 p.z e.hi.z)

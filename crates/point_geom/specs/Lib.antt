@@ -5,3 +5,4 @@ pub mod Boxes
 pub mod Extents
 pub mod Refusals
 pub mod Corners
+pub mod Packed

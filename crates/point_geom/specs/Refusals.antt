@@ -4,6 +4,7 @@ use Rattle.point_geom.specs.Place.{Place, Bounds}
 use Rattle.point_geom.specs.declared.axis.Axis.{Axis}
 use Rattle.point_geom.specs.declared.axis.Axis.TheVariants.{X, Y, Z}
 use Rattle.point_geom.specs.declared.point.OutOfRange.{OutOfRange}
+use Rattle.point_geom.specs.declared.cuboid.Corner.{Corner}
 use Rattle.point_geom.specs.declared.cuboid.CuboidError.{CuboidError}
 use Rattle.point_geom.specs.declared.cuboid.CuboidError.TheVariants as error
 
@@ -17,26 +18,26 @@ abbrev pub check : {E : Type 0} → Bool → E → Result (Unit {0}) E
 check passes e = if passes then Ok tt else Err e
 
 abbrev pub within : Axis → ℤ → Result (Unit {0}) OutOfRange
-within axis c = check (int_le (negsuc 999999999) c && int_le c (pos 1000000000)) (record { axis = axis; value = c })
+within axis c = check (int_le (negsuc 1099511627775) c && int_le c (pos 1099511627776)) (record { axis = axis; value = c })
 
--- the first coordinate outside the limit is named
+-- the first coordinate outside the limit is named; the intensity is 0
 abbrev pub point_of : ℤ → ℤ → ℤ → Result Place OutOfRange
-point_of x y z = next_of (within X x) (next_of (within Y y) (next_of (within Z z) (Ok (record { x = x; y = y; z = z }))))
+point_of x y z = next_of (within X x) (next_of (within Y y) (next_of (within Z z) (Ok (record { x = x; y = y; z = z; intensity = 0 }))))
 
 -- a corner's number that a caller gives may lie one past the last coordinate
 abbrev pub corner_within : Axis → ℤ → Result (Unit {0}) CuboidError
-corner_within axis c = check (int_le (negsuc 999999999) c && int_le c (pos 1000000001)) (error.OutOfRange axis c)
+corner_within axis c = check (int_le (negsuc 1099511627775) c && int_le c (pos 1099511627777)) (error.OutOfRange axis c)
 
-abbrev pub corner_check : Place → Result (Unit {0}) CuboidError
+abbrev pub corner_check : Corner → Result (Unit {0}) CuboidError
 corner_check p = next_of (corner_within X p.x) (next_of (corner_within Y p.y) (corner_within Z p.z))
 
 abbrev pub upright : Axis → ℤ → ℤ → Result (Unit {0}) CuboidError
 upright axis lo hi = check (int_le lo hi) (error.Inverted axis)
 
-abbrev pub upright_check : Place → Place → Result (Unit {0}) CuboidError
+abbrev pub upright_check : Corner → Corner → Result (Unit {0}) CuboidError
 upright_check lo hi = next_of (upright X lo.x hi.x) (next_of (upright Y lo.y hi.y) (upright Z lo.z hi.z))
 
 -- the first number outside the limit is named, lo's before hi's; else the first axis on which hi is below lo
-abbrev pub cuboid_of : Place → Place → Result Bounds CuboidError
+abbrev pub cuboid_of : Corner → Corner → Result Bounds CuboidError
 cuboid_of lo hi =
     next_of (corner_check lo) (next_of (corner_check hi) (next_of (upright_check lo hi) (Ok (record { lo = lo; hi = hi }))))

@@ -1,7 +1,6 @@
 //! Half-open boxes.
 ghost use Rattle.std.specs.Prelude.{◌≡◌, ◌≤◌, ◌≤ℤ◌, ◌+ℤ◌, ◌&&◌, ◌↔◌, IsTrue, IfOk, OnOk, pos, true};
-ghost use Rattle.point_geom.specs.Place.{IsBelow, IsBounds, IsCoordinate, IsCorner, IsCornerNumber, IsLowCorner, IsLowNumber, Place};
-ghost use Rattle.point_geom.specs.Corners.{corner_at, corner_place};
+ghost use Rattle.point_geom.specs.Place.{IsAt, IsBounds, IsCoordinate, IsCorner, IsCornerNumber, IsLowCorner, IsLowNumber, IsUpright, Place};
 ghost use Rattle.point_geom.specs.Boxes.{IsOnGrid, cell_start, cube, holds, is_between, unit_box, voxel};
 ghost use Rattle.point_geom.specs.Extents.{HoldsAll, HoldsSome, covers, is_crossed, meets};
 ghost use Rattle.point_geom.specs.Refusals.{corner_check, corner_within, cuboid_of, upright, upright_check};
@@ -20,7 +19,7 @@ pub struct Corner {
 /// Why two corners make no box.
 #[derive(Clone, Copy, Debug, PartialEq, Eq)]
 pub enum CuboidError {
-    /// A number lies below -1,000,000,000 or above 1,000,000,001, one past the last coordinate. The numbers of lo are
+    /// A number lies below -1,099,511,627,776 or above 1,099,511,627,777, one past the last coordinate. The numbers of lo are
     /// looked at before those of hi.
     OutOfRange { axis: Axis, value: i64 },
     /// On this axis, and on none before it, hi is below lo.
@@ -39,23 +38,21 @@ impl Model for Cuboid {
 
     ghost Value = { Bounds };
 
-    ghost use Rattle.point_geom.specs.Corners.{corner_at, corner_place};
+    ghost view = { λ c. record { lo = c.lo; hi = c.hi } };
 
-    ghost view = { λ c. record { lo = corner_place c.lo; hi = corner_place c.hi } };
+    ghost invariant = { λ c. IsBounds (record { lo = c.lo; hi = c.hi }) };
 
-    ghost invariant = { λ c. IsBounds (record { lo = corner_place c.lo; hi = corner_place c.hi }) };
-
-    ghost inverse = { λ b. record { lo = corner_at b.lo; hi = corner_at b.hi } };
+    ghost inverse = { λ b. record { lo = b.lo; hi = b.hi } };
 }
 
 impl Cuboid {
-    const LEAST: i64 = -1_000_000_000;
+    const LEAST: i64 = -1_099_511_627_776;
 
-    const GREATEST: i64 = 1_000_000_001;
+    const GREATEST: i64 = 1_099_511_627_777;
 
     /// The box between these corners.
     pub fn new(lo: Corner, hi: Corner) -> Result<Cuboid, CuboidError>
-        ensures exact { result ≡ cuboid_of (corner_place lo) (corner_place hi) }
+        ensures exact { result ≡ cuboid_of lo hi }
         ensures bounds { IfOk result IsBounds }
     {
         Self::within(lo)?;
@@ -64,10 +61,10 @@ impl Cuboid {
         Ok(Cuboid { lo, hi })
     }
 
-    /// The box that holds the points equal to this one, and no other.
+    /// The box that holds the points where this one is, and no other. Their intensities may differ.
     pub fn unit(p: &Point) -> Cuboid
         ensures value { result ≡ unit_box p.now }
-        ensures meaning { (q : Place) → (holds result q ≡ true) ↔ (q ≡ p.now) }
+        ensures meaning { (q : Place) → (holds result q ≡ true) ↔ IsAt p.now q }
     {
         let lo = Corner {
             x: p.x(),
@@ -79,7 +76,7 @@ impl Cuboid {
 
     /// The corner with the least numbers.
     pub fn lo(&self) -> Corner
-        ensures value { result ≡ corner_at self.now.lo }
+        ensures value { result ≡ self.now.lo }
         ensures bounds { IsBounds self.now }
     {
         self.lo
@@ -87,7 +84,7 @@ impl Cuboid {
 
     /// The corner with the greatest numbers.
     pub fn hi(&self) -> Corner
-        ensures value { result ≡ corner_at self.now.hi }
+        ensures value { result ≡ self.now.hi }
         ensures bounds { IsBounds self.now }
     {
         self.hi
@@ -128,8 +125,8 @@ impl Cuboid {
     }
 
     fn within(corner: Corner) -> Result<(), CuboidError>
-        ensures exact { result ≡ corner_check (corner_place corner) }
-        ensures ok { OnOk result (IsCorner (corner_place corner)) }
+        ensures exact { result ≡ corner_check corner }
+        ensures ok { OnOk result (IsCorner corner) }
     {
         Self::number(Axis::X, corner.x)?;
         Self::number(Axis::Y, corner.y)?;
@@ -148,8 +145,8 @@ impl Cuboid {
     }
 
     fn upright(lo: Corner, hi: Corner) -> Result<(), CuboidError>
-        ensures exact { result ≡ upright_check (corner_place lo) (corner_place hi) }
-        ensures ok { OnOk result (IsBelow (corner_place lo) (corner_place hi)) }
+        ensures exact { result ≡ upright_check lo hi }
+        ensures ok { OnOk result (IsUpright lo hi) }
     {
         Self::upright_on(Axis::X, lo.x, hi.x)?;
         Self::upright_on(Axis::Y, lo.y, hi.y)?;
@@ -169,9 +166,9 @@ impl Cuboid {
 
     // Its corners may lie a kilometre farther out than those of `new`.
     fn cube(lo: Corner, length: u32) -> Cuboid
-        requires low { IsLowCorner (corner_place lo) }
+        requires low { IsLowCorner lo }
         requires short { length ≤ 1000000 }
-        ensures { result ≡ cube length (corner_place lo) }
+        ensures { result ≡ cube length lo }
     {
         let hi = Corner {
             x: far_end(lo.x, length),

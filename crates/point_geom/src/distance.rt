@@ -9,31 +9,30 @@ use crate::{Axis, Cuboid, Point};
 /// The squared distance, in squared millimetres.
 pub fn dist2(a: &Point, b: &Point) -> u128
     ensures value { result ≡ dist2 a.now b.now }
-    ensures bound { result ≤ 12000000000000000000 }
+    ensures bound { result ≤ 14507109835375550096474112 }
 {
     let x = gap2(a.x(), b.x());
     let y = gap2(a.y(), b.y());
     let z = gap2(a.z(), b.z());
-    (x + y + z) as u128
+    x + y + z
 }
 
 /// The squared distance on one axis, in squared millimetres.
 pub fn dist2_on(axis: Axis, a: &Point, b: &Point) -> u128
     ensures { result ≡ gap2 (on axis a.now) (on axis b.now) }
 {
-    gap2(a.on(axis), b.on(axis)) as u128
+    gap2(a.on(axis), b.on(axis))
 }
 
-// Three such squares fit 64 bits, which are faster than 128; and a gap fits 32, which are multiplied to 64 at once.
-pub(crate) fn gap2(a: i64, b: i64) -> u64
+// A gap fits 64 bits, and two of those are multiplied to 128 at once.
+pub(crate) fn gap2(a: i64, b: i64) -> u128
     requires a_range { IsCoordinate a }
     requires b_range { IsCoordinate b }
     ensures value { result ≡ gap2 a b }
-    ensures bound { result ≤ 4000000000000000000 }
+    ensures bound { result ≤ 4835703278458516698824704 }
 {
     let gap = a.abs_diff(b);
-    let gap = gap as u32 as u64;
-    gap * gap
+    gap as u128 * gap as u128
 }
 
 /// Four times the squared distance from the point to the centre of the cuboid, in squared millimetres: the sum over
@@ -45,15 +44,16 @@ pub fn centre_dist2(p: &Point, c: &Cuboid) -> u128
     let x = centre_gap2(lo.x, p.x(), hi.x);
     let y = centre_gap2(lo.y, p.y(), hi.y);
     let z = centre_gap2(lo.z, p.z(), hi.z);
-    x as u128 + y as u128 + z as u128
+    x + y + z
 }
 
-fn centre_gap2(lo: i64, c: i64, hi: i64) -> u64
+fn centre_gap2(lo: i64, c: i64, hi: i64) -> u128
     requires lo_range { IsCornerNumber lo }
     requires range { IsCoordinate c }
     requires hi_range { IsCornerNumber hi }
-    ensures { result ≡ centre_gap2 lo c hi }
+    ensures value { result ≡ centre_gap2 lo c hi }
+    ensures bound { result ≤ 19342830706024111211298816 }
 {
     let gap = (c + c).abs_diff(lo + hi);
-    gap * gap
+    gap as u128 * gap as u128
 }

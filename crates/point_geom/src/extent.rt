@@ -1,15 +1,15 @@
 //! Closed boxes.
-ghost use Rattle.std.specs.Prelude.{◌≡◌, ◌≤◌, ◌≤ℤ◌, ◌↔◌};
+ghost use Rattle.std.specs.Prelude.{◌≡◌, ◌≤◌, ◌≤ℤ◌, ◌↔◌, max};
 ghost use Rattle.std.specs.Int.{int_max, int_min};
 ghost use Rattle.point_geom.specs.Place.{IsBelow, IsCoordinate, Place, Span};
 ghost use Rattle.point_geom.specs.Distances.{dist2, gap2};
-ghost use Rattle.point_geom.specs.Extents.{IsIn, IsPart, clamped, joined_span, nearest_in, span_dist2, spot};
+ghost use Rattle.point_geom.specs.Extents.{IsIn, IsPart, clamped, joined_span, nearest_in, span_dist2, span_far2, spot};
 
 use crate::Point;
 use crate::distance::gap2;
 use std::marker::Model;
 
-/// A closed box of points: both of its corners are in it.
+/// A closed box of points: both of its corners are in it. They have the intensity 0.
 #[derive(Clone, Copy, Debug, PartialEq, Eq)]
 pub struct Extent {
     lo: Point,
@@ -17,13 +17,13 @@ pub struct Extent {
 }
 
 impl Model for Extent {
-    ghost use Rattle.point_geom.specs.Place.{IsBelow, Span};
+    ghost use Rattle.point_geom.specs.Place.{IsSpan, Span};
 
     ghost Value = { Span };
 
     ghost view = { λ e. record { lo = e.lo; hi = e.hi } };
 
-    ghost invariant = { λ e. IsBelow e.lo e.hi };
+    ghost invariant = { λ e. IsSpan (record { lo = e.lo; hi = e.hi }) };
 
     ghost inverse = { λ e. record { lo = e.lo; hi = e.hi } };
 }
@@ -33,13 +33,15 @@ impl Extent {
     pub fn of(p: &Point) -> Extent
         ensures { result ≡ spot p.now }
     {
-        Extent { lo: *p, hi: *p }
+        let p = p.bare();
+        Extent { lo: p, hi: p }
     }
 
     /// The corner with the least coordinates.
     pub fn lo(&self) -> Point
         ensures value { result ≡ self.now.lo }
         ensures below { IsBelow self.now.lo self.now.hi }
+        ensures bare { result.intensity ≡ 0 }
     {
         self.lo
     }
@@ -48,6 +50,7 @@ impl Extent {
     pub fn hi(&self) -> Point
         ensures value { result ≡ self.now.hi }
         ensures below { IsBelow self.now.lo self.now.hi }
+        ensures bare { result.intensity ≡ 0 }
     {
         self.hi
     }
@@ -72,17 +75,40 @@ impl Extent {
         let x = outside2(self.lo.x(), p.x(), self.hi.x());
         let y = outside2(self.lo.y(), p.y(), self.hi.y());
         let z = outside2(self.lo.z(), p.z(), self.hi.z());
-        (x + y + z) as u128
+        x + y + z
+    }
+
+    /// The greatest squared distance from the point to a point of the extent, in squared millimetres.
+    pub fn far_dist2(&self, p: &Point) -> u128
+        ensures value { result ≡ span_far2 self.now p.now }
+        ensures greatest { (q : Place) → IsIn self.now q → dist2 p.now q ≤ result }
+        ensures reached { (q : Place) × IsIn self.now q × (result ≡ dist2 p.now q) }
+    {
+        let x = far_gap2(self.lo.x(), p.x(), self.hi.x());
+        let y = far_gap2(self.lo.y(), p.y(), self.hi.y());
+        let z = far_gap2(self.lo.z(), p.z(), self.hi.z());
+        x + y + z
     }
 }
 
+// The square of the greater distance from the number to these two.
+fn far_gap2(low: i64, c: i64, high: i64) -> u128
+    requires low_range { IsCoordinate low }
+    requires range { IsCoordinate c }
+    requires high_range { IsCoordinate high }
+    ensures value { result ≡ max (gap2 c low) (gap2 c high) }
+    ensures bound { result ≤ 4835703278458516698824704 }
+{
+    gap2(c, low).max(gap2(c, high))
+}
+
 // How far the number lies outside these two, squared.
-fn outside2(low: i64, c: i64, high: i64) -> u64
+fn outside2(low: i64, c: i64, high: i64) -> u128
     requires low_range { IsCoordinate low }
     requires range { IsCoordinate c }
     requires high_range { IsCoordinate high }
     ensures value { result ≡ gap2 c (clamped low high c) }
-    ensures bound { result ≤ 4000000000000000000 }
+    ensures bound { result ≤ 4835703278458516698824704 }
 {
     gap2(c, clamped(low, c, high))
 }

@@ -14,18 +14,18 @@ fn corner(x: i64, y: i64, z: i64) -> Corner {
 
 #[test]
 fn a_refused_point_names_its_first_axis(rt: HostRuntime) {
-    let refused = Point::new(0, 1_000_000_001, -1_000_000_001);
+    let refused = Point::new(0, 1_099_511_627_777, -1_099_511_627_777);
     assert_eq!(rt;
         refused,
         Err(OutOfRange {
             axis: Axis::Y,
-            value: 1_000_000_001
+            value: 1_099_511_627_777
         })
     );
-    let farthest = at(&rt, -1_000_000_000, 0, 1_000_000_000);
+    let farthest = at(&rt, -1_099_511_627_776, 0, 1_099_511_627_776);
     assert_eq!(rt;
         (farthest.x(), farthest.y(), farthest.z()),
-        (-1_000_000_000, 0, 1_000_000_000)
+        (-1_099_511_627_776, 0, 1_099_511_627_776)
     );
 }
 
@@ -33,27 +33,27 @@ fn a_refused_point_names_its_first_axis(rt: HostRuntime) {
 fn a_refused_box_names_its_first_fault(rt: HostRuntime) {
     for (lo, hi, fault) in [
         (
-            corner(0, 0, -1_000_000_001),
-            corner(1_000_000_002, 0, 0),
+            corner(0, 0, -1_099_511_627_777),
+            corner(1_099_511_627_778, 0, 0),
             CuboidError::OutOfRange {
                 axis: Axis::Z,
-                value: -1_000_000_001,
+                value: -1_099_511_627_777,
             },
         ),
         (
             corner(0, 0, 0),
-            corner(9, 9, 1_000_000_002),
+            corner(9, 9, 1_099_511_627_778),
             CuboidError::OutOfRange {
                 axis: Axis::Z,
-                value: 1_000_000_002,
+                value: 1_099_511_627_778,
             },
         ),
         (
             corner(9, 0, 0),
-            corner(0, 1_000_000_002, 0),
+            corner(0, 1_099_511_627_778, 0),
             CuboidError::OutOfRange {
                 axis: Axis::Y,
-                value: 1_000_000_002,
+                value: 1_099_511_627_778,
             },
         ),
         (
@@ -69,11 +69,18 @@ fn a_refused_box_names_its_first_fault(rt: HostRuntime) {
 #[test]
 fn the_largest_box_holds_the_last_coordinate(rt: HostRuntime) {
     let all = Cuboid::new(
-        corner(-1_000_000_000, -1_000_000_000, -1_000_000_000),
-        corner(1_000_000_001, 1_000_000_001, 1_000_000_001),
+        corner(-1_099_511_627_776, -1_099_511_627_776, -1_099_511_627_776),
+        corner(1_099_511_627_777, 1_099_511_627_777, 1_099_511_627_777),
     );
     let all = all.expect(&rt, "a box in range");
-    assert!(rt; all.holds(&at(&rt, 1_000_000_000, -1_000_000_000, 1_000_000_000)));
+    assert!(rt;
+        all.holds(&at(
+            &rt,
+            1_099_511_627_776,
+            -1_099_511_627_776,
+            1_099_511_627_776
+        ))
+    );
 }
 
 #[test]
@@ -131,19 +138,30 @@ fn voxels_go_downwards_below_zero_too(rt: HostRuntime) {
 }
 
 #[test]
-fn an_extent_is_as_far_as_its_nearest_point(rt: HostRuntime) {
+fn an_extent_is_as_far_as_its_nearest_point_and_reaches_to_its_farthest(rt: HostRuntime) {
     let e = Extent::of(&at(&rt, 5, 0, -7)).join(&Extent::of(&at(&rt, -5, 4, 7)));
     assert_eq!(rt; (e.lo(), e.hi()), (at(&rt, -5, 0, -7), at(&rt, 5, 4, 7)));
-    for (x, y, z, far) in [(0, 2, 0, 0), (8, 8, 7, 25), (-6, -2, 9, 9), (5, 4, 7, 0)] {
-        assert_eq!(rt; e.dist2(&at(&rt, x, y, z)), far);
+    for (x, y, z, near, far) in [
+        (0, 2, 0, 0, 78),
+        (8, 8, 7, 25, 429),
+        (-6, -2, 9, 9, 413),
+        (5, 4, 7, 0, 312),
+    ] {
+        let p = at(&rt, x, y, z);
+        assert_eq!(rt; (e.dist2(&p), e.far_dist2(&p)), (near, far));
     }
 }
 
 #[test]
-fn the_farthest_corners_are_twelve_quintillion_apart(rt: HostRuntime) {
-    let far = at(&rt, 1_000_000_000, 1_000_000_000, 1_000_000_000);
-    let near = at(&rt, -1_000_000_000, -1_000_000_000, -1_000_000_000);
-    assert_eq!(rt; dist2(&far, &near), 12_000_000_000_000_000_000);
+fn the_farthest_corners_are_fourteen_septillion_apart(rt: HostRuntime) {
+    let far = at(&rt, 1_099_511_627_776, 1_099_511_627_776, 1_099_511_627_776);
+    let near = at(
+        &rt,
+        -1_099_511_627_776,
+        -1_099_511_627_776,
+        -1_099_511_627_776,
+    );
+    assert_eq!(rt; dist2(&far, &near), 14_507_109_835_375_550_096_474_112);
 }
 
 #[test]
@@ -151,6 +169,31 @@ fn points_are_ordered_by_x_then_y_then_z(rt: HostRuntime) {
     assert!(rt; at(&rt, -1, 9, 9) < at(&rt, 0, 0, 0));
     assert!(rt; at(&rt, 0, -1, 9) < at(&rt, 0, 0, 0));
     assert!(rt; at(&rt, 0, 0, -1) < at(&rt, 0, 0, 0));
+}
+
+#[test]
+fn then_by_their_intensity(rt: HostRuntime) {
+    let p = at(&rt, 1, -2, -3);
+    let seen = p.with_intensity(65_535);
+    assert_eq!(rt;
+        (seen.x(), seen.y(), seen.z(), seen.intensity()),
+        (1, -2, -3, 65_535)
+    );
+    assert_eq!(rt; p.intensity(), 0);
+    assert!(rt; p < seen);
+    assert!(rt; seen < at(&rt, 1, -2, -2));
+    assert!(rt; seen.with_intensity(0) == p);
+    assert!(rt; p.cmp_place(&seen).is_eq());
+}
+
+#[test]
+fn geometry_looks_at_coordinates_alone(rt: HostRuntime) {
+    let p = at(&rt, 1, -2, -3);
+    let seen = p.with_intensity(9);
+    assert_eq!(rt; dist2(&p, &seen), 0);
+    assert!(rt; Cuboid::unit(&p).holds(&seen));
+    assert_eq!(rt; Extent::of(&seen).lo(), p);
+    assert_eq!(rt; voxel(&seen, 200), voxel(&p, 200));
 }
 
 #[test]

@@ -115,7 +115,7 @@ impl<L: MapName> Pass<L> {
     ) -> Result<NearReply, NoMemory>
         requires k_from { 1 ≤ k }
         requires k_to { k ≤ 256 }
-        requires within_to { ForSome within (λ r. r ≤ 4000000000) }
+        requires within_to { ForSome within (λ r. r ≤ 4398046511104) }
         ensures seen { Grown self.old self.new }
         ensures near { IfOk result (λ r. r ≡ near_reply L.voxel self.new.seen k q.now within) }
         ensures inline { k ≤ 16 → IsOk result }

@@ -7,18 +7,18 @@ use Rattle.point_geom.specs.Boxes.{holds, voxel}
 use Rattle.point_geom.proofs.Laws.{voxel_held}
 use Rattle.node_labels.specs.Labels.{is_live}
 use Rattle.map_fold.specs.declared.item.Item.{Item}
-use Rattle.map_fold.specs.Contents.{AreContents, comes_before, live_at, thin, winner}
+use Rattle.map_fold.specs.Contents.{AreContents, IsRising, comes_before, live_at, thin, winner}
 use Rattle.map_fold.specs.Fold.{thin_points}
 use Rattle.map_fold.specs.Nearest.{Member}
 use Rattle.map_fold.specs.Thinned.{rivals}
 use Rattle.map_fold.proofs.Centre.{items_alike, not_itself, one_best, order}
-use Rattle.map_fold.proofs.Numbered.{contents_within}
+use Rattle.map_fold.proofs.Numbered.{contents_rise, contents_within}
 use Rattle.map_fold.proofs.Thinning.{inside_is, is_live_in, rival_inside, rival_live, winner_first, winner_is, winner_rival}
 use Rattle.kd_tree.proofs.Numbered.{same_rising}
 use Rattle.kd_update.specs.Scan.{live_from}
 use Rattle.rebuild_core.specs.Entrants.{AreEntrants, AreFirsts, IsBeaten, MayEnter, thin_each}
 use Rattle.rebuild_core.proofs.Voxels.{voxel_of}
-use Rattle.rebuild_core.proofs.Entering.{contents_each, contents_entered, contents_rises, entered_from, entered_in, entrants_after, live_inside}
+use Rattle.rebuild_core.proofs.Entering.{contents_each, contents_entered, contents_rises, entered_from, entered_in, entrants_after, live_inside, one_numbered}
 use Rattle.rebuild_core.proofs.Firsts.{firsts_enter, from_is, points_enter}
 
 -- the item enters or is held
@@ -145,7 +145,7 @@ left_after edge high is m i k entry left = record {
 
     wins : (k ≡ i) ⊎ Member k m → is_live_in c k ≡ true → won edge m i ≡ k
     wins pool live =
-        winner_is edge i.number m i.point k (is_rival edge high m i k entry.may pool live)
+        winner_is edge i.number m i.point k (contents_rise 0 high m entry.contents) entry.may.unheld (is_rival edge high m i k entry.may pool live)
         (λ j rival. left.first i j (inl refl) (one_more is m i j (rival_from edge high m i j entry.may rival)) live (rival_in edge m i j entry.from rival))
 
     by_voxel : (b : Bool) → is_live_in c k ≡ b → Member k m → Member k (after edge m i)
@@ -202,6 +202,11 @@ left_all edge next ps fs m k from firsts left = record { held = held left.held; 
     first e j there (inl point) live other = behind e j (firsts.beaten e there) (firsts.beaten j point) (voxel_in edge e.point j from other) live
     first e j there (inr held) live other = first_there e j (firsts.beaten e there) (inr held) live other
 
+-- the numbers of the points rise
+points_rising : (n : ℕ) (ps : List Place) → IsRising n (live_from n ps)
+points_rising n [] = tt
+points_rising n (p ∷ ps) = (omega arith, points_rising (n + 1) ps)
+
 -- and what all leave is left by the first ones
 left_firsts : (edge next : ℕ) (ps : List Place) (fs m : List Item) (k : Item) → 1 ≤ edge → AreFirsts edge next ps fs → IsLeft edge (live_from next ps) m k → IsLeft edge fs m k
 left_firsts edge next ps fs m k from firsts left = record { held = held left.held; first = λ e j there pool. left.first e j (firsts.within e there) (wider j pool) }
@@ -219,7 +224,7 @@ left_firsts edge next ps fs m k from firsts left = record { held = held left.hel
         let f = beaten.by in
         let point = firsts.within f beaten.there in
         let behind = left.first k f there (inl point) (live_own edge k from (live k there)) (both_true (live f point) beaten.inside) in
-        subst (λ (x : Item). Member x fs) (sym (one_best (voxel edge k.point) k f (live k there) (live f point) beaten.behind behind)) beaten.there
+        subst (λ (x : Item). Member x fs) (sym (one_numbered next (live_from next ps) k f (points_rising next ps) there point (one_best (voxel edge k.point) k f beaten.behind behind))) beaten.there
 
     held : InPool (live_from next ps) m k → InPool fs m k
     held (inl there) = inl (own_first there (firsts.beaten k there))

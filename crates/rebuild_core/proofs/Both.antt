@@ -132,15 +132,15 @@ cleared_held c next t u ws k h e =
     ∙ sym (mark-thin c 0 next (both t ws) k)
 
 -- the best of the tree, and then of what waits
-best_both : (c : Bounds) (t : Shape) (ws : List Item) → best_from c (best_inside (contents t) c) (inside_all ws c) ≡ best_inside (both t ws) c
-best_both c t ws =
+best_both : (c : Bounds) (t : Shape) (ws : List Item) → AreDistinct (contents t ++ ws) → best_from c (best_inside (contents t) c) (inside_all ws c) ≡ best_inside (both t ws) c
+best_both c t ws distinct =
     let xs = inside_all (contents t) c in
     let ys = inside_all ws c in
     ap (λ b. best_from c b ys) (sym (best_from-none c xs))
     ∙ sym (best_from-append c None xs ys)
     ∙ best_from-none c (xs ++ ys)
     ∙ ap (best_of c) (sym (inside-append c (contents t) ws))
-    ∙ sym (best-by_number c (contents t ++ ws))
+    ∙ sym (best-by_number c (contents t ++ ws) distinct)
 
 -- how many of both are live in the box
 count_both : (c : Bounds) (t : Shape) (ws : List Item) → count (both t ws) c ≡ count (contents t) c + length (filter (is_live_in c) ws)
@@ -167,8 +167,8 @@ pub cleared_clear : (c : Bounds) (high : ℕ) (t u : Shape) (ws : List Item) →
 cleared_clear c high t u ws clear k h e = ap (both u) (sym (all_left (is_live_in c) ws (none_live c ws clear))) ∙ cleared_held c high t u ws k h e
 
 -- and its best is that of both
-pub best_clear : (c : Bounds) (t : Shape) (ws : List Item) → All (λ i. in_box c i ≡ false) ws → best_inside (contents t) c ≡ best_inside (both t ws) c
-best_clear c t ws clear = ap (best_from c (best_inside (contents t) c)) (sym (inside_by c ws ∙ none_live c ws clear)) ∙ best_both c t ws
+pub best_clear : (c : Bounds) (t : Shape) (ws : List Item) → All (λ i. in_box c i ≡ false) ws → AreDistinct (contents t ++ ws) → best_inside (contents t) c ≡ best_inside (both t ws) c
+best_clear c t ws clear distinct = ap (best_from c (best_inside (contents t) c)) (sym (inside_by c ws ∙ none_live c ws clear)) ∙ best_both c t ws distinct
 
 -- and so is the count
 pub count_clear : (c : Bounds) (t : Shape) (ws : List Item) → All (λ i. in_box c i ≡ false) ws → count (contents t) c ≡ count (both t ws) c

@@ -8,6 +8,7 @@ use Rattle.rebuild_core.specs.contracts.state.MapState as state
 use Rattle.std.proofs.option.Option.TheSendSync as o
 use Rattle.kd_tree.proofs.path.Path.TheSendSync as s0
 use Rattle.kd_tree.proofs.path.Side.TheSendSync as s1
+use Rattle.map_fold.proofs.choice.Choice.TheSendSync as s3
 use Rattle.map_fold.proofs.entry.Entry.TheSendSync as s4
 use Rattle.map_fold.proofs.item.Item.TheSendSync as s5
 use Rattle.map_fold.proofs.op.Op.TheSendSync as s6
@@ -21,7 +22,7 @@ use Rattle.point_geom.proofs.cuboid.Cuboid.TheSendSync as s13
 use Rattle.point_geom.proofs.point.Point.TheSendSync as s14
 use Rattle.rebuild_core.proofs.part.Part.TheSendSync as s15
 
-ruleset all = (sendable, std.crosses, knot.crosses, o.the_field_send, o.the_field_sync, o.the_send, o.the_sync, s1.the_field_send, s1.the_field_sync, s4.the_field_send, s4.the_field_sync, s5.the_field_send, s5.the_field_sync, s6.the_field_send, s6.the_field_sync, s9.the_field_send, s9.the_field_sync, s10.the_field_send, s10.the_field_sync, s0.the_send, s0.the_sync, s1.the_send, s1.the_sync, s4.the_send, s4.the_sync, s5.the_send, s5.the_sync, s6.the_send, s6.the_sync, s7.the_send, s7.the_sync, s8.the_send, s8.the_sync, s9.the_send, s9.the_sync, s10.the_send, s10.the_sync, s11.the_send, s11.the_sync, s12.the_send, s12.the_sync, s13.the_send, s13.the_sync, s14.the_send, s14.the_sync, s15.the_send, s15.the_sync)
+ruleset all = (sendable, std.crosses, knot.crosses, o.the_field_send, o.the_field_sync, o.the_send, o.the_sync, s1.the_field_send, s1.the_field_sync, s3.the_field_send, s3.the_field_sync, s4.the_field_send, s4.the_field_sync, s5.the_field_send, s5.the_field_sync, s6.the_field_send, s6.the_field_sync, s9.the_field_send, s9.the_field_sync, s10.the_field_send, s10.the_field_sync, s0.the_send, s0.the_sync, s1.the_send, s1.the_sync, s3.the_send, s3.the_sync, s4.the_send, s4.the_sync, s5.the_send, s5.the_sync, s6.the_send, s6.the_sync, s7.the_send, s7.the_sync, s8.the_send, s8.the_sync, s9.the_send, s9.the_sync, s10.the_send, s10.the_sync, s11.the_send, s11.the_sync, s12.the_send, s12.the_sync, s13.the_send, s13.the_sync, s14.the_send, s14.the_sync, s15.the_send, s15.the_sync)
 
 pub version_send : IsSend version.the_row
 version_send = search all depth 40 fits 20000

@@ -4,6 +4,7 @@ use Rattle.std.specs.Prelude.{All, Contains}
 use Rattle.std.proofs.lemmas.List.Elements.{All-contains, All-contains_itself, All-weaker}
 use Rattle.node_labels.specs.declared.tag.Tag.{Tag}
 use Rattle.point_geom.specs.Place.{Place, Bounds}
+use Rattle.map_fold.specs.Contents.{inside_box}
 use Rattle.map_fold.specs.declared.op.Op.{Op}
 use Rattle.map_fold.specs.declared.op.Op.TheVariants.{Mark, Put}
 use Rattle.map_fold.specs.declared.update.Update.TheVariants.{Add}
@@ -29,7 +30,7 @@ only_point next [] op o = absurd cc
 only_point next (q ∷ []) op o = refl
 only_point next (q ∷ r ∷ ps) op o = absurd cc
 
-pub only_marked : (a : Tag) (cs rest : List Bounds) (c : Bounds) (op : Op) → cs ≡ c ∷ rest → only_mark a cs ≡ Some op → (Mark (Some c) a ≡ op)
+pub only_marked : (a : Tag) (cs rest : List Bounds) (c : Bounds) (op : Op) → cs ≡ c ∷ rest → only_mark a cs ≡ Some op → (Mark (inside_box c) a ≡ op)
 only_marked a [] rest c op e o = absurd cc
 only_marked a (d ∷ []) rest c op e o = cc
 only_marked a (d ∷ f ∷ cs) rest c op e o = absurd cc
@@ -43,7 +44,7 @@ only_box a (d ∷ f ∷ cs) op o = absurd cc
 pub first_point : (next n i : ℕ) (ps : List Place) (p : Place) (op : Op) → drop i ps ≡ p ∷ drop (i + 1) ps → i ≡ 0 → n ≡ next → only_op next (Add ps) ≡ Some op → Put n p ≡ op
 first_point next n i ps p op cut none same only = ap (λ k. Put k p) same ∙ only_put next ps (drop (i + 1) ps) p op (sym (ap (λ k. drop k ps) none) ∙ cut) only
 
-pub first_box : (a : Tag) (i : ℕ) (cs : List Bounds) (c : Bounds) (op : Op) → drop i cs ≡ c ∷ drop (i + 1) cs → i ≡ 0 → only_mark a cs ≡ Some op → Mark (Some c) a ≡ op
+pub first_box : (a : Tag) (i : ℕ) (cs : List Bounds) (c : Bounds) (op : Op) → drop i cs ≡ c ∷ drop (i + 1) cs → i ≡ 0 → only_mark a cs ≡ Some op → Mark (inside_box c) a ≡ op
 first_box a i cs c op cut none only = only_marked a cs (drop (i + 1) cs) c op (sym (ap (λ k. drop k cs) none) ∙ cut) only
 
 -- what is promised of an operation that builds nothing anew, said of equal values

@@ -181,7 +181,7 @@ entered_same edge high n m p w h below new alone behind =
     first k (inr inside) = subst (λ (j : Item). comes_before (voxel edge p) j w ≡ false) (sym (only k (subst (Member k) alone inside))) (not_itself (voxel edge p) w)
 
     wins : winner edge m n p ≡ w
-    wins = winner_is edge n m p w (inr own) first
+    wins = winner_is edge n m p w (contents_rise 0 high m h) new (inr own) first
 
     held : (k : Item) → (Member k m × (is_live_in (voxel edge p) k ≡ false)) ⊎ (k ≡ winner edge m n p) → Member k m
     held k (inl there) = there.0

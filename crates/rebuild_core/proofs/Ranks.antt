@@ -1,7 +1,8 @@
 -- Entrants in the order of their ranks, of which each voxel keeps the first.
-use Rattle.std.proofs.Common.{◌≡◌, ℕ, inl, inr, Bool, true, false, cond, List, [], ◌∷◌, map, length, refl, sym, ap, ◌∙◌, subst, arith, zero, suc, get_or}
+use Rattle.std.proofs.Common.{◌≡◌, ℕ, inl, inr, Bool, true, false, cond, ℤ, List, [], ◌∷◌, map, length, refl, sym, ap, ◌∙◌, subst, arith, zero, suc, get_or}
 use Rattle.std.specs.Prelude.{All, ◌≤◌, ◌<◌}
 use Rattle.std.specs.Cmp.{IsTotalOrder, IsStrictWeakOrder}
+use Rattle.std.specs.FinMap.{int_cmp-IsAntisymmetric}
 use Rattle.std.specs.List.{dedup_from, dedup}
 use Rattle.std.specs.List.Sorted.{IsPermutation, IsSortedBy}
 use Rattle.std.specs.Ordering.{is_lt, int_cmp, nat_cmp, ordering_then}
@@ -20,17 +21,18 @@ use Rattle.point_geom.specs.Distances.{centre_dist2}
 use Rattle.point_geom.specs.contracts.cuboid.CuboidPartialEq.TheImpl as cuboid
 use Rattle.point_geom.proofs.Laws.{voxel_held}
 use Rattle.point_geom.proofs.Same.{bounds_Decides}
+use Rattle.point_geom.specs.declared.cuboid.Corner.{Corner}
 use Rattle.map_fold.specs.declared.item.Item.{Item}
 use Rattle.map_fold.specs.Contents.{centre_cmp, comes_before}
 use Rattle.map_fold.specs.Nearest.{Member}
 use Rattle.map_fold.proofs.Centre.{neither, not_itself, order}
 use Rattle.map_fold.proofs.Found.{member-map, member-map_of}
-use Rattle.map_fold.proofs.Order.{place_cmp_total, place_cmp-Equal}
+use Rattle.map_fold.proofs.Order.{then_equal}
 use Rattle.kd_update.specs.Scan.{live_from}
 use Rattle.rebuild_core.specs.declared.entrants.Entrant.{Entrant}
 use Rattle.rebuild_core.specs.Entrants.{AreApart, AreFirsts}
-use Rattle.rebuild_core.specs.Ranks.{HaveVoxels, Rank, entrant_of, items_in, rank_cmp, rank_of}
-use Rattle.rebuild_core.proofs.Voxels.{voxel_of}
+use Rattle.rebuild_core.specs.Ranks.{HaveVoxels, Rank, entrant_of, items_in, rank_cmp, rank_of, spot_cmp}
+use Rattle.rebuild_core.proofs.Voxels.{corners_alike, voxel_of}
 
 -- the first has the lower rank
 abbrev pub is_ahead : Entrant → Entrant → Bool
@@ -38,6 +40,25 @@ is_ahead e f = is_lt (rank_cmp (rank_of e) (rank_of f))
 
 abbrev pub is_same_voxel : Entrant → Entrant → Bool
 is_same_voxel e f = cuboid.eq-value.it e.cube f.cube
+
+spot_cmp_total : IsTotalOrder spot_cmp
+spot_cmp_total =
+    then_total
+    (then_total (on_total (λ (p : ℤ × ℤ × ℤ). p.0) int_cmp_total) (on_total (λ (p : ℤ × ℤ × ℤ). p.1) int_cmp_total))
+    (on_total (λ (p : ℤ × ℤ × ℤ). p.2) int_cmp_total)
+
+-- corners by x, then by y, then by z
+abbrev corner_cmp : Corner → Corner → Ordering
+corner_cmp c d = ordering_then (int_cmp c.x d.x) (ordering_then (int_cmp c.y d.y) (int_cmp c.z d.z))
+
+corner_cmp_total : IsTotalOrder corner_cmp
+corner_cmp_total = then_total (on_total (λ (c : Corner). c.x) int_cmp_total) (then_total (on_total (λ (c : Corner). c.y) int_cmp_total) (on_total (λ (c : Corner). c.z) int_cmp_total))
+
+corner_cmp-Equal : (c d : Corner) → corner_cmp c d ≡ Equal → c ≡ d
+corner_cmp-Equal c d e =
+    let s = then_equal (int_cmp c.x d.x) _ e in
+    let t = then_equal (int_cmp c.y d.y) _ s.1 in
+    corners_alike c d (int_cmp-IsAntisymmetric c.x d.x s.0) (int_cmp-IsAntisymmetric c.y d.y t.0) (int_cmp-IsAntisymmetric c.z d.z t.1)
 
 rank_cmp_total : IsTotalOrder rank_cmp
 rank_cmp_total =
@@ -48,7 +69,7 @@ rank_cmp_total =
     (then_total (on_total (λ (k : Rank). k.0) int_cmp_total) (on_total (λ (k : Rank). k.1) int_cmp_total))
     (on_total (λ (k : Rank). k.2) int_cmp_total))
     (on_total (λ (k : Rank). k.3) nat_cmp_total))
-    (on_total (λ (k : Rank). k.4) place_cmp_total))
+    (on_total (λ (k : Rank). k.4) spot_cmp_total))
     (on_total (λ (k : Rank). k.5) nat_cmp_total)
 
 ahead_order : IsStrictWeakOrder is_ahead
@@ -74,7 +95,7 @@ then_assoc Greater p q = refl
 
 -- how the voxels stand to each other, and how each stands in its own
 abbrev voxel_cmp : Entrant → Entrant → Ordering
-voxel_cmp e f = place_cmp e.cube.lo f.cube.lo
+voxel_cmp e f = corner_cmp e.cube.lo f.cube.lo
 
 abbrev own_cmp : Entrant → Entrant → Ordering
 own_cmp e f = ordering_then (nat_cmp (centre_dist2 e.cube e.item.point) (centre_dist2 f.cube f.item.point)) (ordering_then (place_cmp e.item.point f.item.point) (nat_cmp e.item.number f.item.number))
@@ -87,14 +108,16 @@ regrouped x y z d p n =
 parts : (e f : Entrant) → rank_cmp (rank_of e) (rank_of f) ≡ ordering_then (voxel_cmp e f) (own_cmp e f)
 parts e f =
     regrouped (int_cmp e.cube.lo.x f.cube.lo.x) (int_cmp e.cube.lo.y f.cube.lo.y) (int_cmp e.cube.lo.z f.cube.lo.z)
-    (nat_cmp (centre_dist2 e.cube e.item.point) (centre_dist2 f.cube f.item.point)) (place_cmp e.item.point f.item.point) (nat_cmp e.item.number f.item.number)
+    (nat_cmp (centre_dist2 e.cube e.item.point) (centre_dist2 f.cube f.item.point)) (spot_cmp (rank_of e).4 (rank_of f).4) (nat_cmp e.item.number f.item.number)
+    ∙ ap (λ (o : Ordering). ordering_then (voxel_cmp e f) (ordering_then (nat_cmp (centre_dist2 e.cube e.item.point) (centre_dist2 f.cube f.item.point)) (ordering_then o (nat_cmp e.item.number f.item.number))))
+    (then_assoc (int_cmp e.item.point.x f.item.point.x) (int_cmp e.item.point.y f.item.point.y) (int_cmp e.item.point.z f.item.point.z))
 
 -- in one voxel the first to win is ahead
 ahead_inside : (e f : Entrant) → e.cube ≡ f.cube → is_ahead e f ≡ comes_before f.cube e.item f.item
 ahead_inside e f same =
     ap is_lt (parts e f)
-    ∙ ap (λ (c : Bounds). is_lt (ordering_then (place_cmp c.lo f.cube.lo) (ordering_then (nat_cmp (centre_dist2 c e.item.point) (centre_dist2 f.cube f.item.point)) (ordering_then (place_cmp e.item.point f.item.point) (nat_cmp e.item.number f.item.number))))) same
-    ∙ ap (λ (o : Ordering). is_lt (ordering_then o (centre_cmp f.cube e.item f.item))) (tied_itself place_cmp_total f.cube.lo)
+    ∙ ap (λ (c : Bounds). is_lt (ordering_then (corner_cmp c.lo f.cube.lo) (ordering_then (nat_cmp (centre_dist2 c e.item.point) (centre_dist2 f.cube f.item.point)) (ordering_then (place_cmp e.item.point f.item.point) (nat_cmp e.item.number f.item.number))))) same
+    ∙ ap (λ (o : Ordering). is_lt (ordering_then o (centre_cmp f.cube e.item f.item))) (tied_itself corner_cmp_total f.cube.lo)
 
 not_first : (o p : Ordering) → is_lt (ordering_then o p) ≡ false → is_lt o ≡ false
 not_first Less p e = e
@@ -114,9 +137,9 @@ same_corner edge e f own other same =
 later_voxel : (edge : ℕ) (k x y : Entrant) → k.cube ≡ voxel edge k.item.point → x.cube ≡ voxel edge x.item.point → is_ahead x k ≡ false → is_ahead y x ≡ false → (x.cube ≡ k.cube → ⊥) → y.cube ≡ k.cube → ⊥
 later_voxel edge k x y own next behind after other same =
     let first = voxel_behind x k behind in
-    let second : is_lt (place_cmp k.cube.lo x.cube.lo) ≡ false = subst (λ (c : Bounds). is_lt (place_cmp c.lo x.cube.lo) ≡ false) same (voxel_behind y x after) in
-    let tied = neither (place_cmp x.cube.lo k.cube.lo) (place_cmp k.cube.lo x.cube.lo) (place_cmp_total.antisymm x.cube.lo k.cube.lo) first second in
-    other (same_corner edge x k next own (place_cmp-Equal x.cube.lo k.cube.lo tied))
+    let second : is_lt (corner_cmp k.cube.lo x.cube.lo) ≡ false = subst (λ (c : Bounds). is_lt (corner_cmp c.lo x.cube.lo) ≡ false) same (voxel_behind y x after) in
+    let tied = neither (corner_cmp x.cube.lo k.cube.lo) (corner_cmp k.cube.lo x.cube.lo) (corner_cmp_total.antisymm x.cube.lo k.cube.lo) first second in
+    other (same_corner edge x k next own (corner_cmp-Equal x.cube.lo k.cube.lo tied))
 
 -- an entrant of another voxel isn't in this one
 not_held : (edge : ℕ) (k y : Entrant) → 1 ≤ edge → k.cube ≡ voxel edge k.item.point → y.cube ≡ voxel edge y.item.point → (y.cube ≡ k.cube → ⊥) → holds (voxel edge k.item.point) y.item.point ≡ false

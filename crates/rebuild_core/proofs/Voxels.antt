@@ -3,8 +3,9 @@ use Rattle.std.proofs.Common.{◌≡◌, ℕ, ◌+◌, ◌*◌, ◌<◌, ◌≤�
 use Rattle.std.proofs.lemmas.Bool.{and_parts}
 use Rattle.std.proofs.lemmas.Int.{ints}
 use Rattle.point_geom.specs.Place.{Place}
+use Rattle.point_geom.specs.declared.cuboid.Corner.{Corner}
 use Rattle.point_geom.specs.Boxes.{is_between, holds, cube, voxel, IsMultiple}
-use Rattle.point_geom.proofs.Laws.{all_parts, places_alike, voxel_held, voxel_on_grid}
+use Rattle.point_geom.proofs.Laws.{all_parts, voxel_held, voxel_on_grid}
 
 between_parts : (lo c hi : ℤ) → is_between lo c hi ≡ true → (lo ≤ℤ c) × (c <ℤ hi)
 between_parts lo c hi h =
@@ -45,6 +46,10 @@ cell_alone n s t c from m o h k =
     let same = multiple_alone n m.0 o.0 c from (rw e at a.0) (rw e at a.1) (rw f at b.0) (rw f at b.1) in
     e ∙ (ap (λ (x : ℤ). x *ℤ pos n) same ∙ sym f)
 
+-- corners that agree on each axis are the same
+pub corners_alike : (c d : Corner) → c.x ≡ d.x → c.y ≡ d.y → c.z ≡ d.z → c ≡ d
+corners_alike c d e f g = λ i. record { x = e i; y = f i; z = g i }
+
 -- the voxel of what a voxel holds is that voxel
 pub voxel_of : (edge : ℕ) (p q : Place) → 1 ≤ edge → holds (voxel edge p) q ≡ true → voxel edge q ≡ voxel edge p
 voxel_of edge p q from h =
@@ -52,7 +57,7 @@ voxel_of edge p q from h =
     let other = all_parts _ _ _ h in
     let here = voxel_on_grid edge q from in
     let there = voxel_on_grid edge p from in
-    ap (cube edge) (places_alike (voxel edge q).lo (voxel edge p).lo
-    (cell_alone edge _ _ q.x from here.x there.x own.0 other.0)
-    (cell_alone edge _ _ q.y from here.y there.y own.1 other.1)
-    (cell_alone edge _ _ q.z from here.z there.z own.2 other.2))
+    let x = cell_alone edge _ _ q.x from here.x there.x own.0 other.0 in
+    let y = cell_alone edge _ _ q.y from here.y there.y own.1 other.1 in
+    let z = cell_alone edge _ _ q.z from here.z there.z own.2 other.2 in
+    ap (cube edge) (corners_alike (voxel edge q).lo (voxel edge p).lo x y z)

@@ -8,8 +8,9 @@ use Rattle.point_geom.specs.Boxes.{voxel}
 use Rattle.map_fold.specs.declared.item.Item.{Item}
 use Rattle.map_fold.specs.declared.memory.NoMemory.{NoMemory}
 use Rattle.map_fold.specs.Answers.{inside_all}
-use Rattle.map_fold.specs.Contents.{AreContents, comes_before, in_box, live_at, live_items, winner}
+use Rattle.map_fold.specs.Contents.{AreContents, IsRising, comes_before, in_box, live_at, live_items, winner}
 use Rattle.map_fold.specs.Nearest.{Member}
+use Rattle.map_fold.specs.Ops.{IsUnheld}
 use Rattle.map_fold.specs.Thinned.{NoneBefore, rivals}
 use Rattle.map_fold.proofs.Centre.{not_itself, order}
 use Rattle.map_fold.proofs.Found.{member-filter, member-filter_of}
@@ -29,8 +30,8 @@ pub draft_contents : (large next : ℕ) (w : Work) → IsSound w.tree → IsWork
 draft_contents large next w sound d = are_contents next w.tree sound d.2.below
 
 -- a new item that comes before the best of its voxel wins
-pub new_wins : (edge n : ℕ) (m : List Item) (p : Place) (held : Item) → IsBest m (voxel edge p) held → comes_before (voxel edge p) (live_at n p) held ≡ true → winner edge m n p ≡ live_at n p
-new_wins edge n m p held best before = winner_is edge n m p (live_at n p) (inl refl) first
+pub new_wins : (edge n : ℕ) (m : List Item) (p : Place) (held : Item) → IsRising 0 m → IsUnheld n m → IsBest m (voxel edge p) held → comes_before (voxel edge p) (live_at n p) held ≡ true → winner edge m n p ≡ live_at n p
+new_wins edge n m p held rising new best before = winner_is edge n m p (live_at n p) rising new (inl refl) first
   where
     first : NoneBefore (voxel edge p) (live_at n p) (rivals edge m n p)
     first i (inl same) = subst (λ (j : Item). comes_before (voxel edge p) j (live_at n p) ≡ false) (sym same) (not_itself (voxel edge p) (live_at n p))
@@ -39,9 +40,9 @@ new_wins edge n m p held best before = winner_is edge n m p (live_at n p) (inl r
         (order (voxel edge p)).chain i held (live_at n p) (best.first i is.0 is.1) ((order (voxel edge p)).one_way (live_at n p) held before)
 
 -- and else the best stays
-pub held_wins : (edge n : ℕ) (m : List Item) (p : Place) (held : Item) → IsBest m (voxel edge p) held → comes_before (voxel edge p) (live_at n p) held ≡ false → winner edge m n p ≡ held
-held_wins edge n m p held best behind =
-    winner_is edge n m p held (inr (member-filter_of (in_box (voxel edge p)) held (live_items m) best.live best.held)) first
+pub held_wins : (edge n : ℕ) (m : List Item) (p : Place) (held : Item) → IsRising 0 m → IsUnheld n m → IsBest m (voxel edge p) held → comes_before (voxel edge p) (live_at n p) held ≡ false → winner edge m n p ≡ held
+held_wins edge n m p held rising new best behind =
+    winner_is edge n m p held rising new (inr (member-filter_of (in_box (voxel edge p)) held (live_items m) best.live best.held)) first
   where
     first : NoneBefore (voxel edge p) held (rivals edge m n p)
     first i (inl same) = subst (λ (j : Item). comes_before (voxel edge p) j held ≡ false) (sym same) behind

@@ -4,7 +4,8 @@ use Rattle.std.specs.Prelude.{All, Contains}
 use Rattle.std.specs.List.{remove}
 use Rattle.std.proofs.lemmas.List.{length-map}
 use Rattle.std.proofs.lemmas.List.Elements.{All-contains, All-cons, All-nil, All-weaker, Contains-append_cases, Contains-append_left, Contains-append_right}
-use Rattle.point_geom.specs.Place.{Place, Bounds}
+use Rattle.point_geom.specs.Place.{Place}
+use Rattle.map_fold.specs.declared.choice.Choice.{Choice}
 use Rattle.node_labels.specs.Labels.{keep_tag}
 use Rattle.node_labels.specs.declared.tag.Tag.{Tag}
 use Rattle.map_fold.specs.declared.op.Op.{Op}
@@ -49,7 +50,7 @@ pub watched_room : (ps : List PartAt) → HaveLogRoom ps → HaveRoom (watches_o
 watched_room [] k = tt
 watched_room (p ∷ ps) k = (k.0, watched_room ps k.1)
 
-marks-watched : (c : Bounds) (a : Tag) (t : Shape) (ps : List PartAt) → with_marks c a t (watches_of ps) ≡ watches_of (logged (λ q. logged_mark c a q t) ps)
+marks-watched : (c : Choice) (a : Tag) (t : Shape) (ps : List PartAt) → with_marks c a t (watches_of ps) ≡ watches_of (logged (λ q. logged_mark c a q t) ps)
 marks-watched c a t [] = refl
 marks-watched c a t (p ∷ ps) = ap (λ (ws : List Watch). watch_of (record p { log = p.log ++ logged_mark c a p.path t }) ∷ ws) (marks-watched c a t ps)
 
@@ -102,7 +103,7 @@ draft_logged large next last F w u vs ps d room is below even watched few puts =
     )
 
 -- an action in a box
-pub draft_marked : (large next last : ℕ) (c : Bounds) (a : Tag) (w : Work) (u : Shape) (vs : List Watch) (ps : List PartAt) → IsDraft large next last ps w → HaveRoom w.watches → vs ≡ with_marks c a w.tree w.watches
+pub draft_marked : (large next last : ℕ) (c : Choice) (a : Tag) (w : Work) (u : Shape) (vs : List Watch) (ps : List PartAt) → IsDraft large next last ps w → HaveRoom w.watches → vs ≡ with_marks c a w.tree w.watches
     → AreAmong (numbers u) (numbers w.tree) → (IsEvenClear large (paths_in w.watches) w.tree → IsEvenClear large (paths_in w.watches) u)
     → AreWatched (λ q. IsWatched q w.tree u (logged_mark c a q w.tree)) (paths_in w.watches) → IsDraftLeft large next last ps (record { tree = u; watches = vs })
 draft_marked large next last c a w u vs ps d room is among even watched =

@@ -2,8 +2,6 @@
 use Rattle.std.specs.Prelude.{◌≡◌, ℕ, ℤ, List, All, map}
 use Rattle.std.specs.Ordering.{int_cmp, nat_cmp, ordering_then}
 use Rattle.std.specs.declared.cmp.Ordering.{Ordering}
-use Rattle.point_geom.specs.Place.{Place}
-use Rattle.point_geom.specs.Axes.{place_cmp}
 use Rattle.point_geom.specs.Boxes.{voxel}
 use Rattle.point_geom.specs.Distances.{centre_dist2}
 use Rattle.map_fold.specs.declared.item.Item.{Item}
@@ -22,10 +20,13 @@ HaveVoxels edge es = All (λ e. e.cube ≡ voxel edge e.item.point) es
 
 -- the lower corner of the voxel, and then what ranks its points
 abbrev pub Rank : Type 0
-Rank = ℤ × ℤ × ℤ × ℕ × Place × ℕ
+Rank = ℤ × ℤ × ℤ × ℕ × (ℤ × ℤ × ℤ) × ℕ
 
 abbrev pub rank_of : Entrant → Rank
-rank_of e = (e.cube.lo.x, e.cube.lo.y, e.cube.lo.z, centre_dist2 e.cube e.item.point, e.item.point, e.item.number)
+rank_of e = (e.cube.lo.x, e.cube.lo.y, e.cube.lo.z, centre_dist2 e.cube e.item.point, (e.item.point.x, e.item.point.y, e.item.point.z), e.item.number)
+
+abbrev pub spot_cmp : ℤ × ℤ × ℤ → ℤ × ℤ × ℤ → Ordering
+spot_cmp p q = ordering_then (ordering_then (int_cmp p.0 q.0) (int_cmp p.1 q.1)) (int_cmp p.2 q.2)
 
 abbrev pub rank_cmp : Rank → Rank → Ordering
-rank_cmp k j = ordering_then (ordering_then (ordering_then (ordering_then (ordering_then (int_cmp k.0 j.0) (int_cmp k.1 j.1)) (int_cmp k.2 j.2)) (nat_cmp k.3 j.3)) (place_cmp k.4 j.4)) (nat_cmp k.5 j.5)
+rank_cmp k j = ordering_then (ordering_then (ordering_then (ordering_then (ordering_then (int_cmp k.0 j.0) (int_cmp k.1 j.1)) (int_cmp k.2 j.2)) (nat_cmp k.3 j.3)) (spot_cmp k.4 j.4)) (nat_cmp k.5 j.5)

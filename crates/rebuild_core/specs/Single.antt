@@ -3,12 +3,12 @@ use Rattle.std.specs.Prelude.{ℕ, ◌<◌, List, [], ◌∷◌, Option, Some, N
 use Rattle.point_geom.specs.Place.{Bounds}
 use Rattle.node_labels.specs.Labels.{delete_tag, suspend_tag, restore_tag}
 use Rattle.node_labels.specs.declared.tag.Tag.{Tag}
+use Rattle.map_fold.specs.Contents.{below_number, inside_box}
 use Rattle.map_fold.specs.declared.op.Op.{Op}
 use Rattle.map_fold.specs.declared.op.Op.TheVariants.{Mark, Put}
 use Rattle.map_fold.specs.declared.update.Update.{Update}
-use Rattle.map_fold.specs.declared.update.Update.TheVariants.{Add, Thin, Delete, Suspend, Restore}
+use Rattle.map_fold.specs.declared.update.Update.TheVariants.{Add, Thin, Delete, Suspend, Restore, Expire}
 use Rattle.kd_tree.specs.Shape.{Shape, levels, nodes}
-use Rattle.kd_tree.specs.Walk.{tagged}
 use Rattle.kd_update.specs.Made.{entered_mark, entered_put}
 use Rattle.kd_update.specs.Mark.{IsVisitCalm, marked_shape}
 use Rattle.kd_update.specs.Put.{IsRouteCalm, put_shape}
@@ -16,7 +16,7 @@ use Rattle.kd_update.specs.Put.{IsRouteCalm, put_shape}
 -- the operation of an action on one box
 abbrev pub only_mark : Tag → List Bounds → Option Op
 only_mark a [] = None
-only_mark a (c ∷ []) = Some (Mark (Some c) a)
+only_mark a (c ∷ []) = Some (Mark (inside_box c) a)
 only_mark a (c ∷ d ∷ cs) = None
 
 -- the operation of an update that is one, where the next number is this one
@@ -28,24 +28,22 @@ only_op next (Thin ps) = None
 only_op next (Delete cs) = only_mark delete_tag cs
 only_op next (Suspend cs) = only_mark suspend_tag cs
 only_op next (Restore cs) = only_mark restore_tag cs
+only_op next (Expire n) = Some (Mark (below_number n) delete_tag)
 
 -- the tree after the operation, where nothing is built anew
 abbrev pub unrebuilt : Op → Shape → Shape
 unrebuilt (Put n p) t = put_shape n p t
-unrebuilt (Mark None a) t = tagged a t
-unrebuilt (Mark (Some c) a) t = marked_shape c a t
+unrebuilt (Mark c a) t = marked_shape c a t
 
 -- of the unrebuilt tree, no node that the operation enters is to be built anew
 abbrev pub IsCalmFor : ℕ → Op → Shape → Type 0
 IsCalmFor large (Put n p) t = IsRouteCalm large p t
-IsCalmFor large (Mark None a) t = Unit {0}
-IsCalmFor large (Mark (Some c) a) t = IsVisitCalm large c t
+IsCalmFor large (Mark c a) t = IsVisitCalm large c t
 
 -- how many nodes the operation enters
 abbrev pub entered_nodes : Op → Shape → ℕ
 entered_nodes (Put n p) t = entered_put p t
-entered_nodes (Mark None a) t = 0
-entered_nodes (Mark (Some c) a) t = entered_mark c t
+entered_nodes (Mark c a) t = entered_mark c t
 
 -- The operation builds nothing anew: there is room in the tree, and no node that is entered is to be built anew.
 pub record IsQuiet (large : ℕ) (op : Op) (t : Shape) : Type 0 where

@@ -3,8 +3,9 @@
 ghost use Rattle.std.specs.Prelude.{◌≡◌, ℕ, ◌+◌, ◌*◌, ◌<◌, ◌≤◌, List, [], ◌∷◌, Some, length, IfOk};
 ghost use Rattle.point_geom.specs.Place.{Place};
 ghost use Rattle.map_fold.specs.declared.op.Op.{Op};
-ghost use Rattle.map_fold.specs.declared.op.Op.TheVariants.{Put};
-ghost use Rattle.map_fold.specs.Contents.{put};
+ghost use Rattle.map_fold.specs.declared.op.Op.TheVariants.{Mark, Put};
+ghost use Rattle.map_fold.specs.Contents.{below_number, chosen_by, mark, put};
+ghost use Rattle.node_labels.specs.Labels.{delete_tag};
 ghost use Rattle.map_fold.specs.Fold.{add_points, mark_boxes, points_in, step};
 ghost use Rattle.kd_tree.specs.Contents.{contents};
 ghost use Rattle.kd_update.specs.Watches.{HaveRoom};
@@ -18,7 +19,7 @@ use crate::scan::SCAN;
 use crate::thin::thinned;
 use crate::work::Work;
 use kd_tree::{Scratch, Steps};
-use map_fold::{Cuboids, NoMemory, Points, Settings, Tag, Update};
+use map_fold::{Choice, Cuboids, NoMemory, Points, Settings, Tag, Update};
 use point_geom::Point;
 use std::alloc::Global;
 use std::sync::ledger::Ledger;
@@ -54,6 +55,7 @@ pub(crate) fn changed<L: Ledger>(
         Update::Delete(boxes) => marked_each(alloc, work, large, next, boxes, Tag::DELETE, steps),
         Update::Suspend(boxes) => marked_each(alloc, work, large, next, boxes, Tag::SUSPEND, steps),
         Update::Restore(boxes) => marked_each(alloc, work, large, next, boxes, Tag::RESTORE, steps),
+        Update::Expire(number) => expired(alloc, work, large, next, *number, steps),
     }
 }
 
@@ -132,7 +134,28 @@ fn marked_each<L: Ledger>(
 {
     let mut work = work;
     for cuboid in boxes.as_slice() {
-        work = work.marked(alloc, large, cuboid, tag, steps)?;
+        work = work.marked(alloc, large, &Choice::within(cuboid), tag, steps)?;
     }
     Ok(work)
+}
+
+// The work without what is held under a number below this one.
+fn expired<L: Ledger>(
+    alloc: Global,
+    work: Work,
+    large: u32,
+    next: u32,
+    number: u32,
+    steps: &mut Steps<L>,
+) -> Result<Work, NoMemory>
+    requires draft { IsWork large next work }
+    ensures contents { IfOk result (λ w. contents w.tree ≡ mark (contents work.tree) (chosen_by (below_number number)) delete_tag) }
+    ensures draft { (last : ℕ) (ps : List PartAt) → IsDraft large next last ps work
+        → IfOk result (IsDraftLeft large next last ps) }
+    ensures unrebuilt { HaveRoom work.watches → IsQuiet large (Mark (below_number number) delete_tag) work.tree
+        → IfOk result (λ w. w.tree ≡ unrebuilt (Mark (below_number number) delete_tag) work.tree) }
+    ensures ticks { HaveRoom work.watches → IsQuiet large (Mark (below_number number) delete_tag) work.tree
+        → steps.new ≤ steps.old + (5 * entered_nodes (Mark (below_number number) delete_tag) work.tree + 1) }
+{
+    work.marked(alloc, large, &Choice::below(number), Tag::DELETE, steps)
 }

@@ -60,11 +60,13 @@ fn entrants(alloc: Global, edge: u32, next: u32, points: &[Point]) -> Result<Vec
 
 impl Entrant {
     // By the voxel, and in a voxel as its points win.
-    fn rank(&self) -> (i64, i64, i64, u128, Point, u32)
+    fn rank(&self) -> (i64, i64, i64, u128, (i64, i64, i64), u32)
         ensures { result ≡ rank_of self.now }
     {
         let lo = self.cube.lo();
         let away = centre_dist2(&self.item.point, &self.cube);
-        (lo.x, lo.y, lo.z, away, self.item.point, self.item.number)
+        let p = &self.item.point;
+        let place = (p.x(), p.y(), p.z());
+        (lo.x, lo.y, lo.z, away, place, self.item.number)
     }
 }

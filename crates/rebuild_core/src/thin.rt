@@ -17,7 +17,7 @@ use crate::scan::SCAN;
 use crate::work::Work;
 use kd_search::{Rivals, rivals_in};
 use kd_tree::{Scratch, Steps};
-use map_fold::{Item, Label, NoMemory, Points, Settings, Tag};
+use map_fold::{Choice, Item, Label, NoMemory, Points, Settings, Tag};
 use point_geom::{Cuboid, Point, voxel};
 use std::alloc::Global;
 use std::sync::ledger::Ledger;
@@ -112,7 +112,7 @@ fn left_alone<L: Ledger>(
     ensures draft { (last : ℕ) (ps : List PartAt) → IsDraft large next last ps work
         → IfOk result (IsDraftLeft large (next + 1) last ps) }
 {
-    let work = work.marked(alloc, large, cuboid, Tag::THIN, steps)?;
+    let work = work.marked(alloc, large, &Choice::within(cuboid), Tag::THIN, steps)?;
     let _size = work.tree.size();
     work.put(alloc, large, item.number, item.point, steps)
 }

@@ -9,7 +9,7 @@ ghost use Rattle.map_fold.specs.Contents.{in_box, mark, put, thin};
 ghost use Rattle.map_fold.specs.Fold.{thin_points};
 ghost use Rattle.map_fold.specs.Ops.{IsUnheld};
 ghost use Rattle.kd_tree.specs.Shape.{numbers};
-ghost use Rattle.kd_tree.specs.Contents.{contents};
+ghost use Rattle.kd_tree.specs.Contents.{AreDistinct, contents};
 ghost use Rattle.kd_search.specs.Best.{IsBest};
 ghost use Rattle.kd_update.specs.Update.{IsEven};
 ghost use Rattle.rebuild_core.specs.Lawful.{map_of};
@@ -19,7 +19,7 @@ use crate::entrants::{Entrant, firsts};
 use kd_search::{Rivals, rivals_in};
 use kd_tree::{Scratch, Steps, Tree};
 use kd_update::{marked, put_all};
-use map_fold::{Item, NoMemory, Settings, Tag};
+use map_fold::{Choice, Item, NoMemory, Settings, Tag};
 use point_geom::{Cuboid, Point};
 use std::alloc::Global;
 use std::sync::ledger::Ledger;
@@ -133,7 +133,8 @@ impl Waiting {
 
     // What is live in the cuboid.
     fn rivals(&self, cuboid: &Cuboid) -> Rivals
-        requires { IsClear cuboid.now self.now }
+        requires clear { IsClear cuboid.now self.now }
+        requires distinct { AreDistinct (contents self.now.tree ++ self.now.items.items) }
         ensures none { IsNone result.best ↔ (inside_all (held_by self.now) cuboid.now ≡ []) }
         ensures best { IfSome result.best (IsBest (held_by self.now) cuboid.now) }
         ensures count { result.count ≡ count (held_by self.now) cuboid.now }
@@ -158,7 +159,8 @@ impl Waiting {
     {
         let Waiting { tree, items } = self;
         let _size = tree.size();
-        let tree = marked(alloc, tree, large, cuboid, Tag::THIN, steps)?;
+        let choice = Choice::within(cuboid);
+        let tree = marked(alloc, tree, large, &choice, Tag::THIN, steps)?;
         Ok(Waiting { tree, items })
     }
 

@@ -1,7 +1,7 @@
 //! Work on a tree beside watched subtrees. Each operation either crosses them, and is logged, or they are forgotten before.
 ghost use Rattle.std.specs.Prelude.{◌≡◌, ℕ, ◌+◌, ◌*◌, ◌<◌, ◌≤◌, ◌∷◌, List, Some, length, IfOk, IfSome, IsNone, ◌↔◌};
 ghost use Rattle.node_labels.specs.Labels.{keep_tag};
-ghost use Rattle.map_fold.specs.Contents.{in_box, mark, put};
+ghost use Rattle.map_fold.specs.Contents.{chosen_by, mark, put};
 ghost use Rattle.map_fold.specs.declared.op.Op.TheVariants.{Mark, Put};
 ghost use Rattle.kd_tree.specs.Shape.{levels, nodes};
 ghost use Rattle.kd_tree.specs.Walk.{times};
@@ -13,8 +13,8 @@ ghost use Rattle.rebuild_core.specs.Single.{IsQuiet, entered_nodes, unrebuilt};
 
 use kd_tree::{Path, Steps, Tree};
 use kd_update::{Replaced, Watch, Watches, marked_watched, put_watched, rebuilt, replaced};
-use map_fold::{NoMemory, Tag};
-use point_geom::{Cuboid, Point};
+use map_fold::{Choice, NoMemory, Tag};
+use point_geom::Point;
 use std::alloc::Global;
 use std::sync::ledger::Ledger;
 
@@ -26,27 +26,27 @@ pub(crate) struct Work {
 }
 
 impl Work {
-    // The work after this action on the items in the box.
+    // The work after this action on the chosen items.
     pub(crate) fn marked<L: Ledger>(
         self,
         alloc: Global,
         large: u32,
-        within: &Cuboid,
+        choice: &Choice,
         tag: Tag,
         steps: &mut Steps<L>,
     ) -> Result<Work, NoMemory>
         requires draft { (next : ℕ) × IsWork large next self }
-        ensures contents { IfOk result (λ w. contents w.tree ≡ mark (contents self.tree) (in_box within.now) tag) }
+        ensures contents { IfOk result (λ w. contents w.tree ≡ mark (contents self.tree) (chosen_by choice.now) tag) }
         ensures draft { (next last : ℕ) (ps : List PartAt) → IsDraft large next last ps self
             → IfOk result (IsDraftLeft large next last ps) }
-        ensures unrebuilt { HaveRoom self.watches → IsQuiet large (Mark (Some within.now) tag) self.tree
-            → IfOk result (λ w. w.tree ≡ unrebuilt (Mark (Some within.now) tag) self.tree) }
-        ensures ticks { HaveRoom self.watches → IsQuiet large (Mark (Some within.now) tag) self.tree
-            → steps.new ≤ steps.old + (5 * entered_nodes (Mark (Some within.now) tag) self.tree + 1) }
+        ensures unrebuilt { HaveRoom self.watches → IsQuiet large (Mark choice.now tag) self.tree
+            → IfOk result (λ w. w.tree ≡ unrebuilt (Mark choice.now tag) self.tree) }
+        ensures ticks { HaveRoom self.watches → IsQuiet large (Mark choice.now tag) self.tree
+            → steps.new ≤ steps.old + (5 * entered_nodes (Mark choice.now tag) self.tree + 1) }
     {
         let work = self.without_full(alloc, large, steps)?;
         let Work { tree, mut watches } = work;
-        let tree = marked_watched(alloc, tree, large, within, tag, &mut watches, steps)?;
+        let tree = marked_watched(alloc, tree, large, choice, tag, &mut watches, steps)?;
         Ok(Work { tree, watches })
     }
 

@@ -22,7 +22,7 @@ out true false n h = refl
 out true true n h = elim h [ inl e ↦ cc e | inr e ↦ cc e ]
 
 -- it is in a range that ends before them where the number itself is
-in_range-capped : (low high v : ℤ) → negsuc 999999999999999998 ≤ℤ low → high ≤ℤ pos 999999999999999999
+pub in_range-capped : (low high v : ℤ) → negsuc 999999999999999998 ≤ℤ low → high ≤ℤ pos 999999999999999999
     → in_range low high (capped v) ≡ in_range low high v
 in_range-capped low high (pos n) l h = elim (cases_lt n 1000000000000000000) [
   | inl e ↦ ap (λ (m : ℕ). in_range low high (pos m)) (omega arith)

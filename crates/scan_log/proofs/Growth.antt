@@ -2,6 +2,7 @@
 use Rattle.std.proofs.Common.{◌≡◌, ℕ, ◌+◌, ◌-◌, ◌≤◌, List, [], ◌∷◌, ◌++◌, length, Result, Ok, Err, refl, sym, ap, ◌∙◌, arith, append_assoc, length-append}
 use Rattle.std.specs.List.{AllByRecursion}
 use Rattle.map_fold.specs.Sizes.{Sizes}
+use Rattle.scan_log.specs.declared.format.Format.{Format}
 use Rattle.scan_log.specs.declared.command.Command.{Command}
 use Rattle.scan_log.specs.Steps.{◌>>=◌}
 use Rattle.scan_log.specs.Faults.{FaultAt}
@@ -18,17 +19,17 @@ extended s (Err e) = Err e
 pub record ReadSoFar (s : ScriptAt) (room : ℕ) (lines : List (ℕ × List ℕ)) (whole : Result ScriptAt FaultAt) : Type 0 where
   pub limits : IsScript s
   pub counted : points_of s.commands + room ≡ 4194304
-  pub left : extended s (commands_of (length s.commands) room lines) ≡ whole
+  pub left : extended s (commands_of s.format (length s.commands) room lines) ≡ whole
 
-extended-none : (sizes : Sizes) (read : Result (List Command) FaultAt)
-    → extended (record { sizes = sizes; commands = [] }) read ≡ (read >>= λ cs. Ok (record { sizes = sizes; commands = cs }))
-extended-none sizes (Ok cs) = refl
-extended-none sizes (Err e) = refl
+extended-none : (format : Format) (sizes : Sizes) (read : Result (List Command) FaultAt)
+    → extended (record { format = format; sizes = sizes; commands = [] }) read ≡ (read >>= λ cs. Ok (record { format = format; sizes = sizes; commands = cs }))
+extended-none format sizes (Ok cs) = refl
+extended-none format sizes (Err e) = refl
 
 -- nothing was read but the header
-pub read_start : (sizes : Sizes) (lines : List (ℕ × List ℕ)) → IsScript (record { sizes = sizes; commands = [] })
-    → ReadSoFar (record { sizes = sizes; commands = [] }) 4194304 lines (body_of sizes lines)
-read_start sizes lines is = record { limits = is; counted = refl; left = extended-none sizes (commands_of 0 4194304 lines) }
+pub read_start : (format : Format) (sizes : Sizes) (lines : List (ℕ × List ℕ)) → IsScript (record { format = format; sizes = sizes; commands = [] })
+    → ReadSoFar (record { format = format; sizes = sizes; commands = [] }) 4194304 lines (body_of format sizes lines)
+read_start format sizes lines is = record { limits = is; counted = refl; left = extended-none format sizes (commands_of format 0 4194304 lines) }
 
 -- what holds of each element and of one more
 AllByRecursion-push : {X : Type 0} (P : X → Type 0) (xs : List X) (y : X) → AllByRecursion P xs → P y
@@ -52,16 +53,16 @@ pub record ReadOneMore (s : ScriptAt) (room : ℕ) (lines : List (ℕ × List �
   pub after : ReadSoFar (with_command s c) (room - submitted c) lines whole
 
 pub read_more : (s : ScriptAt) (room n : ℕ) (line : List ℕ) (lines : List (ℕ × List ℕ)) (whole : Result ScriptAt FaultAt) (c : Command)
-    → ReadSoFar s room ((n, line) ∷ lines) whole → line_command (length s.commands) room line ≡ Ok c
+    → ReadSoFar s room ((n, line) ∷ lines) whole → line_command s.format (length s.commands) room line ≡ Ok c
     → ReadOneMore s room lines whole c
 read_more s room n line lines whole c r is =
-    let t = line_takes (length s.commands) room line c is in
+    let t = line_takes s.format (length s.commands) room line c is in
     let more : length (s.commands ++ c ∷ []) ≡ length s.commands + 1 = length-append s.commands (c ∷ []) in
     let points = points_of-push s.commands c in
     let fits : submitted c ≤ room = t.1.room in
     let limits : IsScript (with_command s c) = record {
       sizes = r.limits.sizes;
-      each = AllByRecursion-push IsCommand s.commands c r.limits.each t.1.limits;
+      each = AllByRecursion-push (IsCommand s.format) s.commands c r.limits.each t.1.limits;
       few = omega (arith, more, t.0);
       room = omega (arith, points, r.counted, fits);
     } in
@@ -71,6 +72,6 @@ read_more s room n line lines whole c r is =
       after = record {
         limits = limits;
         counted = omega (arith, points, r.counted, fits);
-        left = rw more (sym (rw is (extended-more s c (commands_of (length s.commands + 1) (room - submitted c) lines))) ∙ r.left);
+        left = rw more (sym (rw is (extended-more s c (commands_of s.format (length s.commands + 1) (room - submitted c) lines))) ∙ r.left);
       };
     }

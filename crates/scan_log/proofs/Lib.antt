@@ -2,7 +2,7 @@ pub mod StepLemmas
 pub mod FirstFields
 pub mod Caps
 pub mod FrontNumbers
-pub mod FirstCoordinates
+pub mod FirstNumbers
 pub mod Counts
 pub mod Numerals
 pub mod Spelled
@@ -12,6 +12,7 @@ pub mod Made
 pub mod Fronts
 pub mod Units
 pub mod Takes
+pub mod Wider
 pub mod TakesCommand
 pub mod Again
 pub mod Logs

@@ -6,19 +6,20 @@ use Rattle.std.specs.Result.{result_err}
 use Rattle.std.proofs.lemmas.Bool.Decides.{nat_tests}
 use Rattle.std.proofs.lemmas.List.Splits.{length-slice_split}
 use Rattle.map_fold.specs.Sizes.{Sizes}
+use Rattle.scan_log.specs.declared.format.Format.{Format}
 use Rattle.scan_log.specs.declared.command.Command.{Command}
 use Rattle.scan_log.specs.declared.fault.LogCause.{LogCause}
 use Rattle.scan_log.specs.declared.fault.LogCause.TheVariants.{TooManyCommands}
 use Rattle.scan_log.specs.Steps.{given}
 use Rattle.scan_log.specs.Lines.{lines_of, is_kept, kept_from, fields_of}
-use Rattle.scan_log.specs.Faults.{FaultAt, ◌orelse◌, check, command_fault, fields_points, at_line, commands_fault, lines_fault, line_feeds, first_fault}
-use Rattle.scan_log.specs.Reading.{command_of, sizes_of, on_line, line_command, commands_of, body_of, script_of, log_of}
+use Rattle.scan_log.specs.Faults.{FaultAt, ◌orelse◌, check, command_fault, fields_points, at_line, commands_fault, named_format, lines_fault, line_feeds, first_fault}
+use Rattle.scan_log.specs.Reading.{command_of, header_of, on_line, line_command, commands_of, body_of, script_of, log_of}
 use Rattle.scan_log.specs.Scripts.{ScriptAt, IsScript, IsCommand, submitted, points_of}
 use Rattle.scan_log.specs.Spelling.{LinesSpell, SpellsLines, Spells}
 use Rattle.scan_log.proofs.StepLemmas.{passed, bound, result_err-given, result_err-bind, result_err-last}
-use Rattle.scan_log.proofs.FieldFaults.{result_err-command_of, result_err-sizes_of}
-use Rattle.scan_log.proofs.TakesCommand.{TakesCommand, command_takes, sizes_take}
-use Rattle.scan_log.proofs.Again.{command_of-spelled, sizes_of-header_fields}
+use Rattle.scan_log.proofs.FieldFaults.{result_err-command_of, result_err-header_of, header_named}
+use Rattle.scan_log.proofs.TakesCommand.{TakesCommand, command_takes, header_takes}
+use Rattle.scan_log.proofs.Again.{command_of-spelled, header_of-header_fields}
 
 -- the lines without their numbers
 abbrev texts : List (ℕ × List ℕ) → List (List ℕ)
@@ -42,28 +43,28 @@ result_err-on_line n (Ok x) = refl
 result_err-on_line n (Err c) = refl
 
 -- the commands are spelled, and in their limits
-record TakesCommands (count room : ℕ) (lines : List (List ℕ)) (cs : List Command) : Type 0 where
-  spelled : LinesSpell lines cs
-  each : AllByRecursion IsCommand cs
+record TakesCommands (format : Format) (count room : ℕ) (lines : List (List ℕ)) (cs : List Command) : Type 0 where
+  spelled : LinesSpell format lines cs
+  each : AllByRecursion (IsCommand format) cs
   few : count + length cs ≤ 65536
   fit : points_of cs ≤ room
 
 -- the command of a line, and what it tells
-pub line_takes : (count room : ℕ) (line : List ℕ) (c : Command) → line_command count room line ≡ Ok c
-    → (count < 65536) × TakesCommand room (fields_of line) c
-line_takes count room line c e =
+pub line_takes : (format : Format) (count room : ℕ) (line : List ℕ) (c : Command) → line_command format count room line ≡ Ok c
+    → (count < 65536) × TakesCommand format room (fields_of line) c
+line_takes format count room line c e =
     let p = passed (nat_lt count 65536) TooManyCommands _ c e in
-    let few : count < 65536 = grind (arith, nat_tests, p.0) in (few, command_takes room (fields_of line) c p.1)
+    let few : count < 65536 = grind (arith, nat_tests, p.0) in (few, command_takes format room (fields_of line) c p.1)
 
-commands_take : (count room : ℕ) (lines : List (ℕ × List ℕ)) (cs : List Command) → count ≤ 65536 → commands_of count room lines ≡ Ok cs
-    → TakesCommands count room (texts lines) cs
-commands_take count room [] cs h e =
+commands_take : (format : Format) (count room : ℕ) (lines : List (ℕ × List ℕ)) (cs : List Command) → count ≤ 65536 → commands_of format count room lines ≡ Ok cs
+    → TakesCommands format count room (texts lines) cs
+commands_take format count room [] cs h e =
     let is : [] ≡ cs = cc in rw (← is) (record { spelled = tt; each = tt; few = omega (arith, h); fit = omega arith })
-commands_take count room ((n, line) ∷ lines) cs h e =
-    let c = bound (on_line n (line_command count room line)) _ cs e in
-    let here = line_takes count room line c.0 (off_line n _ c.0 c.1) in
-    let r = bound (commands_of (count + 1) (room - submitted c.0) lines) _ cs c.2 in
-    let later = commands_take (count + 1) (room - submitted c.0) lines r.0 (omega (arith, here.0)) r.1 in
+commands_take format count room ((n, line) ∷ lines) cs h e =
+    let c = bound (on_line n (line_command format count room line)) _ cs e in
+    let here = line_takes format count room line c.0 (off_line n _ c.0 c.1) in
+    let r = bound (commands_of format (count + 1) (room - submitted c.0) lines) _ cs c.2 in
+    let later = commands_take format (count + 1) (room - submitted c.0) lines r.0 (omega (arith, here.0)) r.1 in
     let is : c.0 ∷ r.0 ≡ cs = cc r.2 in
     rw (← is) (record {
       spelled = (here.1.spelled, later.spelled);
@@ -72,17 +73,17 @@ commands_take count room ((n, line) ∷ lines) cs h e =
       fit = omega (arith, later.fit, here.1.room);
     })
 
-commands_again : (count room : ℕ) (lines : List (ℕ × List ℕ)) (cs : List Command) → TakesCommands count room (texts lines) cs
-    → commands_of count room lines ≡ Ok cs
-commands_again count room [] [] t = refl
-commands_again count room [] (c ∷ cs) t = absurd t.spelled
-commands_again count room (l ∷ lines) [] t = absurd t.spelled
-commands_again count room ((n, line) ∷ lines) (c ∷ cs) t =
+commands_again : (format : Format) (count room : ℕ) (lines : List (ℕ × List ℕ)) (cs : List Command) → TakesCommands format count room (texts lines) cs
+    → commands_of format count room lines ≡ Ok cs
+commands_again format count room [] [] t = refl
+commands_again format count room [] (c ∷ cs) t = absurd t.spelled
+commands_again format count room (l ∷ lines) [] t = absurd t.spelled
+commands_again format count room ((n, line) ∷ lines) (c ∷ cs) t =
     let few = t.few in
     let fit = t.fit in
     let e : nat_lt count 65536 ≡ true = (let k : count < 65536 = omega (arith, few) in grind (arith, nat_tests)) in
-    let here : command_of room (fields_of line) ≡ Ok c = command_of-spelled room (fields_of line) c t.spelled.0 t.each.0 (omega (arith, fit)) in
-    let later = commands_again (count + 1) (room - submitted c) lines cs (record {
+    let here : command_of format room (fields_of line) ≡ Ok c = command_of-spelled format room (fields_of line) c t.spelled.0 t.each.0 (omega (arith, fit)) in
+    let later = commands_again format (count + 1) (room - submitted c) lines cs (record {
       spelled = t.spelled.1;
       each = t.each.1;
       few = omega (arith, few);
@@ -91,40 +92,42 @@ commands_again count room ((n, line) ∷ lines) (c ∷ cs) t =
     rw (e, here, later) refl
 
 -- the fault of a command's line
-result_err-fields : (count before room : ℕ) (fields : List (List ℕ)) → before + room ≡ 4194304 → 0 < length fields
-    → result_err (given (nat_lt count 65536) TooManyCommands (command_of room fields)) ≡ command_fault count before fields
-result_err-fields count before room [] h some = absurd (omega (arith, some))
-result_err-fields count before room (first ∷ fields) h some =
-    result_err-given (nat_lt count 65536) TooManyCommands (command_of room (first ∷ fields))
-    ∙ ap (λ (d : Option LogCause). check (nat_lt count 65536) TooManyCommands orelse d) (result_err-command_of before room first fields h)
+result_err-fields : (format : Format) (count before room : ℕ) (fields : List (List ℕ)) → before + room ≡ 4194304 → 0 < length fields
+    → result_err (given (nat_lt count 65536) TooManyCommands (command_of format room fields)) ≡ command_fault format count before fields
+result_err-fields format count before room [] h some = absurd (omega (arith, some))
+result_err-fields format count before room (first ∷ fields) h some =
+    result_err-given (nat_lt count 65536) TooManyCommands (command_of format room (first ∷ fields))
+    ∙ ap (λ (d : Option LogCause). check (nat_lt count 65536) TooManyCommands orelse d) (result_err-command_of format before room first fields h)
 
-result_err-line_command : (count before room : ℕ) (line : List ℕ) → before + room ≡ 4194304
-    → result_err (line_command count room line) ≡ command_fault count before (fields_of line)
-result_err-line_command count before room line h =
+result_err-line_command : (format : Format) (count before room : ℕ) (line : List ℕ) → before + room ≡ 4194304
+    → result_err (line_command format count room line) ≡ command_fault format count before (fields_of line)
+result_err-line_command format count before room line h =
     let some = length-slice_split (λ b. nat_eq b 32) line in
-    result_err-fields count before room (fields_of line) h (omega (arith, some))
+    result_err-fields format count before room (fields_of line) h (omega (arith, some))
 
-result_err-commands_of : (count before room : ℕ) (lines : List (ℕ × List ℕ)) → before + room ≡ 4194304
-    → result_err (commands_of count room lines) ≡ commands_fault count before lines
-result_err-commands_of count before room [] h = refl
-result_err-commands_of count before room ((n, line) ∷ lines) h =
-    let rest = commands_fault (count + 1) (before + fields_points (fields_of line)) lines in
-    result_err-bind (on_line n (line_command count room line)) _ rest (λ c is.
-    let t = (line_takes count room line c (off_line n _ c is)).1 in
-    result_err-last (commands_of (count + 1) (room - submitted c) lines) _
-    ∙ result_err-commands_of (count + 1) (before + fields_points (fields_of line)) (room - submitted c) lines (omega (arith, h, t.room, t.counted)))
+result_err-commands_of : (format : Format) (count before room : ℕ) (lines : List (ℕ × List ℕ)) → before + room ≡ 4194304
+    → result_err (commands_of format count room lines) ≡ commands_fault format count before lines
+result_err-commands_of format count before room [] h = refl
+result_err-commands_of format count before room ((n, line) ∷ lines) h =
+    let rest = commands_fault format (count + 1) (before + fields_points format (fields_of line)) lines in
+    result_err-bind (on_line n (line_command format count room line)) _ rest (λ c is.
+    let t = (line_takes format count room line c (off_line n _ c is)).1 in
+    result_err-last (commands_of format (count + 1) (room - submitted c) lines) _
+    ∙ result_err-commands_of format (count + 1) (before + fields_points format (fields_of line)) (room - submitted c) lines (omega (arith, h, t.room, t.counted)))
     ∙ ap (λ (d : Option FaultAt). d orelse rest)
-    (result_err-on_line n (line_command count room line) ∙ ap (at_line n) (result_err-line_command count before room line h))
+    (result_err-on_line n (line_command format count room line) ∙ ap (at_line n) (result_err-line_command format count before room line h))
 
-result_err-body_of : (sizes : Sizes) (lines : List (ℕ × List ℕ)) → result_err (body_of sizes lines) ≡ commands_fault 0 0 lines
-result_err-body_of sizes lines = result_err-last (commands_of 0 4194304 lines) _ ∙ result_err-commands_of 0 0 4194304 lines refl
+result_err-body_of : (format : Format) (sizes : Sizes) (lines : List (ℕ × List ℕ)) → result_err (body_of format sizes lines) ≡ commands_fault format 0 0 lines
+result_err-body_of format sizes lines = result_err-last (commands_of format 0 4194304 lines) _ ∙ result_err-commands_of format 0 0 4194304 lines refl
 
 result_err-script_of : (feeds : ℕ) (lines : List (ℕ × List ℕ)) → result_err (script_of feeds lines) ≡ lines_fault feeds lines
 result_err-script_of feeds [] = refl
 result_err-script_of feeds ((n, header) ∷ lines) =
-    result_err-bind (on_line n (sizes_of (fields_of header))) _ (commands_fault 0 0 lines) (λ sizes is. result_err-body_of sizes lines)
-    ∙ ap (λ (d : Option FaultAt). d orelse commands_fault 0 0 lines)
-    (result_err-on_line n (sizes_of (fields_of header)) ∙ ap (at_line n) (result_err-sizes_of (fields_of header)))
+    let fields = fields_of header in
+    result_err-bind (on_line n (header_of fields)) _ (commands_fault (named_format fields) 0 0 lines)
+    (λ head is. result_err-body_of head.0 head.1 lines ∙ ap (λ (f : Format). commands_fault f 0 0 lines) (header_named fields head (off_line n _ head is)))
+    ∙ ap (λ (d : Option FaultAt). d orelse commands_fault (named_format fields) 0 0 lines)
+    (result_err-on_line n (header_of fields) ∙ ap (at_line n) (result_err-header_of fields))
 
 -- what reading meets is the first fault
 pub result_err-log_of : (bytes : List ℕ) → result_err (log_of bytes) ≡ first_fault bytes
@@ -135,18 +138,18 @@ script_takes : (feeds : ℕ) (lines : List (ℕ × List ℕ)) (s : ScriptAt) →
     → SpellsLines (texts lines) s × IsScript s
 script_takes feeds [] s e = cc
 script_takes feeds ((n, header) ∷ lines) s e =
-    let sizes = bound (on_line n (sizes_of (fields_of header))) _ s e in
-    let cs = bound (commands_of 0 4194304 lines) _ s sizes.2 in
-    let is : record { sizes = sizes.0; commands = cs.0 } ≡ s = cc cs.2 in
-    let first = sizes_take (fields_of header) sizes.0 (off_line n _ sizes.0 sizes.1) in
-    let t = commands_take 0 4194304 lines cs.0 (omega arith) cs.1 in
+    let head = bound (on_line n (header_of (fields_of header))) _ s e in
+    let cs = bound (commands_of head.0.0 0 4194304 lines) _ s head.2 in
+    let is : record { format = head.0.0; sizes = head.0.1; commands = cs.0 } ≡ s = cc cs.2 in
+    let first = header_takes (fields_of header) head.0 (off_line n _ head.0 head.1) in
+    let t = commands_take head.0.0 0 4194304 lines cs.0 (omega arith) cs.1 in
     rw (← is) ((first.0, t.spelled), record { sizes = first.1; each = t.each; few = omega (arith, t.few); room = t.fit })
 
 script_again : (feeds : ℕ) (lines : List (ℕ × List ℕ)) (s : ScriptAt) → SpellsLines (texts lines) s → IsScript s → script_of feeds lines ≡ Ok s
 script_again feeds [] s spell is = absurd spell
 script_again feeds ((n, header) ∷ lines) s spell is =
-    let first : sizes_of (fields_of header) ≡ Ok s.sizes = ap sizes_of spell.0 ∙ sizes_of-header_fields s.sizes is.sizes in
-    let rest = commands_again 0 4194304 lines s.commands (record { spelled = spell.1; each = is.each; few = omega (arith, is.few); fit = is.room }) in
+    let first : header_of (fields_of header) ≡ Ok (s.format, s.sizes) = ap header_of spell.0 ∙ header_of-header_fields s.format s.sizes is.sizes in
+    let rest = commands_again s.format 0 4194304 lines s.commands (record { spelled = spell.1; each = is.each; few = omega (arith, is.few); fit = is.room }) in
     rw (first, rest) refl
 
 -- what is read of a log is spelled by it

@@ -8,9 +8,11 @@ use Rattle.std.specs.Fmt.{signed_decimal}
 use Rattle.std.proofs.lemmas.Bool.Decides.{nat_tests}
 use Rattle.std.proofs.lemmas.Int.{ints}
 use Rattle.std.proofs.lemmas.Fmt.{decimal_digit, digits_decimal, digits_value-decimal, first_decimal}
-use Rattle.point_geom.specs.Place.{IsCoordinate}
+use Rattle.scan_log.specs.declared.format.Format.{Format}
+use Rattle.scan_log.specs.Formats.{farthest}
+use Rattle.scan_log.specs.declared.format.Format.TheVariants.{One, Two}
 use Rattle.scan_log.specs.Numbers.{is_numeral, is_positive_numeral, number_in, natural_in, coordinate, corner_number}
-use Rattle.scan_log.specs.Scripts.{IsBoxNumber}
+use Rattle.scan_log.specs.Scripts.{IsBoxNumber, IsLogCoordinate}
 use Rattle.scan_log.proofs.Numerals.{own}
 use Rattle.scan_log.proofs.StepLemmas.{both}
 
@@ -81,9 +83,15 @@ natural_in-decimal low high n fits from to =
     rw (number_in-signed_decimal (pos low) (pos high) (pos n) (record { sfits = omega arith }) low_is high_is) refl
 
 -- a coordinate, and a number of a box's corner, are read where they are spelled
-pub coordinate-signed_decimal : (n : ℤ) → IsCoordinate n → coordinate (signed_decimal n) ≡ Ok n
-coordinate-signed_decimal n h = number_in-signed_decimal (negsuc 999999999) (pos 1000000000) n (grind (arith, ints, h.0, h.1)) h.0 h.1
+pub coordinate-signed_decimal : (format : Format) (n : ℤ) → IsLogCoordinate format n → coordinate format (signed_decimal n) ≡ Ok n
+coordinate-signed_decimal One n h = number_in-signed_decimal (negsuc 999999999) (pos 1000000000) n (grind (arith, ints, h.0, h.1)) h.0 h.1
+coordinate-signed_decimal Two n h = number_in-signed_decimal (negsuc 1099511627775) (pos 1099511627776) n (grind (arith, ints, h.0, h.1)) h.0 h.1
 
-pub corner_number-signed_decimal : (n : ℤ) → IsBoxNumber n → corner_number (signed_decimal n) ≡ Ok n
-corner_number-signed_decimal n h =
-    number_in-signed_decimal (negsuc 999999999) (pos 1000000001) n (grind (arith, ints, h.0, h.1)) h.0 h.1
+pub corner_number-signed_decimal : (format : Format) (n : ℤ) → IsBoxNumber format n → corner_number format (signed_decimal n) ≡ Ok n
+corner_number-signed_decimal One n h = number_in-signed_decimal (negsuc 999999999) (pos 1000000001) n (grind (arith, ints, h.0, h.1)) h.0 h.1
+corner_number-signed_decimal Two n h = number_in-signed_decimal (negsuc 1099511627775) (pos 1099511627777) n (grind (arith, ints, h.0, h.1)) h.0 h.1
+
+-- each greatest distance fits
+pub farthest_fits : (format : Format) → farthest format < 2 ^ 63
+farthest_fits One = omega arith
+farthest_fits Two = omega arith

@@ -1,6 +1,6 @@
 -- What is read of a line is spelled so, and in its limits.
 use Rattle.std.proofs.Common.{◌≡◌, ℕ, ◌+◌, ◌-◌, ◌/◌, ◌≤◌, Bool, true, false, cond, ◌⊎◌, inl, inr, List, [], ◌∷◌, ◌++◌, map, length, min, refl, sym, ap, ◌∙◌, arith, None, Some, Result, Ok}
-use Rattle.std.specs.Prelude.{◌&&◌, codes, decimal, nat_eq, nat_le}
+use Rattle.std.specs.Prelude.{◌&&◌, ◌||◌, if◌then◌else◌, codes, decimal, nat_eq, nat_le}
 use Rattle.std.specs.List.{flat_map}
 use Rattle.std.specs.Str.{bytes_eq}
 use Rattle.std.proofs.lemmas.Bool.Decides.{nat_tests}
@@ -10,59 +10,62 @@ use Rattle.point_geom.specs.Boxes.{unit_box}
 use Rattle.map_fold.specs.Sizes.{Sizes, AreSizes}
 use Rattle.map_fold.specs.Fold.{points_in}
 use Rattle.map_fold.specs.declared.update.Update.{Update}
-use Rattle.map_fold.specs.declared.update.Update.TheVariants.{Add, Thin, Delete, Suspend, Restore}
+use Rattle.map_fold.specs.declared.update.Update.TheVariants.{Add, Thin, Delete, Suspend, Restore, Expire}
+use Rattle.scan_log.specs.declared.format.Format.{Format}
+use Rattle.scan_log.specs.Formats.{version_field, is_version, format_of, has_expiry, farthest, width}
+use Rattle.scan_log.specs.declared.format.Format.TheVariants.{One, Two}
 use Rattle.scan_log.specs.declared.command.Command.{Command}
 use Rattle.scan_log.specs.declared.command.Command.TheVariants.{Change, Near, Inside, Sync}
 use Rattle.scan_log.specs.declared.fault.LogCause.TheVariants.{WrongCount}
 use Rattle.scan_log.specs.Steps.{◌>>=◌, given}
 use Rattle.scan_log.specs.Faults.{fields_points}
-use Rattle.scan_log.specs.Reading.{place_of, box_of, few_places_of, few_boxes_of, units_of, update_of, near_of, inside_of, called_of, digit_caller, caller_of, after_caller, command_of, sizes_of}
+use Rattle.scan_log.specs.Reading.{few_scanned_of, place_of, box_of, few_places_of, few_boxes_of, units_of, expiry_of, update_of, near_of, inside_of, called_of, digit_caller, caller_of, after_caller, command_of, header_of}
 use Rattle.scan_log.specs.Numbers.{natural_in}
-use Rattle.scan_log.specs.Scripts.{IsCaller, ArePoints, AreBoxes, IsUpdate, IsCommand, submitted}
-use Rattle.scan_log.specs.Spelling.{header_fields, point_fields, box_fields, caller_field, update_fields, command_fields, SpelledAsErase}
+use Rattle.scan_log.specs.Scripts.{AreScanned, IsCaller, ArePoints, AreBoxes, IsUpdate, IsCommand, submitted}
+use Rattle.scan_log.specs.Spelling.{header_fields, scanned_fields, box_fields, caller_field, update_fields, command_fields, SpelledAsErase}
 use Rattle.scan_log.proofs.StepLemmas.{both, bound, passed}
 use Rattle.scan_log.proofs.Spelled.{natural_takes}
-use Rattle.scan_log.proofs.Takes.{word_is, place_takes, box_takes, length-point_fields, few_places_take, few_boxes_take}
+use Rattle.scan_log.proofs.Takes.{word_is, place_takes, box_takes, few_places_take, few_scanned_take, few_boxes_take}
+use Rattle.scan_log.proofs.NumbersAgain.{farthest_fits}
 use Rattle.scan_log.proofs.Units.{units_are}
 
 -- the fields spell the command, in either way
-abbrev pub FieldsSpell : List (List ℕ) → Command → Type 0
-FieldsSpell fields c = (fields ≡ command_fields c) ⊎ SpelledAsErase fields c
+abbrev pub FieldsSpell : Format → List (List ℕ) → Command → Type 0
+FieldsSpell format fields c = (fields ≡ command_fields format c) ⊎ SpelledAsErase format fields c
 
 -- the fields spell the command, which is in its limits, and its points have room
-pub record TakesCommand (most : ℕ) (fields : List (List ℕ)) (c : Command) : Type 0 where
-  pub spelled : FieldsSpell fields c
-  pub limits : IsCommand c
+pub record TakesCommand (format : Format) (most : ℕ) (fields : List (List ℕ)) (c : Command) : Type 0 where
+  pub spelled : FieldsSpell format fields c
+  pub limits : IsCommand format c
   pub room : submitted c ≤ most
-  pub counted : fields_points fields ≡ submitted c
+  pub counted : fields_points format fields ≡ submitted c
 
 -- points that are added or thinned
-added_takes : (word : List ℕ) (done : List Place → Update) (room caller : ℕ) (args : List (List ℕ)) (u : Update) → IsCaller caller
-    → ((ps : List Place) → update_fields (done ps) ≡ word ∷ flat_map point_fields ps)
-    → ((ps : List Place) → ArePoints ps → IsUpdate (done ps)) → ((ps : List Place) → points_in (done ps) ≡ length ps)
-    → fields_points (caller_field caller ∷ word ∷ args) ≡ length args / 3
-    → (few_places_of (min 262144 room) args >>= λ ps. Ok (done ps)) ≡ Ok u → TakesCommand room (caller_field caller ∷ word ∷ args) (Change caller u)
-added_takes word done room caller args u from fields is count points e =
-    let r = bound (few_places_of (min 262144 room) args) _ u e in
-    let t = few_places_take (min 262144 room) args r.0 r.1 in
+added_takes : (format : Format) (word : List ℕ) (done : List Place → Update) (room caller : ℕ) (args : List (List ℕ)) (u : Update) → IsCaller caller
+    → ((ps : List Place) → update_fields format (done ps) ≡ word ∷ flat_map (scanned_fields format) ps)
+    → ((ps : List Place) → AreScanned format ps → IsUpdate format (done ps)) → ((ps : List Place) → points_in (done ps) ≡ length ps)
+    → fields_points format (caller_field caller ∷ word ∷ args) ≡ length args / width format
+    → (few_scanned_of format (min 262144 room) args >>= λ ps. Ok (done ps)) ≡ Ok u → TakesCommand format room (caller_field caller ∷ word ∷ args) (Change caller u)
+added_takes format word done room caller args u from fields is count points e =
+    let r = bound (few_scanned_of format (min 262144 room) args) _ u e in
+    let t = few_scanned_take format (min 262144 room) args r.0 r.1 in
     let made : done r.0 ≡ u = cc r.2 in
-    let same : length args / 3 ≡ length r.0 = omega (arith, ap length t.text, length-point_fields r.0) in
     rw (← made) (record {
       spelled = inl (rw (fields r.0, ← t.text) refl);
       limits = (from, is r.0 (t.some, omega (arith, t.few), t.each));
       room = rw (count r.0) (omega (arith, t.few));
-      counted = points ∙ same ∙ sym (count r.0);
+      counted = points ∙ t.count ∙ sym (count r.0);
     })
 
 -- boxes that something is done to
-boxes_done : (word : List ℕ) (done : List Bounds → Update) (room caller : ℕ) (args : List (List ℕ)) (u : Update) → IsCaller caller
-    → ((cs : List Bounds) → update_fields (done cs) ≡ word ∷ flat_map box_fields cs)
-    → ((cs : List Bounds) → AreBoxes cs → IsUpdate (done cs)) → ((cs : List Bounds) → points_in (done cs) ≡ 0)
-    → fields_points (caller_field caller ∷ word ∷ args) ≡ 0
-    → (few_boxes_of args >>= λ cs. Ok (done cs)) ≡ Ok u → TakesCommand room (caller_field caller ∷ word ∷ args) (Change caller u)
-boxes_done word done room caller args u from fields is count points e =
-    let r = bound (few_boxes_of args) _ u e in
-    let t = few_boxes_take args r.0 r.1 in
+boxes_done : (format : Format) (word : List ℕ) (done : List Bounds → Update) (room caller : ℕ) (args : List (List ℕ)) (u : Update) → IsCaller caller
+    → ((cs : List Bounds) → update_fields format (done cs) ≡ word ∷ flat_map box_fields cs)
+    → ((cs : List Bounds) → AreBoxes format cs → IsUpdate format (done cs)) → ((cs : List Bounds) → points_in (done cs) ≡ 0)
+    → fields_points format (caller_field caller ∷ word ∷ args) ≡ 0
+    → (few_boxes_of format args >>= λ cs. Ok (done cs)) ≡ Ok u → TakesCommand format room (caller_field caller ∷ word ∷ args) (Change caller u)
+boxes_done format word done room caller args u from fields is count points e =
+    let r = bound (few_boxes_of format args) _ u e in
+    let t = few_boxes_take format args r.0 r.1 in
     let made : done r.0 ≡ u = cc r.2 in
     rw (← made) (record {
       spelled = inl (rw (fields r.0, ← t.0) refl);
@@ -72,19 +75,37 @@ boxes_done word done room caller args u from fields is count points e =
     })
 
 -- points that are erased
-erased_takes : (room caller : ℕ) (args : List (List ℕ)) (u : Update) → IsCaller caller → (units_of args >>= λ cs. Ok (Delete cs)) ≡ Ok u
-    → TakesCommand room (caller_field caller ∷ codes "erase" ∷ args) (Change caller u)
+erased_takes : (format : Format) (room caller : ℕ) (args : List (List ℕ)) (u : Update) → IsCaller caller → (units_of format args >>= λ cs. Ok (Delete cs)) ≡ Ok u
+    → TakesCommand format room (caller_field caller ∷ codes "erase" ∷ args) (Change caller u)
 unfolding units_of
-erased_takes room caller args u from e =
-    let r = bound (units_of args) _ u e in
-    let p = bound (few_places_of 262144 args) _ r.0 r.1 in
-    let t = few_places_take 262144 args p.0 p.1 in
+erased_takes format room caller args u from e =
+    let r = bound (units_of format args) _ u e in
+    let p = bound (few_places_of format 262144 args) _ r.0 r.1 in
+    let t = few_places_take format 262144 args p.0 p.1 in
     let units : map unit_box p.0 ≡ r.0 = cc p.2 in
     let made : Delete (map unit_box p.0) ≡ u = cc (r.2, units) in
-    let are : ArePoints p.0 = (t.some, t.few, t.each) in
+    let are : ArePoints format p.0 = (t.some, t.few, t.each) in
     rw (← made) (record {
       spelled = inr (record { caller = caller; points = p.0; limits = are; command = refl; text = rw (← t.text) refl });
-      limits = (from, units_are p.0 are);
+      limits = (from, units_are format p.0 are);
+      room = omega arith;
+      counted = refl;
+    })
+
+-- what expires
+expiry_takes : (format : Format) (room caller : ℕ) (args : List (List ℕ)) (u : Update) → IsCaller caller → has_expiry format ≡ true → expiry_of args ≡ Ok u
+    → TakesCommand format room (caller_field caller ∷ codes "expire" ∷ args) (Change caller u)
+unfolding expiry_of
+expiry_takes One room caller args u from has e = cc
+expiry_takes Two room caller [] u from has e = cc
+expiry_takes Two room caller (f ∷ g ∷ args) u from has e = cc
+expiry_takes Two room caller (f ∷ []) u from has e =
+    let n = bound (natural_in 0 4194304 f) _ u e in
+    let made : Expire n.0 ≡ u = cc n.2 in
+    let t = natural_takes 0 4194304 f n.0 (omega arith) (omega arith) n.1 in
+    rw (← made) (record {
+      spelled = inl (rw (← t.text) refl);
+      limits = (from, t.to);
       room = omega arith;
       counted = refl;
     })
@@ -95,23 +116,28 @@ choice true r s x e = inl (refl, e)
 choice false r s x e = inr e
 
 -- the update of a word
-update_takes : (room caller : ℕ) (word : List ℕ) (args : List (List ℕ)) (u : Update) → IsCaller caller → update_of room word args ≡ Ok u
-    → TakesCommand room (caller_field caller ∷ word ∷ args) (Change caller u)
+update_takes : (format : Format) (room caller : ℕ) (word : List ℕ) (args : List (List ℕ)) (u : Update) → IsCaller caller → update_of format room word args ≡ Ok u
+    → TakesCommand format room (caller_field caller ∷ word ∷ args) (Change caller u)
 unfolding update_of
-update_takes room caller word args u from e =
+update_takes format room caller word args u from e =
     elim (choice (bytes_eq word (codes "add")) _ _ u e) [
-      | inl q ↦ rw (word_is word (codes "add") q.0) (added_takes (codes "add") Add room caller args u from (λ ps. refl) (λ ps h. h) (λ ps. refl) refl q.1)
+      | inl q ↦ rw (word_is word (codes "add") q.0) (added_takes format (codes "add") Add room caller args u from (λ ps. refl) (λ ps h. h) (λ ps. refl) refl q.1)
       | inr e ↦ elim (choice (bytes_eq word (codes "thin")) _ _ u e) [
-        | inl q ↦ rw (word_is word (codes "thin") q.0) (added_takes (codes "thin") Thin room caller args u from (λ ps. refl) (λ ps h. h) (λ ps. refl) refl q.1)
+        | inl q ↦ rw (word_is word (codes "thin") q.0) (added_takes format (codes "thin") Thin room caller args u from (λ ps. refl) (λ ps h. h) (λ ps. refl) refl q.1)
         | inr e ↦ elim (choice (bytes_eq word (codes "erase")) _ _ u e) [
-          | inl q ↦ rw (word_is word (codes "erase") q.0) (erased_takes room caller args u from q.1)
+          | inl q ↦ rw (word_is word (codes "erase") q.0) (erased_takes format room caller args u from q.1)
           | inr e ↦ elim (choice (bytes_eq word (codes "delete")) _ _ u e) [
-            | inl q ↦ rw (word_is word (codes "delete") q.0) (boxes_done (codes "delete") Delete room caller args u from (λ cs. refl) (λ cs h. h) (λ cs. refl) refl q.1)
+            | inl q ↦ rw (word_is word (codes "delete") q.0) (boxes_done format (codes "delete") Delete room caller args u from (λ cs. refl) (λ cs h. h) (λ cs. refl) refl q.1)
             | inr e ↦ elim (choice (bytes_eq word (codes "suspend")) _ _ u e) [
-              | inl q ↦ rw (word_is word (codes "suspend") q.0) (boxes_done (codes "suspend") Suspend room caller args u from (λ cs. refl) (λ cs h. h) (λ cs. refl) refl q.1)
+              | inl q ↦ rw (word_is word (codes "suspend") q.0) (boxes_done format (codes "suspend") Suspend room caller args u from (λ cs. refl) (λ cs h. h) (λ cs. refl) refl q.1)
               | inr e ↦ elim (choice (bytes_eq word (codes "restore")) _ _ u e) [
-                | inl q ↦ rw (word_is word (codes "restore") q.0) (boxes_done (codes "restore") Restore room caller args u from (λ cs. refl) (λ cs h. h) (λ cs. refl) refl q.1)
-                | inr e ↦ cc e
+                | inl q ↦ rw (word_is word (codes "restore") q.0) (boxes_done format (codes "restore") Restore room caller args u from (λ cs. refl) (λ cs h. h) (λ cs. refl) refl q.1)
+                | inr e ↦ elim (choice (has_expiry format && bytes_eq word (codes "expire")) _ _ u e) [
+                  | inl q ↦
+                      let b = both (has_expiry format) (bytes_eq word (codes "expire")) q.0 in
+                      rw (word_is word (codes "expire") b.1) (expiry_takes format room caller args u from b.0 q.1)
+                  | inr e ↦ cc e
+                ]
               ]
             ]
           ]
@@ -120,15 +146,15 @@ update_takes room caller word args u from e =
     ]
 
 -- a query, which submits nothing
-near_plain_takes : (room caller : ℕ) (k x y z : List ℕ) (c : Command) → IsCaller caller → near_of caller (k ∷ x ∷ y ∷ z ∷ []) ≡ Ok c
-    → TakesCommand room (caller_field caller ∷ codes "near" ∷ k ∷ x ∷ y ∷ z ∷ []) c
+near_plain_takes : (format : Format) (room caller : ℕ) (k x y z : List ℕ) (c : Command) → IsCaller caller → near_of format caller (k ∷ x ∷ y ∷ z ∷ []) ≡ Ok c
+    → TakesCommand format room (caller_field caller ∷ codes "near" ∷ k ∷ x ∷ y ∷ z ∷ []) c
 unfolding near_of
-near_plain_takes room caller k x y z c from e =
+near_plain_takes format room caller k x y z c from e =
     let n = bound (natural_in 1 256 k) _ c e in
-    let p = bound (place_of x y z) _ c n.2 in
+    let p = bound (place_of format x y z) _ c n.2 in
     let is : Near caller n.0 p.0 None ≡ c = cc p.2 in
     let tn = natural_takes 1 256 k n.0 (omega arith) (omega arith) n.1 in
-    let tp = place_takes x y z p.0 p.1 in
+    let tp = place_takes format x y z p.0 p.1 in
     rw (← is) (record {
       spelled = inl (rw (← tn.text, ← tp.0) refl);
       limits = (from, tn.from, tn.to, tp.1, λ r h. cc h);
@@ -136,19 +162,19 @@ near_plain_takes room caller k x y z c from e =
       counted = refl;
     })
 
-near_within_takes : (room caller : ℕ) (k x y z word r : List ℕ) (c : Command) → IsCaller caller
-    → near_of caller (k ∷ x ∷ y ∷ z ∷ word ∷ r ∷ []) ≡ Ok c
-    → TakesCommand room (caller_field caller ∷ codes "near" ∷ k ∷ x ∷ y ∷ z ∷ word ∷ r ∷ []) c
+near_within_takes : (format : Format) (room caller : ℕ) (k x y z word r : List ℕ) (c : Command) → IsCaller caller
+    → near_of format caller (k ∷ x ∷ y ∷ z ∷ word ∷ r ∷ []) ≡ Ok c
+    → TakesCommand format room (caller_field caller ∷ codes "near" ∷ k ∷ x ∷ y ∷ z ∷ word ∷ r ∷ []) c
 unfolding near_of
-near_within_takes room caller k x y z word r c from e =
+near_within_takes format room caller k x y z word r c from e =
     let w = passed (bytes_eq word (codes "within")) _ _ c e in
     let n = bound (natural_in 1 256 k) _ c w.1 in
-    let p = bound (place_of x y z) _ c n.2 in
-    let d = bound (natural_in 0 4000000000 r) _ c p.2 in
+    let p = bound (place_of format x y z) _ c n.2 in
+    let d = bound (natural_in 0 (farthest format) r) _ c p.2 in
     let is : Near caller n.0 p.0 (Some d.0) ≡ c = cc d.2 in
     let tn = natural_takes 1 256 k n.0 (omega arith) (omega arith) n.1 in
-    let tp = place_takes x y z p.0 p.1 in
-    let td = natural_takes 0 4000000000 r d.0 (omega arith) (omega arith) d.1 in
+    let tp = place_takes format x y z p.0 p.1 in
+    let td = natural_takes 0 (farthest format) r d.0 (omega arith) (farthest_fits format) d.1 in
     let text = ap (λ (v : List ℕ). caller_field caller ∷ codes "near" ∷ k ∷ x ∷ y ∷ z ∷ v ∷ r ∷ []) (word_is word (codes "within") w.0) in
     rw (← is) (record {
       spelled = inl (text ∙ rw (← tn.text, ← td.text) (ap (λ (fs : List (List ℕ)). caller_field caller ∷ codes "near" ∷ k ∷ (fs ++ codes "within" ∷ r ∷ [])) tp.0));
@@ -157,27 +183,27 @@ near_within_takes room caller k x y z word r c from e =
       counted = refl;
     })
 
-near_takes : (room caller : ℕ) (args : List (List ℕ)) (c : Command) → IsCaller caller → near_of caller args ≡ Ok c
-    → TakesCommand room (caller_field caller ∷ codes "near" ∷ args) c
+near_takes : (format : Format) (room caller : ℕ) (args : List (List ℕ)) (c : Command) → IsCaller caller → near_of format caller args ≡ Ok c
+    → TakesCommand format room (caller_field caller ∷ codes "near" ∷ args) c
 unfolding near_of
-near_takes room caller [] c from e = cc
-near_takes room caller (k ∷ []) c from e = cc
-near_takes room caller (k ∷ x ∷ []) c from e = cc
-near_takes room caller (k ∷ x ∷ y ∷ []) c from e = cc
-near_takes room caller (k ∷ x ∷ y ∷ z ∷ []) c from e = near_plain_takes room caller k x y z c from e
-near_takes room caller (k ∷ x ∷ y ∷ z ∷ word ∷ []) c from e = cc
-near_takes room caller (k ∷ x ∷ y ∷ z ∷ word ∷ r ∷ []) c from e = near_within_takes room caller k x y z word r c from e
-near_takes room caller (k ∷ x ∷ y ∷ z ∷ word ∷ r ∷ s ∷ rest) c from e = cc
+near_takes format room caller [] c from e = cc
+near_takes format room caller (k ∷ []) c from e = cc
+near_takes format room caller (k ∷ x ∷ []) c from e = cc
+near_takes format room caller (k ∷ x ∷ y ∷ []) c from e = cc
+near_takes format room caller (k ∷ x ∷ y ∷ z ∷ []) c from e = near_plain_takes format room caller k x y z c from e
+near_takes format room caller (k ∷ x ∷ y ∷ z ∷ word ∷ []) c from e = cc
+near_takes format room caller (k ∷ x ∷ y ∷ z ∷ word ∷ r ∷ []) c from e = near_within_takes format room caller k x y z word r c from e
+near_takes format room caller (k ∷ x ∷ y ∷ z ∷ word ∷ r ∷ s ∷ rest) c from e = cc
 
-inside_seven_takes : (room caller : ℕ) (k x y z f g h : List ℕ) (c : Command) → IsCaller caller
-    → inside_of caller (k ∷ x ∷ y ∷ z ∷ f ∷ g ∷ h ∷ []) ≡ Ok c → TakesCommand room (caller_field caller ∷ codes "box" ∷ k ∷ x ∷ y ∷ z ∷ f ∷ g ∷ h ∷ []) c
+inside_seven_takes : (format : Format) (room caller : ℕ) (k x y z f g h : List ℕ) (c : Command) → IsCaller caller
+    → inside_of format caller (k ∷ x ∷ y ∷ z ∷ f ∷ g ∷ h ∷ []) ≡ Ok c → TakesCommand format room (caller_field caller ∷ codes "box" ∷ k ∷ x ∷ y ∷ z ∷ f ∷ g ∷ h ∷ []) c
 unfolding inside_of
-inside_seven_takes room caller k x y z f g h c from e =
+inside_seven_takes format room caller k x y z f g h c from e =
     let n = bound (natural_in 1 256 k) _ c e in
-    let b = bound (box_of x y z f g h) _ c n.2 in
+    let b = bound (box_of format x y z f g h) _ c n.2 in
     let is : Inside caller n.0 b.0 ≡ c = cc b.2 in
     let tn = natural_takes 1 256 k n.0 (omega arith) (omega arith) n.1 in
-    let tb = box_takes x y z f g h b.0 b.1 in
+    let tb = box_takes format x y z f g h b.0 b.1 in
     rw (← is) (record {
       spelled = inl (rw (← tn.text, ← tb.0) refl);
       limits = (from, tn.from, tn.to, tb.1);
@@ -185,32 +211,32 @@ inside_seven_takes room caller k x y z f g h c from e =
       counted = refl;
     })
 
-inside_takes : (room caller : ℕ) (args : List (List ℕ)) (c : Command) → IsCaller caller → inside_of caller args ≡ Ok c
-    → TakesCommand room (caller_field caller ∷ codes "box" ∷ args) c
+inside_takes : (format : Format) (room caller : ℕ) (args : List (List ℕ)) (c : Command) → IsCaller caller → inside_of format caller args ≡ Ok c
+    → TakesCommand format room (caller_field caller ∷ codes "box" ∷ args) c
 unfolding inside_of
-inside_takes room caller [] c from e = cc
-inside_takes room caller (k ∷ []) c from e = cc
-inside_takes room caller (k ∷ x ∷ []) c from e = cc
-inside_takes room caller (k ∷ x ∷ y ∷ []) c from e = cc
-inside_takes room caller (k ∷ x ∷ y ∷ z ∷ []) c from e = cc
-inside_takes room caller (k ∷ x ∷ y ∷ z ∷ f ∷ []) c from e = cc
-inside_takes room caller (k ∷ x ∷ y ∷ z ∷ f ∷ g ∷ []) c from e = cc
-inside_takes room caller (k ∷ x ∷ y ∷ z ∷ f ∷ g ∷ h ∷ []) c from e = inside_seven_takes room caller k x y z f g h c from e
-inside_takes room caller (k ∷ x ∷ y ∷ z ∷ f ∷ g ∷ h ∷ i ∷ rest) c from e = cc
+inside_takes format room caller [] c from e = cc
+inside_takes format room caller (k ∷ []) c from e = cc
+inside_takes format room caller (k ∷ x ∷ []) c from e = cc
+inside_takes format room caller (k ∷ x ∷ y ∷ []) c from e = cc
+inside_takes format room caller (k ∷ x ∷ y ∷ z ∷ []) c from e = cc
+inside_takes format room caller (k ∷ x ∷ y ∷ z ∷ f ∷ []) c from e = cc
+inside_takes format room caller (k ∷ x ∷ y ∷ z ∷ f ∷ g ∷ []) c from e = cc
+inside_takes format room caller (k ∷ x ∷ y ∷ z ∷ f ∷ g ∷ h ∷ []) c from e = inside_seven_takes format room caller k x y z f g h c from e
+inside_takes format room caller (k ∷ x ∷ y ∷ z ∷ f ∷ g ∷ h ∷ i ∷ rest) c from e = cc
 
 -- a caller's word and its arguments
-called_takes : (room caller : ℕ) (word : List ℕ) (args : List (List ℕ)) (c : Command) → IsCaller caller → called_of room caller word args ≡ Ok c
-    → TakesCommand room (caller_field caller ∷ word ∷ args) c
+called_takes : (format : Format) (room caller : ℕ) (word : List ℕ) (args : List (List ℕ)) (c : Command) → IsCaller caller → called_of format room caller word args ≡ Ok c
+    → TakesCommand format room (caller_field caller ∷ word ∷ args) c
 unfolding called_of
-called_takes room caller word args c from e =
+called_takes format room caller word args c from e =
     elim (choice (bytes_eq word (codes "near")) _ _ c e) [
-      | inl q ↦ rw (word_is word (codes "near") q.0) (near_takes room caller args c from q.1)
+      | inl q ↦ rw (word_is word (codes "near") q.0) (near_takes format room caller args c from q.1)
       | inr e ↦ elim (choice (bytes_eq word (codes "box")) _ _ c e) [
-        | inl q ↦ rw (word_is word (codes "box") q.0) (inside_takes room caller args c from q.1)
+        | inl q ↦ rw (word_is word (codes "box") q.0) (inside_takes format room caller args c from q.1)
         | inr e ↦
-            let u = bound (update_of room word args) _ c e in
+            let u = bound (update_of format room word args) _ c e in
             let is : Change caller u.0 ≡ c = cc u.2 in
-            rw (← is) (update_takes room caller word args u.0 from u.1)
+            rw (← is) (update_takes format room caller word args u.0 from u.1)
       ]
     ]
 
@@ -236,10 +262,10 @@ caller_takes (c ∷ digits) caller e =
     (rw (at, t.0) refl, t.1)
 
 -- what is read as a command is spelled so
-pub command_takes : (room : ℕ) (fields : List (List ℕ)) (c : Command) → command_of room fields ≡ Ok c → TakesCommand room fields c
+pub command_takes : (format : Format) (room : ℕ) (fields : List (List ℕ)) (c : Command) → command_of format room fields ≡ Ok c → TakesCommand format room fields c
 unfolding command_of
-command_takes room [] c e = cc
-command_takes room (who ∷ fields) c e = elim (choice (bytes_eq who (codes "sync")) _ _ c e) [
+command_takes format room [] c e = cc
+command_takes format room (who ∷ fields) c e = elim (choice (bytes_eq who (codes "sync")) _ _ c e) [
   | inl q ↦ rw (word_is who (codes "sync") q.0) (sync fields q.1)
   | inr e ↦
       let caller = bound (caller_of who) _ c e in
@@ -247,44 +273,53 @@ command_takes room (who ∷ fields) c e = elim (choice (bytes_eq who (codes "syn
       rw t.0 (after fields caller.0 t.1 caller.2)
 ]
   where
-    sync : (fields : List (List ℕ)) → given (nat_eq (length fields) 0) WrongCount (Ok Sync) ≡ Ok c → TakesCommand room (codes "sync" ∷ fields) c
+    sync : (fields : List (List ℕ)) → given (nat_eq (length fields) 0) WrongCount (Ok Sync) ≡ Ok c → TakesCommand format room (codes "sync" ∷ fields) c
     sync [] e = let is : Sync ≡ c = cc in rw (← is) (record { spelled = inl refl; limits = tt; room = omega arith; counted = refl })
     sync (f ∷ fields) e =
         let p = passed (nat_eq (length (f ∷ fields)) 0) WrongCount (Ok Sync) c e in
         let none : length (f ∷ fields) ≡ 0 = grind (arith, nat_tests, p.0) in absurd (omega (arith, none))
 
-    after : (fields : List (List ℕ)) (caller : ℕ) → IsCaller caller → after_caller room caller fields ≡ Ok c
-        → TakesCommand room (caller_field caller ∷ fields) c
+    after : (fields : List (List ℕ)) (caller : ℕ) → IsCaller caller → after_caller format room caller fields ≡ Ok c
+        → TakesCommand format room (caller_field caller ∷ fields) c
     after [] caller from e = cc e
-    after (word ∷ args) caller from e = called_takes room caller word args c from e
+    after (word ∷ args) caller from e = called_takes format room caller word args c from e
 
 -- the fields of a header, one by one
-header_is : (a b c voxel d large : List ℕ) (v l : ℕ) → a ≡ codes "ikdmap" → b ≡ codes "1" → c ≡ codes "voxel"
+header_is : (format : Format) (a b c voxel d large : List ℕ) (v l : ℕ) → a ≡ codes "ikdmap" → b ≡ version_field format → c ≡ codes "voxel"
     → voxel ≡ decimal v → d ≡ codes "large" → large ≡ decimal l
-    → a ∷ b ∷ c ∷ voxel ∷ d ∷ large ∷ [] ≡ header_fields (record { voxel = v; large = l })
-header_is a b c voxel d large v l p q r x t y = cc
+    → a ∷ b ∷ c ∷ voxel ∷ d ∷ large ∷ [] ≡ header_fields format (record { voxel = v; large = l })
+header_is format a b c voxel d large v l p q r x t y = rw (p, q, r, x, t, y) refl
+
+-- a version that was read
+version_is : (b : List ℕ) → is_version b ≡ true → b ≡ version_field (format_of b)
+version_is b e = by_two (bytes_eq b (codes "1")) (bytes_eq b (codes "2")) refl refl e
+  where
+    by_two : (one two : Bool) → bytes_eq b (codes "1") ≡ one → bytes_eq b (codes "2") ≡ two → (one || two) ≡ true → b ≡ version_field (if two then Two else One)
+    by_two one true p q h = word_is b (codes "2") q
+    by_two true false p q h = word_is b (codes "1") p
+    by_two false false p q h = absurd (cc)
 
 -- what is read as a header is spelled so
-pub sizes_take : (fs : List (List ℕ)) (s : Sizes) → sizes_of fs ≡ Ok s → (fs ≡ header_fields s) × AreSizes s
-unfolding sizes_of
-sizes_take [] s e = cc
-sizes_take (a ∷ []) s e = cc
-sizes_take (a ∷ b ∷ []) s e = cc
-sizes_take (a ∷ b ∷ c ∷ []) s e = cc
-sizes_take (a ∷ b ∷ c ∷ d ∷ []) s e = cc
-sizes_take (a ∷ b ∷ c ∷ d ∷ f ∷ []) s e = cc
-sizes_take (a ∷ b ∷ c ∷ voxel ∷ d ∷ large ∷ []) s e =
-    let p = passed (bytes_eq a (codes "ikdmap") && bytes_eq b (codes "1") && bytes_eq c (codes "voxel") && bytes_eq d (codes "large")) _ _ s e in
-    let q = both (bytes_eq a (codes "ikdmap") && bytes_eq b (codes "1") && bytes_eq c (codes "voxel")) (bytes_eq d (codes "large")) p.0 in
-    let r = both (bytes_eq a (codes "ikdmap") && bytes_eq b (codes "1")) (bytes_eq c (codes "voxel")) q.0 in
-    let t = both (bytes_eq a (codes "ikdmap")) (bytes_eq b (codes "1")) r.0 in
+pub header_takes : (fs : List (List ℕ)) (s : Format × Sizes) → header_of fs ≡ Ok s → (fs ≡ header_fields s.0 s.1) × AreSizes s.1
+unfolding header_of
+header_takes [] s e = cc
+header_takes (a ∷ []) s e = cc
+header_takes (a ∷ b ∷ []) s e = cc
+header_takes (a ∷ b ∷ c ∷ []) s e = cc
+header_takes (a ∷ b ∷ c ∷ d ∷ []) s e = cc
+header_takes (a ∷ b ∷ c ∷ d ∷ f ∷ []) s e = cc
+header_takes (a ∷ b ∷ c ∷ voxel ∷ d ∷ large ∷ []) s e =
+    let p = passed (bytes_eq a (codes "ikdmap") && is_version b && bytes_eq c (codes "voxel") && bytes_eq d (codes "large")) _ _ s e in
+    let q = both (bytes_eq a (codes "ikdmap") && is_version b && bytes_eq c (codes "voxel")) (bytes_eq d (codes "large")) p.0 in
+    let r = both (bytes_eq a (codes "ikdmap") && is_version b) (bytes_eq c (codes "voxel")) q.0 in
+    let t = both (bytes_eq a (codes "ikdmap")) (is_version b) r.0 in
     let v = bound (natural_in 1 1000000 voxel) _ s p.1 in
     let l = bound (natural_in 16 1000000 large) _ s v.2 in
-    let is : record { voxel = v.0; large = l.0 } ≡ s = cc l.2 in
+    let is : (format_of b, record { voxel = v.0; large = l.0 }) ≡ s = cc l.2 in
     let tv = natural_takes 1 1000000 voxel v.0 (omega arith) (omega arith) v.1 in
     let tl = natural_takes 16 1000000 large l.0 (omega arith) (omega arith) l.1 in
     rw (← is) (
-      header_is a b c voxel d large v.0 l.0 (word_is a (codes "ikdmap") t.0) (word_is b (codes "1") t.1) (word_is c (codes "voxel") r.1) tv.text (word_is d (codes "large") q.1) tl.text,
+      header_is (format_of b) a b c voxel d large v.0 l.0 (word_is a (codes "ikdmap") t.0) (version_is b t.1) (word_is c (codes "voxel") r.1) tv.text (word_is d (codes "large") q.1) tl.text,
       record { voxel_from = tv.from; voxel_to = tv.to; large_from = tl.from; large_to = tl.to },
     )
-sizes_take (a ∷ b ∷ c ∷ d ∷ f ∷ g ∷ h ∷ more) s e = cc
+header_takes (a ∷ b ∷ c ∷ d ∷ f ∷ g ∷ h ∷ more) s e = cc

@@ -12,14 +12,20 @@ use Rattle.std.proofs.lemmas.Int.{ints}
 use Rattle.std.proofs.lemmas.Fmt.{decimal_is_IsNumeral}
 use Rattle.std.proofs.lemmas.List.Folds.{list_all-append}
 use Rattle.std.proofs.lemmas.Str.Parse.{tells_digits}
-use Rattle.point_geom.specs.Place.{Place, Bounds, IsPlace}
+use Rattle.point_geom.specs.Place.{Place, Bounds, bare}
+use Rattle.point_geom.specs.Corners.{corner_of}
+use Rattle.point_geom.specs.declared.cuboid.Corner.{Corner}
 use Rattle.map_fold.specs.Sizes.{Sizes, AreSizes}
 use Rattle.map_fold.specs.declared.update.Update.{Update}
-use Rattle.map_fold.specs.declared.update.Update.TheVariants.{Add, Thin, Delete, Suspend, Restore}
+use Rattle.map_fold.specs.declared.update.Update.TheVariants.{Add, Thin, Delete, Suspend, Restore, Expire}
+use Rattle.scan_log.specs.declared.format.Format.{Format}
+use Rattle.scan_log.proofs.NumbersAgain.{farthest_fits}
+use Rattle.scan_log.specs.Formats.{version_field, highest, box_highest, farthest}
+use Rattle.scan_log.specs.declared.format.Format.TheVariants.{One, Two}
 use Rattle.scan_log.specs.declared.command.Command.{Command}
 use Rattle.scan_log.specs.declared.command.Command.TheVariants.{Change, Near, Inside, Sync}
-use Rattle.scan_log.specs.Scripts.{IsBoxCorner, IsCallerBox, IsUpdate, IsCommand}
-use Rattle.scan_log.specs.Spelling.{header_fields, point_fields, box_fields, update_fields, within_fields, command_fields}
+use Rattle.scan_log.specs.Scripts.{IsBoxCorner, IsCallerBox, IsUpdate, IsCommand, IsLogPlace, IsScannedPlace, IsBoxNumber}
+use Rattle.scan_log.specs.Spelling.{header_fields, scanned_fields, corner_fields, point_fields, box_fields, update_fields, within_fields, command_fields}
 use Rattle.scan_log.proofs.WrittenLines.{is_in_field, are_fields}
 
 digits_field : (ds : List ℕ) → AllDigits 10 ds → list_all is_in_field ds ≡ true
@@ -34,58 +40,76 @@ decimal_field : (n : ℕ) → n < 2 ^ 64 → list_all is_in_field (decimal n) �
 decimal_field n h = digits_field (decimal n) (decimal_is_IsNumeral n h).0.1
 
 -- a number of a box's corner, and so each of a point
-number_field : (z : ℤ) → negsuc 999999999 ≤ℤ z → z ≤ℤ pos 1000000001 → list_all is_in_field (signed_decimal z) ≡ true
+number_field : (z : ℤ) → negsuc 1099511627775 ≤ℤ z → z ≤ℤ pos 1099511627777 → list_all is_in_field (signed_decimal z) ≡ true
 number_field (pos n) low high = decimal_field n (grind (arith, ints))
 number_field (negsuc n) low high = decimal_field (suc n) (grind (arith, ints))
 
-corner_fields : (p : Place) → IsBoxCorner p → are_fields (point_fields p) ≡ true
-corner_fields p h =
-    and_from _ _ (number_field p.x h.0.0 h.0.1) (and_from _ _ (number_field p.y h.1.0 h.1.1) (and_from _ _ (number_field p.z h.2.0 h.2.1) refl))
+log_field : (format : Format) (z : ℤ) → IsBoxNumber format z → list_all is_in_field (signed_decimal z) ≡ true
+log_field One z h = number_field z (grind (arith, ints, h.0)) (grind (arith, ints, h.1))
+log_field Two z h = number_field z h.0 h.1
+
+corner_numbers : (format : Format) (p : Corner) → IsBoxCorner format p → are_fields (corner_fields p) ≡ true
+corner_numbers format p h =
+    and_from _ _ (log_field format p.x h.0) (and_from _ _ (log_field format p.y h.1) (and_from _ _ (log_field format p.z h.2) refl))
 
 -- a point may be a corner
-place_number : (z : ℤ) → z ≤ℤ pos 1000000000 → z ≤ℤ pos 1000000001
-place_number z h = grind (arith, ints)
+place_number : (format : Format) (z : ℤ) → z ≤ℤ highest format → z ≤ℤ box_highest format
+place_number One z h = grind (arith, ints)
+place_number Two z h = grind (arith, ints)
 
-place_corner : (p : Place) → IsPlace p → IsBoxCorner p
-place_corner p h =
-    ((h.0.0, place_number p.x h.0.1), (h.1.0, place_number p.y h.1.1), (h.2.0, place_number p.z h.2.1))
+place_corner : (format : Format) (p : Place) → IsLogPlace format p → IsBoxCorner format (corner_of p)
+place_corner format p h =
+    ((h.0.0, place_number format p.x h.0.1), (h.1.0, place_number format p.y h.1.1), (h.2.0, place_number format p.z h.2.1))
 
-place_fields : (p : Place) → IsPlace p → are_fields (point_fields p) ≡ true
-place_fields p h = corner_fields p (place_corner p h)
+place_fields : (format : Format) (p : Place) → IsLogPlace format p → are_fields (point_fields p) ≡ true
+place_fields format p h = corner_numbers format (corner_of p) (place_corner format p h)
 
 append_fields : (fs gs : List (List ℕ)) → are_fields fs ≡ true → are_fields gs ≡ true → are_fields (fs ++ gs) ≡ true
 append_fields fs gs f g = list_all-append (list_all is_in_field) fs gs ∙ and_from _ _ f g
 
-cuboid_fields : (c : Bounds) → IsCallerBox c → are_fields (box_fields c) ≡ true
-cuboid_fields c h = append_fields (point_fields c.lo) (point_fields c.hi) (corner_fields c.lo h.lo) (corner_fields c.hi h.hi)
+scanned_numbers : (format : Format) (p : Place) → IsScannedPlace format p → are_fields (scanned_fields format p) ≡ true
+scanned_numbers One p h = place_fields One p (h.0, h.1, h.2, omega (arith, h.3))
+scanned_numbers Two p h =
+    let own : IsLogPlace Two (bare p) = (h.0, h.1, h.2, refl) in
+    append_fields (point_fields p) (decimal p.intensity ∷ []) (place_fields Two (bare p) own) (and_from _ _ (decimal_field p.intensity (omega (arith, h.3))) refl)
+
+cuboid_fields : (format : Format) (c : Bounds) → IsCallerBox format c → are_fields (box_fields c) ≡ true
+cuboid_fields format c h = append_fields (corner_fields c.lo) (corner_fields c.hi) (corner_numbers format c.lo h.lo) (corner_numbers format c.hi h.hi)
 
 each_fields : {X : Type 0} (P : X → Type 0) (f : X → List (List ℕ)) (one : (x : X) → P x → are_fields (f x) ≡ true) (xs : List X)
     → AllByRecursion P xs → are_fields (flat_map f xs) ≡ true
 each_fields P f one [] h = refl
 each_fields P f one (x ∷ xs) h = append_fields (f x) (flat_map f xs) (one x h.0) (each_fields P f one xs h.1)
 
-updates_fields : (u : Update) → IsUpdate u → are_fields (update_fields u) ≡ true
-updates_fields (Add ps) h = each_fields IsPlace point_fields place_fields ps h.2
-updates_fields (Thin ps) h = each_fields IsPlace point_fields place_fields ps h.2
-updates_fields (Delete cs) h = each_fields IsCallerBox box_fields cuboid_fields cs h.2
-updates_fields (Suspend cs) h = each_fields IsCallerBox box_fields cuboid_fields cs h.2
-updates_fields (Restore cs) h = each_fields IsCallerBox box_fields cuboid_fields cs h.2
+updates_fields : (format : Format) (u : Update) → IsUpdate format u → are_fields (update_fields format u) ≡ true
+updates_fields format (Add ps) h = each_fields (IsScannedPlace format) (scanned_fields format) (scanned_numbers format) ps h.2
+updates_fields format (Thin ps) h = each_fields (IsScannedPlace format) (scanned_fields format) (scanned_numbers format) ps h.2
+updates_fields format (Delete cs) h = each_fields (IsCallerBox format) box_fields (cuboid_fields format) cs h.2
+updates_fields format (Suspend cs) h = each_fields (IsCallerBox format) box_fields (cuboid_fields format) cs h.2
+updates_fields format (Restore cs) h = each_fields (IsCallerBox format) box_fields (cuboid_fields format) cs h.2
+updates_fields One (Expire n) h = absurd h
+updates_fields Two (Expire n) h = and_from _ _ (decimal_field n (omega (arith, h))) refl
 
-limits_fields : (within : Option ℕ) → ForSome within (λ r. r ≤ 4000000000) → are_fields (within_fields within) ≡ true
-limits_fields None h = refl
-limits_fields (Some r) h = let few : r ≤ 4000000000 = h r refl in and_from _ _ (decimal_field r (omega arith)) refl
+limits_fields : (format : Format) (within : Option ℕ) → ForSome within (λ r. r ≤ farthest format) → are_fields (within_fields within) ≡ true
+limits_fields format None h = refl
+limits_fields format (Some r) h = let few : r ≤ farthest format = h r refl in and_from _ _ (decimal_field r (omega (arith, farthest_fits format))) refl
 
 -- a command's fields
-pub commands_fields : (c : Command) → IsCommand c → are_fields (command_fields c) ≡ true
-commands_fields (Change caller u) h = and_from _ _ (decimal_field caller (omega (arith, h.0.1))) (updates_fields u h.1)
-commands_fields (Near caller k p within) h =
+pub commands_fields : (format : Format) (c : Command) → IsCommand format c → are_fields (command_fields format c) ≡ true
+commands_fields format (Change caller u) h = and_from _ _ (decimal_field caller (omega (arith, h.0.1))) (updates_fields format u h.1)
+commands_fields format (Near caller k p within) h =
     and_from _ _ (decimal_field caller (omega (arith, h.0.1)))
-    (and_from _ _ (decimal_field k (omega (arith, h.2))) (append_fields (point_fields p) (within_fields within) (place_fields p h.3) (limits_fields within h.4)))
-commands_fields (Inside caller k c) h =
-    and_from _ _ (decimal_field caller (omega (arith, h.0.1))) (and_from _ _ (decimal_field k (omega (arith, h.2))) (cuboid_fields c h.3))
-commands_fields Sync h = refl
+    (and_from _ _ (decimal_field k (omega (arith, h.2))) (append_fields (point_fields p) (within_fields within) (place_fields format p h.3) (limits_fields format within h.4)))
+commands_fields format (Inside caller k c) h =
+    and_from _ _ (decimal_field caller (omega (arith, h.0.1))) (and_from _ _ (decimal_field k (omega (arith, h.2))) (cuboid_fields format c h.3))
+commands_fields format Sync h = refl
+
+version_in_field : (format : Format) → list_all is_in_field (version_field format) ≡ true
+version_in_field One = refl
+version_in_field Two = refl
 
 -- the header's fields
-pub headers_fields : (s : Sizes) → AreSizes s → are_fields (header_fields s) ≡ true
-headers_fields s h =
-    and_from _ _ (decimal_field s.voxel (omega (arith, h.voxel_to))) (and_from _ _ (decimal_field s.large (omega (arith, h.large_to))) refl)
+pub headers_fields : (format : Format) (s : Sizes) → AreSizes s → are_fields (header_fields format s) ≡ true
+headers_fields format s h =
+    and_from _ _ (version_in_field format)
+    (and_from _ _ (decimal_field s.voxel (omega (arith, h.voxel_to))) (and_from _ _ (decimal_field s.large (omega (arith, h.large_to))) refl))

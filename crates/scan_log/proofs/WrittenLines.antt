@@ -8,10 +8,11 @@ use Rattle.std.proofs.lemmas.List.{append-nil}
 use Rattle.std.proofs.lemmas.List.Folds.{list_all-append}
 use Rattle.std.proofs.lemmas.List.Sums.{sum_by-append, sum_by-cons}
 use Rattle.point_geom.specs.Place.{Place, Bounds}
+use Rattle.scan_log.specs.declared.format.Format.{Format}
 use Rattle.scan_log.specs.Lines.{lines_of, fields_of}
 use Rattle.scan_log.specs.Faults.{line_feeds}
-use Rattle.scan_log.specs.Spelling.{point_fields, box_fields}
-use Rattle.scan_log.specs.Transcript.{spaced, all_spaced, point_text}
+use Rattle.scan_log.specs.Spelling.{scanned_fields, box_fields}
+use Rattle.scan_log.specs.Transcript.{spaced, all_spaced, scanned_text}
 use Rattle.scan_log.specs.Written.{joined, written_line, cuboid_text}
 
 -- the fields of several, and the several fields
@@ -19,8 +20,8 @@ all_spaced-flat_map : {X : Type 0} (f : X → List (List ℕ)) (xs : List X) →
 all_spaced-flat_map f [] = refl
 all_spaced-flat_map f (x ∷ xs) = flat_map-append spaced (f x) (flat_map f xs) ∙ ap (λ t. all_spaced (f x) ++ t) (all_spaced-flat_map f xs)
 
-pub spaced_points : (ps : List Place) → all_spaced (flat_map point_fields ps) ≡ flat_map point_text ps
-spaced_points ps = all_spaced-flat_map point_fields ps
+pub spaced_points : (format : Format) (ps : List Place) → all_spaced (flat_map (scanned_fields format) ps) ≡ flat_map (scanned_text format) ps
+spaced_points format ps = all_spaced-flat_map (scanned_fields format) ps
 
 pub spaced_boxes : (cs : List Bounds) → all_spaced (flat_map box_fields cs) ≡ flat_map cuboid_text cs
 spaced_boxes cs = all_spaced-flat_map box_fields cs

@@ -1,9 +1,12 @@
 -- The first fault of a log, in the order of the checks.
-use Rattle.std.specs.Prelude.{ℕ, ◌+◌, ◌/◌, ◌%◌, ℤ, pos, negsuc, Bool, true, false, not, ◌&&◌, ◌||◌, ◌==◌, nat_lt, nat_le, int_le, List, [], ◌∷◌, ◌++◌, count_by, length, codes, decimal, if◌then◌else◌}
+use Rattle.std.specs.Prelude.{ℕ, ◌+◌, ◌/◌, ◌%◌, ℤ, pos, Bool, true, false, not, ◌&&◌, ◌||◌, ◌==◌, nat_lt, nat_le, int_le, List, [], ◌∷◌, ◌++◌, count_by, length, codes, decimal, if◌then◌else◌}
 use Rattle.std.specs.Str.{bytes_eq}
 use Rattle.std.specs.Str.Parse.{signed_digits_value}
 use Rattle.std.specs.declared.option.Option.{Option}
 use Rattle.std.specs.declared.option.Option.TheVariants.{None, Some}
+use Rattle.scan_log.specs.declared.format.Format.{Format}
+use Rattle.scan_log.specs.declared.format.Format.TheVariants.{One, Two}
+use Rattle.scan_log.specs.Formats.{is_version, format_of, lowest, highest, box_highest, farthest, width, greatest_intensity, has_expiry}
 use Rattle.scan_log.specs.declared.fault.LogCause.{LogCause}
 use Rattle.scan_log.specs.declared.fault.LogCause.TheVariants.{NoHeader, UnknownCommand, BadCaller, BadNumber, OutOfRange, WrongCount, InvertedBox, TooManyPoints, TooManyCommands}
 use Rattle.scan_log.specs.Lines.{lines_of, kept_from, fields_of}
@@ -57,61 +60,74 @@ abbrev pub number_fault : ℤ → ℤ → List ℕ → Option LogCause
 number_fault low high f = check (is_numeral f) BadNumber orelse check (int_le low (value f) && int_le (value f) high) OutOfRange
 
 -- each is to be a coordinate of a point
-abbrev pub coordinates_fault : List (List ℕ) → Option LogCause
-coordinates_fault [] = None
-coordinates_fault (f ∷ fs) = number_fault (negsuc 999999999) (pos 1000000000) f orelse coordinates_fault fs
+abbrev pub coordinates_fault : Format → List (List ℕ) → Option LogCause
+coordinates_fault format [] = None
+coordinates_fault format (f ∷ fs) = number_fault (lowest format) (highest format) f orelse coordinates_fault format fs
+
+-- the numbers of the points that are added or thinned, where each fourth may be an intensity
+abbrev pub scanned_fault : Format → List (List ℕ) → Option LogCause
+scanned_fault One args = coordinates_fault One args
+scanned_fault Two (x ∷ y ∷ z ∷ intensity ∷ rest) =
+    coordinates_fault Two (x ∷ y ∷ z ∷ []) orelse number_fault (pos 0) (pos (greatest_intensity Two)) intensity orelse scanned_fault Two rest
+scanned_fault Two args = None
 
 -- a number of a box's corner
-abbrev pub corner_fault : List ℕ → Option LogCause
-corner_fault f = number_fault (negsuc 999999999) (pos 1000000001) f
+abbrev pub corner_fault : Format → List ℕ → Option LogCause
+corner_fault format f = number_fault (lowest format) (box_highest format) f
 
 -- six numbers, of which no upper one is below its lower one, and then the next box
-abbrev pub boxes_fault : List (List ℕ) → Option LogCause
-boxes_fault (a ∷ b ∷ c ∷ d ∷ e ∷ f ∷ rest) =
-    corner_fault a orelse corner_fault b orelse corner_fault c orelse corner_fault d orelse corner_fault e orelse corner_fault f
+abbrev pub boxes_fault : Format → List (List ℕ) → Option LogCause
+boxes_fault format (a ∷ b ∷ c ∷ d ∷ e ∷ f ∷ rest) =
+    corner_fault format a orelse corner_fault format b orelse corner_fault format c orelse corner_fault format d orelse corner_fault format e orelse corner_fault format f
     orelse check (int_le (value a) (value d) && int_le (value b) (value e) && int_le (value c) (value f)) InvertedBox
-    orelse boxes_fault rest
-boxes_fault fields = None
+    orelse boxes_fault format rest
+boxes_fault format fields = None
 
 -- the arguments stand in groups of n, and there is at least one
 abbrev pub are_groups : ℕ → List (List ℕ) → Bool
 are_groups n args = not (length args == 0) && (length args % n == 0)
 
 -- the points of add and thin, where so many were submitted before
-abbrev pub points_fault : ℕ → List (List ℕ) → Option LogCause
-points_fault before args =
-    check (are_groups 3 args) WrongCount
-    orelse check (nat_le (length args / 3) 262144 && nat_le (before + length args / 3) 4194304) TooManyPoints
-    orelse coordinates_fault args
+abbrev pub points_fault : Format → ℕ → List (List ℕ) → Option LogCause
+points_fault format before args =
+    check (are_groups (width format) args) WrongCount
+    orelse check (nat_le (length args / width format) 262144 && nat_le (before + length args / width format) 4194304) TooManyPoints
+    orelse scanned_fault format args
 
-abbrev pub erase_fault : List (List ℕ) → Option LogCause
-erase_fault args = check (are_groups 3 args) WrongCount orelse check (nat_le (length args / 3) 262144) TooManyPoints orelse coordinates_fault args
+abbrev pub erase_fault : Format → List (List ℕ) → Option LogCause
+erase_fault format args = check (are_groups 3 args) WrongCount orelse check (nat_le (length args / 3) 262144) TooManyPoints orelse coordinates_fault format args
 
 -- the boxes of delete, suspend and restore
-abbrev pub marks_fault : List (List ℕ) → Option LogCause
-marks_fault args = check (are_groups 6 args) WrongCount orelse check (nat_le (length args / 6) 262144) TooManyPoints orelse boxes_fault args
+abbrev pub marks_fault : Format → List (List ℕ) → Option LogCause
+marks_fault format args = check (are_groups 6 args) WrongCount orelse check (nat_le (length args / 6) 262144) TooManyPoints orelse boxes_fault format args
+
+-- the number of an expiry
+abbrev pub expire_fault : List (List ℕ) → Option LogCause
+expire_fault (n ∷ []) = number_fault (pos 0) (pos 4194304) n
+expire_fault args = Some WrongCount
 
 abbrev pub k_fault : List ℕ → Option LogCause
 k_fault f = number_fault (pos 1) (pos 256) f
 
-abbrev pub near_fault : List (List ℕ) → Option LogCause
-near_fault (k ∷ x ∷ y ∷ z ∷ []) = k_fault k orelse coordinates_fault (x ∷ y ∷ z ∷ [])
-near_fault (k ∷ x ∷ y ∷ z ∷ word ∷ r ∷ []) =
-    check (bytes_eq word (codes "within")) WrongCount orelse k_fault k orelse coordinates_fault (x ∷ y ∷ z ∷ []) orelse number_fault (pos 0) (pos 4000000000) r
-near_fault args = Some WrongCount
+abbrev pub near_fault : Format → List (List ℕ) → Option LogCause
+near_fault format (k ∷ x ∷ y ∷ z ∷ []) = k_fault k orelse coordinates_fault format (x ∷ y ∷ z ∷ [])
+near_fault format (k ∷ x ∷ y ∷ z ∷ word ∷ r ∷ []) =
+    check (bytes_eq word (codes "within")) WrongCount orelse k_fault k orelse coordinates_fault format (x ∷ y ∷ z ∷ []) orelse number_fault (pos 0) (pos (farthest format)) r
+near_fault format args = Some WrongCount
 
-abbrev pub box_fault : List (List ℕ) → Option LogCause
-box_fault (k ∷ a ∷ b ∷ c ∷ d ∷ e ∷ f ∷ []) = k_fault k orelse boxes_fault (a ∷ b ∷ c ∷ d ∷ e ∷ f ∷ [])
-box_fault args = Some WrongCount
+abbrev pub box_fault : Format → List (List ℕ) → Option LogCause
+box_fault format (k ∷ a ∷ b ∷ c ∷ d ∷ e ∷ f ∷ []) = k_fault k orelse boxes_fault format (a ∷ b ∷ c ∷ d ∷ e ∷ f ∷ [])
+box_fault format args = Some WrongCount
 
 -- a command of this word and these arguments, where so many points were submitted before
-abbrev pub word_fault : ℕ → List ℕ → List (List ℕ) → Option LogCause
-word_fault before word args =
-    if bytes_eq word (codes "add") || bytes_eq word (codes "thin") then points_fault before args else (
-    if bytes_eq word (codes "erase") then erase_fault args else (
-    if bytes_eq word (codes "delete") || bytes_eq word (codes "suspend") || bytes_eq word (codes "restore") then marks_fault args else (
-    if bytes_eq word (codes "near") then near_fault args else (
-    if bytes_eq word (codes "box") then box_fault args else Some UnknownCommand))))
+abbrev pub word_fault : Format → ℕ → List ℕ → List (List ℕ) → Option LogCause
+word_fault format before word args =
+    if bytes_eq word (codes "add") || bytes_eq word (codes "thin") then points_fault format before args else (
+    if bytes_eq word (codes "erase") then erase_fault format args else (
+    if bytes_eq word (codes "delete") || bytes_eq word (codes "suspend") || bytes_eq word (codes "restore") then marks_fault format args else (
+    if bytes_eq word (codes "near") then near_fault format args else (
+    if bytes_eq word (codes "box") then box_fault format args else (
+    if has_expiry format && bytes_eq word (codes "expire") then expire_fault args else Some UnknownCommand)))))
 
 -- one digit from 1 to 8
 abbrev pub is_caller : List ℕ → Bool
@@ -119,29 +135,34 @@ is_caller (c ∷ []) = nat_le 49 c && nat_le c 56
 is_caller digits = false
 
 -- a command of a caller
-abbrev pub called_fault : ℕ → List ℕ → List (List ℕ) → Option LogCause
-called_fault before (c ∷ digits) (word ∷ args) = check (c == 64) UnknownCommand orelse check (is_caller digits) BadCaller orelse word_fault before word args
-called_fault before (c ∷ digits) [] = check (c == 64) UnknownCommand orelse check (is_caller digits) BadCaller orelse Some UnknownCommand
-called_fault before [] fields = Some UnknownCommand
+abbrev pub called_fault : Format → ℕ → List ℕ → List (List ℕ) → Option LogCause
+called_fault format before (c ∷ digits) (word ∷ args) = check (c == 64) UnknownCommand orelse check (is_caller digits) BadCaller orelse word_fault format before word args
+called_fault format before (c ∷ digits) [] = check (c == 64) UnknownCommand orelse check (is_caller digits) BadCaller orelse Some UnknownCommand
+called_fault format before [] fields = Some UnknownCommand
 
 -- the fault of a command's fields, where so many commands and points stand before it
-abbrev pub command_fault : ℕ → ℕ → List (List ℕ) → Option LogCause
-command_fault commands points (first ∷ fields) =
+abbrev pub command_fault : Format → ℕ → ℕ → List (List ℕ) → Option LogCause
+command_fault format commands points (first ∷ fields) =
     check (nat_lt commands 65536) TooManyCommands
-    orelse (if bytes_eq first (codes "sync") then check (length fields == 0) WrongCount else called_fault points first fields)
-command_fault commands points [] = Some UnknownCommand
+    orelse (if bytes_eq first (codes "sync") then check (length fields == 0) WrongCount else called_fault format points first fields)
+command_fault format commands points [] = Some UnknownCommand
 
 -- how many points the fields of a good command submit
-abbrev pub fields_points : List (List ℕ) → ℕ
-fields_points (caller ∷ word ∷ args) = if bytes_eq word (codes "add") || bytes_eq word (codes "thin") then length args / 3 else 0
-fields_points fields = 0
+abbrev pub fields_points : Format → List (List ℕ) → ℕ
+fields_points format (caller ∷ word ∷ args) = if bytes_eq word (codes "add") || bytes_eq word (codes "thin") then length args / width format else 0
+fields_points format fields = 0
 
 -- the fault of the header's fields
 abbrev pub header_fault : List (List ℕ) → Option LogCause
 header_fault (a ∷ b ∷ c ∷ edge ∷ d ∷ large ∷ []) =
-    check (bytes_eq a (codes "ikdmap") && bytes_eq b (codes "1") && bytes_eq c (codes "voxel") && bytes_eq d (codes "large")) NoHeader
+    check (bytes_eq a (codes "ikdmap") && is_version b && bytes_eq c (codes "voxel") && bytes_eq d (codes "large")) NoHeader
     orelse number_fault (pos 1) (pos 1000000) edge orelse number_fault (pos 16) (pos 1000000) large
 header_fault fields = Some NoHeader
+
+-- the version that a good header's fields name
+abbrev pub named_format : List (List ℕ) → Format
+named_format (a ∷ b ∷ fields) = format_of b
+named_format fields = One
 
 -- a line's fault
 abbrev pub at_line : ℕ → Option LogCause → Option FaultAt
@@ -149,16 +170,16 @@ at_line n None = None
 at_line n (Some c) = Some (record { line = n; cause = c })
 
 -- the first fault of the commands' lines, where so many commands and points stand before them
-abbrev pub commands_fault : ℕ → ℕ → List (ℕ × List ℕ) → Option FaultAt
-commands_fault commands points [] = None
-commands_fault commands points ((n, line) ∷ lines) =
-    at_line n (command_fault commands points (fields_of line))
-    orelse commands_fault (commands + 1) (points + fields_points (fields_of line)) lines
+abbrev pub commands_fault : Format → ℕ → ℕ → List (ℕ × List ℕ) → Option FaultAt
+commands_fault format commands points [] = None
+commands_fault format commands points ((n, line) ∷ lines) =
+    at_line n (command_fault format commands points (fields_of line))
+    orelse commands_fault format (commands + 1) (points + fields_points format (fields_of line)) lines
 
 -- the first fault of the kept lines, where the log has so many line feeds
 abbrev pub lines_fault : ℕ → List (ℕ × List ℕ) → Option FaultAt
 lines_fault feeds [] = Some (record { line = feeds + 1; cause = NoHeader })
-lines_fault feeds ((n, header) ∷ lines) = at_line n (header_fault (fields_of header)) orelse commands_fault 0 0 lines
+lines_fault feeds ((n, header) ∷ lines) = at_line n (header_fault (fields_of header)) orelse commands_fault (named_format (fields_of header)) 0 0 lines
 
 abbrev pub line_feeds : List ℕ → ℕ
 line_feeds bytes = count_by (λ b. b == 10) bytes

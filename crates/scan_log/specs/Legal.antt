@@ -68,4 +68,4 @@ pub record IsLegalTranscript (log out : List ℕ) : Type 0 where
   pub spelled : Spells log script
   pub told : List Reply
   pub legal : AreLegalReplies script told
-  pub lines : out ≡ lines_text script.commands told
+  pub lines : out ≡ lines_text script.format script.commands told

@@ -1,6 +1,7 @@
 pub mod Lines
 pub mod Steps
 pub mod Numbers
+pub mod Formats
 pub mod Scripts
 pub mod Spelling
 pub mod Faults

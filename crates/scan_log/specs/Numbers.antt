@@ -4,6 +4,8 @@ use Rattle.std.specs.declared.result.Result.{Result}
 use Rattle.std.specs.declared.result.Result.TheVariants.{Ok}
 use Rattle.std.specs.Str.{all_ascii_digits}
 use Rattle.std.specs.Str.Parse.{digits_value, signed_digits_value}
+use Rattle.scan_log.specs.declared.format.Format.{Format}
+use Rattle.scan_log.specs.Formats.{lowest, highest, box_highest}
 use Rattle.scan_log.specs.declared.fault.LogCause.{LogCause}
 use Rattle.scan_log.specs.declared.fault.LogCause.TheVariants.{BadNumber, OutOfRange}
 use Rattle.scan_log.specs.Steps.{◌>>=◌, given}
@@ -54,6 +56,16 @@ plain_value digits = pos (digits_value 10 digits)
 abbrev pub in_range : ℤ → ℤ → ℤ → Result ℤ LogCause
 in_range low high n = given (int_le low n && int_le n high) OutOfRange (Ok n)
 
+-- the number that a field spells, as far as it counts
+abbrev pub read_number : List ℕ → Result ℤ LogCause
+read_number field = given (is_numeral field) BadNumber (Ok (capped (signed_digits_value 10 field)))
+
+-- a number from low to high, where it isn't below 0
+abbrev pub natural_range : ℕ → ℕ → ℤ → Result ℕ LogCause
+natural_range low high n = do
+  m ← in_range (pos low) (pos high) n
+  Ok (unsigned_abs m)
+
 -- the number that a field spells, from low to high
 abbrev pub number_in : ℤ → ℤ → List ℕ → Result ℤ LogCause
 number_in low high field = given (is_numeral field) BadNumber (in_range low high (signed_digits_value 10 field))
@@ -65,9 +77,9 @@ natural_in low high field = do
   Ok (unsigned_abs n)
 
 -- a coordinate of a point
-abbrev pub coordinate : List ℕ → Result ℤ LogCause
-coordinate field = number_in (negsuc 999999999) (pos 1000000000) field
+abbrev pub coordinate : Format → List ℕ → Result ℤ LogCause
+coordinate format field = number_in (lowest format) (highest format) field
 
 -- a number of a box's corner
-abbrev pub corner_number : List ℕ → Result ℤ LogCause
-corner_number field = number_in (negsuc 999999999) (pos 1000000001) field
+abbrev pub corner_number : Format → List ℕ → Result ℤ LogCause
+corner_number format field = number_in (lowest format) (box_highest format) field

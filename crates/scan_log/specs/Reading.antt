@@ -6,57 +6,91 @@ use Rattle.std.specs.declared.result.Result.{Result}
 use Rattle.std.specs.declared.result.Result.TheVariants.{Ok, Err}
 use Rattle.point_geom.specs.Place.{Place, Bounds}
 use Rattle.point_geom.specs.Boxes.{unit_box}
-use Rattle.point_geom.specs.Corners.{corner_place}
 use Rattle.point_geom.specs.declared.cuboid.Corner.{Corner}
 use Rattle.map_fold.specs.Sizes.{Sizes}
 use Rattle.map_fold.specs.declared.update.Update.{Update}
-use Rattle.map_fold.specs.declared.update.Update.TheVariants.{Add, Thin, Delete, Suspend, Restore}
+use Rattle.map_fold.specs.declared.update.Update.TheVariants.{Add, Thin, Delete, Suspend, Restore, Expire}
+use Rattle.scan_log.specs.declared.format.Format.{Format}
+use Rattle.scan_log.specs.declared.format.Format.TheVariants.{One, Two}
+use Rattle.scan_log.specs.Formats.{farthest, format_of, greatest_intensity, has_expiry, is_version, width}
 use Rattle.scan_log.specs.declared.command.Command.{Command}
 use Rattle.scan_log.specs.declared.command.Command.TheVariants.{Change, Near, Inside, Sync}
 use Rattle.scan_log.specs.declared.fault.LogCause.{LogCause}
 use Rattle.scan_log.specs.declared.fault.LogCause.TheVariants.{NoHeader, UnknownCommand, BadCaller, WrongCount, InvertedBox, TooManyPoints, TooManyCommands}
 use Rattle.scan_log.specs.Steps.{◌>>=◌, given}
 use Rattle.scan_log.specs.Lines.{lines_of, kept_from, fields_of}
-use Rattle.scan_log.specs.Numbers.{coordinate, corner_number, natural_in}
+use Rattle.scan_log.specs.Numbers.{coordinate, corner_number, natural_in, read_number}
 use Rattle.scan_log.specs.Faults.{FaultAt, are_groups, line_feeds}
 use Rattle.scan_log.specs.Scripts.{ScriptAt, submitted}
 
 -- a point of three fields
-unfoldable pub place_of : List ℕ → List ℕ → List ℕ → Result Place LogCause
-place_of f g h = do
-  x ← coordinate f
-  y ← coordinate g
-  z ← coordinate h
-  Ok (record { x = x; y = y; z = z })
+unfoldable pub place_of : Format → List ℕ → List ℕ → List ℕ → Result Place LogCause
+place_of format f g h = do
+  x ← coordinate format f
+  y ← coordinate format g
+  z ← coordinate format h
+  Ok (record { x = x; y = y; z = z; intensity = 0 })
+
+-- the number of the first field, as far as it counts
+abbrev pub first_number : List (List ℕ) → Result ℤ LogCause
+first_number [] = Err WrongCount
+first_number (f ∷ fields) = read_number f
 
 -- the coordinate of the first field
-abbrev pub first_coordinate : List (List ℕ) → Result ℤ LogCause
-first_coordinate [] = Err WrongCount
-first_coordinate (f ∷ fields) = coordinate f
+abbrev pub first_coordinate : Format → List (List ℕ) → Result ℤ LogCause
+first_coordinate format [] = Err WrongCount
+first_coordinate format (f ∷ fields) = coordinate format f
 
 -- the point of the first three fields
-abbrev pub first_place : List (List ℕ) → Result Place LogCause
-first_place [] = Err WrongCount
-first_place (f ∷ []) = Err WrongCount
-first_place (f ∷ g ∷ []) = Err WrongCount
-first_place (f ∷ g ∷ h ∷ rest) = place_of f g h
+abbrev pub first_place : Format → List (List ℕ) → Result Place LogCause
+first_place format [] = Err WrongCount
+first_place format (f ∷ []) = Err WrongCount
+first_place format (f ∷ g ∷ []) = Err WrongCount
+first_place format (f ∷ g ∷ h ∷ rest) = place_of format f g h
 
 -- a point for each three fields
-abbrev pub places_of : List (List ℕ) → Result (List Place) LogCause
-places_of [] = Ok []
-places_of (f ∷ []) = Err WrongCount
-places_of (f ∷ g ∷ []) = Err WrongCount
-places_of (f ∷ g ∷ h ∷ rest) = do
-  p ← place_of f g h
-  ps ← places_of rest
+abbrev pub places_of : Format → List (List ℕ) → Result (List Place) LogCause
+places_of format [] = Ok []
+places_of format (f ∷ []) = Err WrongCount
+places_of format (f ∷ g ∷ []) = Err WrongCount
+places_of format (f ∷ g ∷ h ∷ rest) = do
+  p ← place_of format f g h
+  ps ← places_of format rest
   Ok (p ∷ ps)
 
+-- a point of four fields, the last of which is its intensity
+unfoldable pub scanned_place_of : List ℕ → List ℕ → List ℕ → List ℕ → Result Place LogCause
+scanned_place_of f g h i = do
+  p ← place_of Two f g h
+  n ← natural_in 0 (greatest_intensity Two) i
+  Ok (record p { intensity = n })
+
+-- the intensity of the first field
+abbrev pub first_intensity : List (List ℕ) → Result ℕ LogCause
+first_intensity [] = Err WrongCount
+first_intensity (f ∷ fields) = natural_in 0 (greatest_intensity Two) f
+
+-- the point of the first four fields
+abbrev pub first_scanned : List (List ℕ) → Result Place LogCause
+first_scanned (f ∷ g ∷ h ∷ i ∷ rest) = scanned_place_of f g h i
+first_scanned fields = Err WrongCount
+
+-- a point for each three fields, or for each four where points have intensities
+abbrev pub scanned_places_of : Format → List (List ℕ) → Result (List Place) LogCause
+scanned_places_of One fields = places_of One fields
+scanned_places_of Two [] = Ok []
+scanned_places_of Two (f ∷ g ∷ h ∷ i ∷ rest) = do
+  p ← scanned_place_of f g h i
+  ps ← scanned_places_of Two rest
+  Ok (p ∷ ps)
+scanned_places_of Two fields = Err WrongCount
+
 -- a corner of three fields
-unfoldable pub corner_of : List ℕ → List ℕ → List ℕ → Result Corner LogCause
-corner_of f g h = do
-  x ← corner_number f
-  y ← corner_number g
-  z ← corner_number h
+unfoldable pub corner_of : Format → List ℕ → List ℕ → List ℕ → Result Corner LogCause
+corner_of format f g h = do
+  x ← corner_number format f
+  y ← corner_number format g
+  z ← corner_number format h
   Ok (record { x = x; y = y; z = z })
 
 -- no number of the first is above the second's
@@ -64,20 +98,20 @@ abbrev pub is_upright : Corner → Corner → Bool
 is_upright lo hi = int_le lo.x hi.x && int_le lo.y hi.y && int_le lo.z hi.z
 
 -- a box of six fields
-unfoldable pub box_of : List ℕ → List ℕ → List ℕ → List ℕ → List ℕ → List ℕ → Result Bounds LogCause
-box_of a b c d e f = do
-  lo ← corner_of a b c
-  hi ← corner_of d e f
-  given (is_upright lo hi) InvertedBox (Ok (record { lo = corner_place lo; hi = corner_place hi }))
+unfoldable pub box_of : Format → List ℕ → List ℕ → List ℕ → List ℕ → List ℕ → List ℕ → Result Bounds LogCause
+box_of format a b c d e f = do
+  lo ← corner_of format a b c
+  hi ← corner_of format d e f
+  given (is_upright lo hi) InvertedBox (Ok (record { lo = lo; hi = hi }))
 
 -- a box for each six fields
-abbrev pub boxes_of : List (List ℕ) → Result (List Bounds) LogCause
-boxes_of [] = Ok []
-boxes_of (a ∷ b ∷ c ∷ d ∷ e ∷ f ∷ rest) = do
-  box ← box_of a b c d e f
-  boxes ← boxes_of rest
+abbrev pub boxes_of : Format → List (List ℕ) → Result (List Bounds) LogCause
+boxes_of format [] = Ok []
+boxes_of format (a ∷ b ∷ c ∷ d ∷ e ∷ f ∷ rest) = do
+  box ← box_of format a b c d e f
+  boxes ← boxes_of format rest
   Ok (box ∷ boxes)
-boxes_of fields = Err WrongCount
+boxes_of format fields = Err WrongCount
 
 -- how many groups of so many fields there are: one or more, and no more than allowed
 unfoldable pub groups_of : ℕ → ℕ → List (List ℕ) → Result ℕ LogCause
@@ -85,56 +119,66 @@ groups_of size most args =
     given (are_groups size args) WrongCount (given (nat_le (length args / size) most) TooManyPoints (Ok (length args / size)))
 
 -- the points of a command, at most so many
-unfoldable pub few_places_of : ℕ → List (List ℕ) → Result (List Place) LogCause
-few_places_of most args = groups_of 3 most args >>= λ count. places_of args
+unfoldable pub few_places_of : Format → ℕ → List (List ℕ) → Result (List Place) LogCause
+few_places_of format most args = groups_of 3 most args >>= λ count. places_of format args
+
+-- the points of a command that adds or thins them, at most so many
+unfoldable pub few_scanned_of : Format → ℕ → List (List ℕ) → Result (List Place) LogCause
+few_scanned_of format most args = groups_of (width format) most args >>= λ count. scanned_places_of format args
 
 -- the boxes of a command
-unfoldable pub few_boxes_of : List (List ℕ) → Result (List Bounds) LogCause
-few_boxes_of args = groups_of 6 262144 args >>= λ count. boxes_of args
+unfoldable pub few_boxes_of : Format → List (List ℕ) → Result (List Bounds) LogCause
+few_boxes_of format args = groups_of 6 262144 args >>= λ count. boxes_of format args
 
 -- the unit cuboids of the points of a command
-unfoldable pub units_of : List (List ℕ) → Result (List Bounds) LogCause
-units_of args = do
-  ps ← few_places_of 262144 args
+unfoldable pub units_of : Format → List (List ℕ) → Result (List Bounds) LogCause
+units_of format args = do
+  ps ← few_places_of format 262144 args
   Ok (map unit_box ps)
 
+-- the number of an expiry
+unfoldable pub expiry_of : List (List ℕ) → Result Update LogCause
+expiry_of (number ∷ []) = natural_in 0 4194304 number >>= λ n. Ok (Expire n)
+expiry_of args = Err WrongCount
+
 -- the update of a word and its arguments, where the log has room for so many points
-unfoldable pub update_of : ℕ → List ℕ → List (List ℕ) → Result Update LogCause
-update_of room word args =
-    if bytes_eq word (codes "add") then (few_places_of (min 262144 room) args >>= λ ps. Ok (Add ps)) else
-    (if bytes_eq word (codes "thin") then (few_places_of (min 262144 room) args >>= λ ps. Ok (Thin ps)) else
-    (if bytes_eq word (codes "erase") then (units_of args >>= λ cs. Ok (Delete cs)) else
-    (if bytes_eq word (codes "delete") then (few_boxes_of args >>= λ cs. Ok (Delete cs)) else
-    (if bytes_eq word (codes "suspend") then (few_boxes_of args >>= λ cs. Ok (Suspend cs)) else
-    (if bytes_eq word (codes "restore") then (few_boxes_of args >>= λ cs. Ok (Restore cs)) else Err UnknownCommand)))))
+unfoldable pub update_of : Format → ℕ → List ℕ → List (List ℕ) → Result Update LogCause
+update_of format room word args =
+    if bytes_eq word (codes "add") then (few_scanned_of format (min 262144 room) args >>= λ ps. Ok (Add ps)) else
+    (if bytes_eq word (codes "thin") then (few_scanned_of format (min 262144 room) args >>= λ ps. Ok (Thin ps)) else
+    (if bytes_eq word (codes "erase") then (units_of format args >>= λ cs. Ok (Delete cs)) else
+    (if bytes_eq word (codes "delete") then (few_boxes_of format args >>= λ cs. Ok (Delete cs)) else
+    (if bytes_eq word (codes "suspend") then (few_boxes_of format args >>= λ cs. Ok (Suspend cs)) else
+    (if bytes_eq word (codes "restore") then (few_boxes_of format args >>= λ cs. Ok (Restore cs)) else
+    (if has_expiry format && bytes_eq word (codes "expire") then expiry_of args else Err UnknownCommand))))))
 
 -- near, with four arguments, or with the word within and a greatest distance
-unfoldable pub near_of : ℕ → List (List ℕ) → Result Command LogCause
-near_of caller (count ∷ x ∷ y ∷ z ∷ []) = do
+unfoldable pub near_of : Format → ℕ → List (List ℕ) → Result Command LogCause
+near_of format caller (count ∷ x ∷ y ∷ z ∷ []) = do
   k ← natural_in 1 256 count
-  p ← place_of x y z
+  p ← place_of format x y z
   Ok (Near caller k p None)
-near_of caller (count ∷ x ∷ y ∷ z ∷ word ∷ distance ∷ []) =
+near_of format caller (count ∷ x ∷ y ∷ z ∷ word ∷ distance ∷ []) =
     given (bytes_eq word (codes "within")) WrongCount (do
       k ← natural_in 1 256 count
-      p ← place_of x y z
-      r ← natural_in 0 4000000000 distance
+      p ← place_of format x y z
+      r ← natural_in 0 (farthest format) distance
       Ok (Near caller k p (Some r)))
-near_of caller args = Err WrongCount
+near_of format caller args = Err WrongCount
 
 -- box, and its seven arguments
-unfoldable pub inside_of : ℕ → List (List ℕ) → Result Command LogCause
-inside_of caller (count ∷ a ∷ b ∷ c ∷ d ∷ e ∷ f ∷ []) = do
+unfoldable pub inside_of : Format → ℕ → List (List ℕ) → Result Command LogCause
+inside_of format caller (count ∷ a ∷ b ∷ c ∷ d ∷ e ∷ f ∷ []) = do
   k ← natural_in 1 256 count
-  box ← box_of a b c d e f
+  box ← box_of format a b c d e f
   Ok (Inside caller k box)
-inside_of caller args = Err WrongCount
+inside_of format caller args = Err WrongCount
 
 -- the command of a word and its arguments
-unfoldable pub called_of : ℕ → ℕ → List ℕ → List (List ℕ) → Result Command LogCause
-called_of room caller word args =
-    if bytes_eq word (codes "near") then near_of caller args else
-    (if bytes_eq word (codes "box") then inside_of caller args else (update_of room word args >>= λ u. Ok (Change caller u)))
+unfoldable pub called_of : Format → ℕ → ℕ → List ℕ → List (List ℕ) → Result Command LogCause
+called_of format room caller word args =
+    if bytes_eq word (codes "near") then near_of format caller args else
+    (if bytes_eq word (codes "box") then inside_of format caller args else (update_of format room word args >>= λ u. Ok (Change caller u)))
 
 -- the caller of one digit from 1 to 8
 abbrev pub digit_caller : List ℕ → Result ℕ LogCause
@@ -147,25 +191,25 @@ caller_of (c ∷ digits) = given (c == 64) UnknownCommand (digit_caller digits)
 caller_of [] = Err UnknownCommand
 
 -- a word and its arguments
-abbrev pub after_caller : ℕ → ℕ → List (List ℕ) → Result Command LogCause
-after_caller room caller (word ∷ args) = called_of room caller word args
-after_caller room caller [] = Err UnknownCommand
+abbrev pub after_caller : Format → ℕ → ℕ → List (List ℕ) → Result Command LogCause
+after_caller format room caller (word ∷ args) = called_of format room caller word args
+after_caller format room caller [] = Err UnknownCommand
 
 -- the command of a line's fields, where the log has room for so many points
-unfoldable pub command_of : ℕ → List (List ℕ) → Result Command LogCause
-command_of room (first ∷ fields) =
+unfoldable pub command_of : Format → ℕ → List (List ℕ) → Result Command LogCause
+command_of format room (first ∷ fields) =
     if bytes_eq first (codes "sync") then given (length fields == 0) WrongCount (Ok Sync) else
-    (caller_of first >>= λ caller. after_caller room caller fields)
-command_of room [] = Err UnknownCommand
+    (caller_of first >>= λ caller. after_caller format room caller fields)
+command_of format room [] = Err UnknownCommand
 
--- the settings of the header's fields
-unfoldable pub sizes_of : List (List ℕ) → Result Sizes LogCause
-sizes_of (a ∷ b ∷ c ∷ voxel ∷ d ∷ large ∷ []) =
-    given (bytes_eq a (codes "ikdmap") && bytes_eq b (codes "1") && bytes_eq c (codes "voxel") && bytes_eq d (codes "large")) NoHeader (do
+-- the version and the settings of the header's fields
+unfoldable pub header_of : List (List ℕ) → Result (Format × Sizes) LogCause
+header_of (a ∷ b ∷ c ∷ voxel ∷ d ∷ large ∷ []) =
+    given (bytes_eq a (codes "ikdmap") && is_version b && bytes_eq c (codes "voxel") && bytes_eq d (codes "large")) NoHeader (do
       v ← natural_in 1 1000000 voxel
       l ← natural_in 16 1000000 large
-      Ok (record { voxel = v; large = l }))
-sizes_of fields = Err NoHeader
+      Ok (format_of b, record { voxel = v; large = l }))
+header_of fields = Err NoHeader
 
 -- what is read of a line, or its fault with its number
 abbrev pub on_line : {A : Type 0} → ℕ → Result A LogCause → Result A FaultAt
@@ -173,29 +217,29 @@ on_line n (Ok x) = Ok x
 on_line n (Err c) = Err (record { line = n; cause = c })
 
 -- the command of a line, where so many commands stand before it, and the log has room for so many points
-abbrev pub line_command : ℕ → ℕ → List ℕ → Result Command LogCause
-line_command before room line = given (nat_lt before 65536) TooManyCommands (command_of room (fields_of line))
+abbrev pub line_command : Format → ℕ → ℕ → List ℕ → Result Command LogCause
+line_command format before room line = given (nat_lt before 65536) TooManyCommands (command_of format room (fields_of line))
 
 -- the commands of the lines, where so many commands stand before them, and the log has room for so many points
-abbrev pub commands_of : ℕ → ℕ → List (ℕ × List ℕ) → Result (List Command) FaultAt
-commands_of before room [] = Ok []
-commands_of before room ((n, line) ∷ lines) = do
-  c ← on_line n (line_command before room line)
-  cs ← commands_of (before + 1) (room - submitted c) lines
+abbrev pub commands_of : Format → ℕ → ℕ → List (ℕ × List ℕ) → Result (List Command) FaultAt
+commands_of format before room [] = Ok []
+commands_of format before room ((n, line) ∷ lines) = do
+  c ← on_line n (line_command format before room line)
+  cs ← commands_of format (before + 1) (room - submitted c) lines
   Ok (c ∷ cs)
 
--- the script of these settings, and of the lines after the header
-abbrev pub body_of : Sizes → List (ℕ × List ℕ) → Result ScriptAt FaultAt
-body_of sizes lines = do
-  cs ← commands_of 0 4194304 lines
-  Ok (record { sizes = sizes; commands = cs })
+-- the script of this version and these settings, and of the lines after the header
+abbrev pub body_of : Format → Sizes → List (ℕ × List ℕ) → Result ScriptAt FaultAt
+body_of format sizes lines = do
+  cs ← commands_of format 0 4194304 lines
+  Ok (record { format = format; sizes = sizes; commands = cs })
 
 -- the script of the kept lines, where the log has so many line feeds
 abbrev pub script_of : ℕ → List (ℕ × List ℕ) → Result ScriptAt FaultAt
 script_of feeds [] = Err (record { line = feeds + 1; cause = NoHeader })
 script_of feeds ((n, header) ∷ lines) = do
-  sizes ← on_line n (sizes_of (fields_of header))
-  body_of sizes lines
+  head ← on_line n (header_of (fields_of header))
+  body_of head.0 head.1 lines
 
 -- the script of a log, or its first fault
 unfoldable pub log_of : List ℕ → Result ScriptAt FaultAt

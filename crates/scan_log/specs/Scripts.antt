@@ -1,17 +1,22 @@
 -- Scripts, and their limits.
-use Rattle.std.specs.Prelude.{ℕ, ◌+◌, ◌≤◌, ◌<◌, ℤ, pos, negsuc, ◌≤ℤ◌, List, [], ◌∷◌, ◌++◌, length}
+use Rattle.std.specs.Prelude.{◌≡◌, ℕ, ◌+◌, ◌≤◌, ◌<◌, ℤ, ◌≤ℤ◌, List, [], ◌∷◌, ◌++◌, length}
 use Rattle.std.specs.List.{AllByRecursion}
 use Rattle.std.specs.Option.{ForSome}
-use Rattle.point_geom.specs.Place.{Place, Bounds, IsPlace, IsBelow}
+use Rattle.point_geom.specs.Place.{Place, Bounds, IsUpright}
+use Rattle.point_geom.specs.declared.cuboid.Corner.{Corner}
 use Rattle.map_fold.specs.Sizes.{Sizes, AreSizes}
 use Rattle.map_fold.specs.Fold.{points_in}
 use Rattle.map_fold.specs.declared.update.Update.{Update}
-use Rattle.map_fold.specs.declared.update.Update.TheVariants.{Add, Thin, Delete, Suspend, Restore}
+use Rattle.map_fold.specs.declared.update.Update.TheVariants.{Add, Thin, Delete, Suspend, Restore, Expire}
+use Rattle.scan_log.specs.declared.format.Format.{Format}
+use Rattle.scan_log.specs.declared.format.Format.TheVariants.{One, Two}
+use Rattle.scan_log.specs.Formats.{lowest, highest, box_highest, farthest, greatest_intensity}
 use Rattle.scan_log.specs.declared.command.Command.{Command}
 use Rattle.scan_log.specs.declared.command.Command.TheVariants.{Change, Near, Inside, Sync}
 
--- what a log says: the settings, and the commands in order
+-- what a log says: its version, the settings, and the commands in order
 pub record ScriptAt : Type 0 where
+  pub format : Format
   pub sizes : Sizes
   pub commands : List Command
 
@@ -23,42 +28,64 @@ with_command s c = record s { commands = s.commands ++ c ∷ [] }
 abbrev pub IsCaller : ℕ → Type 0
 IsCaller caller = (1 ≤ caller) × (caller ≤ 8)
 
--- the points of one command
-abbrev pub ArePoints : List Place → Type 0
-ArePoints ps = (0 < length ps) × (length ps ≤ 262144) × AllByRecursion IsPlace ps
+-- a coordinate is in the limits of the log's version
+abbrev pub IsLogCoordinate : Format → ℤ → Type 0
+IsLogCoordinate format c = (lowest format ≤ℤ c) × (c ≤ℤ highest format)
+
+-- a point that is asked for or erased has no intensity, which is 0
+abbrev pub IsLogPlace : Format → Place → Type 0
+IsLogPlace format p = IsLogCoordinate format p.x × IsLogCoordinate format p.y × IsLogCoordinate format p.z × (p.intensity ≡ 0)
+
+-- a point that is added or thinned may have one where the version has any
+abbrev pub IsScannedPlace : Format → Place → Type 0
+IsScannedPlace format p = IsLogCoordinate format p.x × IsLogCoordinate format p.y × IsLogCoordinate format p.z × (p.intensity ≤ greatest_intensity format)
+
+-- the points that one command erases
+abbrev pub ArePoints : Format → List Place → Type 0
+ArePoints format ps = (0 < length ps) × (length ps ≤ 262144) × AllByRecursion (IsLogPlace format) ps
+
+-- the points that one command adds or thins
+abbrev pub AreScanned : Format → List Place → Type 0
+AreScanned format ps = (0 < length ps) × (length ps ≤ 262144) × AllByRecursion (IsScannedPlace format) ps
 
 -- a number of a box's corner may lie one past the last coordinate
-abbrev pub IsBoxNumber : ℤ → Type 0
-IsBoxNumber c = (negsuc 999999999 ≤ℤ c) × (c ≤ℤ pos 1000000001)
+abbrev pub IsBoxNumber : Format → ℤ → Type 0
+IsBoxNumber format c = (lowest format ≤ℤ c) × (c ≤ℤ box_highest format)
 
-abbrev pub IsBoxCorner : Place → Type 0
-IsBoxCorner p = IsBoxNumber p.x × IsBoxNumber p.y × IsBoxNumber p.z
+abbrev pub IsBoxCorner : Format → Corner → Type 0
+IsBoxCorner format p = IsBoxNumber format p.x × IsBoxNumber format p.y × IsBoxNumber format p.z
 
 -- a box that a caller may give
-pub record IsCallerBox (c : Bounds) : Type 0 where
-  pub lo : IsBoxCorner c.lo
-  pub hi : IsBoxCorner c.hi
-  pub below : IsBelow c.lo c.hi
+pub record IsCallerBox (format : Format) (c : Bounds) : Type 0 where
+  pub lo : IsBoxCorner format c.lo
+  pub hi : IsBoxCorner format c.hi
+  pub below : IsUpright c.lo c.hi
 
 -- the boxes of one command
-abbrev pub AreBoxes : List Bounds → Type 0
-AreBoxes cs = (0 < length cs) × (length cs ≤ 262144) × AllByRecursion IsCallerBox cs
+abbrev pub AreBoxes : Format → List Bounds → Type 0
+AreBoxes format cs = (0 < length cs) × (length cs ≤ 262144) × AllByRecursion (IsCallerBox format) cs
+
+-- the numbers up to which a log of this version may expire
+abbrev pub IsExpiry : Format → ℕ → Type 0
+IsExpiry One n = ⊥
+IsExpiry Two n = n ≤ 4194304
 
 -- an update has one point or box or more, and no more than a command may have
-abbrev pub IsUpdate : Update → Type 0
-IsUpdate (Add ps) = ArePoints ps
-IsUpdate (Thin ps) = ArePoints ps
-IsUpdate (Delete cs) = AreBoxes cs
-IsUpdate (Suspend cs) = AreBoxes cs
-IsUpdate (Restore cs) = AreBoxes cs
+abbrev pub IsUpdate : Format → Update → Type 0
+IsUpdate format (Add ps) = AreScanned format ps
+IsUpdate format (Thin ps) = AreScanned format ps
+IsUpdate format (Delete cs) = AreBoxes format cs
+IsUpdate format (Suspend cs) = AreBoxes format cs
+IsUpdate format (Restore cs) = AreBoxes format cs
+IsUpdate format (Expire n) = IsExpiry format n
 
 -- each argument of a command is in its limits
-abbrev pub IsCommand : Command → Type 0
-IsCommand (Change caller u) = IsCaller caller × IsUpdate u
-IsCommand (Near caller k p within) =
-    IsCaller caller × (1 ≤ k) × (k ≤ 256) × IsPlace p × ForSome within (λ r. r ≤ 4000000000)
-IsCommand (Inside caller k c) = IsCaller caller × (1 ≤ k) × (k ≤ 256) × IsCallerBox c
-IsCommand Sync = Unit {0}
+abbrev pub IsCommand : Format → Command → Type 0
+IsCommand format (Change caller u) = IsCaller caller × IsUpdate format u
+IsCommand format (Near caller k p within) =
+    IsCaller caller × (1 ≤ k) × (k ≤ 256) × IsLogPlace format p × ForSome within (λ r. r ≤ farthest format)
+IsCommand format (Inside caller k c) = IsCaller caller × (1 ≤ k) × (k ≤ 256) × IsCallerBox format c
+IsCommand format Sync = Unit {0}
 
 -- how many points a command submits
 abbrev pub submitted : Command → ℕ
@@ -75,6 +102,6 @@ points_of (c ∷ cs) = submitted c + points_of cs
 -- the settings and each command are in their limits, and there are few enough commands and points
 pub record IsScript (s : ScriptAt) : Type 0 where
   pub sizes : AreSizes s.sizes
-  pub each : AllByRecursion IsCommand s.commands
+  pub each : AllByRecursion (IsCommand s.format) s.commands
   pub few : length s.commands ≤ 65536
   pub room : points_of s.commands ≤ 4194304

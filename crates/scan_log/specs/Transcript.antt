@@ -11,12 +11,14 @@ use Rattle.map_fold.specs.declared.reply.BoxReply.{BoxReply}
 use Rattle.map_fold.specs.declared.update.Update.{Update}
 use Rattle.map_fold.specs.Answers.{nearest, inside, count, live_count, suspended_count}
 use Rattle.map_fold.specs.Fold.{fold}
+use Rattle.scan_log.specs.declared.format.Format.{Format}
+use Rattle.scan_log.specs.declared.format.Format.TheVariants.{One, Two}
 use Rattle.scan_log.specs.declared.command.Command.{Command}
 use Rattle.scan_log.specs.declared.command.Command.TheVariants.{Change, Near, Inside, Sync}
 use Rattle.scan_log.specs.declared.reply.Reply.{Reply}
 use Rattle.scan_log.specs.declared.reply.Reply.TheVariants as reply
 use Rattle.scan_log.specs.Scripts.{ScriptAt}
-use Rattle.scan_log.specs.Spelling.{caller_field, point_fields}
+use Rattle.scan_log.specs.Spelling.{caller_field, point_fields, scanned_fields}
 
 -- how many of the commands are updates
 abbrev pub updates_in : List Command → ℕ
@@ -100,26 +102,35 @@ all_spaced fields = flat_map spaced fields
 abbrev pub point_text : Place → List ℕ
 point_text p = all_spaced (point_fields p)
 
--- n x y z d, after a bar
-abbrev pub hit_text : Hit → List ℕ
-hit_text h = codes " | " ++ decimal h.number ++ point_text h.point ++ spaced (decimal h.dist2)
+-- what a log says of a point that is added or thinned, each after a space
+abbrev pub scanned_text : Format → Place → List ℕ
+scanned_text format p = all_spaced (scanned_fields format p)
 
--- n x y z, after a bar
-abbrev pub item_text : Item → List ℕ
-item_text i = codes " | " ++ decimal i.number ++ point_text i.point
+-- the intensity after a space, where a log has any
+abbrev pub intensity_text : Format → Place → List ℕ
+intensity_text One p = []
+intensity_text Two p = spaced (decimal p.intensity)
+
+-- n x y z d, after a bar, with the intensity before d where a log has any
+abbrev pub hit_text : Format → Hit → List ℕ
+hit_text format h = codes " | " ++ decimal h.number ++ point_text h.point ++ intensity_text format h.point ++ spaced (decimal h.dist2)
+
+-- n x y z, after a bar, and the intensity where a log has any
+abbrev pub item_text : Format → Item → List ℕ
+item_text format i = codes " | " ++ decimal i.number ++ point_text i.point ++ intensity_text format i.point
 
 -- @c ok M
 abbrev pub done_text : ℕ → ℕ → List ℕ
 done_text caller mark = caller_field caller ++ codes " ok " ++ decimal mark ++ 10 ∷ []
 
 -- @c near M, and the hits
-abbrev pub near_text : ℕ → NearReply → List ℕ
-near_text caller r = caller_field caller ++ codes " near " ++ decimal r.mark ++ flat_map hit_text r.hits ++ 10 ∷ []
+abbrev pub near_text : Format → ℕ → NearReply → List ℕ
+near_text format caller r = caller_field caller ++ codes " near " ++ decimal r.mark ++ flat_map (hit_text format) r.hits ++ 10 ∷ []
 
 -- @c box M C, and the items
-abbrev pub box_text : ℕ → BoxReply → List ℕ
-box_text caller r =
-    caller_field caller ++ codes " box " ++ decimal r.mark ++ spaced (decimal r.count) ++ flat_map item_text r.items ++ 10 ∷ []
+abbrev pub box_text : Format → ℕ → BoxReply → List ℕ
+box_text format caller r =
+    caller_field caller ++ codes " box " ++ decimal r.mark ++ spaced (decimal r.count) ++ flat_map (item_text format) r.items ++ 10 ∷ []
 
 -- live A suspended B
 abbrev pub counts_text : ℕ → ℕ → List ℕ
@@ -130,20 +141,20 @@ abbrev pub totals_text : List ℕ → ℕ → ℕ → ℕ → List ℕ
 totals_text word mark live suspended = word ++ spaced (decimal mark) ++ counts_text live suspended
 
 -- the line of a reply to a command, or without one at the end
-abbrev pub reply_text : Option Command → Reply → List ℕ
-reply_text (Some (Change caller u)) (reply.Done mark) = done_text caller mark
-reply_text (Some (Near caller k p within)) (reply.Near r) = near_text caller r
-reply_text (Some (Inside caller k c)) (reply.Inside r) = box_text caller r
-reply_text (Some Sync) (reply.Totals mark live suspended) = totals_text (codes "sync") mark live suspended
-reply_text None (reply.Totals mark live suspended) = totals_text (codes "end") mark live suspended
-reply_text c r = []
+abbrev pub reply_text : Format → Option Command → Reply → List ℕ
+reply_text format (Some (Change caller u)) (reply.Done mark) = done_text caller mark
+reply_text format (Some (Near caller k p within)) (reply.Near r) = near_text format caller r
+reply_text format (Some (Inside caller k c)) (reply.Inside r) = box_text format caller r
+reply_text format (Some Sync) (reply.Totals mark live suspended) = totals_text (codes "sync") mark live suspended
+reply_text format None (reply.Totals mark live suspended) = totals_text (codes "end") mark live suspended
+reply_text format c r = []
 
 -- the lines of the replies, one after another
-abbrev pub lines_text : List Command → List Reply → List ℕ
-lines_text (c ∷ cs) (r ∷ rs) = reply_text (Some c) r ++ lines_text cs rs
-lines_text [] (r ∷ rs) = reply_text None r
-lines_text cs [] = []
+abbrev pub lines_text : Format → List Command → List Reply → List ℕ
+lines_text format (c ∷ cs) (r ∷ rs) = reply_text format (Some c) r ++ lines_text format cs rs
+lines_text format [] (r ∷ rs) = reply_text format None r
+lines_text format cs [] = []
 
 -- the transcript of a script under these marks
 abbrev pub text : ScriptAt → List ℕ → List ℕ
-text s marks = lines_text s.commands (replies s marks)
+text s marks = lines_text s.format s.commands (replies s marks)

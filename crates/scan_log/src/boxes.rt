@@ -1,16 +1,15 @@
 //! Reading boxes.
 ghost use Rattle.std.specs.Prelude.{◌≡◌, map, IfOk, Ok};
 ghost use Rattle.point_geom.specs.Boxes.{unit_box};
-ghost use Rattle.point_geom.specs.Corners.{corner_place};
 ghost use Rattle.scan_log.specs.Outcomes.{Gives};
 ghost use Rattle.scan_log.specs.Reading.{box_of, boxes_of, corner_of, few_boxes_of, units_of};
 ghost use Rattle.scan_log.specs.Scripts.{IsBoxCorner};
 
-use crate::LogCause;
 use crate::fields::Fields;
 use crate::line_fault::LineFault;
 use crate::number::corner_number;
 use crate::points::{groups, points};
+use crate::{Format, LogCause};
 use map_fold::Cuboids;
 use point_geom::{Corner, Cuboid, Point};
 use std::alloc::Global;
@@ -19,16 +18,21 @@ const MAX_BOXES_OF_COMMAND: usize = 262_144;
 
 /// The boxes that the fields spell, one or more, up to the limit of a command.
 #[tactic(auto, unfolding(crate::specs::Reading::few_boxes_of))]
-pub fn boxes(alloc: Global, fields: Fields) -> Result<Cuboids, LineFault>
-    ensures { Gives result (few_boxes_of fields.entry) }
+pub fn boxes(alloc: Global, format: Format, fields: Fields) -> Result<Cuboids, LineFault>
+    ensures { Gives result (few_boxes_of format fields.entry) }
 {
     let count = groups(&fields, 6, MAX_BOXES_OF_COMMAND)?;
-    all_boxes(alloc, count, fields)
+    all_boxes(alloc, format, count, fields)
 }
 
 // Takes memory for so many at once.
-fn all_boxes(alloc: Global, count: usize, fields: Fields) -> Result<Cuboids, LineFault>
-    ensures { Gives result (boxes_of fields.entry) }
+fn all_boxes(
+    alloc: Global,
+    format: Format,
+    count: usize,
+    fields: Fields,
+) -> Result<Cuboids, LineFault>
+    ensures { Gives result (boxes_of format fields.entry) }
 {
     let mut fields = fields;
     let mut boxes = Vec::with_capacity(alloc, count)?;
@@ -38,7 +42,7 @@ fn all_boxes(alloc: Global, count: usize, fields: Fields) -> Result<Cuboids, Lin
         let far_x = fields.next().ok_or(LogCause::WrongCount)?;
         let far_y = fields.next().ok_or(LogCause::WrongCount)?;
         let far_z = fields.next().ok_or(LogCause::WrongCount)?;
-        let cuboid = cuboid(x, y, z, far_x, far_y, far_z)?;
+        let cuboid = cuboid(format, x, y, z, far_x, far_y, far_z)?;
         boxes.push(cuboid)?;
     }
     Ok(Cuboids::from(boxes))
@@ -46,10 +50,10 @@ fn all_boxes(alloc: Global, count: usize, fields: Fields) -> Result<Cuboids, Lin
 
 /// The box of each point that the fields spell, which holds that point alone.
 #[tactic(auto, unfolding(crate::specs::Reading::units_of))]
-pub fn units(alloc: Global, fields: Fields) -> Result<Cuboids, LineFault>
-    ensures { Gives result (units_of fields.entry) }
+pub fn units(alloc: Global, format: Format, fields: Fields) -> Result<Cuboids, LineFault>
+    ensures { Gives result (units_of format fields.entry) }
 {
-    let points = points(alloc, MAX_BOXES_OF_COMMAND, fields)?;
+    let points = points(alloc, format, MAX_BOXES_OF_COMMAND, fields)?;
     units_around(alloc, points.as_slice())
 }
 
@@ -66,6 +70,7 @@ fn units_around(alloc: Global, points: &[Point]) -> Result<Cuboids, LineFault>
 /// The box of two corners, by their numbers.
 #[tactic(auto, unfolding(crate::specs::Reading::box_of))]
 pub fn cuboid(
+    format: Format,
     x: &[u8],
     y: &[u8],
     z: &[u8],
@@ -73,10 +78,10 @@ pub fn cuboid(
     far_y: &[u8],
     far_z: &[u8],
 ) -> Result<Cuboid, LogCause>
-    ensures { result ≡ box_of x.now y.now z.now far_x.now far_y.now far_z.now }
+    ensures { result ≡ box_of format x.now y.now z.now far_x.now far_y.now far_z.now }
 {
-    let lo = corner(x, y, z)?;
-    let hi = corner(far_x, far_y, far_z)?;
+    let lo = corner(format, x, y, z)?;
+    let hi = corner(format, far_x, far_y, far_z)?;
     match Cuboid::new(lo, hi) {
         Ok(cuboid) => Ok(cuboid),
         Err(_) => Err(LogCause::InvertedBox),
@@ -84,12 +89,12 @@ pub fn cuboid(
 }
 
 #[tactic(auto, unfolding(crate::specs::Reading::corner_of))]
-fn corner(x: &[u8], y: &[u8], z: &[u8]) -> Result<Corner, LogCause>
-    ensures value { result ≡ corner_of x.now y.now z.now }
-    ensures limits { IfOk result (λ c. IsBoxCorner (corner_place c)) }
+fn corner(format: Format, x: &[u8], y: &[u8], z: &[u8]) -> Result<Corner, LogCause>
+    ensures value { result ≡ corner_of format x.now y.now z.now }
+    ensures limits { IfOk result (IsBoxCorner format) }
 {
-    let x = corner_number(x)?;
-    let y = corner_number(y)?;
-    let z = corner_number(z)?;
+    let x = corner_number(format, x)?;
+    let y = corner_number(format, y)?;
+    let z = corner_number(format, z)?;
     Ok(Corner { x, y, z })
 }

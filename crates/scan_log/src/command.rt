@@ -17,8 +17,9 @@ pub enum Command {
         caller: u8,
         /// How many points are looked for at most, from 1 to 256.
         k: u32,
+        /// Of intensity 0.
         point: Point,
-        /// The greatest distance, in millimetres, up to 4,000,000,000.
+        /// The greatest distance, in millimetres, up to 4,000,000,000 in version 1 and 4,398,046,511,104 in version 2.
         within: Option<u64>,
     },
     /// A search for the points of a box.

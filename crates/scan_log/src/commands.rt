@@ -2,14 +2,15 @@
 ghost use Rattle.std.specs.Prelude.{◌≡◌};
 ghost use Rattle.scan_log.specs.Outcomes.{Gives};
 ghost use Rattle.scan_log.specs.Lines.{fields_of};
-ghost use Rattle.scan_log.specs.Reading.{called_of, caller_of, command_of, digit_caller, line_command, update_of};
+ghost use Rattle.scan_log.specs.Reading.{called_of, caller_of, command_of, digit_caller, expiry_of, line_command, update_of};
 
 use crate::boxes::{boxes, units};
 use crate::fields::Fields;
 use crate::line_fault::LineFault;
-use crate::points::points;
+use crate::number::natural_in;
+use crate::points::scanned_points;
 use crate::queries::{inside, near};
-use crate::{Command, LogCause};
+use crate::{Command, Format, LogCause};
 use map_fold::Update;
 use std::alloc::Global;
 
@@ -17,24 +18,28 @@ const MAX_COMMANDS: usize = 65_536;
 
 const MAX_POINTS_OF_COMMAND: usize = 262_144;
 
+// Of a history, so no number is greater.
+const MAX_POINTS: u32 = 4_194_304;
+
 /// The command that the line spells, where so many commands stand before it, and the log has room for so many points.
 pub fn line_command(
     alloc: Global,
+    format: Format,
     before: usize,
     room: usize,
     line: &[u8],
 ) -> Result<Command, LineFault>
-    ensures { Gives result (line_command before room line.now) }
+    ensures { Gives result (line_command format before room line.now) }
 {
     if before >= MAX_COMMANDS {
         return Err(LineFault::Bad(LogCause::TooManyCommands));
     }
-    command(alloc, room, Fields::new(line))
+    command(alloc, format, room, Fields::new(line))
 }
 
 #[tactic(auto, unfolding(crate::specs::Reading::command_of))]
-fn command(alloc: Global, room: usize, fields: Fields) -> Result<Command, LineFault>
-    ensures { Gives result (command_of room fields.entry) }
+fn command(alloc: Global, format: Format, room: usize, fields: Fields) -> Result<Command, LineFault>
+    ensures { Gives result (command_of format room fields.entry) }
 {
     let mut fields = fields;
     let first = fields.next().ok_or(LogCause::UnknownCommand)?;
@@ -46,7 +51,7 @@ fn command(alloc: Global, room: usize, fields: Fields) -> Result<Command, LineFa
     }
     let caller = caller(first)?;
     let word = fields.next().ok_or(LogCause::UnknownCommand)?;
-    called(alloc, room, caller, word, fields)
+    called(alloc, format, room, caller, word, fields)
 }
 
 #[tactic(auto, unfolding(crate::specs::Reading::caller_of))]
@@ -63,45 +68,67 @@ fn caller(field: &[u8]) -> Result<u8, LogCause>
 #[tactic(auto, unfolding(crate::specs::Reading::called_of))]
 fn called(
     alloc: Global,
+    format: Format,
     room: usize,
     caller: u8,
     word: &[u8],
     fields: Fields,
 ) -> Result<Command, LineFault>
-    ensures { Gives result (called_of room caller word.now fields.entry) }
+    ensures { Gives result (called_of format room caller word.now fields.entry) }
 {
     if word == b"near".as_slice() {
-        return Ok(near(caller, fields)?);
+        return Ok(near(format, caller, fields)?);
     }
     if word == b"box".as_slice() {
-        return Ok(inside(caller, fields)?);
+        return Ok(inside(format, caller, fields)?);
     }
-    let update = update(alloc, room, word, fields)?;
+    let update = update(alloc, format, room, word, fields)?;
     Ok(Command::Change { caller, update })
 }
 
 #[tactic(auto, unfolding(crate::specs::Reading::update_of))]
-fn update(alloc: Global, room: usize, word: &[u8], fields: Fields) -> Result<Update, LineFault>
-    ensures { Gives result (update_of room word.now fields.entry) }
+fn update(
+    alloc: Global,
+    format: Format,
+    room: usize,
+    word: &[u8],
+    fields: Fields,
+) -> Result<Update, LineFault>
+    ensures { Gives result (update_of format room word.now fields.entry) }
 {
     let most = room.min(MAX_POINTS_OF_COMMAND);
     if word == b"add".as_slice() {
-        return Ok(Update::Add(points(alloc, most, fields)?));
+        return Ok(Update::Add(scanned_points(alloc, format, most, fields)?));
     }
     if word == b"thin".as_slice() {
-        return Ok(Update::Thin(points(alloc, most, fields)?));
+        return Ok(Update::Thin(scanned_points(alloc, format, most, fields)?));
     }
     if word == b"erase".as_slice() {
-        return Ok(Update::Delete(units(alloc, fields)?));
+        return Ok(Update::Delete(units(alloc, format, fields)?));
     }
     if word == b"delete".as_slice() {
-        return Ok(Update::Delete(boxes(alloc, fields)?));
+        return Ok(Update::Delete(boxes(alloc, format, fields)?));
     }
     if word == b"suspend".as_slice() {
-        return Ok(Update::Suspend(boxes(alloc, fields)?));
+        return Ok(Update::Suspend(boxes(alloc, format, fields)?));
     }
     if word == b"restore".as_slice() {
-        return Ok(Update::Restore(boxes(alloc, fields)?));
+        return Ok(Update::Restore(boxes(alloc, format, fields)?));
+    }
+    if format.has_expiry() && word == b"expire".as_slice() {
+        return Ok(expiry(fields)?);
     }
     Err(LineFault::Bad(LogCause::UnknownCommand))
+}
+
+#[tactic(auto, unfolding(crate::specs::Reading::expiry_of))]
+fn expiry(fields: Fields) -> Result<Update, LogCause>
+    ensures { result ≡ expiry_of fields.entry }
+{
+    let mut fields = fields;
+    let number = fields.next().ok_or(LogCause::WrongCount)?;
+    if fields.next().is_some() {
+        return Err(LogCause::WrongCount);
+    }
+    Ok(Update::Expire(natural_in(0, MAX_POINTS, number)?))
 }

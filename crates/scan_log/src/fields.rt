@@ -1,13 +1,13 @@
 //! The fields of a line.
 ghost use Rattle.std.specs.Prelude.{◌≡◌, [], ◌∷◌, length, drop, OnOk, IfOk};
 ghost use Rattle.std.specs.Option.{MatchOption};
-ghost use Rattle.point_geom.specs.Place.{IsCoordinate};
-ghost use Rattle.scan_log.specs.Reading.{first_coordinate};
+ghost use Rattle.scan_log.specs.Reading.{first_coordinate, first_intensity, first_number};
+ghost use Rattle.scan_log.specs.Scripts.{IsLogCoordinate};
 
-use crate::LogCause;
 use crate::front::front_number;
-use crate::number::as_coordinate;
+use crate::number::{as_coordinate, as_intensity};
 use crate::piece::{count_of, place_of};
+use crate::{Format, LogCause};
 use std::marker::Model;
 
 /// The fields that are left.
@@ -66,10 +66,30 @@ impl<'a> Fields<'a> {
         Some(self.rest)
     }
 
-    /// The coordinate that the next field spells. Costs its length, in one pass, where `next` would be a pass before it.
-    pub fn coordinate(&mut self) -> Result<i64, LogCause>
-        ensures value { result ≡ first_coordinate self.old }
-        ensures range { IfOk result IsCoordinate }
+    /// The coordinate that the next field spells. Costs its length.
+    #[tactic(auto, using(crate::proofs::FirstNumbers::first_coordinate_is))]
+    pub fn coordinate(&mut self, format: Format) -> Result<i64, LogCause>
+        ensures value { result ≡ first_coordinate format self.old }
+        ensures range { IfOk result (IsLogCoordinate format) }
+        ensures rest { OnOk result (self.new ≡ drop 1 self.old) }
+    {
+        let number = self.number()?;
+        as_coordinate(format, number)
+    }
+
+    /// The intensity that the next field spells. Costs its length.
+    #[tactic(auto, using(crate::proofs::FirstNumbers::first_intensity_is))]
+    pub fn intensity(&mut self) -> Result<u16, LogCause>
+        ensures value { result ≡ first_intensity self.old }
+        ensures rest { OnOk result (self.new ≡ drop 1 self.old) }
+    {
+        let number = self.number()?;
+        as_intensity(number)
+    }
+
+    // The number that the next field spells, in one pass, where `next` would be a pass before it.
+    fn number(&mut self) -> Result<i64, LogCause>
+        ensures value { result ≡ first_number self.old }
         ensures rest { OnOk result (self.new ≡ drop 1 self.old) }
     {
         if !self.more {
@@ -83,6 +103,6 @@ impl<'a> Fields<'a> {
         } else {
             self.more = false;
         }
-        as_coordinate(number.value)
+        Ok(number.value)
     }
 }

@@ -24,7 +24,7 @@ pub fn front_number(bytes: &[u8]) -> Option<FrontNumber>
     if is_zero(bytes) {
         return Some(FrontNumber { value: 0, len: 1 });
     }
-    // One loop serves both signs, since which it is cannot be foreseen.
+    // One loop serves both signs, and none is branched on before it, since which it is cannot be foreseen.
     let digits = without_minus(bytes);
     let number = positive(digits)?;
     if digits.len() < bytes.len() {
@@ -46,10 +46,8 @@ fn is_zero(bytes: &[u8]) -> bool
 fn without_minus(bytes: &[u8]) -> &[u8]
     ensures { result.now ≡ without_minus bytes.now }
 {
-    match bytes {
-        [b'-', digits @ ..] => digits,
-        digits => digits,
-    }
+    let minus = matches!(bytes, [b'-', ..]);
+    &bytes[minus as usize..]
 }
 
 fn positive(bytes: &[u8]) -> Option<FrontNumber>
@@ -69,16 +67,16 @@ fn digits(bytes: &[u8]) -> Option<FrontNumber>
 {
     let mut value = 0;
     for (place, byte) in bytes.iter().enumerate() {
-        match byte {
-            b'0'..=b'9' => value = with_digit(value, *byte),
-            b' ' => {
-                return Some(FrontNumber {
+        if !byte.is_ascii_digit() {
+            return match byte {
+                b' ' => Some(FrontNumber {
                     value: value as i64,
                     len: place,
-                });
-            }
-            _ => return None,
+                }),
+                _ => None,
+            };
         }
+        value = with_digit(value, *byte);
     }
     Some(FrontNumber {
         value: value as i64,

@@ -6,8 +6,11 @@ mod command;
 mod commands;
 mod fault;
 mod fields;
+mod format;
 mod front;
 mod header;
+#[cfg(test)]
+mod limit_tests;
 mod line_fault;
 mod lines;
 mod number;
@@ -29,6 +32,7 @@ mod written_tests;
 
 pub use command::Command;
 pub use fault::{LogCause, ParseFault};
+pub use format::Format;
 pub use parsing::parse;
 pub use printing::reply_line;
 pub use reply::Reply;

@@ -1,35 +1,51 @@
 //! Numbers in their one spelling.
 ghost use Rattle.std.specs.Prelude.{◌≡◌, ◌≤◌, ◌≤ℤ◌, IfOk, MatchOption, pos, negsuc, true, false};
 ghost use Rattle.std.specs.Str.Parse.{signed_digits_value};
-ghost use Rattle.point_geom.specs.Place.{IsCoordinate};
-ghost use Rattle.scan_log.specs.Numbers.{capped, coordinate, corner_number, in_range, is_numeral, natural_in, number_in};
-ghost use Rattle.scan_log.specs.Scripts.{IsBoxNumber};
+ghost use Rattle.scan_log.specs.Formats.{farthest, highest, lowest};
+ghost use Rattle.scan_log.specs.Numbers.{capped, coordinate, corner_number, in_range, is_numeral, natural_in, natural_range, number_in};
+ghost use Rattle.scan_log.specs.Scripts.{IsBoxNumber, IsLogCoordinate};
 
-use crate::LogCause;
 use crate::front::front_number;
+use crate::{Format, LogCause};
 
 /// A coordinate of a point.
-pub fn coordinate(field: &[u8]) -> Result<i64, LogCause>
-    ensures value { result ≡ coordinate field.now }
-    ensures range { IfOk result IsCoordinate }
+pub fn coordinate(format: Format, field: &[u8]) -> Result<i64, LogCause>
+    ensures value { result ≡ coordinate format field.now }
+    ensures range { IfOk result (IsLogCoordinate format) }
 {
-    number_in(-1_000_000_000, 1_000_000_000, field)
+    number_in(format.lowest(), format.highest(), field)
 }
 
 /// The coordinate that was read as this number, as far as it counts.
-pub fn as_coordinate(number: i64) -> Result<i64, LogCause>
-    ensures value { result ≡ in_range (negsuc 999999999) (pos 1000000000) number }
-    ensures range { IfOk result IsCoordinate }
+pub fn as_coordinate(format: Format, number: i64) -> Result<i64, LogCause>
+    ensures value { result ≡ in_range (lowest format) (highest format) number }
+    ensures range { IfOk result (IsLogCoordinate format) }
 {
-    in_range(-1_000_000_000, 1_000_000_000, number)
+    in_range(format.lowest(), format.highest(), number)
+}
+
+/// The intensity that was read as this number, as far as it counts.
+pub fn as_intensity(number: i64) -> Result<u16, LogCause>
+    ensures { result ≡ natural_range 0 65535 number }
+{
+    let intensity = in_range(0, 65_535, number)?;
+    Ok(intensity as u16)
 }
 
 /// A number of a box's corner.
-pub fn corner_number(field: &[u8]) -> Result<i64, LogCause>
-    ensures value { result ≡ corner_number field.now }
-    ensures range { IfOk result IsBoxNumber }
+pub fn corner_number(format: Format, field: &[u8]) -> Result<i64, LogCause>
+    ensures value { result ≡ corner_number format field.now }
+    ensures range { IfOk result (IsBoxNumber format) }
 {
-    number_in(-1_000_000_000, 1_000_000_001, field)
+    number_in(format.lowest(), format.box_highest(), field)
+}
+
+/// A greatest distance, in millimetres.
+pub fn distance(format: Format, field: &[u8]) -> Result<u64, LogCause>
+    ensures { result ≡ natural_in 0 (farthest format) field.now }
+{
+    let number = number_in(0, format.farthest(), field)?;
+    Ok(number as u64)
 }
 
 /// The number that the field spells, if it is from low to high.

@@ -11,7 +11,7 @@ use crate::commands::line_command;
 use crate::header::settings;
 use crate::lines::Lines;
 use crate::piece::count_of;
-use crate::{LogCause, ParseFault, Script};
+use crate::{Format, LogCause, ParseFault, Script};
 use map_fold::Settings;
 use std::alloc::Global;
 
@@ -49,7 +49,7 @@ fn read(alloc: Global, log: &[u8]) -> Result<Script, ParseFault>
         });
     };
     match settings(header) {
-        Ok(settings) => body(alloc, settings, lines),
+        Ok((format, settings)) => body(alloc, format, settings, lines),
         Err(cause) => Err(ParseFault::Bad {
             line: number,
             cause,
@@ -57,15 +57,20 @@ fn read(alloc: Global, log: &[u8]) -> Result<Script, ParseFault>
     }
 }
 
-fn body(alloc: Global, settings: Settings, lines: Lines) -> Result<Script, ParseFault>
-    ensures { LogGives result (body_of settings lines.entry) }
+fn body(
+    alloc: Global,
+    format: Format,
+    settings: Settings,
+    lines: Lines,
+) -> Result<Script, ParseFault>
+    ensures { LogGives result (body_of format settings lines.entry) }
 {
     let mut lines = lines;
-    let mut script = Script::new(alloc, settings);
+    let mut script = Script::new(alloc, format, settings);
     let mut room = MAX_POINTS;
     while let Some((number, line)) = lines.next() {
         let before = script.commands().len();
-        let command = match line_command(alloc, before, room, line) {
+        let command = match line_command(alloc, script.format(), before, room, line) {
             Ok(command) => command,
             Err(fault) => return Err(fault.on_line(number)),
         };

@@ -1,13 +1,14 @@
 //! Reading points.
 ghost use Rattle.std.specs.Prelude.{◌≡◌, ◌<◌, ◌≤◌, ◌*◌, length, drop, Ok, OnOk};
-ghost use Rattle.point_geom.specs.Place.{IsCoordinate};
+ghost use Rattle.scan_log.specs.declared.format.Format.TheVariants.{Two};
 ghost use Rattle.scan_log.specs.Outcomes.{Gives};
-ghost use Rattle.scan_log.specs.Reading.{few_places_of, first_place, groups_of, place_of, places_of};
+ghost use Rattle.scan_log.specs.Reading.{few_places_of, few_scanned_of, first_place, first_scanned, groups_of, place_of, places_of, scanned_places_of};
+ghost use Rattle.scan_log.specs.Scripts.{IsLogCoordinate};
 
-use crate::LogCause;
 use crate::fields::Fields;
 use crate::line_fault::LineFault;
 use crate::number::coordinate;
+use crate::{Format, LogCause};
 use map_fold::Points;
 use point_geom::Point;
 use std::alloc::Global;
@@ -29,57 +30,113 @@ pub fn groups(fields: &Fields, size: usize, most: usize) -> Result<usize, LogCau
 }
 
 /// The points that the fields spell, one or more, and at most so many.
+#[inline(always)]
 #[tactic(auto, unfolding(crate::specs::Reading::few_places_of))]
-pub fn points(alloc: Global, most: usize, fields: Fields) -> Result<Points, LineFault>
-    ensures { Gives result (few_places_of most fields.entry) }
+pub fn points(
+    alloc: Global,
+    format: Format,
+    most: usize,
+    fields: Fields,
+) -> Result<Points, LineFault>
+    ensures { Gives result (few_places_of format most fields.entry) }
 {
     let count = groups(&fields, 3, most)?;
-    all_points(alloc, count, fields)
+    all_points(alloc, format, count, fields)
+}
+
+/// The points of a command that adds or thins them, at most so many.
+#[tactic(auto, unfolding(crate::specs::Reading::few_scanned_of, crate::specs::Reading::few_places_of))]
+pub fn scanned_points(
+    alloc: Global,
+    format: Format,
+    most: usize,
+    fields: Fields,
+) -> Result<Points, LineFault>
+    ensures { Gives result (few_scanned_of format most fields.entry) }
+{
+    match format {
+        Format::One => points(alloc, Format::One, most, fields),
+        Format::Two => {
+            let count = groups(&fields, 4, most)?;
+            all_scanned(alloc, count, fields)
+        }
+    }
 }
 
 // Takes memory for so many at once.
-fn all_points(alloc: Global, count: usize, fields: Fields) -> Result<Points, LineFault>
-    requires { length fields ≡ 3 * count }
-    ensures { Gives result (places_of fields.entry) }
+fn all_scanned(alloc: Global, count: usize, fields: Fields) -> Result<Points, LineFault>
+    requires { length fields ≡ 4 * count }
+    ensures { Gives result (scanned_places_of Two fields.entry) }
 {
     let mut fields = fields;
     let mut points = Vec::with_capacity(alloc, count)?;
     for _ in 0..count {
-        let point = next_point(&mut fields)?;
+        let point = next_scanned(&mut fields)?;
+        points.push(point)?;
+    }
+    Ok(Points::from(points))
+}
+
+#[tactic(auto, using(crate::proofs::Fronts::first_scanned_is))]
+fn next_scanned(fields: &mut Fields) -> Result<Point, LogCause>
+    requires { 4 ≤ length fields.old }
+    ensures value { result ≡ first_scanned fields.old }
+    ensures rest { OnOk result (fields.new ≡ drop 4 fields.old) }
+{
+    let point = next_point(Format::Two, fields)?;
+    let intensity = fields.intensity()?;
+    Ok(point.with_intensity(intensity))
+}
+
+// Takes memory for so many at once. Part of its callers, so that where the version is known its limits are constants.
+#[inline(always)]
+fn all_points(
+    alloc: Global,
+    format: Format,
+    count: usize,
+    fields: Fields,
+) -> Result<Points, LineFault>
+    requires { length fields ≡ 3 * count }
+    ensures { Gives result (places_of format fields.entry) }
+{
+    let mut fields = fields;
+    let mut points = Vec::with_capacity(alloc, count)?;
+    for _ in 0..count {
+        let point = next_point(format, &mut fields)?;
         points.push(point)?;
     }
     Ok(Points::from(points))
 }
 
 #[tactic(auto, using(crate::proofs::Fronts::first_place_is))]
-fn next_point(fields: &mut Fields) -> Result<Point, LogCause>
+fn next_point(format: Format, fields: &mut Fields) -> Result<Point, LogCause>
     requires { 3 ≤ length fields.old }
-    ensures value { result ≡ first_place fields.old }
+    ensures value { result ≡ first_place format fields.old }
     ensures rest { OnOk result (fields.new ≡ drop 3 fields.old) }
 {
-    let x = fields.coordinate()?;
-    let y = fields.coordinate()?;
-    let z = fields.coordinate()?;
-    point_at(x, y, z)
+    let x = fields.coordinate(format)?;
+    let y = fields.coordinate(format)?;
+    let z = fields.coordinate(format)?;
+    point_at(format, x, y, z)
 }
 
 /// The point of three coordinates.
 #[tactic(auto, unfolding(crate::specs::Reading::place_of))]
-pub fn point(x: &[u8], y: &[u8], z: &[u8]) -> Result<Point, LogCause>
-    ensures { result ≡ place_of x.now y.now z.now }
+pub fn point(format: Format, x: &[u8], y: &[u8], z: &[u8]) -> Result<Point, LogCause>
+    ensures { result ≡ place_of format x.now y.now z.now }
 {
-    let x = coordinate(x)?;
-    let y = coordinate(y)?;
-    let z = coordinate(z)?;
-    point_at(x, y, z)
+    let x = coordinate(format, x)?;
+    let y = coordinate(format, y)?;
+    let z = coordinate(format, z)?;
+    point_at(format, x, y, z)
 }
 
 // Nothing that was read is refused.
-fn point_at(x: i64, y: i64, z: i64) -> Result<Point, LogCause>
-    requires x { IsCoordinate x }
-    requires y { IsCoordinate y }
-    requires z { IsCoordinate z }
-    ensures { result ≡ Ok (record { x = x; y = y; z = z }) }
+fn point_at(format: Format, x: i64, y: i64, z: i64) -> Result<Point, LogCause>
+    requires x { IsLogCoordinate format x }
+    requires y { IsLogCoordinate format y }
+    requires z { IsLogCoordinate format z }
+    ensures { result ≡ Ok (record { x = x; y = y; z = z; intensity = 0 }) }
 {
     match Point::new(x, y, z) {
         Ok(point) => Ok(point),

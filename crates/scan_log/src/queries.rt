@@ -4,14 +4,14 @@ ghost use Rattle.scan_log.specs.Reading.{inside_of, near_of};
 
 use crate::boxes::cuboid;
 use crate::fields::Fields;
-use crate::number::natural_in;
+use crate::number::{distance as distance_in, natural_in};
 use crate::points::point;
-use crate::{Command, LogCause};
+use crate::{Command, Format, LogCause};
 
 /// The search for the nearest points that the fields behind `near` spell.
 #[tactic(auto, unfolding(crate::specs::Reading::near_of))]
-pub fn near(caller: u8, fields: Fields) -> Result<Command, LogCause>
-    ensures { result ≡ near_of caller fields.entry }
+pub fn near(format: Format, caller: u8, fields: Fields) -> Result<Command, LogCause>
+    ensures { result ≡ near_of format caller fields.entry }
 {
     let mut fields = fields;
     let k = fields.next().ok_or(LogCause::WrongCount)?;
@@ -22,7 +22,7 @@ pub fn near(caller: u8, fields: Fields) -> Result<Command, LogCause>
         return Ok(Command::Near {
             caller,
             k: natural_in(1, 256, k)?,
-            point: point(x, y, z)?,
+            point: point(format, x, y, z)?,
             within: None,
         });
     };
@@ -31,20 +31,20 @@ pub fn near(caller: u8, fields: Fields) -> Result<Command, LogCause>
         return Err(LogCause::WrongCount);
     }
     let k = natural_in(1, 256, k)?;
-    let point = point(x, y, z)?;
-    let within = natural_in(0, 4_000_000_000, distance)?;
+    let point = point(format, x, y, z)?;
+    let within = distance_in(format, distance)?;
     Ok(Command::Near {
         caller,
         k,
         point,
-        within: Some(within as u64),
+        within: Some(within),
     })
 }
 
 /// The search of a box that the fields behind `box` spell.
 #[tactic(auto, unfolding(crate::specs::Reading::inside_of))]
-pub fn inside(caller: u8, fields: Fields) -> Result<Command, LogCause>
-    ensures { result ≡ inside_of caller fields.entry }
+pub fn inside(format: Format, caller: u8, fields: Fields) -> Result<Command, LogCause>
+    ensures { result ≡ inside_of format caller fields.entry }
 {
     let mut fields = fields;
     let k = fields.next().ok_or(LogCause::WrongCount)?;
@@ -58,6 +58,6 @@ pub fn inside(caller: u8, fields: Fields) -> Result<Command, LogCause>
         return Err(LogCause::WrongCount);
     }
     let k = natural_in(1, 256, k)?;
-    let cuboid = cuboid(x, y, z, far_x, far_y, far_z)?;
+    let cuboid = cuboid(format, x, y, z, far_x, far_y, far_z)?;
     Ok(Command::Inside { caller, k, cuboid })
 }

@@ -1,14 +1,15 @@
 //! Scripts: what a log says.
 ghost use Rattle.std.specs.Prelude.{◌≡◌, [], ◌∷◌, ◌++◌, OnOk, OnErr};
 
-use crate::Command;
+use crate::{Command, Format};
 use map_fold::{NoMemory, Settings};
 use std::alloc::Global;
 use std::marker::Model;
 
-/// Settings, and commands in order, within the limits of a log.
+/// A version, settings, and commands in order, within the limits of a log.
 #[derive(Debug, Drop)]
 pub struct Script {
+    format: Format,
     settings: Settings,
     commands: Vec<Command>,
 }
@@ -18,25 +19,35 @@ impl Model for Script {
 
     ghost Value = { ScriptAt };
 
-    ghost view = { λ s. record { sizes = s.settings; commands = s.commands.items } };
+    ghost view = { λ s. record { format = s.format; sizes = s.settings; commands = s.commands.items } };
 
-    ghost invariant = { λ s. IsScript (record { sizes = s.settings; commands = s.commands.items }) };
+    ghost invariant = { λ s. IsScript (record { format = s.format; sizes = s.settings; commands = s.commands.items }) };
 }
 
 impl Script {
-    ghost use Rattle.scan_log.specs.Scripts.{ScriptAt, IsScript, with_command};
+    ghost use Rattle.std.specs.List.{AllByRecursion};
+    ghost use Rattle.scan_log.specs.declared.format.Format.TheVariants.{Two};
+    ghost use Rattle.scan_log.specs.Scripts.{ScriptAt, IsCommand, IsScript, with_command};
 
     /// A script of no commands, which takes no memory.
-    pub fn new(alloc: Global, settings: Settings) -> Script
-        ensures value { result ≡ record { sizes = settings; commands = [] } }
+    pub fn new(alloc: Global, format: Format, settings: Settings) -> Script
+        ensures value { result ≡ record { format = format; sizes = settings; commands = [] } }
         ensures limits { IsScript result }
     {
         // Says that the settings are in their limits.
         let _ = settings.voxel();
         Script {
+            format,
             settings,
             commands: Vec::new(alloc),
         }
+    }
+
+    /// The version of the log that it is read from or written to.
+    pub fn format(&self) -> Format
+        ensures { result ≡ self.now.format }
+    {
+        self.format
     }
 
     /// The settings of the map.
@@ -50,11 +61,15 @@ impl Script {
     pub fn commands(&self) -> &[Command]
         ensures all { result.now ≡ self.now.commands }
         ensures limits { IsScript self.now }
+
+        // What version 1 allows, version 2 allows.
+        ensures wide { AllByRecursion (IsCommand Two) result.now }
     {
         self.commands.as_slice()
     }
 
-    /// Puts one more command at the end. Where memory is wanting, the script stays as it was.
+    /// Puts one more command at the end. Points have the intensity 0, but for those that are added or thinned in version 2.
+    /// Where memory is wanting, the script stays as it was.
     pub fn push(&mut self, command: Command) -> Result<(), NoMemory>
         requires { IsScript (with_command self.old command) }
         ensures ok { OnOk result (self.new ≡ with_command self.old command) }

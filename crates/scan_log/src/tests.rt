@@ -1,5 +1,5 @@
 //! Logs and lines, by hand.
-use crate::{Command, LogCause, ParseFault, Reply, Script, parse, reply_line};
+use crate::{Command, Format, LogCause, ParseFault, Reply, Script, parse, reply_line};
 use map_fold::{Hit, Hits, NearReply, Settings, Update};
 use point_geom::Point;
 use std::alloc::{AllocError, Global};
@@ -8,8 +8,15 @@ use std::test::Fail;
 
 const HEADER: &[u8] = b"ikdmap 1 voxel 200 large 1500\n";
 
+// That of version 2.
+const WIDE_HEADER: &[u8] = b"ikdmap 2 voxel 200 large 1500\n";
+
 pub fn log_of(alloc: Global, lines: &[u8]) -> Result<Vec<u8>, AllocError> {
-    let mut log = Vec::from_slice(alloc, HEADER)?;
+    log_with(alloc, HEADER, lines)
+}
+
+fn log_with(alloc: Global, header: &[u8], lines: &[u8]) -> Result<Vec<u8>, AllocError> {
+    let mut log = Vec::from_slice(alloc, header)?;
     log.extend_from_slice(lines)?;
     Ok(log)
 }
@@ -30,16 +37,26 @@ fn is_end(byte: &u8) -> bool {
     *byte == b'\n'
 }
 
-// Each of these lines, alone behind the header, has this fault.
+// Each of these lines, alone behind the header of version 1, has this fault.
 pub fn assert_faults(
     rt: &impl Abort,
     alloc: Global,
     cause: LogCause,
     lines: &[u8],
 ) -> Result<(), AllocError> {
+    assert_faults_behind(rt, alloc, HEADER, cause, lines)
+}
+
+fn assert_faults_behind(
+    rt: &impl Abort,
+    alloc: Global,
+    header: &[u8],
+    cause: LogCause,
+    lines: &[u8],
+) -> Result<(), AllocError> {
     let line = 2;
     for text in lines.split_inclusive(is_end) {
-        let log = log_of(alloc, text)?;
+        let log = log_with(alloc, header, text)?;
         let fault = fault_of(alloc, log.as_slice());
         assert_eq!(rt; fault, Some(ParseFault::Bad { line, cause }), "{text:?}");
     }
@@ -53,7 +70,7 @@ fn a_log_without_its_header_is_refused_where_it_would_stand(rt: HostRuntime) {
         (2, b"\n".as_slice()),
         (1, b"# a map".as_slice()),
         (3, b"# a map\n\n".as_slice()),
-        (1, b"ikdmap 2 voxel 200 large 1500\n".as_slice()),
+        (1, b"ikdmap 3 voxel 200 large 1500\n".as_slice()),
         (1, b"ikdmap 1 voxel 200 large 1500 \n".as_slice()),
         (1, b"ikdmap 1  voxel 200 large 1500\n".as_slice()),
         (1, b"ikdmap 1 voxel 200\n".as_slice()),
@@ -90,7 +107,7 @@ fn a_header_has_its_limits(rt: HostRuntime) {
         LogCause::OutOfRange,
         b"ikdmap 1 voxel 0 large 1500\n\
           ikdmap 1 voxel 1000001 large 15\n\
-          ikdmap 1 voxel 200 large 15\n\
+          ikdmap 2 voxel 200 large 15\n\
           ikdmap 1 voxel 200 large 1000001",
     );
     assert_first_faults(
@@ -102,6 +119,7 @@ fn a_header_has_its_limits(rt: HostRuntime) {
     );
     for log in [
         b"ikdmap 1 voxel 1 large 16".as_slice(),
+        b"ikdmap 2 voxel 1 large 16".as_slice(),
         b"\n# the coarsest\nikdmap 1 voxel 1000000 large 1000000\n".as_slice(),
     ] {
         assert_eq!(rt; fault_of(rt.alloc(), log), None, "{log:?}");
@@ -122,6 +140,7 @@ fn what_is_no_command_is_refused(rt: HostRuntime) -> Result<(), Fail> {
           @1 sync\n\
           @1  add 1 2 3\n\
           @1 Add 1 2 3\n\
+          @1 expire 2\n\
           @8 near5 0\n",
     )?;
     Ok(())
@@ -165,6 +184,18 @@ fn each_command_has_its_fields(rt: HostRuntime) -> Result<(), Fail> {
           @1 box 5 0 0 0 9 9\n\
           @1 box 5 0 0 0 9 9 9 9\n",
     )?;
+    assert_faults_behind(
+        &rt,
+        rt.alloc(),
+        WIDE_HEADER,
+        LogCause::WrongCount,
+        b"@1 add 1 2 3\n\
+          @1 thin 1 2 3 4 5 6\n\
+          @1 erase 1 2 3 4\n\
+          @1 near 1 2 3 4 5\n\
+          @1 expire\n\
+          @1 expire 1 2\n",
+    )?;
     Ok(())
 }
 
@@ -186,6 +217,16 @@ fn a_number_has_one_spelling(rt: HostRuntime) -> Result<(), Fail> {
           @1 near 1 0 0 0 within -0\n\
           @1 box 1 0 0 0 -1 0 .5\n",
     )?;
+    assert_faults_behind(
+        &rt,
+        rt.alloc(),
+        WIDE_HEADER,
+        LogCause::BadNumber,
+        b"@1 add 1 2 3 04\n\
+          @1 thin 1 2 3 4 -5 6 007 8\n\
+          @1 thin 1 2 3 -0\n\
+          @1 expire 02\n",
+    )?;
     Ok(())
 }
 
@@ -196,6 +237,7 @@ fn each_number_has_its_limits(rt: HostRuntime) -> Result<(), Fail> {
         rt.alloc(),
         LogCause::OutOfRange,
         b"@1 add 1000000001 0 0\n\
+          @1 add 0 1099511627776 0\n\
           @1 thin 0 0 -1000000001 0 0 x\n\
           @1 erase 0 1000000001 0\n\
           @1 delete 0 0 0 9 9 1000000002\n\
@@ -205,6 +247,22 @@ fn each_number_has_its_limits(rt: HostRuntime) -> Result<(), Fail> {
           @1 near 5 0 0 0 within -1\n\
           @1 near 5 0 0 0 within 4000000001\n\
           @1 box 0 0 0 0 9 9 9\n",
+    )?;
+    assert_faults_behind(
+        &rt,
+        rt.alloc(),
+        WIDE_HEADER,
+        LogCause::OutOfRange,
+        b"@1 add 1 2 3 65536\n\
+          @1 thin 0 0 0 -1 x 0 0 0\n\
+          @1 add 0 0 0 18446744073709551617\n\
+          @1 add 1099511627777 0 0 0\n\
+          @1 erase 0 -1099511627777 0\n\
+          @1 delete 0 0 0 9 9 1099511627778\n\
+          @1 restore -1099511627777 0 0 1 1 1\n\
+          @1 near 5 0 0 0 within 4398046511105\n\
+          @1 expire -1\n\
+          @1 expire 4194305\n",
     )?;
     Ok(())
 }
@@ -242,10 +300,29 @@ fn the_first_faulty_line_is_named_and_all_lines_count(rt: HostRuntime) -> Result
     Ok(())
 }
 
+// Each of these lines, alone behind the header, is read, and so are all.
+fn assert_reads(
+    rt: &impl Abort,
+    alloc: Global,
+    header: &[u8],
+    lines: &[u8],
+) -> Result<(), AllocError> {
+    for line in lines.split_inclusive(is_end) {
+        let log = log_with(alloc, header, line)?;
+        assert_eq!(rt; fault_of(alloc, log.as_slice()), None, "{line:?}");
+    }
+    let log = log_with(alloc, header, lines)?;
+    assert_eq!(rt; fault_of(alloc, log.as_slice()), None);
+    Ok(())
+}
+
 #[test]
 fn each_command_is_read(rt: HostRuntime) -> Result<(), Fail> {
-    let alloc = rt.alloc();
-    let lines = b"@2 thin 1 2 3 -4 0 1000000000\n\
+    assert_reads(
+        &rt,
+        rt.alloc(),
+        HEADER,
+        b"@2 thin 1 2 3 -4 0 1000000000\n\
           @3 delete 1 2 3 4 5 6 -1000000000 0 0 1000000001 1000000001 1000000001\n\
           @4 suspend 4 5 6 4 5 6\n\
           @4 restore 0 0 0 9 9 9\n\
@@ -255,79 +332,23 @@ fn each_command_is_read(rt: HostRuntime) -> Result<(), Fail> {
           @7 near 1 0 0 0 within 4000000000\n\
           @8 box 256 0 0 0 9 9 9\n\
           sync\n\
-          @1 add 1 2 3";
-    for line in lines.split_inclusive(is_end) {
-        let log = log_of(alloc, line)?;
-        assert_eq!(rt; fault_of(alloc, log.as_slice()), None, "{line:?}");
-    }
-    let log = log_of(alloc, lines)?;
-    assert_eq!(rt; fault_of(alloc, log.as_slice()), None);
-    Ok(())
-}
-
-// The header, and the line so many times.
-fn repeated(alloc: Global, line: &[u8], times: u32) -> Result<Vec<u8>, AllocError> {
-    let mut log = log_of(alloc, b"")?;
-    for _ in 0..times {
-        log.extend_from_slice(line)?;
-    }
-    Ok(log)
-}
-
-#[test]
-fn a_command_has_at_most_262144_points_or_boxes(rt: HostRuntime) -> Result<(), Fail> {
-    let alloc = rt.alloc();
-    for (word, one) in [
-        (b"@1 add".as_slice(), b" 1 2 3".as_slice()),
-        (b"@1 erase".as_slice(), b" 1 2 3".as_slice()),
-        (b"@1 suspend".as_slice(), b" 0 0 0 0 0 0".as_slice()),
-    ] {
-        let mut log = log_of(alloc, word)?;
-        for _ in 0..262_144 {
-            log.extend_from_slice(one)?;
-        }
-        assert_eq!(rt; fault_of(alloc, log.as_slice()), None, "{word:?}");
-        log.extend_from_slice(one)?;
-        let many = Some(ParseFault::Bad {
-            line: 2,
-            cause: LogCause::TooManyPoints,
-        });
-        assert_eq!(rt; fault_of(alloc, log.as_slice()), many, "{word:?}");
-    }
-    Ok(())
-}
-
-#[test]
-fn a_log_has_at_most_4194304_points(rt: HostRuntime) -> Result<(), Fail> {
-    let alloc = rt.alloc();
-    let mut line = Vec::from_slice(alloc, b"@1 add")?;
-    for _ in 0..262_144 {
-        line.extend_from_slice(b" 0 0 0")?;
-    }
-    line.push(b'\n')?;
-    let mut log = repeated(alloc, line.as_slice(), 16)?;
-    log.extend_from_slice(b"@1 erase 0 0 0\n")?;
-    assert_eq!(rt; fault_of(alloc, log.as_slice()), None);
-    log.extend_from_slice(b"@1 thin 0 0 x\n")?;
-    let many = Some(ParseFault::Bad {
-        line: 19,
-        cause: LogCause::TooManyPoints,
-    });
-    assert_eq!(rt; fault_of(alloc, log.as_slice()), many);
-    Ok(())
-}
-
-#[test]
-fn a_log_has_at_most_65536_commands(rt: HostRuntime) -> Result<(), Fail> {
-    let alloc = rt.alloc();
-    let mut log = repeated(alloc, b"sync\n", 65_536)?;
-    assert_eq!(rt; fault_of(alloc, log.as_slice()), None);
-    log.extend_from_slice(b"# what\nwhat\n")?;
-    let many = Some(ParseFault::Bad {
-        line: 65_539,
-        cause: LogCause::TooManyCommands,
-    });
-    assert_eq!(rt; fault_of(alloc, log.as_slice()), many);
+          @1 add 1 2 3",
+    )?;
+    assert_reads(
+        &rt,
+        rt.alloc(),
+        WIDE_HEADER,
+        b"@1 add 1099511627776 0 0 7 1 2 3 65535\n\
+          @2 thin 0 -1099511627776 0 0\n\
+          @3 delete -1099511627776 0 0 1099511627777 1099511627777 1099511627777\n\
+          @5 erase 1099511627776 0 -1099511627776\n\
+          @6 near 256 -1099511627776 0 7\n\
+          @7 near 1 0 0 1099511627776 within 4398046511104\n\
+          @8 box 256 0 0 0 9 9 1099511627777\n\
+          @1 expire 0\n\
+          @1 expire 4194304\n\
+          sync\n",
+    )?;
     Ok(())
 }
 
@@ -356,12 +377,13 @@ fn the_smallest_run_is_read_and_told(rt: HostRuntime) -> Result<(), Fail> {
     let mut out = Vec::new(alloc);
     reply_line(
         &mut out,
+        Format::One,
         Some(&script.commands()[0]),
         &Reply::Done { mark: 1 },
     )?;
-    reply_line(&mut out, Some(&script.commands()[1]), &near)?;
-    reply_line(&mut out, None, &totals)?;
-    reply_line(&mut out, None, &near)?;
+    reply_line(&mut out, Format::One, Some(&script.commands()[1]), &near)?;
+    reply_line(&mut out, Format::One, None, &totals)?;
+    reply_line(&mut out, Format::One, None, &near)?;
     assert_eq!(rt;
         out.as_slice(),
         b"@1 ok 1\n@1 near 1 | 0 1 2 3 14\nend 1 live 1 suspended 0\n".as_slice()
@@ -371,7 +393,7 @@ fn the_smallest_run_is_read_and_told(rt: HostRuntime) -> Result<(), Fail> {
 
 #[test]
 fn a_script_holds_what_was_pushed(rt: HostRuntime) -> Result<(), Fail> {
-    let mut script = Script::new(rt.alloc(), Settings::new(1, 16));
+    let mut script = Script::new(rt.alloc(), Format::One, Settings::new(1, 16));
     script.push(Command::Near {
         caller: 8,
         k: 256,
@@ -379,5 +401,6 @@ fn a_script_holds_what_was_pushed(rt: HostRuntime) -> Result<(), Fail> {
         within: Some(4_000_000_000),
     })?;
     assert_eq!(rt; script.commands().len(), 1);
+    assert_eq!(rt; script.format(), Format::One);
     Ok(())
 }

@@ -1,14 +1,14 @@
 //! Writing a script as a log.
-ghost use Rattle.std.specs.Prelude.{◌≡◌, ◌+◌, ◌++◌, length, decimal, IfOk, OnOk};
+ghost use Rattle.std.specs.Prelude.{◌≡◌, ◌+◌, [], ◌∷◌, ◌++◌, length, codes, decimal, IfOk, OnOk};
 ghost use Rattle.std.specs.List.{flat_map};
-ghost use Rattle.point_geom.specs.Corners.{corner_place};
+ghost use Rattle.scan_log.specs.Formats.{version_field};
 ghost use Rattle.scan_log.specs.Faults.{line_feeds};
 ghost use Rattle.scan_log.specs.Spelling.{Spells, header_fields, update_fields, within_fields};
-ghost use Rattle.scan_log.specs.Transcript.{all_spaced, point_text, spaced};
-ghost use Rattle.scan_log.specs.Written.{command_text, cuboid_text, written_line, script_text};
+ghost use Rattle.scan_log.specs.Transcript.{all_spaced, scanned_text, spaced};
+ghost use Rattle.scan_log.specs.Written.{command_text, corner_text, cuboid_text, written_line, script_text};
 
 use crate::putting::{put, put_caller, put_point, put_spaced};
-use crate::{Command, Script};
+use crate::{Command, Format, Script};
 use map_fold::{NoMemory, Settings, Update};
 use point_geom::{Corner, Cuboid, Point};
 use std::alloc::Global;
@@ -23,18 +23,29 @@ pub fn write_script(alloc: Global, script: &Script) -> Result<Vec<u8>, NoMemory>
     ensures lines { IfOk result (λ log. line_feeds log.items ≡ length script.now.commands + 1) }
 {
     let mut log = Vec::new(alloc);
-    put_header(&mut log, script.settings())?;
-    put_commands(&mut log, script.commands())?;
+    let format = script.format();
+    put_header(&mut log, format, script.settings())?;
+    put_commands(&mut log, format, script.commands())?;
     Ok(log)
 }
 
-fn put_header(out: &mut Vec<u8>, settings: &Settings) -> Result<(), NoMemory>
-    ensures { OnOk result (out.new.items ≡ out.old.items ++ written_line (header_fields settings.now)) }
+fn put_header(out: &mut Vec<u8>, format: Format, settings: &Settings) -> Result<(), NoMemory>
+    ensures { OnOk result (out.new.items ≡ out.old.items ++ written_line (header_fields format settings.now)) }
 {
-    put(out, b"ikdmap 1")?;
+    put(out, program_of(format))?;
     put_setting(out, b"voxel", settings.voxel())?;
     put_setting(out, b"large", settings.large())?;
     put(out, b"\n")
+}
+
+// The program's name and the version.
+fn program_of(format: Format) -> &'static [u8]
+    ensures { result.now ≡ codes "ikdmap" ++ spaced (version_field format) }
+{
+    match format {
+        Format::One => b"ikdmap 1",
+        Format::Two => b"ikdmap 2",
+    }
 }
 
 fn put_setting(out: &mut Vec<u8>, word: &[u8], number: u32) -> Result<(), NoMemory>
@@ -44,22 +55,22 @@ fn put_setting(out: &mut Vec<u8>, word: &[u8], number: u32) -> Result<(), NoMemo
     put_spaced(out, number)
 }
 
-fn put_commands(out: &mut Vec<u8>, commands: &[Command]) -> Result<(), NoMemory>
-    ensures { OnOk result (out.new.items ≡ out.old.items ++ flat_map command_text commands.now) }
+fn put_commands(out: &mut Vec<u8>, format: Format, commands: &[Command]) -> Result<(), NoMemory>
+    ensures { OnOk result (out.new.items ≡ out.old.items ++ flat_map (command_text format) commands.now) }
 {
     for command in commands {
-        put_command(out, command)?;
+        put_command(out, format, command)?;
     }
     Ok(())
 }
 
-fn put_command(out: &mut Vec<u8>, command: &Command) -> Result<(), NoMemory>
-    ensures { OnOk result (out.new.items ≡ out.old.items ++ command_text command.now) }
+fn put_command(out: &mut Vec<u8>, format: Format, command: &Command) -> Result<(), NoMemory>
+    ensures { OnOk result (out.new.items ≡ out.old.items ++ command_text format command.now) }
 {
     match command {
         Command::Change { caller, update } => {
             put_caller(out, *caller)?;
-            put_update(out, update)?;
+            put_update(out, format, update)?;
         }
         Command::Near {
             caller,
@@ -85,26 +96,42 @@ fn put_command(out: &mut Vec<u8>, command: &Command) -> Result<(), NoMemory>
 }
 
 #[tactic(auto, using(crate::proofs::WrittenLines::spaced_points, crate::proofs::WrittenLines::spaced_boxes))]
-fn put_update(out: &mut Vec<u8>, update: &Update) -> Result<(), NoMemory>
-    ensures { OnOk result (out.new.items ≡ out.old.items ++ all_spaced (update_fields update.now)) }
+fn put_update(out: &mut Vec<u8>, format: Format, update: &Update) -> Result<(), NoMemory>
+    ensures { OnOk result (out.new.items ≡ out.old.items ++ all_spaced (update_fields format update.now)) }
 {
     match update {
-        Update::Add(points) => put_points(out, b"add", points.as_slice()),
-        Update::Thin(points) => put_points(out, b"thin", points.as_slice()),
+        Update::Add(points) => put_points(out, format, b"add", points.as_slice()),
+        Update::Thin(points) => put_points(out, format, b"thin", points.as_slice()),
         Update::Delete(boxes) => put_cuboids(out, b"delete", boxes.as_slice()),
         Update::Suspend(boxes) => put_cuboids(out, b"suspend", boxes.as_slice()),
         Update::Restore(boxes) => put_cuboids(out, b"restore", boxes.as_slice()),
+        Update::Expire(number) => put_bound(out, b"expire", *number),
     }
 }
 
-fn put_points(out: &mut Vec<u8>, word: &[u8], points: &[Point]) -> Result<(), NoMemory>
-    ensures { OnOk result (out.new.items ≡ out.old.items ++ (spaced word.now ++ flat_map point_text points.now)) }
+fn put_points(
+    out: &mut Vec<u8>,
+    format: Format,
+    word: &[u8],
+    points: &[Point],
+) -> Result<(), NoMemory>
+    ensures { OnOk result (out.new.items ≡ out.old.items ++ (spaced word.now ++ flat_map (scanned_text format) points.now)) }
 {
     put_word(out, word)?;
     for point in points {
-        put_point(out, point)?;
+        put_scanned(out, format, point)?;
     }
     Ok(())
+}
+
+fn put_scanned(out: &mut Vec<u8>, format: Format, point: &Point) -> Result<(), NoMemory>
+    ensures { OnOk result (out.new.items ≡ out.old.items ++ scanned_text format point.now) }
+{
+    put_point(out, point)?;
+    match format {
+        Format::One => Ok(()),
+        Format::Two => put_spaced(out, point.intensity()),
+    }
 }
 
 fn put_cuboids(out: &mut Vec<u8>, word: &[u8], boxes: &[Cuboid]) -> Result<(), NoMemory>
@@ -117,6 +144,13 @@ fn put_cuboids(out: &mut Vec<u8>, word: &[u8], boxes: &[Cuboid]) -> Result<(), N
     Ok(())
 }
 
+fn put_bound(out: &mut Vec<u8>, word: &[u8], number: u32) -> Result<(), NoMemory>
+    ensures { OnOk result (out.new.items ≡ out.old.items ++ all_spaced (word.now ∷ decimal number ∷ [])) }
+{
+    put_word(out, word)?;
+    put_spaced(out, number)
+}
+
 fn put_cuboid(out: &mut Vec<u8>, cuboid: &Cuboid) -> Result<(), NoMemory>
     ensures { OnOk result (out.new.items ≡ out.old.items ++ cuboid_text cuboid.now) }
 {
@@ -125,7 +159,7 @@ fn put_cuboid(out: &mut Vec<u8>, cuboid: &Cuboid) -> Result<(), NoMemory>
 }
 
 fn put_corner(out: &mut Vec<u8>, corner: Corner) -> Result<(), NoMemory>
-    ensures { OnOk result (out.new.items ≡ out.old.items ++ point_text (corner_place corner)) }
+    ensures { OnOk result (out.new.items ≡ out.old.items ++ corner_text corner) }
 {
     put_spaced(out, corner.x)?;
     put_spaced(out, corner.y)?;

@@ -1,9 +1,11 @@
 //! What is written, by hand: logs, and the lines of replies.
 ghost use Rattle.std.specs.Prelude.{◌≡◌, ◌≤◌, IfOk, IfErr};
-ghost use Rattle.scan_log.specs.Scripts.{ArePoints, AreBoxes, IsCallerBox, IsCommand, submitted};
+ghost use Rattle.scan_log.specs.declared.format.Format.TheVariants.{One, Two};
+ghost use Rattle.scan_log.specs.Scripts.{AreBoxes, AreScanned, IsCallerBox, IsCommand, submitted};
 ghost use Rattle.scan_log.specs.declared.fault.ParseFault.TheVariants.{NoMemory as want};
 
-use crate::{Command, ParseFault, Reply, Script, parse, reply_line, write_script};
+use crate::tests::read;
+use crate::{Command, Format, ParseFault, Reply, Script, parse, reply_line, write_script};
 use map_fold::{
     BoxReply, Cuboids, Hit, Hits, Item, Items, Label, NearReply, Points, Settings, Update,
 };
@@ -12,17 +14,17 @@ use std::alloc::Global;
 use std::test::Fail;
 
 // The log of this one command.
-fn log_of(alloc: Global, command: Command) -> Result<Vec<u8>, Fail>
-    requires limits { IsCommand command }
+fn log_of(alloc: Global, format: Format, command: Command) -> Result<Vec<u8>, Fail>
+    requires limits { IsCommand format command }
     requires room { submitted command ≤ 262144 }
 {
-    let mut script = Script::new(alloc, Settings::new(200, 1500));
+    let mut script = Script::new(alloc, format, Settings::new(200, 1500));
     script.push(command)?;
     Ok(write_script(alloc, &script)?)
 }
 
 fn points(alloc: Global) -> Result<Points, Fail>
-    ensures { IfOk result ArePoints }
+    ensures { IfOk result (AreScanned One) }
 {
     let mut points = Points::new(alloc);
     points.push(Point::new(1, -2, 3)?)?;
@@ -30,8 +32,18 @@ fn points(alloc: Global) -> Result<Points, Fail>
     Ok(points)
 }
 
+// Points with intensities.
+fn wide_points(alloc: Global) -> Result<Points, Fail>
+    ensures { IfOk result (AreScanned Two) }
+{
+    let mut points = Points::new(alloc);
+    points.push(Point::new(1, -2, 3)?.with_intensity(65_535))?;
+    points.push(Point::new(1_099_511_627_776, 0, 0)?.with_intensity(7))?;
+    Ok(points)
+}
+
 fn cuboid() -> Result<Cuboid, Fail>
-    ensures { IfOk result IsCallerBox }
+    ensures { IfOk result (IsCallerBox One) }
 {
     let lo = Corner { x: 4, y: -5, z: 6 };
     let hi = Corner {
@@ -43,7 +55,7 @@ fn cuboid() -> Result<Cuboid, Fail>
 }
 
 fn boxes(alloc: Global) -> Result<Cuboids, Fail>
-    ensures { IfOk result AreBoxes }
+    ensures { IfOk result (AreBoxes One) }
 {
     let mut boxes = Cuboids::new(alloc);
     boxes.push(Cuboid::unit(&Point::new(1, -2, 3)?))?;
@@ -56,27 +68,37 @@ fn an_update_has_one_line_with_all_its_numbers(rt: HostRuntime) -> Result<(), Fa
     let alloc = rt.alloc();
     let update = Update::Add(points(alloc)?);
     assert_eq!(rt;
-        log_of(alloc, Command::Change { caller: 1, update })?.as_slice(),
+        log_of(alloc, Format::One, Command::Change { caller: 1, update })?.as_slice(),
         b"ikdmap 1 voxel 200 large 1500\n@1 add 1 -2 3 1000000000 0 -1000000000\n".as_slice()
     );
     let update = Update::Thin(points(alloc)?);
     assert_eq!(rt;
-        log_of(alloc, Command::Change { caller: 2, update })?.as_slice(),
+        log_of(alloc, Format::One, Command::Change { caller: 2, update })?.as_slice(),
         b"ikdmap 1 voxel 200 large 1500\n@2 thin 1 -2 3 1000000000 0 -1000000000\n".as_slice()
+    );
+    let update = Update::Add(wide_points(alloc)?);
+    assert_eq!(rt;
+        log_of(alloc, Format::Two, Command::Change { caller: 1, update })?.as_slice(),
+        b"ikdmap 2 voxel 200 large 1500\n@1 add 1 -2 3 65535 1099511627776 0 0 7\n".as_slice()
+    );
+    let update = Update::Expire(4_194_304);
+    assert_eq!(rt;
+        log_of(alloc, Format::Two, Command::Change { caller: 4, update })?.as_slice(),
+        b"ikdmap 2 voxel 200 large 1500\n@4 expire 4194304\n".as_slice()
     );
     let update = Update::Delete(boxes(alloc)?);
     assert_eq!(rt;
-        log_of(alloc, Command::Change { caller: 3, update })?.as_slice(),
+        log_of(alloc, Format::One, Command::Change { caller: 3, update })?.as_slice(),
         b"ikdmap 1 voxel 200 large 1500\n@3 delete 1 -2 3 2 -1 4 4 -5 6 1000000001 -5 7\n".as_slice()
     );
     let update = Update::Suspend(boxes(alloc)?);
     assert_eq!(rt;
-        log_of(alloc, Command::Change { caller: 4, update })?.as_slice(),
+        log_of(alloc, Format::One, Command::Change { caller: 4, update })?.as_slice(),
         b"ikdmap 1 voxel 200 large 1500\n@4 suspend 1 -2 3 2 -1 4 4 -5 6 1000000001 -5 7\n".as_slice()
     );
     let update = Update::Restore(boxes(alloc)?);
     assert_eq!(rt;
-        log_of(alloc, Command::Change { caller: 5, update })?.as_slice(),
+        log_of(alloc, Format::One, Command::Change { caller: 5, update })?.as_slice(),
         b"ikdmap 1 voxel 200 large 1500\n@5 restore 1 -2 3 2 -1 4 4 -5 6 1000000001 -5 7\n".as_slice()
     );
     Ok(())
@@ -90,6 +112,7 @@ fn a_search_has_its_distance_where_one_is_given(rt: HostRuntime) -> Result<(), F
     assert_eq!(rt;
         log_of(
             alloc,
+            Format::One,
             Command::Near {
                 caller,
                 k,
@@ -103,19 +126,20 @@ fn a_search_has_its_distance_where_one_is_given(rt: HostRuntime) -> Result<(), F
     assert_eq!(rt;
         log_of(
             alloc,
+            Format::Two,
             Command::Near {
                 caller,
                 k,
                 point,
-                within: Some(0)
+                within: Some(4_398_046_511_104)
             }
         )?
         .as_slice(),
-        b"ikdmap 1 voxel 200 large 1500\n@8 near 256 1 -2 3 within 0\n".as_slice()
+        b"ikdmap 2 voxel 200 large 1500\n@8 near 256 1 -2 3 within 4398046511104\n".as_slice()
     );
     let cuboid = cuboid()?;
     assert_eq!(rt;
-        log_of(alloc, Command::Inside { caller, k, cuboid })?.as_slice(),
+        log_of(alloc, Format::One, Command::Inside { caller, k, cuboid })?.as_slice(),
         b"ikdmap 1 voxel 200 large 1500\n@8 box 256 4 -5 6 1000000001 -5 7\n".as_slice()
     );
     Ok(())
@@ -133,24 +157,33 @@ fn again(alloc: Global, script: &Script) -> Result<Script, ParseFault>
 #[test]
 fn what_is_written_is_read_as_the_same_script(rt: HostRuntime) -> Result<(), Fail> {
     let alloc = rt.alloc();
-    let script = parse(
-        alloc,
-        b"# by hand\nikdmap 1 voxel 200 large 1500\n\n@1 erase 1 2 3\nsync\n@8 near 2 0 0 0 within 7".as_slice(),
-    )?;
-    let log =
-        b"ikdmap 1 voxel 200 large 1500\n@1 delete 1 2 3 2 3 4\nsync\n@8 near 2 0 0 0 within 7\n".as_slice();
-    assert_eq!(rt; write_script(alloc, &script)?.as_slice(), log);
-    assert_eq!(rt;
-        write_script(alloc, &again(alloc, &script)?)?.as_slice(),
-        log
-    );
+    for (by_hand, written) in [
+        (
+            b"# by hand\nikdmap 1 voxel 200 large 1500\n\n@1 erase 1 2 3\nsync\n@8 near 2 0 0 0 within 7".as_slice(),
+            b"ikdmap 1 voxel 200 large 1500\n@1 delete 1 2 3 2 3 4\nsync\n@8 near 2 0 0 0 within 7\n".as_slice(),
+        ),
+        (
+            b"ikdmap 2 voxel 200 large 1500\n@1 add 1 2 3 4 -5 0 6 65535\n#\n@2 erase 1 2 3".as_slice(),
+            b"ikdmap 2 voxel 200 large 1500\n@1 add 1 2 3 4 -5 0 6 65535\n@2 delete 1 2 3 2 3 4\n".as_slice(),
+        ),
+    ] {
+        let script = read(alloc, by_hand)?;
+        assert_eq!(rt; write_script(alloc, &script)?.as_slice(), written);
+        let script = again(alloc, &script)?;
+        assert_eq!(rt; write_script(alloc, &script)?.as_slice(), written);
+    }
     Ok(())
 }
 
 // The line of this reply.
-fn line_of(alloc: Global, command: Option<&Command>, reply: &Reply) -> Result<Vec<u8>, Fail> {
+fn line_of(
+    alloc: Global,
+    format: Format,
+    command: Option<&Command>,
+    reply: &Reply,
+) -> Result<Vec<u8>, Fail> {
     let mut line = Vec::new(alloc);
-    reply_line(&mut line, command, reply)?;
+    reply_line(&mut line, format, command, reply)?;
     Ok(line)
 }
 
@@ -159,7 +192,12 @@ fn an_update_is_told_by_its_place(rt: HostRuntime) -> Result<(), Fail> {
     let alloc = rt.alloc();
     let update = Update::Add(Points::new(alloc));
     let change = Command::Change { caller: 8, update };
-    let line = line_of(alloc, Some(&change), &Reply::Done { mark: 65_536 })?;
+    let line = line_of(
+        alloc,
+        Format::One,
+        Some(&change),
+        &Reply::Done { mark: 65_536 },
+    )?;
     assert_eq!(rt; line.as_slice(), b"@8 ok 65536\n".as_slice());
     Ok(())
 }
@@ -174,6 +212,7 @@ fn each_hit_is_told_with_its_distance(rt: HostRuntime) -> Result<(), Fail> {
         point,
         within: None,
     };
+    let point = point.with_intensity(65_535);
     let mut hits = Hits::new(alloc);
     hits.push(Hit {
         number: 5,
@@ -185,14 +224,14 @@ fn each_hit_is_told_with_its_distance(rt: HostRuntime) -> Result<(), Fail> {
         point,
         dist2: 12_000_000_000_000_000_000,
     })?;
-    let line = line_of(
-        alloc,
-        Some(&near),
-        &Reply::Near(NearReply { mark: 9, hits }),
-    )?;
+    let reply = Reply::Near(NearReply { mark: 9, hits });
     assert_eq!(rt;
-        line.as_slice(),
+        line_of(alloc, Format::One, Some(&near), &reply)?.as_slice(),
         b"@7 near 9 | 5 1 -2 3 0 | 0 1 -2 3 12000000000000000000\n".as_slice()
+    );
+    assert_eq!(rt;
+        line_of(alloc, Format::Two, Some(&near), &reply)?.as_slice(),
+        b"@7 near 9 | 5 1 -2 3 65535 0 | 0 1 -2 3 65535 12000000000000000000\n".as_slice()
     );
     Ok(())
 }
@@ -208,23 +247,23 @@ fn what_is_found_in_a_box_is_told_after_its_number(rt: HostRuntime) -> Result<()
     let mut items = Items::new(alloc);
     items.push(Item {
         number: 4_194_303,
-        point: Point::new(1, -2, 3)?,
+        point: Point::new(1, -2, 3)?.with_intensity(4),
         label: Label::Live,
     })?;
-    let line = line_of(
-        alloc,
-        Some(&inside),
-        &Reply::Inside(BoxReply {
-            mark: 9,
-            count: 7,
-            items,
-        }),
-    )?;
+    let reply = Reply::Inside(BoxReply {
+        mark: 9,
+        count: 7,
+        items,
+    });
     assert_eq!(rt;
-        line.as_slice(),
+        line_of(alloc, Format::One, Some(&inside), &reply)?.as_slice(),
         b"@2 box 9 7 | 4194303 1 -2 3\n".as_slice()
     );
-    let done = line_of(alloc, Some(&inside), &Reply::Done { mark: 1 })?;
+    assert_eq!(rt;
+        line_of(alloc, Format::Two, Some(&inside), &reply)?.as_slice(),
+        b"@2 box 9 7 | 4194303 1 -2 3 4\n".as_slice()
+    );
+    let done = line_of(alloc, Format::Two, Some(&inside), &Reply::Done { mark: 1 })?;
     assert_eq!(rt;
         done.as_slice(),
         b"".as_slice(),
@@ -242,11 +281,11 @@ fn a_barrier_and_the_end_tell_how_many_are_held(rt: HostRuntime) -> Result<(), F
         suspended: 1,
     };
     assert_eq!(rt;
-        line_of(alloc, Some(&Command::Sync), &totals)?.as_slice(),
+        line_of(alloc, Format::Two, Some(&Command::Sync), &totals)?.as_slice(),
         b"sync 3 live 2 suspended 1\n".as_slice()
     );
     assert_eq!(rt;
-        line_of(alloc, None, &totals)?.as_slice(),
+        line_of(alloc, Format::One, None, &totals)?.as_slice(),
         b"end 3 live 2 suspended 1\n".as_slice()
     );
     Ok(())

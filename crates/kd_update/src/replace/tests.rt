@@ -6,7 +6,7 @@ ghost use Rattle.kd_update.specs.Several.{AreLargeAt};
 use crate::script::Script;
 use crate::{Replaced, replaced, replayed};
 use kd_tree::{Path, Side, Steps, Tree};
-use map_fold::Tag;
+use map_fold::{Choice, Tag};
 use std::alloc::Global;
 use std::marker::Brand;
 use std::process::Abort;
@@ -45,7 +45,7 @@ fn put_in<L: Ledger>(
 // Points at x from 0 on, each the right son of the one before. The first so many are dropped.
 fn chain(rt: &impl Abort, alloc: Global, points: i64, dropped: i64) -> Result<Tree, Fail> {
     let script = Script::new(alloc).risen(rt, 0, dropped)?;
-    let script = script.mark(None, Tag::DELETE)?;
+    let script = script.mark(Choice::ALL, Tag::DELETE)?;
     let script = script.risen(rt, dropped, points)?;
     Ok(replayed(alloc, Tree::empty(), 0, script.as_slice())?)
 }
@@ -89,7 +89,7 @@ fn what_stands_at_another_path_stays(rt: HostRuntime) -> Result<(), Fail> {
     let tree = replayed(alloc, Tree::empty(), 0, script.as_slice())?;
     let script = Script::new(alloc)
         .risen(&rt, 0, 1)?
-        .mark(None, Tag::DELETE)?;
+        .mark(Choice::ALL, Tag::DELETE)?;
     let script = script.risen(&rt, 0, 32)?;
     let with = replayed(alloc, Tree::empty(), 0, script.as_slice())?;
 

@@ -2,7 +2,7 @@
 use crate::replayed;
 use crate::script::Script;
 use kd_tree::Tree;
-use map_fold::Tag;
+use map_fold::{Choice, Tag};
 use point_geom::{Corner, Cuboid, Point};
 use std::test::Fail;
 
@@ -25,9 +25,9 @@ fn a_full_log_is_replayed(rt: HostRuntime) -> Result<(), Fail> {
                 Point::new(i64::from(place % 256), i64::from(place / 256), 0)?,
             )?
         } else if i < 65_535 {
-            script.mark(None, Tag::SUSPEND)?
+            script.mark(Choice::ALL, Tag::SUSPEND)?
         } else {
-            script.mark(Some(within), Tag::DELETE)?
+            script.mark(Choice::within(&within), Tag::DELETE)?
         };
     }
     assert_eq!(rt; script.as_slice().len(), 65_536);

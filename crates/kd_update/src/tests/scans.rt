@@ -4,8 +4,8 @@ ghost use Rattle.std.specs.Prelude.{◌≡◌, ◌+◌, ◌≤◌, length};
 use super::{Draw, Numbered, between};
 use crate::put_points;
 use kd_tree::{Scratch, Steps};
-use map_fold::{NoMemory, Tag};
-use point_geom::{Cuboid, Point};
+use map_fold::{Choice, NoMemory, Tag};
+use point_geom::Point;
 use std::alloc::Global;
 use std::marker::Brand;
 use std::process::Abort;
@@ -81,11 +81,11 @@ impl Both {
         self,
         alloc: Global,
         large: u32,
-        within: &Cuboid,
+        choice: &Choice,
         tag: Tag,
     ) -> Result<Both, NoMemory> {
-        let scanned = self.scanned.marked(alloc, large, within, tag)?;
-        let single = self.single.marked(alloc, large, within, tag)?;
+        let scanned = self.scanned.marked(alloc, large, choice, tag)?;
+        let single = self.single.marked(alloc, large, choice, tag)?;
         Ok(Both { scanned, single })
     }
 
@@ -114,7 +114,8 @@ fn scans_hold_what_single_points_hold(rt: HostRuntime) -> Result<(), Fail> {
             let points = drawn(alloc, &mut draw, count)?;
             both = both.put(&rt, alloc, large, points.as_slice())?;
             assert!(rt; both.are_same(alloc)?, "large {large}, {count} more");
-            both = both.marked(alloc, large, &draw.cuboid()?, draw.tag())?;
+            let cuboid = draw.cuboid()?;
+            both = both.marked(alloc, large, &draw.choice(&cuboid), draw.tag())?;
             assert!(rt;
                 both.are_same(alloc)?,
                 "large {large}, marked after {count}"

@@ -8,9 +8,9 @@ ghost use Rattle.kd_update.specs.Watches.{HaveRoom, paths_in};
 use super::{Draw, Numbered, between, mark_plainly, row};
 use crate::{Watch, Watches, marked_watched, put_watched};
 use kd_tree::{Path, Side, Steps, Tree};
-use map_fold::{Item, Label, NoMemory, Op, Tag};
+use map_fold::{Choice, Item, Label, NoMemory, Op, Tag};
 use op_logger::OpLog;
-use point_geom::{Cuboid, Point};
+use point_geom::Point;
 use std::alloc::Global;
 use std::marker::Brand;
 use std::process::Abort;
@@ -46,7 +46,7 @@ fn mark_beside<L: Ledger>(
     alloc: Global,
     map: Numbered,
     large: u32,
-    within: &Cuboid,
+    choice: &Choice,
     tag: Tag,
     watches: &mut Watches,
     blank: Blank,
@@ -58,7 +58,7 @@ fn mark_beside<L: Ledger>(
     requires room { HaveRoom watches.old }
 {
     let mut steps: Steps<L> = Steps::new(blank);
-    let tree = marked_watched(alloc, map.tree, large, within, tag, watches, &mut steps)?;
+    let tree = marked_watched(alloc, map.tree, large, choice, tag, watches, &mut steps)?;
     Ok(Numbered {
         tree,
         next: map.next,
@@ -114,13 +114,13 @@ impl Numbered {
         rt: &impl Abort,
         alloc: Global,
         large: u32,
-        within: &Cuboid,
+        choice: &Choice,
         tag: Tag,
         watches: &mut Watches,
     ) -> Result<Numbered, NoMemory> {
         assert!(rt; are_large(&self.tree, large, watches.as_slice()));
         assert!(rt; have_room(watches.as_slice()));
-        mark_beside::<Brand>(alloc, self, large, within, tag, watches, Blank::new(1))
+        mark_beside::<Brand>(alloc, self, large, choice, tag, watches, Blank::new(1))
     }
 }
 
@@ -149,16 +149,7 @@ fn own(alloc: Global, tree: &Tree, path: &Path) -> Result<Vec<Item>, Fail> {
 fn replay_plainly(items: &mut Vec<Item>, log: &OpLog) -> Result<(), Fail> {
     for op in log.after(0) {
         match op {
-            Op::Mark {
-                within: Some(within),
-                tag,
-            } => mark_plainly(items, within, *tag),
-            Op::Mark { within: None, tag } => {
-                for item in items.iter_mut() {
-                    item.label = tag.apply(item.label);
-                }
-                items.retain(|i| i.label != Label::Dropped);
-            }
+            Op::Mark { choice, tag } => mark_plainly(items, choice, *tag),
             Op::Put { number, point } => items.push(Item {
                 number: *number,
                 point: *point,
@@ -211,7 +202,7 @@ fn an_action_is_logged_where_it_meets_a_watched_root_that_is_not_covered_from_ab
         (30, 33, Tag::RESTORE, (3, 3, 0, 0)),
     ] {
         let within = between((from, 0, 0), (to, 1, 1))?;
-        map = map.mark_watching(&rt, alloc, 16, &within, tag, &mut watches)?;
+        map = map.mark_watching(&rt, alloc, 16, &Choice::within(&within), tag, &mut watches)?;
         assert_eq!(rt; logged(&watches)?, want, "from {from} to {to}");
     }
     // Here the father pushes it on, also into the root that the point doesn't go to.
@@ -237,9 +228,23 @@ fn an_action_that_rests_above_a_watched_root_is_logged_when_it_is_pushed_into_it
     let mut watches = watching(&rt, alloc, &[right])?;
 
     let all = between((0, 0, 0), (100, 1, 1))?;
-    let map = map.mark_watching(&rt, alloc, 16, &all, Tag::SUSPEND, &mut watches)?;
+    let map = map.mark_watching(
+        &rt,
+        alloc,
+        16,
+        &Choice::within(&all),
+        Tag::SUSPEND,
+        &mut watches,
+    )?;
     let part = between((30, 0, 0), (33, 1, 1))?;
-    let map = map.mark_watching(&rt, alloc, 16, &part, Tag::RESTORE, &mut watches)?;
+    let map = map.mark_watching(
+        &rt,
+        alloc,
+        16,
+        &Choice::within(&part),
+        Tag::RESTORE,
+        &mut watches,
+    )?;
     assert!(rt; is_large(&map.tree, 24, &right));
 
     let Some(watch) = watches.as_slice().first() else {
@@ -247,11 +252,11 @@ fn an_action_that_rests_above_a_watched_root_is_logged_when_it_is_pushed_into_it
     };
     let want = [
         Op::Mark {
-            within: None,
+            choice: Choice::ALL,
             tag: Tag::SUSPEND,
         },
         Op::Mark {
-            within: Some(part),
+            choice: Choice::within(&part),
             tag: Tag::RESTORE,
         },
     ];
@@ -293,8 +298,9 @@ fn beside(rt: &impl Abort, alloc: Global, paths: &[Path]) -> Result<(), Fail> {
         if draw.sixteenth() < 8 {
             map = map.put_watching(rt, alloc, 16, draw.point()?, &mut watches)?;
         } else {
-            let within = draw.cuboid()?;
-            map = map.mark_watching(rt, alloc, 16, &within, draw.tag(), &mut watches)?;
+            let cuboid = draw.cuboid()?;
+            let choice = draw.choice(&cuboid);
+            map = map.mark_watching(rt, alloc, 16, &choice, draw.tag(), &mut watches)?;
         }
     }
     let mut olds = olds.into_iter();

@@ -3,6 +3,7 @@ ghost use Rattle.std.specs.Prelude.{◌≡◌, ◌≤◌, ◌+◌, true, length,
 ghost use Rattle.std.specs.List.{AllByRecursion};
 ghost use Rattle.std.specs.Option.{ForSome};
 ghost use Rattle.scan_log.specs.declared.command.Command.TheVariants as command_of;
+ghost use Rattle.scan_log.specs.declared.format.Format.TheVariants.{Two};
 ghost use Rattle.scan_log.specs.Scripts.{IsCommand};
 ghost use Rattle.mapper_core.specs.Told.{is_by};
 ghost use Rattle.mapper_core.specs.Mine.{Tried, Turned};
@@ -53,7 +54,7 @@ fn near<L: MapName>(
 ) -> Result<Option<Reply>, NoMemory>
     requires k_from { 1 ≤ k }
     requires k_to { k ≤ 256 }
-    requires within_to { ForSome within (λ r. r ≤ 4000000000) }
+    requires within_to { ForSome within (λ r. r ≤ 4398046511104) }
     ensures { IfOk result (λ r. Tried L.voxel (command_of.Near pass.old.caller k point.now within) pass.old pass.new r) }
 {
     let found = pass.nearest(alloc, k, point, within)?;
@@ -86,7 +87,7 @@ fn answer<L: MapName, R: Wait>(
     command: &Command,
 ) -> Result<Option<Reply>, NoMemory>
     requires own { is_by pass.old.caller command.now ≡ true }
-    requires good { IsCommand command.now }
+    requires good { IsCommand Two command.now }
     ensures { IfOk result (λ r. Tried L.voxel command.now pass.old pass.new r) }
 {
     match command {
@@ -112,7 +113,7 @@ pub fn run_own<L: MapName, G: Gate, R: Wait>(
     commands: &[Command],
     pass: Pass<L>,
 ) -> Result<(Pass<L>, Queue), NoMemory>
-    requires good { AllByRecursion IsCommand commands.now }
+    requires good { AllByRecursion (IsCommand Two) commands.now }
     requires few { signals.now.from + length commands.now ≤ 65536 }
     ensures { IfOk result (λ r. Turned L.voxel commands.now pass r.0 r.1) }
 {

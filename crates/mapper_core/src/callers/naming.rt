@@ -1,6 +1,7 @@
 //! Whose commands there are.
 ghost use Rattle.std.specs.Prelude.{◌≡◌, ◌≤◌, ℕ};
 ghost use Rattle.std.specs.List.{AllByRecursion};
+ghost use Rattle.scan_log.specs.declared.format.Format.TheVariants.{Two};
 ghost use Rattle.scan_log.specs.Scripts.{IsCommand};
 ghost use Rattle.mapper_core.specs.Told.{is_by};
 ghost use Rattle.mapper_core.specs.Meetings.{IsBy, HasCaller, is_barrier as is_sync};
@@ -41,7 +42,7 @@ pub fn caller_of(command: &Command) -> u8
 
 // The caller that it names, or the first one where it names none.
 fn named(command: &Command) -> u8
-    requires { IsCommand command.now }
+    requires { IsCommand Two command.now }
     ensures from { 1 ≤ result }
     ensures to { result ≤ 8 }
     ensures own { HasCaller result command.now }
@@ -56,7 +57,7 @@ fn named(command: &Command) -> u8
 
 /// How many callers there are: up to the greatest that is named, and at least one.
 pub fn callers_in(commands: &[Command]) -> u8
-    requires { AllByRecursion IsCommand commands.now }
+    requires { AllByRecursion (IsCommand Two) commands.now }
     ensures from { 1 ≤ result }
     ensures to { result ≤ 8 }
     ensures named { AllByRecursion (HasCaller result) commands.now }

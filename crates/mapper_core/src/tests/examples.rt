@@ -173,6 +173,35 @@ ikdmap 1 voxel 500 large 1500
 end 3 live 4 suspended 0
 ",
         ),
+        (
+            "# One map of two cities, 10,000 km apart. Asphalt sends back little light, road paint much.
+ikdmap 2 voxel 200 large 1500
+
+# A street of the first city: asphalt, a painted line, asphalt.
+@1 add 0 0 0 3100 150 0 0 48000 300 0 0 2900
+
+# A street of the second: asphalt, dry and then wet, and a painted line.
+@1 thin 10000000000 100 100 4200 10000000000 100 100 900 10000000250 100 100 51000
+
+# What is nearest to a place of the first city, and what is near another?
+@1 near 4 0 0 0
+@1 near 4 150 10 0 within 200
+
+# What is on the street of the second city? Its line is worn off.
+@1 box 5 10000000000 0 0 10000000300 200 200
+@1 erase 10000000250 100 100
+@1 near 1 10000000250 100 100
+",
+            "@1 ok 1
+@1 ok 2
+@1 near 2 | 0 0 0 0 3100 0 | 1 150 0 0 48000 22500 | 2 300 0 0 2900 90000 | 3 10000000000 100 100 4200 100000000000000020000
+@1 near 2 | 1 150 0 0 48000 100 | 0 0 0 0 3100 22600 | 2 300 0 0 2900 22600
+@1 box 2 2 | 3 10000000000 100 100 4200 | 5 10000000250 100 100 51000
+@1 ok 3
+@1 near 3 | 3 10000000000 100 100 4200 62500
+end 3 live 4 suspended 0
+",
+        ),
     ] {
         let ran = ran(&rt, alloc, "run --serial", log.as_bytes())?;
         assert_eq!(rt; ran.status, Status::Done, "{log}");

@@ -12,7 +12,7 @@ fn a_faulty_log_is_told_by_its_line_and_cause(rt: HostRuntime) -> Result<(), Fai
     for (log, note) in [
         ("", "line 1: no header\n"),
         ("\n", "line 2: no header\n"),
-        ("ikdmap 2 voxel 200 large 1500\n", "line 1: no header\n"),
+        ("ikdmap 3 voxel 200 large 1500\n", "line 1: no header\n"),
         ("ikdmap 1 voxel 0 large 1500\n", "line 1: out of range\n"),
         ("ikdmap 1 voxel 200 large 15\n", "line 1: out of range\n"),
         ("ikdmap 1 voxel 200 large 1500\r\n", "line 1: bad number\n"),

@@ -86,6 +86,81 @@ fn worked_logs_give_their_transcripts(rt: HostRuntime) -> Result<(), Fail> {
 }
 
 #[test]
+fn worked_logs_of_version_2_give_their_transcripts(rt: HostRuntime) -> Result<(), Fail> {
+    let alloc = rt.alloc();
+    for (commands, want) in [
+        (
+            "@1 add 1099511627776 0 0 7 1 2 3 65535\n@1 near 2 -1099511627776 0 0\n",
+            "@1 ok 1\n@1 near 1 | 1 1 2 3 65535 1208925819616828197961742 | 0 1099511627776 0 0 7 4835703278458516698824704\nend 1 live 2 suspended 0\n",
+        ),
+        // The intensity tells two points apart, and no box and no distance looks at it.
+        (
+            "@1 add 5 5 5 9 5 5 5 1\n@1 box 5 0 0 0 9 9 9\n@1 near 1 5 5 5\n@1 erase 5 5 5\n",
+            "@1 ok 1\n@1 box 1 2 | 0 5 5 5 9 | 1 5 5 5 1\n@1 near 1 | 0 5 5 5 9 0\n@1 ok 2\nend 2 live 0 suspended 0\n",
+        ),
+        // Of two points at one place a voxel keeps the first.
+        (
+            "@1 thin 5 5 5 9 5 5 5 1\n@1 thin 5 5 5 2\n@1 near 3 5 5 5\n",
+            "@1 ok 1\n@1 ok 2\n@1 near 2 | 0 5 5 5 9 0\nend 2 live 1 suspended 0\n",
+        ),
+        // The greatest distance between two points, and the greatest that may be asked for.
+        (
+            "@1 add 1099511627776 1099511627776 1099511627776 1\n@1 near 1 -1099511627776 -1099511627776 -1099511627776 within 4398046511104\n",
+            "@1 ok 1\n@1 near 1 | 0 1099511627776 1099511627776 1099511627776 1 14507109835375550096474112\nend 1 live 1 suspended 0\n",
+        ),
+        // What expires is gone, live or suspended, and what comes later is not touched.
+        (
+            "@1 add 1 0 0 9 2 0 0 9 3 0 0 9\n@1 suspend 1 0 0 2 1 1\n@1 expire 2\n@1 restore 0 0 0 9 9 9\n@1 near 3 0 0 0\n@1 expire 4194304\n@1 add 4 0 0 8\n@1 near 3 0 0 0\n",
+            "@1 ok 1\n@1 ok 2\n@1 ok 3\n@1 ok 4\n@1 near 4 | 2 3 0 0 9 9\n@1 ok 5\n@1 ok 6\n@1 near 6 | 3 4 0 0 8 16\nend 6 live 1 suspended 0\n",
+        ),
+        (
+            "@1 expire 9\n@1 add 1 0 0 9\n@1 expire 0\n",
+            "@1 ok 1\n@1 ok 2\n@1 ok 3\nend 3 live 1 suspended 0\n",
+        ),
+    ] {
+        let log = format!(in alloc; "ikdmap 2 voxel 200 large 16\n{commands}")?;
+        for words in ["run", "run --serial"] {
+            let ran = ran(&rt, alloc, words, log.as_bytes())?;
+            assert_eq!(rt; ran.status, Status::Done, "{words}, {commands}");
+            assert_eq!(rt; ran.out.bytes(), want.as_bytes(), "{words}, {commands}");
+        }
+    }
+    Ok(())
+}
+
+#[test]
+fn each_version_has_its_own_limits(rt: HostRuntime) -> Result<(), Fail> {
+    let alloc = rt.alloc();
+    for (log, want) in [
+        (
+            "ikdmap 1 voxel 200 large 1500\n@1 add 1000000001 0 0\n",
+            "line 2: out of range\n",
+        ),
+        (
+            "ikdmap 1 voxel 200 large 1500\n@1 expire 2\n",
+            "line 2: unknown command\n",
+        ),
+        (
+            "ikdmap 2 voxel 200 large 1500\n@1 add 1 2 3\n",
+            "line 2: wrong count\n",
+        ),
+        (
+            "ikdmap 2 voxel 200 large 1500\n@1 add 1 2 3 65536\n",
+            "line 2: out of range\n",
+        ),
+        (
+            "ikdmap 2 voxel 200 large 1500\n@1 near 1 0 0 0 within 4398046511105\n",
+            "line 2: out of range\n",
+        ),
+    ] {
+        let ran = ran(&rt, alloc, "run", log.as_bytes())?;
+        assert_eq!(rt; ran.status, Status::BadLog, "{log}");
+        assert_eq!(rt; ran.notes.bytes(), want.as_bytes(), "{log}");
+    }
+    Ok(())
+}
+
+#[test]
 fn a_voxel_keeps_the_point_nearest_to_its_centre(rt: HostRuntime) -> Result<(), Fail> {
     let alloc = rt.alloc();
     for (commands, want) in [

@@ -80,6 +80,11 @@ impl Schedule {
         match self.draws.below(8) {
             0 => Ok(Update::Add(self.draws.scan(alloc, 80)?)),
             1 => Ok(Update::Thin(self.draws.scan(alloc, 80)?)),
+            // The older half of the numbers, or fewer.
+            2 => {
+                let next = u64::from(self.plain.next());
+                Ok(Update::Expire((self.draws.below(next + 1) / 2) as u32))
+            }
             _ => self.draws.update(alloc),
         }
     }
@@ -210,7 +215,7 @@ fn a_drawn_schedule_answers_as_the_plain_map_does(rt: HostRuntime) -> Result<(),
     // The schedule came to each of these more than a handful of times.
     for (turn, least) in [
         (Turn::Updated, 1_000),
-        (Turn::Settled, 50),
+        (Turn::Settled, 20),
         (Turn::Detached, 100),
         (Turn::NothingDetached, 20),
         (Turn::Built, 50),

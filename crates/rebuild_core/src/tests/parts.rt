@@ -96,6 +96,40 @@ fn logged(state: &MapState) -> Option<u32> {
 }
 
 #[test]
+fn what_expires_in_a_detached_subtree_is_logged(rt: HostRuntime) -> Result<(), Fail> {
+    let alloc = rt.alloc();
+    let mut state = with_row(alloc, 41)?;
+    let job = detached(alloc, &mut state)?;
+    updated(alloc, &mut state, 1, Update::Expire(20))?;
+    assert_eq!(rt; logged(&state), Some(1));
+    let built = built(alloc, job)?;
+    assert_eq!(rt; refused(alloc, &mut state, built, false), None);
+    let items = state.version().tree().flatten(alloc)?;
+    assert_eq!(rt; items.len(), 20);
+    assert_eq!(rt; items.as_slice().first().map(|i| i.number), Some(20));
+    Ok(())
+}
+
+#[test]
+fn what_expires_is_gone_and_later_points_are_not(rt: HostRuntime) -> Result<(), Fail> {
+    let alloc = rt.alloc();
+    let mut state = with_row(alloc, 4)?;
+    updated(alloc, &mut state, 1, Update::Suspend(across(alloc, 1, 2)?))?;
+    updated(alloc, &mut state, 1, Update::Expire(2))?;
+    updated(alloc, &mut state, 1, Update::Restore(across(alloc, 0, 9)?))?;
+    let items = state.version().tree().flatten(alloc)?;
+    assert_eq!(rt; items.len(), 1);
+    assert_eq!(rt; items.as_slice().first().map(|i| i.number), Some(2));
+    updated(alloc, &mut state, 1, Update::Expire(4_194_304))?;
+    assert_eq!(rt; state.version().counts().live, 0);
+    updated(alloc, &mut state, 1, Update::Add(row(alloc, 4, 5)?))?;
+    let items = state.version().tree().flatten(alloc)?;
+    assert_eq!(rt; items.as_slice().first().map(|i| i.number), Some(3));
+    assert_eq!(rt; state.version().counts().live, 1);
+    Ok(())
+}
+
+#[test]
 fn an_action_that_is_pushed_into_a_detached_subtree_is_logged(rt: HostRuntime) -> Result<(), Fail> {
     let alloc = rt.alloc();
     let mut state = with_row(alloc, 41)?;

@@ -10,6 +10,7 @@ use Rattle.kd_search.specs.Points.{AreAway}
 use Rattle.kd_search.proofs.Walks.{walk_in_extent}
 use Rattle.kd_search.proofs.Tops.{split}
 use Rattle.kd_search.proofs.Offered.{near_first}
+use Rattle.kd_search.proofs.Others.{walk_distinct}
 use Rattle.kd_search.proofs.Bounds.{in_away, left_out}
 use Rattle.kd_search.proofs.near.+near.Goals as goal
 
@@ -34,7 +35,7 @@ add_under-returns-then-found-sides-clause-found t c =
     let Far = λ (i : Item). sides.gap ≤ dist2 query.point i.point in
     let own : AreAway sides.gap query.point (item ∷ []) = All-cons Far item [] is.item (All-nil Far) in
     near_first query.k query.point query.within item (walk below sides.near.now) (walk below sides.far.now) is.sons (walk owed c.args.tree.now) c.args.found.now.hits found.hits found.hits found.hits
-    is.items is.turned c.in_ok-add_from.ensures.found
+    (walk_distinct owed c.args.tree.now c.size-size.ensures.sound) is.items is.turned c.in_ok-add_from.ensures.found
     (left_out query.k query.point query.within found.hits found.bound sides.gap (item ∷ []) bound c.if-found-sides.true (omega arith) own)
     (left_out query.k query.point query.within found.hits found.bound sides.gap (walk below sides.far.now) bound c.if-found-sides.true (omega arith) is.far)
 
@@ -49,5 +50,5 @@ add_under-returns-clause-found t c =
     let is = split c.args.tree.now owed top query.point sides item below c.in-Some.ensures.some c.size-size.ensures.sound c.of-sides.ensures (ap (λ (x : Label). record top.item { label = x }) c.apply.ensures) c.then-below.ensures.value in
     on_ok_weaker c.add_from-2.result
     (near_first query.k query.point query.within item (walk below sides.near.now) (walk below sides.far.now) is.sons (walk owed c.args.tree.now) c.args.found.now.hits _ _ _
-    is.items is.turned c.in_ok-add_from.ensures.found c.in_ok-add.ensures.found)
+    (walk_distinct owed c.args.tree.now c.size-size.ensures.sound) is.items is.turned c.in_ok-add_from.ensures.found c.in_ok-add.ensures.found)
     c.add_from-2.ensures.found

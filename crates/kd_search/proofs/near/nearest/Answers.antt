@@ -8,6 +8,7 @@ use Rattle.kd_tree.specs.Contents.{contents}
 use Rattle.kd_tree.proofs.Held.{contents_rising}
 use Rattle.kd_search.specs.Nearest.{put_all}
 use Rattle.kd_search.proofs.Offered.{put_all-nil, in_order-by_number}
+use Rattle.kd_search.proofs.Others.{walk_distinct}
 use Rattle.kd_search.proofs.near.nearest.Goals as goal
 use Rattle.kd_search.proofs.near.nearest.Goals.{In_ok-add_from}
 
@@ -18,7 +19,7 @@ found c =
     let items = walk keep_tag c.args.tree.now in
     c.in_ok-add_from.ensures.found
     ∙ ap (λ z. take c.args.k (put_all (candidates items q r) z)) c.new.ensures
-    ∙ ap (take c.args.k) (put_all-nil (candidates items q r) ∙ sym (in_order-by_number q r items))
+    ∙ ap (take c.args.k) (put_all-nil (candidates items q r) ∙ sym (in_order-by_number q r items (walk_distinct keep_tag c.args.tree.now c.size-size.ensures.sound)))
 
 pub returns-clause-found : goal.returns-clause-found
 returns-clause-found c = found c

@@ -8,6 +8,7 @@ use Rattle.kd_tree.specs.Walk.{walk}
 use Rattle.kd_tree.specs.Contents.{contents}
 use Rattle.kd_search.specs.Best.{best_inside, IsBest}
 use Rattle.kd_search.proofs.Boxed.{count-by_number}
+use Rattle.kd_search.proofs.Others.{walk_distinct}
 use Rattle.kd_search.proofs.Least.{best-by_number, best_from-none, best_is, best_none}
 use Rattle.kd_search.proofs.rivals.rivals_in.Goals as goal
 use Rattle.kd_search.proofs.rivals.rivals_in.Goals.{After-add_from}
@@ -15,7 +16,7 @@ use Rattle.kd_search.proofs.rivals.rivals_in.Goals.{After-add_from}
 best : (c : After-add_from) → c.add_from.new.found.best ≡ best_inside (contents c.args.tree.now) c.args.c.now
 best c =
     let items = walk keep_tag c.args.tree.now in
-    c.add_from.ensures.best ∙ best_from-none c.args.c.now (inside_all items c.args.c.now) ∙ sym (best-by_number c.args.c.now items)
+    c.add_from.ensures.best ∙ best_from-none c.args.c.now (inside_all items c.args.c.now) ∙ sym (best-by_number c.args.c.now items (walk_distinct keep_tag c.args.tree.now c.size-size.ensures.sound))
 
 pub returns-clause-best : goal.returns-clause-best
 returns-clause-best c = best c

@@ -34,7 +34,7 @@ pub returns-in_err-gather_owed-in-Some-clause-front : goal.returns-in_err-gather
 returns-in_err-gather_owed-in-Some-clause-front t c =
     let shape : shape_of c.tree.inside ≡ shape_at c.in-Some.node.value = rw c.in-Some.is refl in
     let F : Shape → Type 0 = λ s. AddsFront c.args.items.now.items (walk c.args.owed s) c.gather_owed.new.items.items in
-    let own = rw (c.apply-label.ensures, c.deref.ensures, c.deref-in-Some.ensures) at c.in_ok-push_kept-in-Some.ensures.all in
+    let own = rw (c.apply-label.ensures, c.item.ensures, c.deref.ensures, c.deref-in-Some.ensures) at c.in_ok-push_kept-in-Some.ensures.all in
     let left = rw (c.then-below.ensures.value, c.deref-in-Some-2.ensures, c.deref-in-Some-3.ensures) at c.in_err-gather_owed-in-Some.ensures.front in
     on_err _ (F c.args.tree.now) (subst F (sym shape ∙ c.tree.view_is) (front_left _ _ _ _ _ _ own left))
 
@@ -42,7 +42,7 @@ pub returns-in_ok-gather_owed-in-Some-clause-front : goal.returns-in_ok-gather_o
 returns-in_ok-gather_owed-in-Some-clause-front t c =
     let shape : shape_of c.tree.inside ≡ shape_at c.in-Some.node.value = rw c.in-Some.is refl in
     let F : Shape → Type 0 = λ s. AddsFront c.args.items.now.items (walk c.args.owed s) c.gather_owed-in-Some.new.items.items in
-    let own = rw (c.apply-label.ensures, c.deref.ensures, c.deref-in-Some.ensures) at c.in_ok-push_kept-in-Some.ensures.all in
+    let own = rw (c.apply-label.ensures, c.item.ensures, c.deref.ensures, c.deref-in-Some.ensures) at c.in_ok-push_kept-in-Some.ensures.all in
     let left = rw (c.then-below.ensures.value, c.deref-in-Some-2.ensures, c.deref-in-Some-3.ensures) at c.in_ok-gather_owed-in-Some.ensures.all in
     let right = rw (c.then-below.ensures.value, c.deref-in-Some-2.ensures, c.deref-in-Some-4.ensures) at c.gather_owed-in-Some.ensures.front in
     on_err_weaker c.gather_owed-in-Some.result (λ k. subst F (sym shape ∙ c.tree.view_is) (front_right _ _ _ _ _ _ _ own left k)) right

@@ -9,7 +9,7 @@ use Rattle.kd_update.proofs.log_mark.+log_each_mark.Goals as goal
 pub log_mark-requires : goal.log_mark-requires
 log_mark-requires t c =
     let room = subst HaveRoom c.in-Some.ensures.cases.0 c.requires in
-    omega (arith, room.0, logged_mark_few c.args.within.now c.args.tag c.as_slice.result.now (tagged keep_tag c.args.tree.now))
+    omega (arith, room.0, logged_mark_few c.args.choice.now c.args.tag c.as_slice.result.now (tagged keep_tag c.args.tree.now))
 
 pub returns-in_err-log_mark-clause-begins : goal.returns-in_err-log_mark-clause-begins
 returns-in_err-log_mark-clause-begins t c =
@@ -18,9 +18,9 @@ returns-in_err-log_mark-clause-begins t c =
 pub returns-in_err-log_mark-clause-few : goal.returns-in_err-log_mark-clause-few
 returns-in_err-log_mark-clause-few t c =
     few_front c.args.watches.now c.in-Some.rest.now c.in-Some.rest.now c.in-Some.watch.now c.log_mark.new.log c.in-Some.ensures.cases.0
-    (omega (arith, c.log_mark.ensures.few, logged_mark_few c.args.within.now c.args.tag c.as_slice.result.now (tagged keep_tag c.args.tree.now))) (few_itself c.in-Some.rest.now)
+    (omega (arith, c.log_mark.ensures.few, logged_mark_few c.args.choice.now c.args.tag c.as_slice.result.now (tagged keep_tag c.args.tree.now))) (few_itself c.in-Some.rest.now)
 
 pub returns-clause-few : goal.returns-clause-few
 returns-clause-few t c =
     few_front c.args.watches.now c.in-Some.rest.now c.log_each_mark.new.watches c.in-Some.watch.now c.log_mark.new.log c.in-Some.ensures.cases.0
-    (omega (arith, c.log_mark.ensures.few, logged_mark_few c.args.within.now c.args.tag c.as_slice.result.now (tagged keep_tag c.args.tree.now))) c.log_each_mark.ensures.few
+    (omega (arith, c.log_mark.ensures.few, logged_mark_few c.args.choice.now c.args.tag c.as_slice.result.now (tagged keep_tag c.args.tree.now))) c.log_each_mark.ensures.few

@@ -17,49 +17,49 @@ OnOk-weaker (Err e) f p = tt
 pub returns-then-not-is_met-clause-logged : goal.returns-then-not-is_met-clause-logged
 returns-then-not-is_met-clause-logged t c =
     let root = no_sides c.args.sides.now c.in_default.ensures.cases in
-    let none = ap (λ q. logged_mark c.args.within.now c.args.tag q (tagged c.args.owed c.args.tree.now)) root ∙ ahead_unmet c.args.within.now c.args.tag c.args.owed c.args.tree.now (sym c.is_met.ensures ∙ c.if-not-is_met.true) in
+    let none = ap (λ q. logged_mark c.args.choice.now c.args.tag q (tagged c.args.owed c.args.tree.now)) root ∙ ahead_unmet c.args.choice.now c.args.tag c.args.owed c.args.tree.now (sym c.is_met.ensures ∙ c.if-not-is_met.true) in
     sym (ap (λ ops. c.args.log.now ++ ops) none ∙ append-nil c.args.log.now)
 
 pub note_mark-requires : goal.note_mark-requires
 note_mark-requires t c =
     let root = no_sides c.args.sides.now c.in_default.ensures.cases in
-    let one = ap length (ap (λ q. logged_mark c.args.within.now c.args.tag q (tagged c.args.owed c.args.tree.now)) root ∙ ahead_met c.args.within.now c.args.tag c.args.owed c.args.tree.now (sym c.is_met.ensures ∙ c.if-not-is_met.false)) in
+    let one = ap length (ap (λ q. logged_mark c.args.choice.now c.args.tag q (tagged c.args.owed c.args.tree.now)) root ∙ ahead_met c.args.choice.now c.args.tag c.args.owed c.args.tree.now (sym c.is_met.ensures ∙ c.if-not-is_met.false)) in
     omega (arith, c.requires, one)
 
 pub returns-in_default-clause-logged : goal.returns-in_default-clause-logged
 returns-in_default-clause-logged t c =
     let root = no_sides c.args.sides.now c.in_default.ensures.cases in
-    let one = ap (λ q. logged_mark c.args.within.now c.args.tag q (tagged c.args.owed c.args.tree.now)) root ∙ ahead_met c.args.within.now c.args.tag c.args.owed c.args.tree.now (sym c.is_met.ensures ∙ c.if-not-is_met.false) in
+    let one = ap (λ q. logged_mark c.args.choice.now c.args.tag q (tagged c.args.owed c.args.tree.now)) root ∙ ahead_met c.args.choice.now c.args.tag c.args.owed c.args.tree.now (sym c.is_met.ensures ∙ c.if-not-is_met.false) in
     subst (λ ops. OnOk c.note_mark.result (c.note_mark.new.log ≡ c.args.log.now ++ ops)) (sym one) c.note_mark.ensures.logged
 
-pub returns-in_default-extent-clause-logged : goal.returns-in_default-extent-clause-logged
-returns-in_default-extent-clause-logged t c =
-    let none = ap (λ q. logged_mark c.args.within.now c.args.tag q (tagged c.args.owed c.args.tree.now)) c.in-Some.ensures.cases.0 ∙ ahead_none c.args.within.now c.args.tag c.args.owed c.in-Some.side.now c.in-Some.rest.now c.args.tree.now (sym c.in_default-extent.is ∙ c.extent.ensures.value) in
+pub returns-in_default-reach_of-clause-logged : goal.returns-in_default-reach_of-clause-logged
+returns-in_default-reach_of-clause-logged t c =
+    let none = ap (λ q. logged_mark c.args.choice.now c.args.tag q (tagged c.args.owed c.args.tree.now)) c.in-Some.ensures.cases.0 ∙ ahead_none c.args.choice.now c.args.tag c.args.owed c.in-Some.side.now c.in-Some.rest.now c.args.tree.now (sym c.in_default-reach_of.is ∙ c.reach_of.ensures) in
     sym (ap (λ ops. c.args.log.now ++ ops) none ∙ append-nil c.args.log.now)
 
 pub returns-then-not-meets-clause-logged : goal.returns-then-not-meets-clause-logged
 returns-then-not-meets-clause-logged t c =
-    let none = ap (λ q. logged_mark c.args.within.now c.args.tag q (tagged c.args.owed c.args.tree.now)) c.in-Some.ensures.cases.0 ∙ ahead_missed c.args.within.now c.args.tag c.args.owed c.in-Some.side.now c.in-Some.rest.now c.args.tree.now c.in-Some-extent.extent (sym c.in-Some-extent.is ∙ c.extent.ensures.value) (sym c.meets.ensures.value ∙ c.if-not-meets.true) in
+    let none = ap (λ q. logged_mark c.args.choice.now c.args.tag q (tagged c.args.owed c.args.tree.now)) c.in-Some.ensures.cases.0 ∙ ahead_missed c.args.choice.now c.args.tag c.args.owed c.in-Some.side.now c.in-Some.rest.now c.args.tree.now c.in-Some-reach_of.reach (sym c.in-Some-reach_of.is ∙ c.reach_of.ensures) (sym c.meets.ensures ∙ c.if-not-meets.true) in
     sym (ap (λ ops. c.args.log.now ++ ops) none ∙ append-nil c.args.log.now)
 
 pub returns-then-covers-clause-logged : goal.returns-then-covers-clause-logged
 returns-then-covers-clause-logged t c =
-    let none = ap (λ q. logged_mark c.args.within.now c.args.tag q (tagged c.args.owed c.args.tree.now)) c.in-Some.ensures.cases.0 ∙ ahead_covered c.args.within.now c.args.tag c.args.owed c.in-Some.side.now c.in-Some.rest.now c.args.tree.now c.in-Some-extent.extent (sym c.in-Some-extent.is ∙ c.extent.ensures.value) (sym c.covers.ensures.value ∙ c.if-covers.true) in
+    let none = ap (λ q. logged_mark c.args.choice.now c.args.tag q (tagged c.args.owed c.args.tree.now)) c.in-Some.ensures.cases.0 ∙ ahead_covered c.args.choice.now c.args.tag c.args.owed c.in-Some.side.now c.in-Some.rest.now c.args.tree.now c.in-Some-reach_of.reach (sym c.in-Some-reach_of.is ∙ c.reach_of.ensures) (sym c.covers.ensures ∙ c.if-covers.true) in
     sym (ap (λ ops. c.args.log.now ++ ops) none ∙ append-nil c.args.log.now)
 
 pub note_owed-requires : goal.note_owed-requires
 note_owed-requires t c =
     let top = c.in-Some-top.top in
     let h : Head = record { item = top.item; axis = top.axis; pending = top.pending } in
-    let b = ahead_entered c.args.within.now c.args.tag c.args.owed c.then-owed.result c.in-Some.side.now c.in-Some.rest.now c.args.tree.now (son c.in-Some.side.now top.left.now top.right.now) c.in-Some-extent.extent h top.left.now top.right.now (sym c.in-Some-extent.is ∙ c.extent.ensures.value) (sym c.meets.ensures.value ∙ c.if-not-meets.false) (sym c.covers.ensures.value ∙ c.if-covers.false) c.in-Some-top.ensures.some c.then-owed.ensures.value refl in
-    room_first _ _ _ _ (ap (λ q. logged_mark c.args.within.now c.args.tag q (tagged c.args.owed c.args.tree.now)) c.in-Some.ensures.cases.0 ∙ b) c.requires
+    let b = ahead_entered c.args.choice.now c.args.tag c.args.owed c.then-owed.result c.in-Some.side.now c.in-Some.rest.now c.args.tree.now (son c.in-Some.side.now top.left.now top.right.now) c.in-Some-reach_of.reach h top.left.now top.right.now (sym c.in-Some-reach_of.is ∙ c.reach_of.ensures) (sym c.meets.ensures ∙ c.if-not-meets.false) (sym c.covers.ensures ∙ c.if-covers.false) c.in-Some-top.ensures.some c.then-owed.ensures.value refl in
+    room_first _ _ _ _ (ap (λ q. logged_mark c.args.choice.now c.args.tag q (tagged c.args.owed c.args.tree.now)) c.in-Some.ensures.cases.0 ∙ b) c.requires
 
 pub log_mark-requires : goal.log_mark-requires
 log_mark-requires t c =
     let top = c.in-Some-top.top in
     let h : Head = record { item = top.item; axis = top.axis; pending = top.pending } in
     let path = c.in-Some.ensures.cases.0 ∙ ap (λ (s : Side). s ∷ c.in-Some.rest.now) c.in-Left.is in
-    let is = ap (λ q. logged_mark c.args.within.now c.args.tag q (tagged c.args.owed c.args.tree.now)) path ∙ ahead_entered c.args.within.now c.args.tag c.args.owed c.then-owed.result Left c.in-Some.rest.now c.args.tree.now top.left.now c.in-Some-extent.extent h top.left.now top.right.now (sym c.in-Some-extent.is ∙ c.extent.ensures.value) (sym c.meets.ensures.value ∙ c.if-not-meets.false) (sym c.covers.ensures.value ∙ c.if-covers.false) c.in-Some-top.ensures.some c.then-owed.ensures.value refl in
+    let is = ap (λ q. logged_mark c.args.choice.now c.args.tag q (tagged c.args.owed c.args.tree.now)) path ∙ ahead_entered c.args.choice.now c.args.tag c.args.owed c.then-owed.result Left c.in-Some.rest.now c.args.tree.now top.left.now c.in-Some-reach_of.reach h top.left.now top.right.now (sym c.in-Some-reach_of.is ∙ c.reach_of.ensures) (sym c.meets.ensures ∙ c.if-not-meets.false) (sym c.covers.ensures ∙ c.if-covers.false) c.in-Some-top.ensures.some c.then-owed.ensures.value refl in
     (omega (arith, c.in-Some.ensures.cases.1), room_rest _ _ _ _ _ is c.in_ok-note_owed.ensures.logged c.requires)
 
 pub returns-in-Left-clause-logged : goal.returns-in-Left-clause-logged
@@ -67,7 +67,7 @@ returns-in-Left-clause-logged t c =
     let top = c.in-Some-top.top in
     let h : Head = record { item = top.item; axis = top.axis; pending = top.pending } in
     let path = c.in-Some.ensures.cases.0 ∙ ap (λ (s : Side). s ∷ c.in-Some.rest.now) c.in-Left.is in
-    let is = ap (λ q. logged_mark c.args.within.now c.args.tag q (tagged c.args.owed c.args.tree.now)) path ∙ ahead_entered c.args.within.now c.args.tag c.args.owed c.then-owed.result Left c.in-Some.rest.now c.args.tree.now top.left.now c.in-Some-extent.extent h top.left.now top.right.now (sym c.in-Some-extent.is ∙ c.extent.ensures.value) (sym c.meets.ensures.value ∙ c.if-not-meets.false) (sym c.covers.ensures.value ∙ c.if-covers.false) c.in-Some-top.ensures.some c.then-owed.ensures.value refl in
+    let is = ap (λ q. logged_mark c.args.choice.now c.args.tag q (tagged c.args.owed c.args.tree.now)) path ∙ ahead_entered c.args.choice.now c.args.tag c.args.owed c.then-owed.result Left c.in-Some.rest.now c.args.tree.now top.left.now c.in-Some-reach_of.reach h top.left.now top.right.now (sym c.in-Some-reach_of.is ∙ c.reach_of.ensures) (sym c.meets.ensures ∙ c.if-not-meets.false) (sym c.covers.ensures ∙ c.if-covers.false) c.in-Some-top.ensures.some c.then-owed.ensures.value refl in
     OnOk-weaker c.log_mark.result (λ e. logged_all _ _ _ _ _ _ is c.in_ok-note_owed.ensures.logged e) c.log_mark.ensures.logged
 
 pub log_mark-requires-in-Right : goal.log_mark-requires-in-Right
@@ -75,7 +75,7 @@ log_mark-requires-in-Right t c =
     let top = c.in-Some-top.top in
     let h : Head = record { item = top.item; axis = top.axis; pending = top.pending } in
     let path = c.in-Some.ensures.cases.0 ∙ ap (λ (s : Side). s ∷ c.in-Some.rest.now) c.in-Right.is in
-    let is = ap (λ q. logged_mark c.args.within.now c.args.tag q (tagged c.args.owed c.args.tree.now)) path ∙ ahead_entered c.args.within.now c.args.tag c.args.owed c.then-owed.result Right c.in-Some.rest.now c.args.tree.now top.right.now c.in-Some-extent.extent h top.left.now top.right.now (sym c.in-Some-extent.is ∙ c.extent.ensures.value) (sym c.meets.ensures.value ∙ c.if-not-meets.false) (sym c.covers.ensures.value ∙ c.if-covers.false) c.in-Some-top.ensures.some c.then-owed.ensures.value refl in
+    let is = ap (λ q. logged_mark c.args.choice.now c.args.tag q (tagged c.args.owed c.args.tree.now)) path ∙ ahead_entered c.args.choice.now c.args.tag c.args.owed c.then-owed.result Right c.in-Some.rest.now c.args.tree.now top.right.now c.in-Some-reach_of.reach h top.left.now top.right.now (sym c.in-Some-reach_of.is ∙ c.reach_of.ensures) (sym c.meets.ensures ∙ c.if-not-meets.false) (sym c.covers.ensures ∙ c.if-covers.false) c.in-Some-top.ensures.some c.then-owed.ensures.value refl in
     (omega (arith, c.in-Some.ensures.cases.1), room_rest _ _ _ _ _ is c.in_ok-note_owed.ensures.logged c.requires)
 
 pub returns-in-Right-clause-logged : goal.returns-in-Right-clause-logged
@@ -83,28 +83,28 @@ returns-in-Right-clause-logged t c =
     let top = c.in-Some-top.top in
     let h : Head = record { item = top.item; axis = top.axis; pending = top.pending } in
     let path = c.in-Some.ensures.cases.0 ∙ ap (λ (s : Side). s ∷ c.in-Some.rest.now) c.in-Right.is in
-    let is = ap (λ q. logged_mark c.args.within.now c.args.tag q (tagged c.args.owed c.args.tree.now)) path ∙ ahead_entered c.args.within.now c.args.tag c.args.owed c.then-owed.result Right c.in-Some.rest.now c.args.tree.now top.right.now c.in-Some-extent.extent h top.left.now top.right.now (sym c.in-Some-extent.is ∙ c.extent.ensures.value) (sym c.meets.ensures.value ∙ c.if-not-meets.false) (sym c.covers.ensures.value ∙ c.if-covers.false) c.in-Some-top.ensures.some c.then-owed.ensures.value refl in
+    let is = ap (λ q. logged_mark c.args.choice.now c.args.tag q (tagged c.args.owed c.args.tree.now)) path ∙ ahead_entered c.args.choice.now c.args.tag c.args.owed c.then-owed.result Right c.in-Some.rest.now c.args.tree.now top.right.now c.in-Some-reach_of.reach h top.left.now top.right.now (sym c.in-Some-reach_of.is ∙ c.reach_of.ensures) (sym c.meets.ensures ∙ c.if-not-meets.false) (sym c.covers.ensures ∙ c.if-covers.false) c.in-Some-top.ensures.some c.then-owed.ensures.value refl in
     OnOk-weaker c.log_mark-in-Right.result (λ e. logged_all _ _ _ _ _ _ is c.in_ok-note_owed.ensures.logged e) c.log_mark-in-Right.ensures.logged
 
 pub returns-in_default-clause-few : goal.returns-in_default-clause-few
 returns-in_default-clause-few t c =
     let root = no_sides c.args.sides.now c.in_default.ensures.cases in
-    let one = ap length (ap (λ q. logged_mark c.args.within.now c.args.tag q (tagged c.args.owed c.args.tree.now)) root ∙ ahead_met c.args.within.now c.args.tag c.args.owed c.args.tree.now (sym c.is_met.ensures ∙ c.if-not-is_met.false)) in
+    let one = ap length (ap (λ q. logged_mark c.args.choice.now c.args.tag q (tagged c.args.owed c.args.tree.now)) root ∙ ahead_met c.args.choice.now c.args.tag c.args.owed c.args.tree.now (sym c.is_met.ensures ∙ c.if-not-is_met.false)) in
     omega (arith, c.note_mark.ensures.few, one)
 
 pub returns-in_err-note_owed-clause-few : goal.returns-in_err-note_owed-clause-few
 returns-in_err-note_owed-clause-few t c =
     let top = c.in-Some-top.top in
     let h : Head = record { item = top.item; axis = top.axis; pending = top.pending } in
-    let b = ahead_entered c.args.within.now c.args.tag c.args.owed c.then-owed.result c.in-Some.side.now c.in-Some.rest.now c.args.tree.now (son c.in-Some.side.now top.left.now top.right.now) c.in-Some-extent.extent h top.left.now top.right.now (sym c.in-Some-extent.is ∙ c.extent.ensures.value) (sym c.meets.ensures.value ∙ c.if-not-meets.false) (sym c.covers.ensures.value ∙ c.if-covers.false) c.in-Some-top.ensures.some c.then-owed.ensures.value refl in
-    few_first _ _ _ _ _ (ap (λ q. logged_mark c.args.within.now c.args.tag q (tagged c.args.owed c.args.tree.now)) c.in-Some.ensures.cases.0 ∙ b) c.note_owed.ensures.few
+    let b = ahead_entered c.args.choice.now c.args.tag c.args.owed c.then-owed.result c.in-Some.side.now c.in-Some.rest.now c.args.tree.now (son c.in-Some.side.now top.left.now top.right.now) c.in-Some-reach_of.reach h top.left.now top.right.now (sym c.in-Some-reach_of.is ∙ c.reach_of.ensures) (sym c.meets.ensures ∙ c.if-not-meets.false) (sym c.covers.ensures ∙ c.if-covers.false) c.in-Some-top.ensures.some c.then-owed.ensures.value refl in
+    few_first _ _ _ _ _ (ap (λ q. logged_mark c.args.choice.now c.args.tag q (tagged c.args.owed c.args.tree.now)) c.in-Some.ensures.cases.0 ∙ b) c.note_owed.ensures.few
 
 pub returns-in-Left-clause-few : goal.returns-in-Left-clause-few
 returns-in-Left-clause-few t c =
     let top = c.in-Some-top.top in
     let h : Head = record { item = top.item; axis = top.axis; pending = top.pending } in
     let path = c.in-Some.ensures.cases.0 ∙ ap (λ (s : Side). s ∷ c.in-Some.rest.now) c.in-Left.is in
-    let is = ap (λ q. logged_mark c.args.within.now c.args.tag q (tagged c.args.owed c.args.tree.now)) path ∙ ahead_entered c.args.within.now c.args.tag c.args.owed c.then-owed.result Left c.in-Some.rest.now c.args.tree.now top.left.now c.in-Some-extent.extent h top.left.now top.right.now (sym c.in-Some-extent.is ∙ c.extent.ensures.value) (sym c.meets.ensures.value ∙ c.if-not-meets.false) (sym c.covers.ensures.value ∙ c.if-covers.false) c.in-Some-top.ensures.some c.then-owed.ensures.value refl in
+    let is = ap (λ q. logged_mark c.args.choice.now c.args.tag q (tagged c.args.owed c.args.tree.now)) path ∙ ahead_entered c.args.choice.now c.args.tag c.args.owed c.then-owed.result Left c.in-Some.rest.now c.args.tree.now top.left.now c.in-Some-reach_of.reach h top.left.now top.right.now (sym c.in-Some-reach_of.is ∙ c.reach_of.ensures) (sym c.meets.ensures ∙ c.if-not-meets.false) (sym c.covers.ensures ∙ c.if-covers.false) c.in-Some-top.ensures.some c.then-owed.ensures.value refl in
     few_rest _ _ _ _ _ _ is c.note_owed.ensures.few c.log_mark.ensures.few
 
 pub returns-in-Right-clause-few : goal.returns-in-Right-clause-few
@@ -112,5 +112,5 @@ returns-in-Right-clause-few t c =
     let top = c.in-Some-top.top in
     let h : Head = record { item = top.item; axis = top.axis; pending = top.pending } in
     let path = c.in-Some.ensures.cases.0 ∙ ap (λ (s : Side). s ∷ c.in-Some.rest.now) c.in-Right.is in
-    let is = ap (λ q. logged_mark c.args.within.now c.args.tag q (tagged c.args.owed c.args.tree.now)) path ∙ ahead_entered c.args.within.now c.args.tag c.args.owed c.then-owed.result Right c.in-Some.rest.now c.args.tree.now top.right.now c.in-Some-extent.extent h top.left.now top.right.now (sym c.in-Some-extent.is ∙ c.extent.ensures.value) (sym c.meets.ensures.value ∙ c.if-not-meets.false) (sym c.covers.ensures.value ∙ c.if-covers.false) c.in-Some-top.ensures.some c.then-owed.ensures.value refl in
+    let is = ap (λ q. logged_mark c.args.choice.now c.args.tag q (tagged c.args.owed c.args.tree.now)) path ∙ ahead_entered c.args.choice.now c.args.tag c.args.owed c.then-owed.result Right c.in-Some.rest.now c.args.tree.now top.right.now c.in-Some-reach_of.reach h top.left.now top.right.now (sym c.in-Some-reach_of.is ∙ c.reach_of.ensures) (sym c.meets.ensures ∙ c.if-not-meets.false) (sym c.covers.ensures ∙ c.if-covers.false) c.in-Some-top.ensures.some c.then-owed.ensures.value refl in
     few_rest _ _ _ _ _ _ is c.note_owed.ensures.few c.log_mark-in-Right.ensures.few

@@ -1,7 +1,7 @@
 use Rattle.std.proofs.Common.{◌≡◌, ap, ◌∙◌, sym, subst, arith, List}
 use Rattle.std.proofs.lemmas.Result.{IfOk-weaker}
 use Rattle.node_labels.specs.Labels.{keep_tag}
-use Rattle.map_fold.specs.Contents.{in_box, mark}
+use Rattle.map_fold.specs.Contents.{chosen_by, mark}
 use Rattle.kd_tree.specs.Shape.{numbers}
 use Rattle.kd_tree.specs.Contents.{contents}
 use Rattle.kd_tree.specs.declared.path.Side.{Side}
@@ -28,46 +28,46 @@ pub returns-clause-contents : goal.returns-clause-contents
 returns-clause-contents g c =
     let ways : paths_of c.of-ways.result ≡ paths_in c.args.watches.now = c.of-ways.ensures ∙ ap paths_in c.as_slice.ensures.value ∙ same_paths c.args.watches.now c.log_marks.new.watches c.log_marks.ensures.begins in
     let ps = paths_in c.args.watches.now in
-    let plain = marked_shape c.args.within.now c.args.tag c.args.tree in
-    let C = IsVisitCalm c.args.large c.args.within.now plain in
-    IfOk-weaker c.marked_clear.result _ (λ t. contents t ≡ mark (contents c.args.tree) (in_box c.args.within.now) c.args.tag)
-    (λ t k. let u = subst (λ (qs : List (List Side)). IsUpdatedClear c.args.large qs c.args.tree plain C t) ways k in refresh_contents plain t (once-marked c.args.within.now c.args.tag c.args.tree (sound_once c.args.tree c.size-size.ensures.sound)) u.refresh ∙ contents-marked c.args.within.now c.args.tag c.args.tree) c.marked_clear.ensures.updated
+    let plain = marked_shape c.args.choice.now c.args.tag c.args.tree in
+    let C = IsVisitCalm c.args.large c.args.choice.now plain in
+    IfOk-weaker c.marked_clear.result _ (λ t. contents t ≡ mark (contents c.args.tree) (chosen_by c.args.choice.now) c.args.tag)
+    (λ t k. let u = subst (λ (qs : List (List Side)). IsUpdatedClear c.args.large qs c.args.tree plain C t) ways k in refresh_contents plain t (once-marked c.args.choice.now c.args.tag c.args.tree (sound_once c.args.tree c.size-size.ensures.sound)) u.refresh ∙ contents-marked c.args.choice.now c.args.tag c.args.tree) c.marked_clear.ensures.updated
 
 pub returns-clause-numbers : goal.returns-clause-numbers
 returns-clause-numbers g c =
     let ways : paths_of c.of-ways.result ≡ paths_in c.args.watches.now = c.of-ways.ensures ∙ ap paths_in c.as_slice.ensures.value ∙ same_paths c.args.watches.now c.log_marks.new.watches c.log_marks.ensures.begins in
     let ps = paths_in c.args.watches.now in
-    let plain = marked_shape c.args.within.now c.args.tag c.args.tree in
-    let C = IsVisitCalm c.args.large c.args.within.now plain in
+    let plain = marked_shape c.args.choice.now c.args.tag c.args.tree in
+    let C = IsVisitCalm c.args.large c.args.choice.now plain in
     IfOk-weaker c.marked_clear.result _ (λ t. AreAmong (numbers t) (numbers c.args.tree))
-    (λ t k. let u = subst (λ (qs : List (List Side)). IsUpdatedClear c.args.large qs c.args.tree plain C t) ways k in subst (AreAmong (numbers t)) (numbers-marked c.args.within.now c.args.tag keep_tag c.args.tree) u.refresh.from) c.marked_clear.ensures.updated
+    (λ t k. let u = subst (λ (qs : List (List Side)). IsUpdatedClear c.args.large qs c.args.tree plain C t) ways k in subst (AreAmong (numbers t)) (numbers-marked c.args.choice.now c.args.tag keep_tag c.args.tree) u.refresh.from) c.marked_clear.ensures.updated
 
 pub returns-clause-there : goal.returns-clause-there
 returns-clause-there g c =
     let ways : paths_of c.of-ways.result ≡ paths_in c.args.watches.now = c.of-ways.ensures ∙ ap paths_in c.as_slice.ensures.value ∙ same_paths c.args.watches.now c.log_marks.new.watches c.log_marks.ensures.begins in
     let ps = paths_in c.args.watches.now in
-    let plain = marked_shape c.args.within.now c.args.tag c.args.tree in
-    let C = IsVisitCalm c.args.large c.args.within.now plain in
+    let plain = marked_shape c.args.choice.now c.args.tag c.args.tree in
+    let C = IsVisitCalm c.args.large c.args.choice.now plain in
     IfOk-weaker c.marked_clear.result _ (λ t. AreLargeAt c.args.large ps t)
-    (λ t k. let u = subst (λ (qs : List (List Side)). IsUpdatedClear c.args.large qs c.args.tree plain C t) ways k in large_all_same c.args.large ps plain t u.same (large_all_marked c.args.large c.args.within.now c.args.tag ps c.args.tree c.requires.there)) c.marked_clear.ensures.updated
+    (λ t k. let u = subst (λ (qs : List (List Side)). IsUpdatedClear c.args.large qs c.args.tree plain C t) ways k in large_all_same c.args.large ps plain t u.same (large_all_marked c.args.large c.args.choice.now c.args.tag ps c.args.tree c.requires.there)) c.marked_clear.ensures.updated
 
 pub returns-clause-watched : goal.returns-clause-watched
 returns-clause-watched g c =
     let ways : paths_of c.of-ways.result ≡ paths_in c.args.watches.now = c.of-ways.ensures ∙ ap paths_in c.as_slice.ensures.value ∙ same_paths c.args.watches.now c.log_marks.new.watches c.log_marks.ensures.begins in
     let ps = paths_in c.args.watches.now in
-    let plain = marked_shape c.args.within.now c.args.tag c.args.tree in
-    let C = IsVisitCalm c.args.large c.args.within.now plain in
-    IfOk-weaker c.marked_clear.result _ (λ t. AreWatched (λ p. IsWatched p c.args.tree t (logged_mark c.args.within.now c.args.tag p c.args.tree)) ps)
-    (λ t k. let u = subst (λ (qs : List (List Side)). IsUpdatedClear c.args.large qs c.args.tree plain C t) ways k in all_watched-mark c.args.large c.args.within.now c.args.tag ps c.args.tree t c.requires.there u.same) c.marked_clear.ensures.updated
+    let plain = marked_shape c.args.choice.now c.args.tag c.args.tree in
+    let C = IsVisitCalm c.args.large c.args.choice.now plain in
+    IfOk-weaker c.marked_clear.result _ (λ t. AreWatched (λ p. IsWatched p c.args.tree t (logged_mark c.args.choice.now c.args.tag p c.args.tree)) ps)
+    (λ t k. let u = subst (λ (qs : List (List Side)). IsUpdatedClear c.args.large qs c.args.tree plain C t) ways k in all_watched-mark c.args.large c.args.choice.now c.args.tag ps c.args.tree t c.requires.there u.same) c.marked_clear.ensures.updated
 
 pub returns-clause-balance : goal.returns-clause-balance
 returns-clause-balance g c = λ even.
     let ways : paths_of c.of-ways.result ≡ paths_in c.args.watches.now = c.of-ways.ensures ∙ ap paths_in c.as_slice.ensures.value ∙ same_paths c.args.watches.now c.log_marks.new.watches c.log_marks.ensures.begins in
     let ps = paths_in c.args.watches.now in
-    let plain = marked_shape c.args.within.now c.args.tag c.args.tree in
-    let C = IsVisitCalm c.args.large c.args.within.now plain in
+    let plain = marked_shape c.args.choice.now c.args.tag c.args.tree in
+    let C = IsVisitCalm c.args.large c.args.choice.now plain in
     IfOk-weaker c.marked_clear.result _ (λ t. IsEvenClear c.args.large ps t)
     (λ t k. let u = subst (λ (qs : List (List Side)). IsUpdatedClear c.args.large qs c.args.tree plain C t) ways k in u.balance even) c.marked_clear.ensures.updated
 
 pub returns-clause-ticks : goal.returns-clause-ticks
-returns-clause-ticks g c = λ calm. omega (arith, c.marked_clear.ensures.ticks calm, made_few c.args.within.now c.args.tree)
+returns-clause-ticks g c = λ calm. omega (arith, c.marked_clear.ensures.ticks calm, made_few c.args.choice.now c.args.tree)

@@ -14,8 +14,8 @@ put-requires-clause-new g c =
     let fit = subst (λ (o : Op). Fit (contents c.args.tree) (o ∷ [])) c.in-Put.is c.requires.fit in
     unheld_free c.in-Put.number c.in_ok-tree-in-Put.tree (subst (IsUnheld c.in-Put.number) (sym c.in_ok-tree-in-Put.ensures.contents) fit.0)
 
-pub returns-in-Some-clause-numbers : goal.returns-in-Some-clause-numbers
-returns-in-Some-clause-numbers g c = rw c.in-Mark.is c.marked.ensures.numbers
+pub returns-in-Mark-clause-numbers : goal.returns-in-Mark-clause-numbers
+returns-in-Mark-clause-numbers g c = rw c.in-Mark.is c.marked.ensures.numbers
 
 pub returns-in_ok-tree-in-Put-clause-numbers : goal.returns-in_ok-tree-in-Put-clause-numbers
 returns-in_ok-tree-in-Put-clause-numbers g c =

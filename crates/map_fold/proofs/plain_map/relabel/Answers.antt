@@ -1,12 +1,12 @@
 use Rattle.std.proofs.Common.{◌≡◌, ◌<◌, ◌∙◌, ap, arith, add-one, length, get_or}
 use Rattle.std.proofs.lemmas.List.{length-set}
-use Rattle.map_fold.specs.Contents.{in_box, marked_item}
+use Rattle.map_fold.specs.Contents.{chosen_by, marked_item}
 use Rattle.map_fold.proofs.Numbered.{set-mapped, get_or-mapped}
 use Rattle.map_fold.proofs.plain_map.relabel.Goals as goal
 
 pub loop-i-preserved : goal.loop-i-preserved
 loop-i-preserved c =
-    let f = marked_item (in_box c.args.cuboid.now) c.args.tag in
+    let f = marked_item (chosen_by c.args.choice.now) c.args.tag in
     let i = c.loop-i.i in
     let xs = c.args.items.now.items in
     let x = c.index.result.now in

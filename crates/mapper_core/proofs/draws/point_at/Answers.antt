@@ -12,4 +12,5 @@ returns c =
     let exact : c.new.result ≡ point_of x y z =
     c.new.ensures.exact ∙ rw (to_z-of_z w64 x c.ranges.x, to_z-of_z w64 y c.ranges.y, to_z-of_z w64 z c.ranges.z) refl in
     let is = sym c.in-Ok.is ∙ exact ∙ point_fits x y z c.requires.0 c.requires.1 c.requires.2 in
-    cc (is)
+    let same : c.in-Ok.point ≡ record { x = x; y = y; z = z; intensity = 0 } = cc (is) in
+    record { value = same; place = rw same c.requires }

@@ -5,5 +5,5 @@ use Rattle.point_geom.proofs.distance.gap2.Goals as goal
 
 pub returns-clause-bound : goal.returns-clause-bound
 returns-clause-bound c =
-    let short : c.abs_diff-gap.result ≤ 2000000000 = omega (arith, c.abs_diff-gap.ensures, ints) in
+    let short : c.abs_diff-gap.result ≤ 2199023255552 = omega (arith, c.abs_diff-gap.ensures, ints) in
     mul-le-mul short short

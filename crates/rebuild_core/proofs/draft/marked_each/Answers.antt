@@ -1,5 +1,6 @@
-use Rattle.std.proofs.Common.{◌≡◌, ◌∷◌, ◌+◌, Some, ap, arith, drop, refl, subst, sym}
-use Rattle.map_fold.proofs.Numbered.{drop-at}
+use Rattle.std.proofs.Common.{◌≡◌, ◌∷◌, ◌∙◌, ◌+◌, ap, arith, drop, refl, subst, sym}
+use Rattle.map_fold.specs.declared.choice.Choice.{Choice}
+use Rattle.map_fold.proofs.Numbered.{drop-at, mark-within}
 use Rattle.map_fold.specs.declared.op.Op.TheVariants.{Mark}
 use Rattle.kd_update.specs.Watches.{HaveRoom}
 use Rattle.rebuild_core.specs.declared.work.Work.{Work}
@@ -26,16 +27,16 @@ loop-cuboid-preserved g c =
           let k = c.loop-cuboid.invariant.draft last ps d in
           let l = c.in_ok-work.ensures.draft c.args.next last k.0 k.2 in
           (l.0, left_trans ps k.0 l.0 k.1 l.1, l.2);
-      rest = rw c.in_ok-work.ensures.contents (rw cut at c.loop-cuboid.invariant.rest);
+      rest = rw (c.in_ok-work.ensures.contents ∙ mark-within c.within.result box _ _ c.within.ensures) (rw cut at c.loop-cuboid.invariant.rest);
       first = λ e. absurd (omega arith);
       second = λ e op only room quiet.
           let none : i ≡ 0 = omega arith in
           let start = c.loop-cuboid.invariant.first none in
           let same = ap (λ (w : Work). w.tree) start.0 in
           let roomy = subst (λ (w : Work). HaveRoom w.watches) (sym start.0) room in
-          let is = first_box c.args.tag i cs box op cut none only in (
-            quiet_shape c.args.large (Mark (Some box) c.args.tag) op c.loop-cuboid.work.tree c.args.work.tree c.in_ok-work.work.tree is same (c.in_ok-work.ensures.unrebuilt roomy) quiet,
-            quiet_ticks c.args.large (Mark (Some box) c.args.tag) op c.loop-cuboid.work.tree c.args.work.tree c.loop-cuboid.steps c.args.steps.now c.marked.new.steps is same start.1 (c.in_ok-work.ensures.ticks roomy) quiet,
+          let is = ap (λ (d : Choice). Mark d c.args.tag) c.within.ensures ∙ first_box c.args.tag i cs box op cut none only in (
+            quiet_shape c.args.large (Mark c.within.result c.args.tag) op c.loop-cuboid.work.tree c.args.work.tree c.in_ok-work.work.tree is same (c.in_ok-work.ensures.unrebuilt roomy) quiet,
+            quiet_ticks c.args.large (Mark c.within.result c.args.tag) op c.loop-cuboid.work.tree c.args.work.tree c.loop-cuboid.steps c.args.steps.now c.marked.new.steps is same start.1 (c.in_ok-work.ensures.ticks roomy) quiet,
           );
     }
 
@@ -48,9 +49,9 @@ returns-in_err-work-clause-ticks g c = λ op only room quiet.
     let cut : drop i cs ≡ box ∷ drop (i + 1) cs = drop-at cs _ i box (omega arith) below (rw c.as_slice-cuboid-items.ensures at c.cuboid-item.is) in
     let none : i ≡ 0 = omega (arith, below, only_box c.args.tag cs op only) in
     let start = c.loop-cuboid.invariant.first none in
-    let is = first_box c.args.tag i cs box op cut none only in
+    let is = ap (λ (d : Choice). Mark d c.args.tag) c.within.ensures ∙ first_box c.args.tag i cs box op cut none only in
     let roomy = subst (λ (w : Work). HaveRoom w.watches) (sym start.0) room in
-    quiet_ticks c.args.large (Mark (Some box) c.args.tag) op c.loop-cuboid.work.tree c.args.work.tree c.loop-cuboid.steps c.args.steps.now c.marked.new.steps is (ap (λ (w : Work). w.tree) start.0) start.1 (c.in_err-work.ensures.ticks roomy) quiet
+    quiet_ticks c.args.large (Mark c.within.result c.args.tag) op c.loop-cuboid.work.tree c.args.work.tree c.loop-cuboid.steps c.args.steps.now c.marked.new.steps is (ap (λ (w : Work). w.tree) start.0) start.1 (c.in_err-work.ensures.ticks roomy) quiet
 
 pub returns-clause-unrebuilt : goal.returns-clause-unrebuilt
 returns-clause-unrebuilt g c = λ op only room quiet.

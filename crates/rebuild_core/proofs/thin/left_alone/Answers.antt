@@ -1,6 +1,12 @@
-use Rattle.std.proofs.Common.{◌+◌, arith, subst, sym}
+use Rattle.std.proofs.Common.{◌≡◌, ◌+◌, ◌∙◌, List, ap, arith, subst, sym}
 use Rattle.std.proofs.lemmas.Result.{IfOk-weaker}
+use Rattle.node_labels.specs.Labels.{thin_tag}
+use Rattle.map_fold.specs.declared.item.Item.{Item}
+use Rattle.map_fold.specs.Contents.{in_box, mark, put}
 use Rattle.map_fold.specs.Ops.{IsUnheld}
+use Rattle.map_fold.proofs.Numbered.{mark-within}
+use Rattle.kd_tree.specs.Contents.{contents}
+use Rattle.rebuild_core.specs.declared.work.Work.{Work}
 use Rattle.kd_tree.proofs.Contents.{unheld_free}
 use Rattle.rebuild_core.specs.Draft.{IsDraftLeft}
 use Rattle.rebuild_core.proofs.Working.{draft_few, draft_more, draft_on}
@@ -19,7 +25,7 @@ put-requires-clause-few g c =
     omega (arith, draft_few c.args.large c.args.next r.0 k.0 c.in_ok-work.work c.size-size.ensures.sound k.2, c.requires.few)
 
 pub put-requires-clause-new : goal.put-requires-clause-new
-put-requires-clause-new g c = unheld_free c.args.item.number c.in_ok-work.work.tree (subst (IsUnheld c.args.item.number) (sym c.in_ok-work.ensures.contents) c.requires.new)
+put-requires-clause-new g c = unheld_free c.args.item.number c.in_ok-work.work.tree (subst (IsUnheld c.args.item.number) (sym (c.in_ok-work.ensures.contents ∙ mark-within c.within.result c.args.cuboid.now _ _ c.within.ensures)) c.requires.new)
 
 pub returns-clause-draft : goal.returns-clause-draft
 returns-clause-draft g c = λ last ps d.
@@ -29,3 +35,10 @@ returns-clause-draft g c = λ last ps d.
     let more = draft_more large next (next + 1) last k.0 c.in_ok-work.work (omega arith) k.2 in
     IfOk-weaker c.put.result (IsDraftLeft large (next + 1) last k.0) (IsDraftLeft large (next + 1) last ps) (λ w l. draft_on large (next + 1) last ps k.0 w k.1 l)
     (c.put.ensures.draft (next + 1) last k.0 c.requires.below more)
+
+pub returns-clause-contents : goal.returns-clause-contents
+returns-clause-contents g c =
+    let i = c.args.item in
+    let left = c.in_ok-work.ensures.contents ∙ mark-within c.within.result c.args.cuboid.now _ _ c.within.ensures in
+    IfOk-weaker c.put.result _ (λ (w : Work). contents w.tree ≡ put (mark (contents c.args.work.tree) (in_box c.args.cuboid.now) thin_tag) i.number i.point)
+    (λ w e. e ∙ ap (λ (m : List Item). put m i.number i.point) left) c.put.ensures.contents

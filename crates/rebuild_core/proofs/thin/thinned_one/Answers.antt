@@ -11,6 +11,7 @@ use Rattle.kd_tree.specs.Contents.{contents}
 use Rattle.kd_search.specs.Best.{IsBest}
 use Rattle.rebuild_core.proofs.Detached.{left_itself}
 use Rattle.rebuild_core.proofs.Working.{draft_more}
+use Rattle.map_fold.proofs.Numbered.{contents_rise, unheld_above}
 use Rattle.rebuild_core.proofs.Winners.{alone_inside, becomes, draft_contents, held_wins, new_wins}
 use Rattle.rebuild_core.proofs.thin.thinned_one.Goals as goal
 
@@ -33,7 +34,7 @@ left_alone-requires-clause-new g c =
     let best : IsBest m (voxel edge p) c.in-Some.held = rw (same, c.in-Some.is) at c.rivals_in-best.ensures.first in
     let before : comes_before (voxel edge p) (live_at n p) c.in-Some.held ≡ true = rw same at (sym c.comes_before.ensures ∙ c.if-comes_before.true) in
     let held = draft_contents c.args.settings.now.large n c.args.work c.size-size.ensures.sound c.requires.draft in
-    rw same (subst (λ (i : Item). IsUnheld i.number (mark m (in_box (voxel edge p)) thin_tag)) (new_wins edge n m p c.in-Some.held best before) (winner_unheld edge n m p held))
+    rw same (subst (λ (i : Item). IsUnheld i.number (mark m (in_box (voxel edge p)) thin_tag)) (new_wins edge n m p c.in-Some.held (contents_rise 0 n m held) (unheld_above 0 n n m (omega arith) held) best before) (winner_unheld edge n m p held))
 
 pub returns-then-comes_before-clause-contents : goal.returns-then-comes_before-clause-contents
 returns-then-comes_before-clause-contents g c =
@@ -44,7 +45,8 @@ returns-then-comes_before-clause-contents g c =
     let same : c.voxel-cube.result ≡ voxel edge p = rw c.voxel.ensures.value at c.voxel-cube.ensures.value in
     let best : IsBest m (voxel edge p) c.in-Some.held = rw (same, c.in-Some.is) at c.rivals_in-best.ensures.first in
     let before : comes_before (voxel edge p) (live_at n p) c.in-Some.held ≡ true = rw same at (sym c.comes_before.ensures ∙ c.if-comes_before.true) in
-    let wins = new_wins edge n m p c.in-Some.held best before in
+    let held = draft_contents c.args.settings.now.large n c.args.work c.size-size.ensures.sound c.requires.draft in
+    let wins = new_wins edge n m p c.in-Some.held (contents_rise 0 n m held) (unheld_above 0 n n m (omega arith) held) best before in
     becomes c.left_alone.result (put (mark m (in_box c.voxel-cube.result) thin_tag) n p) (thin edge m n p)
     (ap (λ (b : Bounds). put (mark m (in_box b) thin_tag) n p) same ∙ ap (λ (i : Item). put (mark m (in_box (voxel edge p)) thin_tag) i.number i.point) (sym wins))
     c.left_alone.ensures.contents
@@ -76,7 +78,7 @@ left_alone-requires-2-clause-below g c =
     let best : IsBest m (voxel edge p) c.in-Some.held = rw (same, c.in-Some.is) at c.rivals_in-best.ensures.first in
     let behind : comes_before (voxel edge p) (live_at n p) c.in-Some.held ≡ false = rw same at (sym c.comes_before.ensures ∙ c.if-comes_before.false) in
     let held = draft_contents c.args.settings.now.large n c.args.work c.size-size.ensures.sound c.requires.draft in
-    subst (λ (i : Item). i.number < n + 1) (held_wins edge n m p c.in-Some.held best behind) (winner_number edge n m p held)
+    subst (λ (i : Item). i.number < n + 1) (held_wins edge n m p c.in-Some.held (contents_rise 0 n m held) (unheld_above 0 n n m (omega arith) held) best behind) (winner_number edge n m p held)
 
 pub left_alone-requires-2-clause-new : goal.left_alone-requires-2-clause-new
 left_alone-requires-2-clause-new g c =
@@ -88,7 +90,7 @@ left_alone-requires-2-clause-new g c =
     let best : IsBest m (voxel edge p) c.in-Some.held = rw (same, c.in-Some.is) at c.rivals_in-best.ensures.first in
     let behind : comes_before (voxel edge p) (live_at n p) c.in-Some.held ≡ false = rw same at (sym c.comes_before.ensures ∙ c.if-comes_before.false) in
     let held = draft_contents c.args.settings.now.large n c.args.work c.size-size.ensures.sound c.requires.draft in
-    rw same (subst (λ (i : Item). IsUnheld i.number (mark m (in_box (voxel edge p)) thin_tag)) (held_wins edge n m p c.in-Some.held best behind) (winner_unheld edge n m p held))
+    rw same (subst (λ (i : Item). IsUnheld i.number (mark m (in_box (voxel edge p)) thin_tag)) (held_wins edge n m p c.in-Some.held (contents_rise 0 n m held) (unheld_above 0 n n m (omega arith) held) best behind) (winner_unheld edge n m p held))
 
 pub returns-clause-contents : goal.returns-clause-contents
 returns-clause-contents g c =
@@ -99,7 +101,8 @@ returns-clause-contents g c =
     let same : c.voxel-cube.result ≡ voxel edge p = rw c.voxel.ensures.value at c.voxel-cube.ensures.value in
     let best : IsBest m (voxel edge p) c.in-Some.held = rw (same, c.in-Some.is) at c.rivals_in-best.ensures.first in
     let behind : comes_before (voxel edge p) (live_at n p) c.in-Some.held ≡ false = rw same at (sym c.comes_before.ensures ∙ c.if-comes_before.false) in
-    let wins = held_wins edge n m p c.in-Some.held best behind in
+    let held = draft_contents c.args.settings.now.large n c.args.work c.size-size.ensures.sound c.requires.draft in
+    let wins = held_wins edge n m p c.in-Some.held (contents_rise 0 n m held) (unheld_above 0 n n m (omega arith) held) best behind in
     becomes c.left_alone-2.result (put (mark m (in_box c.voxel-cube.result) thin_tag) c.in-Some.held.number c.in-Some.held.point) (thin edge m n p)
     (ap (λ (b : Bounds). put (mark m (in_box b) thin_tag) c.in-Some.held.number c.in-Some.held.point) same ∙ ap (λ (i : Item). put (mark m (in_box (voxel edge p)) thin_tag) i.number i.point) (sym wins))
     c.left_alone-2.ensures.contents

@@ -10,5 +10,5 @@ loop-x-preserved c =
     let far_y = rw c.in_ok-far_y.ensures.ok_part at c.next-in-Some-4.ensures in
     let far_z = rw c.in_ok-far_z.ensures.ok_part at c.next-in-Some-5.ensures in
     let before = rw (c.in-Some.ensures, y, z, far_x, far_y, far_z) at c.loop-x.invariant in
-    let left = sym (boxes_more c.loop-x.boxes.items c.in_ok-cuboid.cuboid _ _ _ _ _ _ _ c.in_ok-cuboid.ensures) ∙ before in
+    let left = sym (boxes_more c.args.format c.loop-x.boxes.items c.in_ok-cuboid.cuboid _ _ _ _ _ _ _ c.in_ok-cuboid.ensures) ∙ before in
     rw c.in_ok-push.ensures.items left

@@ -4,7 +4,7 @@ use Rattle.scan_log.proofs.Fronts.{with_front}
 use Rattle.scan_log.proofs.boxes.all_boxes.Given as goal
 
 abbrev pub invariant-loop-x : goal.invariant-loop-x
-invariant-loop-x l = with_front l.boxes.items (boxes_of l.fields) ≡ boxes_of l.fn.fields
+invariant-loop-x l = with_front l.boxes.items (boxes_of l.format l.fields) ≡ boxes_of l.fn.format l.fn.fields
 
 abbrev pub decreases-loop-x : goal.decreases-loop-x
 decreases-loop-x l = length l.fields

@@ -4,10 +4,10 @@ use Rattle.scan_log.proofs.parsing.body.Goals as goal
 use Rattle.scan_log.proofs.parsing.body.Goals.{After-points-room}
 
 -- the line's command was read
-more : (c : After-points-room) → ReadOneMore c.loop-number.script c.loop-number.room c.next.new.self (body_of c.args.settings c.args.lines) c.in-Ok.command
+more : (c : After-points-room) → ReadOneMore c.loop-number.script c.loop-number.room c.next.new.self (body_of c.args.format c.args.settings c.args.lines) c.in-Ok.command
 more c =
     let here = rw c.in-Some.ensures at c.loop-number.invariant in
-    let read = rw c.commands-before.ensures.all at c.in-Ok.ensures in
+    let read = rw (c.commands-before.ensures.all, c.format.ensures) at c.in-Ok.ensures in
     read_more c.loop-number.script c.loop-number.room c.in-Some.number c.in-Some.line.now c.next.new.self _ c.in-Ok.command here read
 
 pub overflow_sub-room : goal.overflow_sub-room

@@ -8,6 +8,6 @@ loop-preserved c =
     let p = c.in_ok-point.ensures in
     let some : 3 ≤ length fields = omega (arith, c.loop.invariant.count, c.loop-test.true) in
     record {
-      left = rw (c.in_ok-push.ensures.items, p.rest) (sym (points_next c.loop.points.items fields c.in_ok-point.point some (sym p.value)) ∙ c.loop.invariant.left);
+      left = rw (c.in_ok-push.ensures.items, p.rest) (sym (points_next c.args.format c.loop.points.items fields c.in_ok-point.point some (sym p.value)) ∙ c.loop.invariant.left);
       count = rw p.rest (omega (arith, length-drop 3 fields, some, c.loop.invariant.count));
     }

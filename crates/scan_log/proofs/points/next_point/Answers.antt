@@ -15,4 +15,4 @@ returns-clause-value c =
     let fy : FitsSigned w64 y = search rules in
     let fz : FitsSigned w64 z = search rules in
     c.point_at.ensures
-    ∙ rw (to_z-of_z w64 x fx, to_z-of_z w64 y fy, to_z-of_z w64 z fz) (sym (first_place_read c.args.fields.now _ _ x y z c.requires px.value px.rest py.value py.rest pz.value))
+    ∙ rw (to_z-of_z w64 x fx, to_z-of_z w64 y fy, to_z-of_z w64 z fz) (sym (first_place_read c.args.format c.args.fields.now _ _ x y z c.requires px.value px.rest py.value py.rest pz.value))

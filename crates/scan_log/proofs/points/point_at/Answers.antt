@@ -6,14 +6,14 @@ use Rattle.scan_log.proofs.points.point_at.Goals as goal
 use Rattle.scan_log.proofs.points.point_at.Goals.{After-new}
 
 -- what is made of the coordinates
-made : (c : After-new) → far_off c.new.result ≡ Ok (record { x = c.args.x; y = c.args.y; z = c.args.z })
+made : (c : After-new) → far_off c.new.result ≡ Ok (record { x = c.args.x; y = c.args.y; z = c.args.z; intensity = 0 })
 made c =
     let x = c.args.x in
     let y = c.args.y in
     let z = c.args.z in
     let exact : c.new.result ≡ point_of x y z =
     c.new.ensures.exact ∙ rw (to_z-of_z w64 x c.ranges.x, to_z-of_z w64 y c.ranges.y, to_z-of_z w64 z c.ranges.z) refl in
-    ap far_off (exact ∙ point_fits x y z c.requires.x c.requires.y c.requires.z)
+    ap far_off (exact ∙ point_fits c.args.format x y z c.requires.x c.requires.y c.requires.z)
 
 pub returns-in-Ok : goal.returns-in-Ok
 returns-in-Ok c = ap far_off (sym c.in-Ok.is) ∙ made (goal.at.returns-in-Ok c).After-new

@@ -1,4 +1,4 @@
-use Rattle.std.proofs.Common.{◌≡◌, true, false, ◌∷◌, [], ◌+◌, suc, Some, sym, ap, ◌∙◌, subst, drop, drop-cons, drop_of_length-le, add-one, arith}
+use Rattle.std.proofs.Common.{◌≡◌, true, false, ◌∷◌, ◌+◌, suc, sym, ap, ◌∙◌, subst, drop, drop-cons, drop_of_length-le, add-one, arith}
 use Rattle.mapper_core.specs.Told.{is_by}
 use Rattle.mapper_core.specs.Mine.{RanTo, Answered, Tried}
 use Rattle.mapper_core.proofs.OneCaller.{ran_own, ran_other, ran_end}

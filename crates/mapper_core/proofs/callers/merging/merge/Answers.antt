@@ -1,5 +1,5 @@
-use Rattle.std.proofs.Common.{◌≡◌, ℕ, ◌∷◌, ◌++◌, [], ◌+◌, suc, sym, ap, ◌∙◌, subst, drop, drop-cons, drop_of_length-le, add-one, arith}
-use Rattle.mapper_core.specs.Meetings.{IsBy, AreReplies, MergedTo}
+use Rattle.std.proofs.Common.{◌≡◌, ℕ, ◌∷◌, ◌+◌, suc, sym, ap, ◌∙◌, subst, drop, drop-cons, drop_of_length-le, add-one, arith}
+use Rattle.mapper_core.specs.Meetings.{AreReplies, MergedTo}
 use Rattle.mapper_core.proofs.Merged.{merged_start, merged_takes, replies_left, replies_next}
 use Rattle.mapper_core.proofs.callers.merging.merge.Goals as goal
 

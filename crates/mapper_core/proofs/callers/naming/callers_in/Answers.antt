@@ -1,4 +1,4 @@
-use Rattle.std.proofs.Common.{◌≡◌, ℕ, ◌≤◌, ◌∷◌, ◌+◌, suc, sym, ap, ◌∙◌, subst, drop, drop-cons, drop_of_length-le, add-one, arith}
+use Rattle.std.proofs.Common.{◌≡◌, ℕ, ◌≤◌, ◌∷◌, ◌+◌, suc, sym, ap, ◌∙◌, subst, drop, drop-cons, add-one, arith}
 use Rattle.std.specs.List.{AllByRecursion}
 use Rattle.mapper_core.specs.Meetings.{HasCaller}
 use Rattle.mapper_core.proofs.Slices.{has_caller_more}

@@ -1,4 +1,4 @@
-use Rattle.std.proofs.Common.{rules, ◌≡◌, ◌∙◌, ◌∷◌, [], ◌++◌, ◌+◌, sym, subst, take, add-one}
+use Rattle.std.proofs.Common.{rules, ◌≡◌, ◌∙◌, ◌∷◌, [], ◌++◌, ◌+◌, subst, take, add-one}
 use Rattle.scan_log.specs.declared.command.Command.TheVariants as command_of
 use Rattle.mapper_core.specs.Meetings.{Standing, IsTotal}
 use Rattle.mapper_core.proofs.Beginnings.{take_next}

@@ -1,6 +1,5 @@
-use Rattle.std.proofs.Common.{◌≡◌, ◌∷◌, [], ◌++◌, Ok, length, sym, ap, ◌∙◌, subst, append_assoc, arith}
+use Rattle.std.proofs.Common.{◌≡◌, ◌∷◌, [], Ok, length, ap, ◌∙◌, append_assoc, arith}
 use Rattle.std.specs.Vec.Iter.{into_iter_items}
-use Rattle.mapper_core.specs.Meetings.{AllParted}
 use Rattle.mapper_core.proofs.CameBack.{parted_more}
 use Rattle.mapper_core.proofs.callers.phase.part.Goals as goal
 

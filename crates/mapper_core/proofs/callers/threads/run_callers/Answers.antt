@@ -1,4 +1,4 @@
-use Rattle.std.proofs.Common.{◌≡◌, IfOk, subst}
+use Rattle.std.proofs.Common.{subst}
 use Rattle.scan_log.specs.Legal.{AreLegalReplies}
 use Rattle.published_map.proofs.Crossing.{shared_sync}
 use Rattle.mapper_core.proofs.Sent.{to_worker}

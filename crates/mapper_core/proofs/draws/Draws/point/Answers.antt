@@ -13,4 +13,7 @@ returns-clause-point c =
     let px = less_than (1000 * i + c.draw.result % 60001) 30000 small (omega arith) in
     let py = less_than (c.draw-y.result % 60001) 30000 (omega arith) (omega arith) in
     let pz = less_than (c.draw-z.result % 6001) 3000 (omega arith) (omega arith) in
-    c.point_at.ensures ∙ rw (← c.draw.ensures.drawn, ← y, ← z, px, py, pz) refl
+    c.point_at.ensures.value ∙ rw (← c.draw.ensures.drawn, ← y, ← z, px, py, pz) refl
+
+pub returns-clause-place : goal.returns-clause-place
+returns-clause-place c = let all = c.point_at.ensures.place in (all.0, all.1, all.2, omega (arith, all.3))

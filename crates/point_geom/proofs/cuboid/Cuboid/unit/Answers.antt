@@ -6,4 +6,4 @@ use Rattle.point_geom.proofs.cuboid.Cuboid.unit.Goals as goal
 pub returns-clause-meaning : goal.returns-clause-meaning
 returns-clause-meaning c =
     let value : c.cube.result ≡ unit_box c.args.p.now = search rules in
-    λ q. rw value (unit_alone c.args.p.now q, λ h. rw h (unit_held c.args.p.now))
+    λ q. rw value (unit_alone c.args.p.now q, unit_held c.args.p.now q)

@@ -1,4 +1,4 @@
-use Rattle.std.proofs.Common.{◌≡◌, rules, subst, sym}
+use Rattle.std.proofs.Common.{◌≡◌, refl, rules, subst, sym}
 use Rattle.point_geom.specs.Place.{Span}
 use Rattle.point_geom.specs.Extents.{IsPart, joined_span}
 use Rattle.point_geom.proofs.Laws.{joined_parts, join_least, joined_below}
@@ -6,8 +6,11 @@ use Rattle.point_geom.proofs.extent.Extent.join.Goals as goal
 
 pub invariant_of-result : goal.invariant_of-result
 invariant_of-result c =
-    rw (c.low_corner.ensures, c.high_corner.ensures)
-    (joined_below (record { lo = c.self.inside.lo; hi = c.self.inside.hi }) (record { lo = c.other.inside.lo; hi = c.other.inside.hi }) c.self.invariant)
+    rw (c.low_corner.ensures, c.high_corner.ensures) (record {
+      below = joined_below (record { lo = c.self.inside.lo; hi = c.self.inside.hi }) (record { lo = c.other.inside.lo; hi = c.other.inside.hi }) c.self.invariant.below;
+      lo = refl;
+      hi = refl;
+    })
 
 pub returns-clause-least : goal.returns-clause-least
 returns-clause-least c =

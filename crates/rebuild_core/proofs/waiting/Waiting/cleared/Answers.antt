@@ -1,8 +1,8 @@
-use Rattle.std.proofs.Common.{◌≡◌, ◌<◌, [], subst, sym}
+use Rattle.std.proofs.Common.{◌≡◌, ◌∙◌, ◌<◌, [], subst, sym}
 use Rattle.std.proofs.lemmas.List.Elements.{All-nil}
 use Rattle.node_labels.specs.Labels.{thin_tag}
 use Rattle.map_fold.specs.Contents.{AreContents, in_box, mark}
-use Rattle.map_fold.proofs.Numbered.{contents_mark}
+use Rattle.map_fold.proofs.Numbered.{contents_mark, mark-within}
 use Rattle.kd_tree.specs.Shape.{numbers}
 use Rattle.kd_tree.proofs.Held.{are_contents}
 use Rattle.rebuild_core.specs.Waiting.{held_by}
@@ -13,7 +13,7 @@ held : (g : _) (c : goal.In_ok-tree g) → both c.in_ok-tree.tree c.args.self.it
 held g c =
     let t = c.args.self.tree in
     let k = c.requires.waiting in
-    cleared_clear c.args.cuboid.now c.args.high t c.in_ok-tree.tree c.args.self.items.items c.requires.clear k.held (are_contents c.args.high t c.size-size.ensures.sound k.below) c.in_ok-tree.ensures.contents
+    cleared_clear c.args.cuboid.now c.args.high t c.in_ok-tree.tree c.args.self.items.items c.requires.clear k.held (are_contents c.args.high t c.size-size.ensures.sound k.below) (c.in_ok-tree.ensures.contents ∙ mark-within c.within-choice.result c.args.cuboid.now _ _ c.within-choice.ensures)
 
 pub returns-clause-held : goal.returns-clause-held
 returns-clause-held g c = held g c

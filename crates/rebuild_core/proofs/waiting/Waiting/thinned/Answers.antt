@@ -16,7 +16,9 @@ use Rattle.map_fold.proofs.Found.{member-filter}
 use Rattle.kd_search.specs.Best.{IsBest}
 use Rattle.kd_update.proofs.Grown.{live_of}
 use Rattle.rebuild_core.specs.Waiting.{IsJoined, held_by}
+use Rattle.rebuild_core.proofs.Both.{distinct_both}
 use Rattle.rebuild_core.proofs.Entering.{entered_none, entered_same, winner_below, winner_new}
+use Rattle.map_fold.proofs.Numbered.{contents_rise}
 use Rattle.rebuild_core.proofs.Winners.{alone_inside, held_wins, new_wins}
 use Rattle.rebuild_core.proofs.waiting.Waiting.thinned.Goals as goal
 
@@ -48,6 +50,9 @@ returns-in_default-clause-joined g c =
     let there = inside c.args.settings.now.voxel i c.args.entrant.now.cube c.large-large.ensures.sizes.voxel_from c.requires.cube in
     IfOk-weaker c.with.result _ (IsJoined c.args.entrant.now.cube c.args.self) (λ w e. inr (i, there, e)) c.with.ensures.one
 
+pub rivals-best-requires-clause-distinct : goal.rivals-best-requires-clause-distinct
+rivals-best-requires-clause-distinct g c = distinct_both c.args.high c.args.self.tree c.args.self.items.items c.requires.waiting.held
+
 pub with-requires-then-comes_before-clause-new : goal.with-requires-then-comes_before-clause-new
 with-requires-then-comes_before-clause-new g c =
     let edge = c.args.settings.now.voxel in
@@ -56,7 +61,7 @@ with-requires-then-comes_before-clause-new g c =
     let cube = voxel edge i.point in
     let best = best_on m c.args.entrant.now.cube cube c.rivals-best.result.best c.in-Some.best c.requires.cube c.rivals-best.ensures.best c.in-Some.is in
     let before = first_on i c.in-Some.best c.args.entrant.now.cube cube c.comes_before.result c.requires.cube c.requires.live c.comes_before.ensures ∙ c.if-comes_before.true in
-    let wins = new_wins edge i.number m i.point c.in-Some.best best before in
+    let wins = new_wins edge i.number m i.point c.in-Some.best (contents_rise 0 c.args.high m c.requires.waiting.held) c.requires.new best before in
     let left = c.in_ok-cleared.ensures.held ∙ ap (λ (b : Bounds). mark m (in_box b) thin_tag) c.requires.cube in
     let new = winner_new edge c.args.high i.number m i.point c.requires.waiting.held c.requires.new in
     subst (IsUnheld i.number) (sym left) (subst (λ (j : Item). IsUnheld j.number (mark m (in_box cube) thin_tag)) wins new)
@@ -69,7 +74,7 @@ returns-then-comes_before-clause-held g c =
     let cube = voxel edge i.point in
     let best = best_on m c.args.entrant.now.cube cube c.rivals-best.result.best c.in-Some.best c.requires.cube c.rivals-best.ensures.best c.in-Some.is in
     let before = first_on i c.in-Some.best c.args.entrant.now.cube cube c.comes_before.result c.requires.cube c.requires.live c.comes_before.ensures ∙ c.if-comes_before.true in
-    let wins = new_wins edge i.number m i.point c.in-Some.best best before in
+    let wins = new_wins edge i.number m i.point c.in-Some.best (contents_rise 0 c.args.high m c.requires.waiting.held) c.requires.new best before in
     let left = c.in_ok-cleared.ensures.held ∙ ap (λ (b : Bounds). mark m (in_box b) thin_tag) c.requires.cube in
     IfOk-weaker c.with-then-comes_before.result _ (λ w. held_by w ≡ thin edge m i.number i.point)
     (λ w e. e ∙ ap (λ (xs : List Item). put xs i.number i.point) left ∙ ap (λ (j : Item). put (mark m (in_box cube) thin_tag) j.number j.point) (sym wins)) c.with-then-comes_before.ensures.held
@@ -107,7 +112,7 @@ with-requires-2-clause-below g c =
     let cube = voxel edge i.point in
     let best = best_on m c.args.entrant.now.cube cube c.rivals-best.result.best c.in-Some.best c.requires.cube c.rivals-best.ensures.best c.in-Some.is in
     let behind = first_on i c.in-Some.best c.args.entrant.now.cube cube c.comes_before.result c.requires.cube c.requires.live c.comes_before.ensures ∙ c.if-comes_before.false in
-    subst (λ (j : Item). j.number < c.args.high) (held_wins edge i.number m i.point c.in-Some.best best behind) (winner_below edge c.args.high i.number m i.point c.requires.waiting.held c.requires.below)
+    subst (λ (j : Item). j.number < c.args.high) (held_wins edge i.number m i.point c.in-Some.best (contents_rise 0 c.args.high m c.requires.waiting.held) c.requires.new best behind) (winner_below edge c.args.high i.number m i.point c.requires.waiting.held c.requires.below)
 
 pub with-requires-2-clause-new : goal.with-requires-2-clause-new
 with-requires-2-clause-new g c =
@@ -119,7 +124,7 @@ with-requires-2-clause-new g c =
     let behind = first_on i c.in-Some.best c.args.entrant.now.cube cube c.comes_before.result c.requires.cube c.requires.live c.comes_before.ensures ∙ c.if-comes_before.false in
     let left = c.in_ok-cleared-2.ensures.held ∙ ap (λ (b : Bounds). mark m (in_box b) thin_tag) c.requires.cube in
     let new = winner_new edge c.args.high i.number m i.point c.requires.waiting.held c.requires.new in
-    subst (IsUnheld c.in-Some.best.number) (sym left) (subst (λ (j : Item). IsUnheld j.number (mark m (in_box cube) thin_tag)) (held_wins edge i.number m i.point c.in-Some.best best behind) new)
+    subst (IsUnheld c.in-Some.best.number) (sym left) (subst (λ (j : Item). IsUnheld j.number (mark m (in_box cube) thin_tag)) (held_wins edge i.number m i.point c.in-Some.best (contents_rise 0 c.args.high m c.requires.waiting.held) c.requires.new best behind) new)
 
 pub returns-clause-held : goal.returns-clause-held
 returns-clause-held g c =
@@ -132,4 +137,4 @@ returns-clause-held g c =
     let behind = first_on i old c.args.entrant.now.cube cube c.comes_before.result c.requires.cube c.requires.live c.comes_before.ensures ∙ c.if-comes_before.false in
     let left = c.in_ok-cleared-2.ensures.held ∙ ap (λ (b : Bounds). mark m (in_box b) thin_tag) c.requires.cube in
     IfOk-weaker c.with-2.result _ (λ w. held_by w ≡ thin edge m i.number i.point)
-    (λ w e. e ∙ ap (λ (xs : List Item). put xs old.number old.point) left ∙ ap (λ (j : Item). put (mark m (in_box cube) thin_tag) j.number j.point) (sym (held_wins edge i.number m i.point old best behind))) c.with-2.ensures.held
+    (λ w e. e ∙ ap (λ (xs : List Item). put xs old.number old.point) left ∙ ap (λ (j : Item). put (mark m (in_box cube) thin_tag) j.number j.point) (sym (held_wins edge i.number m i.point old (contents_rise 0 c.args.high m c.requires.waiting.held) c.requires.new best behind))) c.with-2.ensures.held

@@ -13,4 +13,4 @@ returns-clause-draft g c = λ next last ps d.
     let u = c.in_ok-tree.tree in
     let vs = c.marked_watched.new.watches in
     draft_on c.args.large next last ps k.0 _ k.1
-    (draft_marked c.args.large next last c.args.within.now c.args.tag c.in_ok-work.work u vs k.0 k.2 c.in_ok-work.ensures.room c.in_ok-tree.ensures.logged c.in_ok-tree.ensures.numbers c.in_ok-tree.ensures.balance c.in_ok-tree.ensures.watched)
+    (draft_marked c.args.large next last c.args.choice.now c.args.tag c.in_ok-work.work u vs k.0 k.2 c.in_ok-work.ensures.room c.in_ok-tree.ensures.logged c.in_ok-tree.ensures.numbers c.in_ok-tree.ensures.balance c.in_ok-tree.ensures.watched)

@@ -1,0 +1,71 @@
+//! How long a log may be, by hand.
+use crate::tests::{fault_of, log_of};
+use crate::{LogCause, ParseFault};
+use std::alloc::{AllocError, Global};
+use std::test::Fail;
+
+// The header, and the line so many times.
+fn repeated(alloc: Global, line: &[u8], times: u32) -> Result<Vec<u8>, AllocError> {
+    let mut log = log_of(alloc, b"")?;
+    for _ in 0..times {
+        log.extend_from_slice(line)?;
+    }
+    Ok(log)
+}
+
+#[test]
+fn a_command_has_at_most_262144_points_or_boxes(rt: HostRuntime) -> Result<(), Fail> {
+    let alloc = rt.alloc();
+    for (word, one) in [
+        (b"@1 add".as_slice(), b" 1 2 3".as_slice()),
+        (b"@1 erase".as_slice(), b" 1 2 3".as_slice()),
+        (b"@1 suspend".as_slice(), b" 0 0 0 0 0 0".as_slice()),
+    ] {
+        let mut log = log_of(alloc, word)?;
+        for _ in 0..262_144 {
+            log.extend_from_slice(one)?;
+        }
+        assert_eq!(rt; fault_of(alloc, log.as_slice()), None, "{word:?}");
+        log.extend_from_slice(one)?;
+        let many = Some(ParseFault::Bad {
+            line: 2,
+            cause: LogCause::TooManyPoints,
+        });
+        assert_eq!(rt; fault_of(alloc, log.as_slice()), many, "{word:?}");
+    }
+    Ok(())
+}
+
+#[test]
+fn a_log_has_at_most_4194304_points(rt: HostRuntime) -> Result<(), Fail> {
+    let alloc = rt.alloc();
+    let mut line = Vec::from_slice(alloc, b"@1 add")?;
+    for _ in 0..262_144 {
+        line.extend_from_slice(b" 0 0 0")?;
+    }
+    line.push(b'\n')?;
+    let mut log = repeated(alloc, line.as_slice(), 16)?;
+    log.extend_from_slice(b"@1 erase 0 0 0\n")?;
+    assert_eq!(rt; fault_of(alloc, log.as_slice()), None);
+    log.extend_from_slice(b"@1 thin 0 0 x\n")?;
+    let many = Some(ParseFault::Bad {
+        line: 19,
+        cause: LogCause::TooManyPoints,
+    });
+    assert_eq!(rt; fault_of(alloc, log.as_slice()), many);
+    Ok(())
+}
+
+#[test]
+fn a_log_has_at_most_65536_commands(rt: HostRuntime) -> Result<(), Fail> {
+    let alloc = rt.alloc();
+    let mut log = repeated(alloc, b"sync\n", 65_536)?;
+    assert_eq!(rt; fault_of(alloc, log.as_slice()), None);
+    log.extend_from_slice(b"# what\nwhat\n")?;
+    let many = Some(ParseFault::Bad {
+        line: 65_539,
+        cause: LogCause::TooManyCommands,
+    });
+    assert_eq!(rt; fault_of(alloc, log.as_slice()), many);
+    Ok(())
+}
