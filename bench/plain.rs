@@ -8,6 +8,7 @@
 use std::collections::HashMap;
 use std::env;
 use std::time::{Duration, Instant};
+mod batches;
 mod drive;
 mod pointers;
 mod readers;
@@ -389,6 +390,12 @@ impl Map {
         }
     }
 
+    fn count(&mut self, lists: &[Vec<Hit>]) {
+        for hit in lists.iter().flatten() {
+            self.sum = with(self.sum, hit.number, hit.dist2);
+        }
+    }
+
     fn delete(&mut self, cuboid: &Cuboid) {
         self.tree = mark(self.tree.take(), LARGE, cuboid, DELETE);
     }
@@ -485,10 +492,11 @@ fn main() {
     let mut items = numbered(0, &points);
     let mut map = Map { tree: None, next: 0, sum: 0 };
     match words[0].as_str() {
-        "ask" | "box" => map.tree = build(&mut items),
+        "ask" | "box" | "singly" | "nears" => map.tree = build(&mut items),
         "after" => map.grow(&points, Map::add),
         _ => (),
     }
+    let mut lists = Vec::new();
     let begun = Instant::now();
     match words[0].as_str() {
         "build" => map.tree = build(&mut items),
@@ -508,10 +516,17 @@ fn main() {
             map.ask(points);
             map.thin(points);
         }),
+        "singly" => lists = batches::singly(&map.tree, &places),
+        "nears" => lists = batches::at_once(&map.tree, &places),
+        "batches" => map.grow(&points, |map, points| {
+            map.count(&batches::at_once(&map.tree, points));
+            map.thin(points);
+        }),
         "box" => cubes.iter().for_each(|cube| map.delete(cube)),
         "drive" => return println!("{}", drive::summary(count)),
         _ => panic!("no such work"),
     }
     eprintln!("{}", begun.elapsed().as_micros());
+    map.count(&lists);
     println!("{} {} {} sum {}", words[0], count, asked, map.finish());
 }

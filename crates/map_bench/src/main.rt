@@ -11,6 +11,9 @@
 //! - `thin`: the state of a map thins such scans, at half a metre, and after each tenth the slab that is left is deleted;
 //! - `odometry`: the same, but each point is asked for its 5 nearest before its scan is thinned;
 //! - `drawn`, `rising`, `equal`: a state takes N points that lie so, 262,144 an update, with Q as the size of a large subtree;
+//! - `singly`, `nears`: a tree that was built is asked for the 5 nearest of Q places, one after the other and all at once, and the answers
+//!   are kept;
+//! - `batches`: as `odometry`, but a scan's points are asked for at once;
 //! - `expire`, `cut`, `mixed`: the older half of N points is forgotten at once, of a road by their numbers, of a road by a box, and by
 //!   their numbers where these stand all over the road; Q has no meaning, and how long it took and how many nodes it touched is told;
 //! - `longest`: a state grows by scans to N points and then by Q more, of which the longest steps are told;
@@ -23,6 +26,7 @@
 
 ghost use Rattle.std.specs.Prelude.{◌≡◌, ◌<◌, ◌≤◌, IfOk};
 
+mod batches;
 mod course;
 mod draws;
 mod forgotten;
@@ -88,7 +92,7 @@ fn measure<R: AllocGlobal + Env + Print + Eprint + Clock + Threads + Wait + Sync
     }
 }
 
-fn tell<R: AllocGlobal + Print + Eprint + Clock>(
+fn tell<R: AllocGlobal + Print + Eprint + Clock + Threads + Sync>(
     rt: &R,
     work: &str,
     count: u32,
@@ -143,7 +147,7 @@ fn tell_readers<R: AllocGlobal + Print + Eprint + Clock + Threads + Wait + Sync>
 }
 
 // The nodes that are made are counted by a counter that nothing looks at.
-fn measured<L: Ledger, R: AllocGlobal + Clock>(
+fn measured<L: Ledger, R: AllocGlobal + Clock + Threads + Sync>(
     rt: &R,
     work: Work,
     count: u32,
@@ -167,6 +171,9 @@ fn measured<L: Ledger, R: AllocGlobal + Clock>(
         Work::Box => works::delete(rt, alloc, count, asked, steps),
         Work::Thin => thinned::thin(rt, alloc, count, steps),
         Work::Odometry => thinned::odometry(rt, alloc, count, steps),
+        Work::Singly => batches::singly(rt, alloc, count, asked, steps),
+        Work::Nears => batches::at_once(rt, alloc, count, asked, steps),
+        Work::Batches => batches::odometry(rt, alloc, count, steps),
         Work::Lying(lie) => worst::add(rt, alloc, lie, count, asked, steps),
     }
 }
@@ -210,6 +217,9 @@ enum Work {
     Box,
     Thin,
     Odometry,
+    Singly,
+    Nears,
+    Batches,
     Lying(Lie),
 }
 
@@ -224,6 +234,9 @@ fn named(word: &str) -> Result<Work, Stop> {
         "box" => Ok(Work::Box),
         "thin" => Ok(Work::Thin),
         "odometry" => Ok(Work::Odometry),
+        "singly" => Ok(Work::Singly),
+        "nears" => Ok(Work::Nears),
+        "batches" => Ok(Work::Batches),
         "drawn" => Ok(Work::Lying(Lie::Drawn)),
         "rising" => Ok(Work::Lying(Lie::Rising)),
         "equal" => Ok(Work::Lying(Lie::Equal)),

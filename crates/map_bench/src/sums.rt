@@ -1,7 +1,7 @@
 //! Checksums of what was found and of what is held.
 use kd_search::nearest;
 use kd_tree::Tree;
-use map_fold::{Hits, NoMemory, Points};
+use map_fold::{HitLists, Hits, NoMemory, Points};
 use point_geom::{Point, dist2};
 use std::alloc::Global;
 
@@ -18,6 +18,15 @@ pub fn with_answers(
         sum = with_hits(sum, &hits);
     }
     Ok(sum)
+}
+
+/// The checksum after the hits of each of these lists.
+pub fn with_lists(sum: u64, lists: &HitLists) -> u64 {
+    let mut sum = sum;
+    for hits in lists.as_slice() {
+        sum = with_hits(sum, hits);
+    }
+    sum
 }
 
 /// The checksum after these hits.

@@ -49,7 +49,8 @@ pub fn odometry<L: Ledger>(
     Ok(Measured { micros, sum })
 }
 
-fn taken_in<L: Ledger>(
+/// A scan is thinned, and after each tenth the slab that is left is deleted.
+pub fn taken_in<L: Ledger>(
     robot: &mut Robot,
     alloc: Global,
     scan: &Scan,

@@ -39,7 +39,8 @@ pub fn build<L: Ledger>(
     Ok(Measured { micros, sum })
 }
 
-fn built<L: Ledger>(
+/// The tree of these items.
+pub fn built<L: Ledger>(
     alloc: Global,
     count: u32,
     items: &Items,
