@@ -10,7 +10,6 @@ ghost use Rattle.kd_update.specs.Update.{IsEven};
 ghost use Rattle.kd_update.specs.Several.{AreLargeAt, AreSameAt, IsEvenClear};
 ghost use Rattle.kd_update.specs.Replace.{HasRoomAt, IsCalmAbove, IsNoLarger, IsReplaced, StandsFor};
 
-
 use crate::Replaced;
 use crate::rebuild::{rebuilt, refreshed};
 use kd_tree::{Path, Side, Steps, Tree};

@@ -6,7 +6,6 @@ ghost use Rattle.kd_tree.specs.Contents.{contents};
 ghost use Rattle.kd_update.specs.Refresh.{AreAmong};
 ghost use Rattle.kd_update.specs.Update.{IsEven};
 
-
 use crate::{marked, put, roomy};
 use kd_tree::{Steps, Tree};
 use map_fold::{NoMemory, Op};

@@ -28,7 +28,12 @@ pub trait Trial<R> {
 }
 
 // Tries it on a map of so many callers.
-pub fn tried<T: Trial<R>, R: Wait>(rt: &R, alloc: Global, callers: u8, trial: &T) -> Result<(), Fail>
+pub fn tried<T: Trial<R>, R: Wait>(
+    rt: &R,
+    alloc: Global,
+    callers: u8,
+    trial: &T,
+) -> Result<(), Fail>
     requires callers_from { 1 ≤ callers }
     requires callers_to { callers ≤ 8 }
 {
