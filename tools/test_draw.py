@@ -7,7 +7,7 @@ import xml.dom.minidom
 from pathlib import Path
 
 from drawing.log import LogFault, Place, Point, read_log
-from drawing.picture import COLOURS, draw
+from drawing.picture import COLOURS, LAST, REGION, draw
 from drawing.searches import Cells, Hit, Row, dist2
 from drawing.transcript import compare, run, serial_marks
 
@@ -67,6 +67,18 @@ TWO = """@1 clusters 0 0
 @1 lonely 1 0
 @1 clusters 1 1 | 0 2
 end 1 live 2 suspended 0
+"""
+# A cube that moves by 30 on x, and what it leaves.
+MOVE = WIDE + """@1 add 0 0 0 1 -45 0 0 2 45 0 0 3
+@1 pose 100 20 30 0 0 0
+@1 pose 100 20 30 30 0 0
+@1 near 3 0 0 0
+"""
+MOVED = """@1 ok 1
+@1 ok 2
+@1 ok 3
+@1 near 3 | 0 0 0 0 1 0 | 2 45 0 0 3 2025
+end 3 live 2 suspended 0
 """
 
 
@@ -222,6 +234,57 @@ class Logs(unittest.TestCase):
         for arguments in ("nears 1 0 0 0", "ball 1 1 0 0 0", "lonely 1 1", "clusters 1 1", "nears", "lonely x"):
             self.check_refusal(HEADER + "@1 " + arguments, "line 2: unknown command")
 
+    def test_a_pose_has_limits_of_its_own(self):
+        for arguments, cause in [
+            ("pose 100 20 30 0 0", "wrong count"),
+            ("pose x 50 30 0 0 0 0", "wrong count"),
+            ("pose", "wrong count"),
+            ("pose 100 50 30 0 0 0", "out of range"),
+            ("pose 2 1 1 0 0 0", "out of range"),
+            ("pose 101 51 x 0 0 0", "out of range"),
+            ("pose 1 x 1 0 0 0", "out of range"),
+            ("pose 2199023255553 x 1 0 0 0", "out of range"),
+            ("pose -100 x 1 0 0 0", "out of range"),
+            ("pose 100 -1 x 0 0 0", "out of range"),
+            ("pose 100 9223372036854775808 1 0 0 0", "out of range"),
+            ("pose 100 20 0 x 0 0", "out of range"),
+            ("pose 100 20 101 x 0 0", "out of range"),
+            ("pose 100 20 30 0 -1099511627777 x", "out of range"),
+            ("pose x 50 30 0 0 0", "bad number"),
+            ("pose 100 020 30 0 0 0", "bad number"),
+            ("pose 100 20 +30 0 0 1099511627777", "bad number"),
+            ("pose 100 20 30 0 0 x", "bad number"),
+            ("poses 100 20 30 0 0 0", "unknown command"),
+        ]:
+            self.check_refusal(WIDE + "@1 " + arguments, "line 2: " + cause)
+        self.check_refusal(HEADER + "@1 pose 100 20 30 0 0 0", "line 2: unknown command")
+
+    def test_regions_begin_and_move_as_their_callers_do(self):
+        for poses, lo in [
+            ("@1 pose 100 20 30 0 0 0", (-50, -50, -50)),
+            ("@1 pose 7 3 7 0 -1 10", (-3, -4, 7)),
+            ("@1 pose 2 0 1 1 1 1", (0, 0, 0)),
+            # A face is touched where the ball ends in it; each axis is looked at by itself.
+            ("@1 pose 100 20 30 0 0 0\n@1 pose 100 20 30 29 -29 -30", (-50, -50, -80)),
+            ("@1 pose 100 20 30 0 0 0\n@1 pose 100 20 30 30 -30 900", (-20, -80, -20)),
+            # A pose is one step, also where its caller is far out of the region.
+            ("@1 pose 100 20 30 0 0 0\n" + "@1 pose 100 20 30 900 0 0\n" * 3, (40, -50, -50)),
+            # Other rules begin another region, and so does a return to the first ones; other callers have their own.
+            ("@1 pose 100 20 30 0 0 0\n@1 pose 100 20 31 40 0 0", (-10, -50, -50)),
+            ("@1 pose 100 20 30 0 0 0\n@1 pose 100 21 30 7 0 0\n@1 pose 100 20 30 40 0 0", (-10, -50, -50)),
+            ("@1 pose 100 20 30 0 0 0\n@2 pose 102 20 30 7 0 0\n@1 pose 100 20 30 40 0 0", (-20, -50, -50)),
+            ("@1 pose 100 20 30 0 0 0\n@2 pose 100 20 30 40 0 0", (-10, -50, -50)),
+        ]:
+            with self.subTest(poses=poses):
+                self.assertEqual(read_log((WIDE + poses).encode()).commands[-1].region.lo, lo)
+
+    def test_the_limits_of_a_pose_are_read(self):
+        far = 2**40
+        longest = f"@8 pose {2**41} {far - 1} {2**41} {far} {-far} {far}\n"
+        first, second = read_log((WIDE + longest + longest).encode()).commands
+        self.assertEqual((first.caller, first.region, first.boxes), (8, ((0, -2 * far, 0), (2 * far, 0, 2 * far)), []))
+        self.assertEqual((second.region, second.boxes), (first.region, []))
+
     def test_the_room_for_hits_is_counted_over_all_lines(self):
         self.check_refusal(WIDE + "@1 nears 256" + " 0 0 0" * 65_536 + "\n@1 near 1 0 0 0", "line 3: too many hits")
         lists = "@1 nears 256" + " 0 0 0" * 65_535 + "\n"
@@ -373,6 +436,38 @@ end 3 live 0 suspended 0
             with self.subTest(told=told):
                 self.assertEqual(differences(log, transcript.replace(old, new)), [told])
 
+    def test_what_a_region_leaves_is_gone(self):
+        self.assertEqual(differences(MOVE, MOVED), [])
+        told = "line 4: `1 -45 0 0 2 2025` where `2 45 0 0 3 2025` is due"
+        self.assertEqual(differences(MOVE, MOVED.replace("| 2 45", "| 1 -45 0 0 2 2025 | 2 45")), [told])
+        told = f"line 5: `end 3 live 3 {NONE}` where `end 3 live 2 {NONE}` is due"
+        self.assertEqual(differences(MOVE, MOVED.replace("live 2", "live 3")), [told])
+
+    def test_a_region_takes_what_is_suspended_and_spares_what_it_has_not_held(self):
+        log = WIDE + (
+            "@1 pose 100 20 30 0 0 0\n@2 add -50 0 0 0 -21 49 -50 0 -20 0 0 0 -51 0 0 0 50 0 0 0 -21 50 0 0\n"
+            "@2 suspend -50 0 0 -49 1 1\nsync\n@1 pose 100 20 30 30 0 0\nsync\n@3 box 9 -90 -90 -90 90 90 90\n"
+            "@3 pose 100 20 30 40 0 0\n@3 pose 100 21 30 90 0 0\n@3 pose 100 21 30 200 0 0\n@3 box 9 -90 -90 -90 90 90 90\n"
+        )
+        transcript = (
+            "@1 ok 1\n@2 ok 2\n@2 ok 3\nsync 3 live 5 suspended 1\n@1 ok 4\nsync 4 live 4 suspended 0\n"
+            "@3 box 4 4 | 2 -20 0 0 0 | 3 -51 0 0 0 | 4 50 0 0 0 | 5 -21 50 0 0\n@3 ok 5\n@3 ok 6\n@3 ok 7\n"
+            "@3 box 7 3 | 2 -20 0 0 0 | 3 -51 0 0 0 | 5 -21 50 0 0\nend 7 live 3 suspended 0\n"
+        )
+        self.assertEqual(differences(log, transcript), [])
+
+    def test_a_pose_is_an_update_of_its_caller(self):
+        log = WIDE + "@1 pose 100 20 30 0 0 0\n@1 pose 100 20 30 30 0 0\n@2 add -45 0 0 7\n@2 near 1 0 0 0\n"
+        for told, hit, live in [("123", " | 0 -45 0 0 7 2025", 1), ("132", "", 0), ("231", "", 0)]:
+            first, second, added = told
+            with self.subTest(marks=told):
+                transcript = f"@1 ok {first}\n@1 ok {second}\n@2 ok {added}\n@2 near 3{hit}\nend 3 live {live} {NONE}\n"
+                self.assertEqual(differences(log, transcript), [])
+        transcript = f"@1 ok 2\n@1 ok 1\n@2 ok 3\n@2 near 3 | 0 -45 0 0 7 2025\nend 3 live 1 {NONE}\n"
+        self.assertEqual(differences(log, transcript), ["line 2: mark 1 where 3 is the least"])
+        told = "line 1: no line of the form `@1 ok MARK ..`"
+        self.assertEqual(differences(WIDE + "@1 pose 2 0 1 0 0 0\n", f"@1 pose 0\nend 0 live 0 {NONE}\n"), [told])
+
     def test_another_callers_answer_may_be_from_before_an_update_or_after_it(self):
         for asked, before, after in [
             ("nears 1 0 0 0 9 0 0", "nears 0 / /", "nears 1 / | 0 5 0 0 7 25 / | 0 5 0 0 7 16"),
@@ -498,6 +593,14 @@ class Pictures(unittest.TestCase):
         # A ball that is wider than the picture has no outline in it.
         self.assertNotIn('class="asked', picture(added + "@1 ball 1 9000 0 0 0\n@1 lonely 1 900\n"))
 
+    def test_regions_are_outlines_and_the_last_ones_are_stronger(self):
+        drawn = picture(MOVE + "@1 pose 100 20 30 60 0 0\n@2 pose 40 5 5 0 0 0\n@2 pose 40 5 5 0 0 0\n")
+        self.assertEqual(drawn.count(f'<rect stroke="{REGION}" stroke-width="1"'), 4)
+        self.assertEqual(drawn.count(f'<rect stroke="{LAST}" stroke-width="2"'), 2)
+        self.assertEqual(drawn.count(">regions of poses, and the last one of each caller</text>"), 1)
+        self.assertIn(", 2 deleted,", drawn)
+        self.assertNotIn("regions", picture(MOVE.replace("pose 100 20 30 ", "near 1 ")))
+
     def test_each_place_of_a_list_is_marked_with_its_hits(self):
         drawn = picture(WIDE + "@1 add 0 0 0 1 500 0 0 1\n@1 nears 1 0 900 0 500 900 0 500 900 7\n")
         rings, spokes = drawn.count("a3 3") // 2, drawn.count("L")
@@ -510,7 +613,8 @@ class Pictures(unittest.TestCase):
         far = "@1 add 0 -1099511627776 0 0 0 1099511627776 0 65535\n"
         widest = "4398046511104"
         asked = f"@1 ball 1 {widest} 0 0 0\n@1 ball 1 0 0 0 0\n@1 lonely 1 0\n@1 clusters 1 {widest}\n@1 nears 1 0 0 0\n"
-        for commands in ("", "@1 add 5 5 5 0\n", far, asked, far + asked, "@1 nears 1 0 1099511627776 0\n"):
+        pose = "@1 pose 2199023255552 0 1 0 1099511627776 0\n"
+        for commands in ("", "@1 add 5 5 5 0\n", far, asked, far + asked, pose, far + pose, "@1 nears 1 0 1099511627776 0\n"):
             with self.subTest(commands=commands):
                 xml.dom.minidom.parseString(picture(WIDE + commands))
 

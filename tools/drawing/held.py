@@ -42,7 +42,8 @@ class Held:
             self.next += 1
         for box in update.boxes:
             for number, point in self.held_in(box):
-                self.change(update.word, number, point.place)
+                if not (update.region and update.region.holds(point.place)):
+                    self.change(update.word, number, point.place)
         for number in [number for number in (*self.live, *self.suspended) if number < update.below]:
             self.drop(number, self.point(number).place, update.word)
 
@@ -60,7 +61,7 @@ class Held:
 
     def change(self, word, number, place):
         """What becomes of a held point that is in an update's box."""
-        if word in ("delete", "erase"):
+        if word in ("delete", "erase", "pose"):
             self.drop(number, place, word)
         elif word == "suspend" and number in self.live:
             self.suspended[number] = self.live.pop(number)

@@ -12,6 +12,7 @@ MOST_HITS = 16_777_216
 # A list of hits counts as so many at least, since it has room for them in itself.
 LEAST_ROOM = 16
 MOST_INTENSITY = 65_535
+LONGEST_SIDE = 2**41
 # The farthest coordinate from 0, by the log's version. Boxes reach one farther, and queries four times as far.
 FARTHEST = {1: 1_000_000_000, 2: 2**40}
 
@@ -49,15 +50,55 @@ class Box(NamedTuple):
         return all(low <= at < high for low, at, high in zip(self.lo, place, self.hi))
 
 
+class Rules(NamedTuple):
+    """How a region follows its caller: its side, the radius of the ball that is to touch no face, and the length of a step."""
+
+    side: int
+    ball: int
+    step: int
+
+
+@dataclass(frozen=True)
+class Region:
+    """The cube that moves with a caller: what has left it isn't held."""
+
+    rules: Rules
+    lo: Place
+
+    @classmethod
+    def begun(cls, rules, place):
+        """The region of a caller that begins at a place, which is its middle."""
+        return cls(rules, Place(*(at - rules.side // 2 for at in place)))
+
+    def moved(self, place):
+        """The region when its caller has come to a place: by itself on each axis."""
+        return Region(self.rules, Place(*map(self.start, self.lo, place)))
+
+    def start(self, low, at):
+        """Where it starts on an axis, when its caller is there: it goes a step towards the face that the ball touches."""
+        side, ball, step = self.rules
+        if at - low <= ball:
+            return low - step
+        return low + step if low + side - at <= ball else low
+
+    def box(self):
+        """What it holds."""
+        return Box(self.lo, Place(*(low + self.rules.side for low in self.lo)))
+
+
 @dataclass(frozen=True)
 class Update:
-    """A change of the map: `add` and `thin` have points, `expire` has a bound on numbers, the other words have boxes."""
+    """A change of the map: `add` and `thin` have points, `expire` has a bound on numbers, the other words have boxes.
+
+    The box of `pose` is the region that its caller had, if it moves; beside it stands the one that the caller has then.
+    """
 
     caller: int
     word: str
     points: list[Point] = field(default_factory=list)
     boxes: list[Box] = field(default_factory=list)
     below: int = 0
+    region: Box | None = None
 
 
 @dataclass(frozen=True)
@@ -165,6 +206,11 @@ class Fields:
         """The next field as a greatest distance."""
         return self.number(0, 4 * self.farthest)
 
+    def rules(self):
+        """The next three fields as the rules of a region: two balls are shorter than its side, and a step is no longer."""
+        side = self.number(2, LONGEST_SIDE)
+        return Rules(side, self.number(0, (side - 1) // 2), self.number(1, side))
+
     def box(self):
         """The next six fields as a box."""
         box = Box(self.place(1), self.place(1))
@@ -199,6 +245,8 @@ class Reader:
         self.commands = []
         self.points = 0
         self.hits = 0
+        # The region of each caller.
+        self.regions = {}
 
     def take_header(self, fields):
         """Takes the first kept line."""
@@ -234,7 +282,7 @@ class Reader:
         words |= dict.fromkeys((b"add", b"thin"), self.points_in)
         words |= dict.fromkeys((b"delete", b"erase", b"suspend", b"restore"), self.boxes_in)
         if self.version == 2:
-            words |= {b"expire": self.expiry, b"nears": self.nears, b"ball": self.ball}
+            words |= {b"expire": self.expiry, b"pose": self.pose, b"nears": self.nears, b"ball": self.ball}
             words |= dict.fromkeys((b"lonely", b"clusters"), self.joined)
         if len(fields) < 2 or fields[1] not in words:
             raise LogFault("unknown command")
@@ -265,6 +313,17 @@ class Reader:
         if len(fields) != 1:
             raise LogFault("wrong count")
         return Update(caller, word, below=Fields(self.version, fields).number(0, MOST_POINTS))
+
+    def pose(self, caller, word, fields):
+        """An update by where the caller is: its region moves, or begins where it has none by these rules."""
+        if len(fields) != 6:
+            raise LogFault("wrong count")
+        numbers = Fields(self.version, fields)
+        rules, place = numbers.rules(), numbers.place()
+        old = self.regions.get(caller)
+        goes_on = old is not None and old.rules == rules
+        self.regions[caller] = new = old.moved(place) if goes_on else Region.begun(rules, place)
+        return Update(caller, word, boxes=[old.box()] if goes_on and new != old else [], region=new.box())
 
     def near(self, caller, _word, fields):
         """A query for the nearest points."""

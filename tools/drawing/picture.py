@@ -15,6 +15,8 @@ SQUARE = 5
 SHADES = 8
 # The largest clusters have a colour each.
 COLOURS = ["hsl(84,80%,40%)", "hsl(25,65%,32%)", "hsl(245,60%,62%)", "hsl(140,65%,36%)", "hsl(0,0%,15%)", "hsl(190,90%,38%)"]
+# The outlines of the regions of poses, and those of the last ones.
+REGION, LAST = "hsl(0,0%,72%)", "hsl(0,0%,30%)"
 # A place that was asked for its nearest points has a ring of the first radius, and a lonely point one of the second.
 SMALL, WIDE = 3, 7
 
@@ -93,10 +95,10 @@ def draw(log, result):
     """The text of the SVG of a log's run."""
     view = view_of(log, result.held)
     colours, label = Colours(log, result), html.escape(summary(result.held))
-    strips = colours.strips()
+    strips = [*colours.strips(), *region_strips(log)]
     height = view.height + FOOT + LINE * len(strips)
     size = f'width="{view.width}" height="{height}"'
-    drawn = [*points(view, log, result.held, colours), *boxes(view, log), *queries(view, log, result)]
+    drawn = [*points(view, log, result.held, colours), *boxes(view, log), *regions(view, log), *queries(view, log, result)]
     parts = [
         f'<svg xmlns="http://www.w3.org/2000/svg" viewBox="0 0 {view.width} {height}" role="img">',
         f"<title>{label}</title><style>{STYLE}</style>",
@@ -117,7 +119,7 @@ def view_of(log, held):
     seen += [gone.place for gone in held.gone]
     seen += [command.place for command in log.commands if isinstance(command, Near | Ball)]
     seen += [place for command in log.commands if isinstance(command, Nears) for place in command.places]
-    return View.of(seen or [Place(0, 0, 0)], [box for box, _ in outlines(log)])
+    return View.of(seen or [Place(0, 0, 0)], [*(box for box, _ in outlines(log)), *(pose.region for pose in poses(log))])
 
 
 def outlines(log):
@@ -125,7 +127,7 @@ def outlines(log):
     for command in log.commands:
         if isinstance(command, Inside):
             yield command.box, "asked"
-        elif isinstance(command, Update) and command.word != "erase":
+        elif isinstance(command, Update) and command.word not in ("erase", "pose"):
             yield from ((box, command.word) for box in command.boxes)
 
 
@@ -229,6 +231,24 @@ def boxes(view, log):
     """The outlines of the boxes of updates and queries, those that look the same once."""
     for (x, y, width, height), kind in dict.fromkeys((view.box(box), kind) for box, kind in outlines(log)):
         yield f'<rect class="{kind}" x="{x}" y="{y}" width="{width}" height="{height}"/>'
+
+
+def poses(log):
+    """The poses of a log."""
+    return [command for command in log.commands if isinstance(command, Update) and command.region]
+
+
+def regions(view, log):
+    """The outlines of the regions of poses, one after the other, and on top the last one of each caller; none twice."""
+    last = {pose.caller: view.box(pose.region) for pose in poses(log)}
+    looks = [(view.box(pose.region), REGION, 1) for pose in poses(log)] + [(box, LAST, 2) for box in last.values()]
+    for (x, y, width, height), colour, stroke in dict.fromkeys(looks):
+        yield f'<rect stroke="{colour}" stroke-width="{stroke}" x="{x}" y="{y}" width="{width}" height="{height}"/>'
+
+
+def region_strips(log):
+    """What the outlines of regions mean, where they are drawn."""
+    return [([REGION, LAST], "regions of poses, and the last one of each caller")] if poses(log) else []
 
 
 def queries(view, log, result):
