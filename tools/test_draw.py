@@ -7,7 +7,8 @@ import xml.dom.minidom
 from pathlib import Path
 
 from drawing.log import LogFault, Place, Point, read_log
-from drawing.picture import draw
+from drawing.picture import COLOURS, LAST, REGION, draw
+from drawing.searches import Cells, Hit, Row, dist2
 from drawing.transcript import compare, run, serial_marks
 
 TOP = Path(__file__).resolve().parent.parent
@@ -33,6 +34,53 @@ sync 2 live 2 suspended 0
 end 2 live 2 suspended 0
 """
 
+# What is asked of a scan, each with its transcript.
+SCAN = WIDE + """@1 nears 2 0 0 0 1 1 1
+@1 add 1 0 0 9 5 0 0 8
+@1 nears 1 0 0 0 6 0 0
+"""
+SCANNED = """@1 nears 0 / /
+@1 ok 1
+@1 nears 1 / | 0 1 0 0 9 1 / | 1 5 0 0 8 1
+end 1 live 2 suspended 0
+"""
+NEIGHBOURS = WIDE + """@1 add 0 0 0 1 3 0 0 1 6 0 0 1 20 0 0 1 24 0 0 1
+@1 ball 5 3 3 0 0
+@1 lonely 5 3
+@1 clusters 5 3
+@1 clusters 1 4
+"""
+JOINED = """@1 ok 1
+@1 ball 1 3 | 0 0 0 0 1 | 1 3 0 0 1 | 2 6 0 0 1
+@1 lonely 1 2 | 3 20 0 0 1 | 4 24 0 0 1
+@1 clusters 1 3 | 0 3 | 3 1 | 4 1
+@1 clusters 1 2 | 0 3
+end 1 live 5 suspended 0
+"""
+TWINS = WIDE + """@1 clusters 1 0
+@1 add 7 7 7 1 7 7 7 2
+@1 lonely 5 0
+@1 clusters 5 0
+"""
+TWO = """@1 clusters 0 0
+@1 ok 1
+@1 lonely 1 0
+@1 clusters 1 1 | 0 2
+end 1 live 2 suspended 0
+"""
+# A cube that moves by 30 on x, and what it leaves.
+MOVE = WIDE + """@1 add 0 0 0 1 -45 0 0 2 45 0 0 3
+@1 pose 100 20 30 0 0 0
+@1 pose 100 20 30 30 0 0
+@1 near 3 0 0 0
+"""
+MOVED = """@1 ok 1
+@1 ok 2
+@1 ok 3
+@1 near 3 | 0 0 0 0 1 0 | 2 45 0 0 3 2025
+end 3 live 2 suspended 0
+"""
+
 
 def made(scans):
     """The log that the word `make` writes of so many scans, by a generator of its own."""
@@ -48,6 +96,31 @@ def made(scans):
             lines.append(f"@1 delete {at - 60_000} -30000 -3000 {at - 30_000} 30001 3001")
         lines.append("sync")
     return "\n".join(lines) + "\n"
+
+
+def drawn_points(count, extent, state):
+    """So many live points within an extent, by the same kind of generator, under numbers that aren't all used."""
+    live = {}
+    for number in range(count):
+        place = []
+        for _ in range(3):
+            state = (state * 1_664_525 + 1_013_904_223) % 2**32
+            place.append(state // 65_536 % (2 * extent + 1) - extent)
+        live[3 * number + 1] = Point(Place(*place), number % 7)
+    return live
+
+
+def by_definition(live, reach):
+    """The lonely points and the clusters: each pair of points is looked at, and steps are taken until they lead no farther."""
+    joined = {one: {two for two in live if dist2(live[one].place, live[two].place) <= reach**2} for one in live}
+    clusters = []
+    for number in live:
+        reached = {number}
+        while (further := set().union(*(joined[one] for one in reached))) != reached:
+            reached = further
+        if min(reached) == number:
+            clusters.append(sorted(reached))
+    return [one for one in live if joined[one] == {one}], clusters
 
 
 def differences(log, transcript):
@@ -125,6 +198,101 @@ class Logs(unittest.TestCase):
         ]:
             self.check_refusal(log, told)
 
+    def test_what_is_asked_of_a_scan_has_limits_of_its_own(self):
+        for arguments, cause in [
+            ("nears", "wrong count"),
+            ("nears 1", "wrong count"),
+            ("nears x 0 0", "wrong count"),
+            ("nears 1 0 0 0 0", "wrong count"),
+            ("nears x" + " 0 0 0" * 262_145, "too many points"),
+            ("nears x 0 0 1099511627777", "bad number"),
+            ("nears 0 x 0 0", "out of range"),
+            ("nears 257 0 0 0", "out of range"),
+            ("nears 1 0 0 0 0 1099511627777 x", "out of range"),
+            ("nears 1 0 0 0 0 x 1099511627777", "bad number"),
+            ("nears 256" + " 0 0 0" * 65_536 + " 0 0 x", "bad number"),
+            ("nears 256" + " 0 0 0" * 65_537, "too many hits"),
+            ("ball 1 2 0 0", "wrong count"),
+            ("ball x 2 0 0 0 0", "wrong count"),
+            ("ball 0 x 0 0 0", "out of range"),
+            ("ball 1 02 0 0 1099511627777", "bad number"),
+            ("ball 1 -1 x 0 0", "out of range"),
+            ("ball 1 4398046511105 0 0 0", "out of range"),
+            ("ball 1 0 0 -1099511627777 x", "out of range"),
+            ("lonely 1", "wrong count"),
+            ("lonely x 2 3", "wrong count"),
+            ("lonely 257 x", "out of range"),
+            ("lonely 1 +2", "bad number"),
+            ("lonely 1 4398046511105", "out of range"),
+            ("clusters", "wrong count"),
+            ("clusters 0 -", "out of range"),
+            ("clusters 1 -", "bad number"),
+            ("clusters 256 -1", "out of range"),
+            ("Clusters 1 1", "unknown command"),
+        ]:
+            self.check_refusal(WIDE + "@1 " + arguments, "line 2: " + cause)
+        for arguments in ("nears 1 0 0 0", "ball 1 1 0 0 0", "lonely 1 1", "clusters 1 1", "nears", "lonely x"):
+            self.check_refusal(HEADER + "@1 " + arguments, "line 2: unknown command")
+
+    def test_a_pose_has_limits_of_its_own(self):
+        for arguments, cause in [
+            ("pose 100 20 30 0 0", "wrong count"),
+            ("pose x 50 30 0 0 0 0", "wrong count"),
+            ("pose", "wrong count"),
+            ("pose 100 50 30 0 0 0", "out of range"),
+            ("pose 2 1 1 0 0 0", "out of range"),
+            ("pose 101 51 x 0 0 0", "out of range"),
+            ("pose 1 x 1 0 0 0", "out of range"),
+            ("pose 2199023255553 x 1 0 0 0", "out of range"),
+            ("pose -100 x 1 0 0 0", "out of range"),
+            ("pose 100 -1 x 0 0 0", "out of range"),
+            ("pose 100 9223372036854775808 1 0 0 0", "out of range"),
+            ("pose 100 20 0 x 0 0", "out of range"),
+            ("pose 100 20 101 x 0 0", "out of range"),
+            ("pose 100 20 30 0 -1099511627777 x", "out of range"),
+            ("pose x 50 30 0 0 0", "bad number"),
+            ("pose 100 020 30 0 0 0", "bad number"),
+            ("pose 100 20 +30 0 0 1099511627777", "bad number"),
+            ("pose 100 20 30 0 0 x", "bad number"),
+            ("poses 100 20 30 0 0 0", "unknown command"),
+        ]:
+            self.check_refusal(WIDE + "@1 " + arguments, "line 2: " + cause)
+        self.check_refusal(HEADER + "@1 pose 100 20 30 0 0 0", "line 2: unknown command")
+
+    def test_regions_begin_and_move_as_their_callers_do(self):
+        for poses, lo in [
+            ("@1 pose 100 20 30 0 0 0", (-50, -50, -50)),
+            ("@1 pose 7 3 7 0 -1 10", (-3, -4, 7)),
+            ("@1 pose 2 0 1 1 1 1", (0, 0, 0)),
+            # A face is touched where the ball ends in it; each axis is looked at by itself.
+            ("@1 pose 100 20 30 0 0 0\n@1 pose 100 20 30 29 -29 -30", (-50, -50, -80)),
+            ("@1 pose 100 20 30 0 0 0\n@1 pose 100 20 30 30 -30 900", (-20, -80, -20)),
+            # A pose is one step, also where its caller is far out of the region.
+            ("@1 pose 100 20 30 0 0 0\n" + "@1 pose 100 20 30 900 0 0\n" * 3, (40, -50, -50)),
+            # Other rules begin another region, and so does a return to the first ones; other callers have their own.
+            ("@1 pose 100 20 30 0 0 0\n@1 pose 100 20 31 40 0 0", (-10, -50, -50)),
+            ("@1 pose 100 20 30 0 0 0\n@1 pose 100 21 30 7 0 0\n@1 pose 100 20 30 40 0 0", (-10, -50, -50)),
+            ("@1 pose 100 20 30 0 0 0\n@2 pose 102 20 30 7 0 0\n@1 pose 100 20 30 40 0 0", (-20, -50, -50)),
+            ("@1 pose 100 20 30 0 0 0\n@2 pose 100 20 30 40 0 0", (-10, -50, -50)),
+        ]:
+            with self.subTest(poses=poses):
+                self.assertEqual(read_log((WIDE + poses).encode()).commands[-1].region.lo, lo)
+
+    def test_the_limits_of_a_pose_are_read(self):
+        far = 2**40
+        longest = f"@8 pose {2**41} {far - 1} {2**41} {far} {-far} {far}\n"
+        first, second = read_log((WIDE + longest + longest).encode()).commands
+        self.assertEqual((first.caller, first.region, first.boxes), (8, ((0, -2 * far, 0), (2 * far, 0, 2 * far)), []))
+        self.assertEqual((second.region, second.boxes), (first.region, []))
+
+    def test_the_room_for_hits_is_counted_over_all_lines(self):
+        self.check_refusal(WIDE + "@1 nears 256" + " 0 0 0" * 65_536 + "\n@1 near 1 0 0 0", "line 3: too many hits")
+        lists = "@1 nears 256" + " 0 0 0" * 65_535 + "\n"
+        self.check_refusal(WIDE + lists + "@2 near 256 0 0 0\n@1 near 1 0 0 0\n", "line 4: too many hits")
+        self.check_refusal(WIDE + lists + "@1 nears 1" + " 0 0 0" * 17, "line 3: too many hits")
+        self.check_refusal(WIDE + lists + "@1 nears 1" + " 0 0 0" * 16 + "\nsync\n@1 near 1 0 0 x", "line 5: bad number")
+        self.check_refusal(WIDE + lists + "@1 near 16 0 0 0\n" * 17, "line 19: too many hits")
+
     def check_refusal(self, log, told):
         """A log is refused with this text."""
         with self.subTest(log=log[:70]):
@@ -141,6 +309,17 @@ class Logs(unittest.TestCase):
                 self.assertEqual(log.commands[0].points, [((far, -far, 0), 65_535 if intensity else 0)])
                 self.assertEqual((log.commands[1].place, log.commands[1].reach), ((far, 0, -far), 4 * far))
                 self.assertEqual(log.commands[2].box, ((-far, 0, 0), (far + 1, 9, far + 1)))
+
+    def test_the_limits_of_what_is_asked_of_a_scan_are_read(self):
+        far = 2**40
+        asked = f"@8 nears 256 {far} 0 {-far} 0 0 0\n@8 ball 256 {4 * far} {-far} {far} 0\n"
+        nears, ball, lonely, clusters = read_log(
+            (WIDE + asked + f"@8 lonely 1 0\n@8 clusters 256 {4 * far}\n").encode()
+        ).commands
+        self.assertEqual((nears.caller, nears.most, nears.places), (8, 256, [(far, 0, -far), (0, 0, 0)]))
+        self.assertEqual((ball.caller, ball.most, ball.reach, ball.place), (8, 256, 4 * far, (-far, far, 0)))
+        self.assertEqual((lonely.most, lonely.reach, clusters.most, clusters.reach), (1, 0, 256, 4 * far))
+        self.assertEqual(len(read_log((WIDE + "@1 nears 1" + " 0 0 0" * 262_144).encode()).commands[0].places), 262_144)
 
     def test_comments_empty_lines_and_a_last_line_without_an_end_are_read(self):
         log = read_log(b"# a\n\nikdmap 1 voxel 200 large 1500\n#\n@1 erase -1 0 2\nsync")
@@ -234,6 +413,85 @@ end 3 live 0 suspended 0
         )
         self.assertEqual(differences(log, transcript), [])
 
+    def test_what_is_asked_of_a_scan_is_answered(self):
+        for log, transcript in ((SCAN, SCANNED), (NEIGHBOURS, JOINED), (TWINS, TWO)):
+            with self.subTest(log=log):
+                self.assertEqual(differences(log, transcript), [])
+
+    def test_a_changed_answer_about_a_scan_is_told(self):
+        for log, transcript, old, new, told in [
+            (SCAN, SCANNED, "0 / /", "0 /", "line 1: `@1 nears 0 /` where `@1 nears 0 / /` is due"),
+            (SCAN, SCANNED, "1 / | 0", "1 | 0", "line 3: `@1 nears 1` where `@1 nears 1 /` is due"),
+            (SCAN, SCANNED, "9 1 /", "9 1", "line 3: `0 1 0 0 9 1` where `0 1 0 0 9 1 /` is due"),
+            (SCAN, SCANNED, "5 0 0 8 1", "5 0 0 8 2", "line 3: `1 5 0 0 8 2` where `1 5 0 0 8 1` is due"),
+            (NEIGHBOURS, JOINED, "ball 1 3", "ball 1 2", "line 2: `@1 ball 1 2` where `@1 ball 1 3` is due"),
+            (NEIGHBOURS, JOINED, "2 6 0 0 1", "2 6 0 0", "line 2: `2 6 0 0` where `2 6 0 0 1` is due"),
+            (NEIGHBOURS, JOINED, " | 4 24 0 0 1", "", "line 3: `nothing more` where `4 24 0 0 1` is due"),
+            (NEIGHBOURS, JOINED, "0 3 | 3 1", "0 2 | 3 1", "line 4: `0 2` where `0 3` is due"),
+            (NEIGHBOURS, JOINED, "1 2 | 0 3\n", "1 2 | 0 3 | 3 2\n", "line 5: `3 2` where `nothing more` is due"),
+            (TWINS, TWO, "clusters 0", "lonely 0", "line 1: no line of the form `@1 clusters MARK ..`"),
+            (TWINS, TWO, "lonely 1", "lonely 0", "line 3: mark 0 where 1 is the least"),
+            (TWINS, TWO, "clusters 1", "clusters 2", "line 4: mark 2 where 1 is the most"),
+        ]:
+            with self.subTest(told=told):
+                self.assertEqual(differences(log, transcript.replace(old, new)), [told])
+
+    def test_what_a_region_leaves_is_gone(self):
+        self.assertEqual(differences(MOVE, MOVED), [])
+        told = "line 4: `1 -45 0 0 2 2025` where `2 45 0 0 3 2025` is due"
+        self.assertEqual(differences(MOVE, MOVED.replace("| 2 45", "| 1 -45 0 0 2 2025 | 2 45")), [told])
+        told = f"line 5: `end 3 live 3 {NONE}` where `end 3 live 2 {NONE}` is due"
+        self.assertEqual(differences(MOVE, MOVED.replace("live 2", "live 3")), [told])
+
+    def test_a_region_takes_what_is_suspended_and_spares_what_it_has_not_held(self):
+        log = WIDE + (
+            "@1 pose 100 20 30 0 0 0\n@2 add -50 0 0 0 -21 49 -50 0 -20 0 0 0 -51 0 0 0 50 0 0 0 -21 50 0 0\n"
+            "@2 suspend -50 0 0 -49 1 1\nsync\n@1 pose 100 20 30 30 0 0\nsync\n@3 box 9 -90 -90 -90 90 90 90\n"
+            "@3 pose 100 20 30 40 0 0\n@3 pose 100 21 30 90 0 0\n@3 pose 100 21 30 200 0 0\n@3 box 9 -90 -90 -90 90 90 90\n"
+        )
+        transcript = (
+            "@1 ok 1\n@2 ok 2\n@2 ok 3\nsync 3 live 5 suspended 1\n@1 ok 4\nsync 4 live 4 suspended 0\n"
+            "@3 box 4 4 | 2 -20 0 0 0 | 3 -51 0 0 0 | 4 50 0 0 0 | 5 -21 50 0 0\n@3 ok 5\n@3 ok 6\n@3 ok 7\n"
+            "@3 box 7 3 | 2 -20 0 0 0 | 3 -51 0 0 0 | 5 -21 50 0 0\nend 7 live 3 suspended 0\n"
+        )
+        self.assertEqual(differences(log, transcript), [])
+
+    def test_a_pose_is_an_update_of_its_caller(self):
+        log = WIDE + "@1 pose 100 20 30 0 0 0\n@1 pose 100 20 30 30 0 0\n@2 add -45 0 0 7\n@2 near 1 0 0 0\n"
+        for told, hit, live in [("123", " | 0 -45 0 0 7 2025", 1), ("132", "", 0), ("231", "", 0)]:
+            first, second, added = told
+            with self.subTest(marks=told):
+                transcript = f"@1 ok {first}\n@1 ok {second}\n@2 ok {added}\n@2 near 3{hit}\nend 3 live {live} {NONE}\n"
+                self.assertEqual(differences(log, transcript), [])
+        transcript = f"@1 ok 2\n@1 ok 1\n@2 ok 3\n@2 near 3 | 0 -45 0 0 7 2025\nend 3 live 1 {NONE}\n"
+        self.assertEqual(differences(log, transcript), ["line 2: mark 1 where 3 is the least"])
+        told = "line 1: no line of the form `@1 ok MARK ..`"
+        self.assertEqual(differences(WIDE + "@1 pose 2 0 1 0 0 0\n", f"@1 pose 0\nend 0 live 0 {NONE}\n"), [told])
+
+    def test_another_callers_answer_may_be_from_before_an_update_or_after_it(self):
+        for asked, before, after in [
+            ("nears 1 0 0 0 9 0 0", "nears 0 / /", "nears 1 / | 0 5 0 0 7 25 / | 0 5 0 0 7 16"),
+            ("ball 1 5 0 0 0", "ball 0 0", "ball 1 1 | 0 5 0 0 7"),
+            ("lonely 1 5", "lonely 0 0", "lonely 1 1 | 0 5 0 0 7"),
+            ("clusters 1 5", "clusters 0 0", "clusters 1 1 | 0 1"),
+        ]:
+            for told in (before, after):
+                with self.subTest(told=told):
+                    log = WIDE + f"@1 add 5 0 0 7\n@2 {asked}\n"
+                    self.assertEqual(differences(log, f"@1 ok 1\n@2 {told}\nend 1 live 1 {NONE}\n"), [])
+
+    def test_what_is_suspended_or_gone_joins_nothing(self):
+        log = WIDE + (
+            "@1 add 0 0 0 0 3 0 0 0 6 0 0 0\n@1 suspend 3 0 0 4 1 1\n@1 clusters 3 3\n@1 lonely 3 3\n@1 ball 3 3 3 0 0\n"
+            "@1 nears 1 3 0 0\n@1 restore 3 0 0 4 1 1\n@1 clusters 3 3\n@1 erase 3 0 0\n@1 clusters 3 3\n"
+        )
+        transcript = (
+            "@1 ok 1\n@1 ok 2\n@1 clusters 2 2 | 0 1 | 2 1\n@1 lonely 2 2 | 0 0 0 0 0 | 2 6 0 0 0\n"
+            "@1 ball 2 2 | 0 0 0 0 0 | 2 6 0 0 0\n@1 nears 2 / | 0 0 0 0 0 9\n@1 ok 3\n@1 clusters 3 1 | 0 3\n@1 ok 4\n"
+            "@1 clusters 4 2 | 0 1 | 2 1\nend 4 live 2 suspended 0\n"
+        )
+        self.assertEqual(differences(log, transcript), [])
+
     def test_a_long_box_with_no_width_is_empty(self):
         log = WIDE + f"@1 add 0 0 0 0\n@1 box 1 0 {-(2**40)} 0 0 {2**40} 9\n"
         self.assertEqual(differences(log, f"@1 ok 1\n@1 box 1 0\nend 1 live 1 {NONE}\n"), [])
@@ -261,6 +519,35 @@ end 3 live 0 suspended 0
                 self.assertEqual(differences(CALLERS, transcript), [told])
 
 
+class Searches(unittest.TestCase):
+    """What searches find that don't look at each point for each place."""
+
+    def test_each_place_gets_what_a_look_at_all_points_gives(self):
+        for extent in (1, 6, 90):
+            live = drawn_points(120, extent, extent)
+            row = Row(live)
+            for place in [point.place for point in drawn_points(30, extent + 5, 7).values()]:
+                hits = sorted(Hit(dist2(at, place), at, number, shade) for number, (at, shade) in live.items())
+                for most in (1, 5, 200):
+                    self.assertEqual(row.nearest(place, most), hits[:most])
+
+    def test_what_is_joined_is_what_a_look_at_all_pairs_gives(self):
+        for count, extent in ((0, 1), (1, 1), (40, 2), (60, 9), (60, 40)):
+            live = drawn_points(count, extent, count)
+            for reach in (0, 1, 2, 3, 4, 5, 7, 12, 30, 2**42):
+                with self.subTest(count=count, extent=extent, reach=reach):
+                    cells = Cells(live, reach)
+                    self.assertEqual((cells.lonely(), cells.clusters()), by_definition(live, reach))
+
+    def test_many_points_are_searched_soon(self):
+        """A row of 20,000 points, and two heaps of them that are just out of reach: pair by pair they would take minutes."""
+        row = {number: Point(Place(5 * number, 0, 0)) for number in range(20_000)}
+        self.assertEqual(Cells(row, 5).clusters(), [[*range(20_000)]])
+        self.assertEqual(Cells(row, 4).lonely(), [*range(20_000)])
+        pair = {number: Point(Place(number % 2 * 1_000, number // 2 % 90, number // 180)) for number in range(20_000)}
+        self.assertEqual([len(numbers) for numbers in Cells(pair, 999).clusters()], [10_000, 10_000])
+
+
 class Pictures(unittest.TestCase):
     """What is drawn."""
 
@@ -284,11 +571,50 @@ class Pictures(unittest.TestCase):
         self.assertIn(">live, of intensity 700 to 52,000</text>", drawn)
         self.assertNotIn('class="live"', drawn)
 
+    def test_the_larger_clusters_have_colours_of_their_own(self):
+        added = WIDE + "@1 add 0 0 0 1 5 0 0 9 500 0 0 1 505 0 0 1 510 0 0 1 999 0 0 3\n"
+        log = added + "@1 clusters 1 500\n@1 clusters 9 5\n@1 erase 5 0 0\n"
+        drawn = picture(log)
+        self.assertEqual([drawn.count(f'<path stroke="{colour}"') for colour in COLOURS[:3]], [1, 1, 0])
+        self.assertIn(">the largest of 3 clusters, of 3, 2 points</text>", drawn)
+        self.assertIn(">live, of intensity 3 to 3</text>", drawn)
+        # Where nothing is left of a cluster, or none has two points, nothing is told of it.
+        self.assertIn(">the largest of 3 clusters, of 3 points</text>", picture(log + "@1 erase 0 0 0\n"))
+        self.assertNotIn("clusters", picture(log + "@1 clusters 1 4\n"))
+
+    def test_lonely_points_and_balls_are_marked_as_asked(self):
+        added = WIDE + "@1 add 0 0 0 1 5 0 0 9 900 0 0 1\n"
+        drawn = picture(added + "@1 ball 1 400 5 0 0\n@1 ball 2 400 5 0 0\n@1 lonely 2 5\n@1 lonely 2 6\n@1 lonely 2 900\n")
+        self.assertEqual(drawn.count('<path class="asked" d="M'), 1)
+        self.assertEqual(drawn.count("a416 416"), 2)
+        self.assertEqual(drawn.count('<path class="asked lonely"'), 1)
+        for name in ("asked, and hits", "lonely"):
+            self.assertEqual(drawn.count(f">{name}</text>"), 1, name)
+        # A ball that is wider than the picture has no outline in it.
+        self.assertNotIn('class="asked', picture(added + "@1 ball 1 9000 0 0 0\n@1 lonely 1 900\n"))
+
+    def test_regions_are_outlines_and_the_last_ones_are_stronger(self):
+        drawn = picture(MOVE + "@1 pose 100 20 30 60 0 0\n@2 pose 40 5 5 0 0 0\n@2 pose 40 5 5 0 0 0\n")
+        self.assertEqual(drawn.count(f'<rect stroke="{REGION}" stroke-width="1"'), 4)
+        self.assertEqual(drawn.count(f'<rect stroke="{LAST}" stroke-width="2"'), 2)
+        self.assertEqual(drawn.count(">regions of poses, and the last one of each caller</text>"), 1)
+        self.assertIn(", 2 deleted,", drawn)
+        self.assertNotIn("regions", picture(MOVE.replace("pose 100 20 30 ", "near 1 ")))
+
+    def test_each_place_of_a_list_is_marked_with_its_hits(self):
+        drawn = picture(WIDE + "@1 add 0 0 0 1 500 0 0 1\n@1 nears 1 0 900 0 500 900 0 500 900 7\n")
+        rings, spokes = drawn.count("a3 3") // 2, drawn.count("L")
+        self.assertEqual((rings, spokes), (2, 2))
+
     def test_extreme_maps_are_drawn(self):
         for commands in ("", "@1 near 1 0 0 0\n", "@1 add 5 5 5\n", "@1 add 0 -1000000000 0 0 1000000000 0\n"):
             with self.subTest(commands=commands):
                 xml.dom.minidom.parseString(picture(HEADER + commands))
-        for commands in ("", "@1 add 5 5 5 0\n", "@1 add 0 -1099511627776 0 0 0 1099511627776 0 65535\n"):
+        far = "@1 add 0 -1099511627776 0 0 0 1099511627776 0 65535\n"
+        widest = "4398046511104"
+        asked = f"@1 ball 1 {widest} 0 0 0\n@1 ball 1 0 0 0 0\n@1 lonely 1 0\n@1 clusters 1 {widest}\n@1 nears 1 0 0 0\n"
+        pose = "@1 pose 2199023255552 0 1 0 1099511627776 0\n"
+        for commands in ("", "@1 add 5 5 5 0\n", far, asked, far + asked, pose, far + pose, "@1 nears 1 0 1099511627776 0\n"):
             with self.subTest(commands=commands):
                 xml.dom.minidom.parseString(picture(WIDE + commands))
 

@@ -6,7 +6,8 @@ import math
 from collections import defaultdict
 from typing import NamedTuple
 
-from .log import Place
+from .log import Box, Place
+from .searches import Cells, Hit, Row, dist2
 
 
 class Gone(NamedTuple):
@@ -15,15 +16,6 @@ class Gone(NamedTuple):
     place: Place
     mark: int
     word: str
-
-
-class Hit(NamedTuple):
-    """A live point near a place; hits are ordered as their parts are, of which no two have the same number."""
-
-    dist2: int
-    place: Place
-    number: int
-    intensity: int
 
 
 class Held:
@@ -50,7 +42,8 @@ class Held:
             self.next += 1
         for box in update.boxes:
             for number, point in self.held_in(box):
-                self.change(update.word, number, point.place)
+                if not (update.region and update.region.holds(point.place)):
+                    self.change(update.word, number, point.place)
         for number in [number for number in (*self.live, *self.suspended) if number < update.below]:
             self.drop(number, self.point(number).place, update.word)
 
@@ -68,7 +61,7 @@ class Held:
 
     def change(self, word, number, place):
         """What becomes of a held point that is in an update's box."""
-        if word in ("delete", "erase"):
+        if word in ("delete", "erase", "pose"):
             self.drop(number, place, word)
         elif word == "suspend" and number in self.live:
             self.suspended[number] = self.live.pop(number)
@@ -123,7 +116,29 @@ class Held:
             near = (hit for hit in near if hit[0] <= query.reach**2)
         return [Hit(*hit) for hit in heapq.nsmallest(query.most, near)]
 
+    def nearest_each(self, query):
+        """The hits at each place of a query."""
+        row = Row(self.live)
+        return [row.nearest(place, query.most) for place in query.places]
+
+    def live_in(self, box):
+        """The live points in a box, with their numbers, which rise."""
+        return sorted((number, point) for number, point in self.held_in(box) if number in self.live)
+
     def inside(self, query):
-        """How many live points are in a query's box, and the first of them with their numbers."""
-        found = sorted((number, point) for number, point in self.held_in(query.box) if number in self.live)
-        return len(found), found[: query.most]
+        """The live points in a query's box, with their numbers, which rise."""
+        return self.live_in(query.box)
+
+    def ball(self, query):
+        """The live points in a query's ball, with their numbers, which rise."""
+        lo, hi = (Place(*(at + reach for at in query.place)) for reach in (-query.reach, query.reach + 1))
+        near = self.live_in(Box(lo, hi))
+        return [(number, point) for number, point in near if dist2(point.place, query.place) <= query.reach**2]
+
+    def lonely(self, query):
+        """The live points that have no other one within a query's reach, with their numbers, which rise."""
+        return [(number, self.live[number]) for number in Cells(self.live, query.reach).lonely()]
+
+    def clusters(self, query):
+        """The numbers of the live points of each cluster by a query's reach."""
+        return Cells(self.live, query.reach).clusters()

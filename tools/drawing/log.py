@@ -8,7 +8,11 @@ MOST_BYTES = 268_435_456
 MOST_COMMANDS = 65_536
 MOST_IN_A_LINE = 262_144
 MOST_POINTS = 4_194_304
+MOST_HITS = 16_777_216
+# A list of hits counts as so many at least, since it has room for them in itself.
+LEAST_ROOM = 16
 MOST_INTENSITY = 65_535
+LONGEST_SIDE = 2**41
 # The farthest coordinate from 0, by the log's version. Boxes reach one farther, and queries four times as far.
 FARTHEST = {1: 1_000_000_000, 2: 2**40}
 
@@ -46,15 +50,55 @@ class Box(NamedTuple):
         return all(low <= at < high for low, at, high in zip(self.lo, place, self.hi))
 
 
+class Rules(NamedTuple):
+    """How a region follows its caller: its side, the radius of the ball that is to touch no face, and the length of a step."""
+
+    side: int
+    ball: int
+    step: int
+
+
+@dataclass(frozen=True)
+class Region:
+    """The cube that moves with a caller: what has left it isn't held."""
+
+    rules: Rules
+    lo: Place
+
+    @classmethod
+    def begun(cls, rules, place):
+        """The region of a caller that begins at a place, which is its middle."""
+        return cls(rules, Place(*(at - rules.side // 2 for at in place)))
+
+    def moved(self, place):
+        """The region when its caller has come to a place: by itself on each axis."""
+        return Region(self.rules, Place(*map(self.start, self.lo, place)))
+
+    def start(self, low, at):
+        """Where it starts on an axis, when its caller is there: it goes a step towards the face that the ball touches."""
+        side, ball, step = self.rules
+        if at - low <= ball:
+            return low - step
+        return low + step if low + side - at <= ball else low
+
+    def box(self):
+        """What it holds."""
+        return Box(self.lo, Place(*(low + self.rules.side for low in self.lo)))
+
+
 @dataclass(frozen=True)
 class Update:
-    """A change of the map: `add` and `thin` have points, `expire` has a bound on numbers, the other words have boxes."""
+    """A change of the map: `add` and `thin` have points, `expire` has a bound on numbers, the other words have boxes.
+
+    The box of `pose` is the region that its caller had, if it moves; beside it stands the one that the caller has then.
+    """
 
     caller: int
     word: str
     points: list[Point] = field(default_factory=list)
     boxes: list[Box] = field(default_factory=list)
     below: int = 0
+    region: Box | None = None
 
 
 @dataclass(frozen=True)
@@ -68,12 +112,49 @@ class Near:
 
 
 @dataclass(frozen=True)
+class Nears:
+    """Asks for the `most` nearest live points of each of several places, all at one time."""
+
+    caller: int
+    most: int
+    places: list[Place]
+
+
+@dataclass(frozen=True)
 class Inside:
     """Asks how many live points are in a box, and for the first `most` of them by number."""
 
     caller: int
     most: int
     box: Box
+
+
+@dataclass(frozen=True)
+class Ball:
+    """Asks how many live points are no farther than `reach` from a place, and for the first `most` of them by number."""
+
+    caller: int
+    most: int
+    reach: int
+    place: Place
+
+
+@dataclass(frozen=True)
+class Lonely:
+    """Asks how many live points have no other one within `reach`, and for the first `most` of them by number."""
+
+    caller: int
+    most: int
+    reach: int
+
+
+@dataclass(frozen=True)
+class Clusters:
+    """Asks how many clusters the live points make by steps of at most `reach`, and for the first `most` of them."""
+
+    caller: int
+    most: int
+    reach: int
 
 
 @dataclass(frozen=True)
@@ -87,7 +168,7 @@ class Log:
 
     version: int
     voxel: int
-    commands: list[Update | Near | Inside | Sync]
+    commands: list[Update | Near | Nears | Inside | Ball | Lonely | Clusters | Sync]
 
     def updates(self):
         """How many of the commands change the map."""
@@ -120,6 +201,15 @@ class Fields:
         """The next fields as a point, in version 2 with its intensity."""
         place = self.place()
         return Point(place, self.number(0, MOST_INTENSITY)) if self.version == 2 else Point(place)
+
+    def reach(self):
+        """The next field as a greatest distance."""
+        return self.number(0, 4 * self.farthest)
+
+    def rules(self):
+        """The next three fields as the rules of a region: two balls are shorter than its side, and a step is no longer."""
+        side = self.number(2, LONGEST_SIDE)
+        return Rules(side, self.number(0, (side - 1) // 2), self.number(1, side))
 
     def box(self):
         """The next six fields as a box."""
@@ -154,6 +244,9 @@ class Reader:
         self.voxel = 0
         self.commands = []
         self.points = 0
+        self.hits = 0
+        # The region of each caller.
+        self.regions = {}
 
     def take_header(self, fields):
         """Takes the first kept line."""
@@ -168,7 +261,11 @@ class Reader:
         """Takes a further kept line."""
         if len(self.commands) == MOST_COMMANDS:
             raise LogFault("too many commands")
-        self.commands.append(self.command(fields))
+        command = self.command(fields)
+        self.hits += room(command)
+        if self.hits > MOST_HITS:
+            raise LogFault("too many hits")
+        self.commands.append(command)
 
     def command(self, fields):
         """The command that a line spells."""
@@ -185,7 +282,8 @@ class Reader:
         words |= dict.fromkeys((b"add", b"thin"), self.points_in)
         words |= dict.fromkeys((b"delete", b"erase", b"suspend", b"restore"), self.boxes_in)
         if self.version == 2:
-            words[b"expire"] = self.expiry
+            words |= {b"expire": self.expiry, b"pose": self.pose, b"nears": self.nears, b"ball": self.ball}
+            words |= dict.fromkeys((b"lonely", b"clusters"), self.joined)
         if len(fields) < 2 or fields[1] not in words:
             raise LogFault("unknown command")
         return words[fields[1]](int(caller[1]), fields[1].decode(), fields[2:])
@@ -216,14 +314,33 @@ class Reader:
             raise LogFault("wrong count")
         return Update(caller, word, below=Fields(self.version, fields).number(0, MOST_POINTS))
 
+    def pose(self, caller, word, fields):
+        """An update by where the caller is: its region moves, or begins where it has none by these rules."""
+        if len(fields) != 6:
+            raise LogFault("wrong count")
+        numbers = Fields(self.version, fields)
+        rules, place = numbers.rules(), numbers.place()
+        old = self.regions.get(caller)
+        goes_on = old is not None and old.rules == rules
+        self.regions[caller] = new = old.moved(place) if goes_on else Region.begun(rules, place)
+        return Update(caller, word, boxes=[old.box()] if goes_on and new != old else [], region=new.box())
+
     def near(self, caller, _word, fields):
         """A query for the nearest points."""
         if len(fields) != 4 and (len(fields) != 6 or fields[4] != b"within"):
             raise LogFault("wrong count")
         numbers = Fields(self.version, fields[:4] + fields[5:])
         most, place = numbers.number(1, 256), numbers.place()
-        reach = numbers.number(0, 4 * numbers.farthest) if len(fields) == 6 else None
+        reach = numbers.reach() if len(fields) == 6 else None
         return Near(caller, most, place, reach)
+
+    def nears(self, caller, _word, fields):
+        """A query for the nearest points of each of several places."""
+        count = parts(fields[1:], 3)
+        if count > MOST_IN_A_LINE:
+            raise LogFault("too many points")
+        numbers = Fields(self.version, fields)
+        return Nears(caller, numbers.number(1, 256), [numbers.place() for _ in range(count)])
 
     def inside(self, caller, _word, fields):
         """A query for what is in a box."""
@@ -231,6 +348,29 @@ class Reader:
             raise LogFault("wrong count")
         numbers = Fields(self.version, fields)
         return Inside(caller, numbers.number(1, 256), numbers.box())
+
+    def ball(self, caller, _word, fields):
+        """A query for what is round a place."""
+        if len(fields) != 5:
+            raise LogFault("wrong count")
+        numbers = Fields(self.version, fields)
+        return Ball(caller, numbers.number(1, 256), numbers.reach(), numbers.place())
+
+    def joined(self, caller, word, fields):
+        """A query that goes by which points are near one another."""
+        if len(fields) != 2:
+            raise LogFault("wrong count")
+        numbers = Fields(self.version, fields)
+        return {"lonely": Lonely, "clusters": Clusters}[word](caller, numbers.number(1, 256), numbers.reach())
+
+
+def room(command):
+    """How many hits the reply to a command has room for."""
+    if isinstance(command, Near):
+        return max(command.most, LEAST_ROOM)
+    if isinstance(command, Nears):
+        return len(command.places) * max(command.most, LEAST_ROOM)
+    return 0
 
 
 def parts(fields, size):

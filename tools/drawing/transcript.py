@@ -5,19 +5,28 @@ from dataclasses import dataclass, field
 from itertools import zip_longest
 
 from .held import Held
-from .log import Inside, Near, Sync, Update
+from .log import Ball, Clusters, Inside, Lonely, Near, Nears, Place, Sync, Update
+from .searches import Hit
 
+# The word of the line to a command of a caller.
+WORDS = {Update: "ok", Near: "near", Nears: "nears", Inside: "box", Ball: "ball", Lonely: "lonely", Clusters: "clusters"}
 # The head of a line, and its mark.
-REPLY = re.compile(r"(@[1-8] ok|@[1-8] near|@[1-8] box|sync|end) (0|[1-9][0-9]{0,9})(?: .*)?")
+REPLY = re.compile(rf"(@[1-8] (?:{'|'.join(WORDS.values())})|sync|end) (0|[1-9][0-9]{{0,9}})(?: .*)?")
 
 
 @dataclass
 class Run:
-    """A log's run: what is held at its end, the line to each command and at the end, and what each `near` found."""
+    """A log's run: what is held at its end, the line to each command and at the end, and what was found.
+
+    Found are the hits at each place that was asked for its nearest points; the places of the points that were told as lonely;
+    and the clusters of the last `clusters` command, each by its points' numbers, with this command's place in the log.
+    """
 
     held: Held
     lines: list[str]
-    hits: dict[int, list] = field(default_factory=dict)
+    hits: list[tuple[Place, list[Hit]]] = field(default_factory=list)
+    lonely: list[Place] = field(default_factory=list)
+    clusters: tuple[int, list[list[int]]] = (-1, [])
 
 
 def serial_marks(log):
@@ -47,13 +56,33 @@ def answer(log, result, place, command):
     if isinstance(command, Update):
         held.update(command)
         return ""
+    if isinstance(command, Sync):
+        return f" live {len(held.live)} suspended {len(held.suspended)}"
     if isinstance(command, Near):
-        result.hits[place] = hits = held.nearest(command)
-        return "".join(f" | {hit.number} {spelled(log, hit.place, hit.intensity)} {hit.dist2}" for hit in hits)
-    if isinstance(command, Inside):
-        count, found = held.inside(command)
-        return f" {count}" + "".join(f" | {number} {spelled(log, *point)}" for number, point in found)
-    return f" live {len(held.live)} suspended {len(held.suspended)}"
+        return hits_at(log, result, command.place, held.nearest(command))
+    if isinstance(command, Nears):
+        pairs = zip(command.places, held.nearest_each(command))
+        return "".join(" /" + hits_at(log, result, *pair) for pair in pairs)
+    if isinstance(command, Clusters):
+        clusters = held.clusters(command)
+        result.clusters = max(result.clusters, (place, clusters))
+        return counted(clusters, (f"{numbers[0]} {len(numbers)}" for numbers in clusters[: command.most]))
+    found = {Inside: held.inside, Ball: held.ball, Lonely: held.lonely}[type(command)](command)
+    told = found[: command.most]
+    if isinstance(command, Lonely):
+        result.lonely += [point.place for _, point in told]
+    return counted(found, (f"{number} {spelled(log, *point)}" for number, point in told))
+
+
+def hits_at(log, result, place, hits):
+    """Notes the hits at a place that was asked for, and tells them."""
+    result.hits.append((place, hits))
+    return "".join(f" | {hit.number} {spelled(log, hit.place, hit.intensity)} {hit.dist2}" for hit in hits)
+
+
+def counted(found, told):
+    """Tells how many were found, and then those that are told."""
+    return f" {len(found)}" + "".join(f" | {part}" for part in told)
 
 
 def spelled(log, place, intensity):
@@ -65,8 +94,7 @@ def head_of(command):
     """What the line to a command begins with."""
     if isinstance(command, Sync):
         return "sync"
-    word = {Update: "ok", Near: "near", Inside: "box"}[type(command)]
-    return f"@{command.caller} {word}"
+    return f"@{command.caller} {WORDS[type(command)]}"
 
 
 def compare(log, transcript):
