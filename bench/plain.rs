@@ -9,6 +9,7 @@ use std::collections::HashMap;
 use std::env;
 use std::time::{Duration, Instant};
 mod batches;
+mod crowds;
 mod drive;
 mod pointers;
 mod readers;
@@ -487,12 +488,13 @@ fn main() {
     }
     let mut draws = Draws(1);
     let points = draws.points(count);
-    let places = draws.places(asked, count);
+    let places = if matches!(words[0].as_str(), "clusters" | "cells" | "lonely") { Vec::new() } else { draws.places(asked, count) };
     let cubes: Vec<Cuboid> = places.iter().map(|lo| [*lo, lo.map(|c| c + 1000)]).collect();
     let mut items = numbered(0, &points);
+    let kept = items.clone();
     let mut map = Map { tree: None, next: 0, sum: 0 };
     match words[0].as_str() {
-        "ask" | "box" | "singly" | "nears" => map.tree = build(&mut items),
+        "ask" | "box" | "singly" | "nears" | "clusters" | "lonely" => map.tree = build(&mut items),
         "after" => map.grow(&points, Map::add),
         _ => (),
     }
@@ -522,6 +524,15 @@ fn main() {
             map.count(&batches::at_once(&map.tree, points));
             map.thin(points);
         }),
+        "clusters" | "cells" | "lonely" => {
+            let sum = match words[0].as_str() {
+                "clusters" => crowds::clusters(&map.tree, &kept, asked),
+                "cells" => crowds::by_cells(&kept, asked),
+                _ => crowds::lonely(&map.tree, &kept, asked),
+            };
+            eprintln!("{}", begun.elapsed().as_micros());
+            return println!("{} {count} {asked} sum {sum}", words[0]);
+        }
         "box" => cubes.iter().for_each(|cube| map.delete(cube)),
         "drive" => return println!("{}", drive::summary(count)),
         _ => panic!("no such work"),

@@ -14,6 +14,7 @@
 //! - `singly`, `nears`: a tree that was built is asked for the 5 nearest of Q places, one after the other and all at once, and the answers
 //!   are kept;
 //! - `batches`: as `odometry`, but a scan's points are asked for at once;
+//! - `clusters`, `lonely`: a tree that was built is asked for its clusters, and for the points that stand alone, by steps of Q millimetres;
 //! - `expire`, `cut`, `mixed`: the older half of N points is forgotten at once, of a road by their numbers, of a road by a box, and by
 //!   their numbers where these stand all over the road; Q has no meaning, and how long it took and how many nodes it touched is told;
 //! - `longest`: a state grows by scans to N points and then by Q more, of which the longest steps are told;
@@ -28,6 +29,7 @@ ghost use Rattle.std.specs.Prelude.{◌≡◌, ◌<◌, ◌≤◌, IfOk};
 
 mod batches;
 mod course;
+mod crowds;
 mod draws;
 mod forgotten;
 mod grown;
@@ -174,6 +176,8 @@ fn measured<L: Ledger, R: AllocGlobal + Clock + Threads + Sync>(
         Work::Singly => batches::singly(rt, alloc, count, asked, steps),
         Work::Nears => batches::at_once(rt, alloc, count, asked, steps),
         Work::Batches => batches::odometry(rt, alloc, count, steps),
+        Work::Clusters => crowds::cluster(rt, alloc, count, asked, steps),
+        Work::Lonely => crowds::part(rt, alloc, count, asked, steps),
         Work::Lying(lie) => worst::add(rt, alloc, lie, count, asked, steps),
     }
 }
@@ -220,6 +224,8 @@ enum Work {
     Singly,
     Nears,
     Batches,
+    Clusters,
+    Lonely,
     Lying(Lie),
 }
 
@@ -237,6 +243,8 @@ fn named(word: &str) -> Result<Work, Stop> {
         "singly" => Ok(Work::Singly),
         "nears" => Ok(Work::Nears),
         "batches" => Ok(Work::Batches),
+        "clusters" => Ok(Work::Clusters),
+        "lonely" => Ok(Work::Lonely),
         "drawn" => Ok(Work::Lying(Lie::Drawn)),
         "rising" => Ok(Work::Lying(Lie::Rising)),
         "equal" => Ok(Work::Lying(Lie::Equal)),
