@@ -20,11 +20,7 @@ mod replacement;
 mod replay;
 mod room;
 mod scan;
-#[cfg(test)]
-mod script;
 mod settle;
-#[cfg(test)]
-mod tests;
 mod watch;
 mod watches;
 mod ways;

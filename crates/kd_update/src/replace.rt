@@ -10,8 +10,6 @@ ghost use Rattle.kd_update.specs.Update.{IsEven};
 ghost use Rattle.kd_update.specs.Several.{AreLargeAt, AreSameAt, IsEvenClear};
 ghost use Rattle.kd_update.specs.Replace.{HasRoomAt, IsCalmAbove, IsNoLarger, IsReplaced, StandsFor};
 
-#[cfg(test)]
-mod tests;
 
 use crate::Replaced;
 use crate::rebuild::{rebuilt, refreshed};

@@ -6,8 +6,6 @@ ghost use Rattle.kd_tree.specs.Contents.{contents};
 ghost use Rattle.kd_update.specs.Refresh.{AreAmong};
 ghost use Rattle.kd_update.specs.Update.{IsEven};
 
-#[cfg(test)]
-mod tests;
 
 use crate::{marked, put, roomy};
 use kd_tree::{Steps, Tree};

@@ -14,7 +14,13 @@ pub struct Draws {
 
 impl Draws {
     pub fn new() -> Draws {
-        Draws { state: 1 }
+        Draws::from(1)
+    }
+
+    pub fn from(state: u64) -> Draws
+        requires { state < 2 ^ 32 }
+    {
+        Draws { state }
     }
 
     // From 0 on and below the bound.
@@ -30,7 +36,7 @@ impl Draws {
     pub fn point(&mut self) -> Result<Point, Fail> {
         let (x, y, z) = (self.below(16), self.below(8), self.below(4));
         let point = Point::new(x as i64 - 8, y as i64 - 4, z as i64 - 2)?;
-        Ok(point.with_intensity(self.below(3) as u16))
+        Ok(point.with_intensity((self.state % 3) as u16))
     }
 
     pub fn cuboid(&mut self) -> Result<Cuboid, Fail> {
@@ -50,13 +56,21 @@ impl Draws {
 
     fn boxes(&mut self, alloc: Global) -> Result<Cuboids, Fail> {
         let mut boxes = Cuboids::new(alloc);
-        boxes.push(self.cuboid()?)?;
+        for _ in 0..self.below(3) {
+            boxes.push(self.cuboid()?)?;
+        }
         Ok(boxes)
     }
 
     fn points(&mut self, alloc: Global) -> Result<Points, Fail> {
+        let count = self.below(9) as u32;
+        self.scan(alloc, count)
+    }
+
+    // So many of those places.
+    pub fn scan(&mut self, alloc: Global, count: u32) -> Result<Points, Fail> {
         let mut points = Points::new(alloc);
-        for _ in 0..self.below(9) {
+        for _ in 0..count {
             points.push(self.point()?)?;
         }
         Ok(points)

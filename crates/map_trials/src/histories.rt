@@ -1,36 +1,14 @@
 //! Histories of all kinds of updates.
-ghost use Rattle.std.specs.Prelude.{◌≡◌, ◌<◌, ◌≤◌};
-
+use crate::beside::compare;
 use crate::draws::Draws;
-use kd_search::{count_in, nearest};
-use kd_tree::Steps;
-use map_fold::{Counts, PlainMap, Settings, Update};
-use rebuild_core::{MapState, StateFault, Version};
+use crate::steps::updated;
+use map_fold::{Counts, PlainMap, Settings};
+use rebuild_core::MapState;
 use std::alloc::Global;
-use std::marker::Brand;
 use std::process::Abort;
-use std::sync::ledger::{Blank, Ledger};
 use std::test::Fail;
 
-const TURNS: u32 = 1_500;
-
-fn updated(alloc: Global, state: &mut MapState, update: Update) -> Result<u64, StateFault> {
-    updated_by::<Brand>(alloc, state, update, Blank::new(1))
-}
-
-fn updated_by<L: Ledger>(
-    alloc: Global,
-    state: &mut MapState,
-    update: Update,
-    blank: Blank,
-) -> Result<u64, StateFault>
-    requires name { blank.name ≡ L.name }
-    requires parts { blank.parts ≡ L.parts }
-    requires some { blank.parts ≡ 1 }
-{
-    let mut steps: Steps<L> = Steps::new(blank);
-    state.update(alloc, 1, update, &mut steps)
-}
+const TURNS: u64 = 2_000;
 
 // The counts after a drawn history, of which each version was compared with the plain map.
 fn compared(rt: &impl Abort, alloc: Global, settings: Settings) -> Result<Counts, Fail> {
@@ -42,28 +20,16 @@ fn compared(rt: &impl Abort, alloc: Global, settings: Settings) -> Result<Counts
         assert!(rt; update.points() < 9);
         assert!(rt; plain.next() <= 4_000_000);
         plain = plain.apply(&settings, &update)?;
-        updated(alloc, &mut state, update)?;
+        let caller = 1 + draws.below(8) as u8;
+        let mark = updated(alloc, &mut state, caller, update)?;
+        assert_eq!(rt; mark, state.version().len());
+        if draws.below(16) == 0 {
+            state.settle(alloc)?;
+        }
         compare(rt, alloc, state.version(), &plain, &mut draws)?;
     }
+    assert_eq!(rt; state.history().len() as u64, TURNS);
     Ok(plain.counts())
-}
-
-fn compare(
-    rt: &impl Abort,
-    alloc: Global,
-    version: &Version,
-    plain: &PlainMap,
-    draws: &mut Draws,
-) -> Result<(), Fail> {
-    assert_eq!(rt; version.next(), plain.next());
-    assert!(rt; version.counts() == plain.counts());
-    let query = draws.point()?;
-    let found = nearest(alloc, version.tree(), 5, &query, Some(6))?;
-    let want = plain.nearest(alloc, 5, &query, Some(6))?;
-    assert!(rt; found.as_slice() == want.as_slice());
-    let cuboid = draws.cuboid()?;
-    assert_eq!(rt; count_in(version.tree(), &cuboid), plain.count_in(&cuboid));
-    Ok(())
 }
 
 #[test]

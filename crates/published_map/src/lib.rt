@@ -22,8 +22,6 @@ mod shared;
 mod shown;
 mod start;
 mod story;
-#[cfg(test)]
-mod tests;
 mod turn;
 
 pub use ended::Ended;

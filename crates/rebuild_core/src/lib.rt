@@ -18,8 +18,6 @@ mod recycle;
 mod scan;
 mod state;
 mod swap;
-#[cfg(test)]
-mod tests;
 mod thin;
 mod version;
 mod waiting;

@@ -1,4 +1,0 @@
-use Rattle.kd_update.proofs.tests.scans.Both.put.Given as goal
-
-abbrev pub ghosts-put_next_points : goal.ghosts-put_next_points
-ghosts-put_next_points g a = record { name = a.blank.name; parts = a.blank.parts }

@@ -1,0 +1,232 @@
+//! A drawn schedule of updates and of subtrees that are detached, built, brought up to date and swapped in, beside the plain
+//! map.
+use crate::beside::compare;
+use crate::draws::Draws;
+use crate::steps::{swapped, updated};
+use kd_search::{count_in, in_cuboid};
+use map_fold::{PlainMap, Settings, Update};
+use point_geom::{Corner, Cuboid};
+use rebuild_core::{Built, BuiltLeft, Job, LogAsk, MapState, SwapFault};
+use std::alloc::Global;
+use std::mem;
+use std::process::Abort;
+use std::test::Fail;
+
+const LARGE: u32 = 16;
+
+// What a turn came to.
+#[derive(Clone, Copy, Debug, PartialEq, Eq)]
+enum Turn {
+    Updated,
+    Settled,
+    Detached,
+    NothingDetached,
+    Built,
+    CaughtUp,
+    Swapped,
+    Behind,
+    Stale,
+    // Nothing was in hand.
+    Idle,
+}
+
+// A map, the plain map beside it, and what its workers have in hand.
+#[derive(Drop)]
+struct Schedule {
+    settings: Settings,
+    state: MapState,
+    plain: PlainMap,
+    draws: Draws,
+    jobs: Vec<Job>,
+    values: Vec<Built>,
+}
+
+impl Schedule {
+    fn new(alloc: Global) -> Result<Schedule, Fail> {
+        let settings = Settings::new(3, LARGE);
+        Ok(Schedule {
+            settings,
+            state: MapState::new(alloc, settings)?,
+            plain: PlainMap::new(alloc),
+            draws: Draws::new(),
+            jobs: Vec::new(alloc),
+            values: Vec::new(alloc),
+        })
+    }
+
+    fn turn(&mut self, rt: &impl Abort, alloc: Global) -> Result<Turn, Fail> {
+        match self.draws.below(64) {
+            0..=5 => self.detach(alloc),
+            6..=13 => self.build(alloc),
+            14..=21 => self.catch_up(alloc),
+            22..=27 => self.swap(rt, alloc),
+            28 => self.settle(alloc),
+            _ => self.update(rt, alloc),
+        }
+    }
+
+    fn update(&mut self, rt: &impl Abort, alloc: Global) -> Result<Turn, Fail> {
+        let update = self.drawn_update(alloc)?;
+        assert!(rt; update.points() <= 80);
+        assert!(rt; self.plain.next() <= 4_000_000);
+        let plain = mem::replace(&mut self.plain, PlainMap::new(alloc));
+        self.plain = plain.apply(&self.settings, &update)?;
+        let caller = 1 + self.draws.below(8) as u8;
+        updated(alloc, &mut self.state, caller, update)?;
+        Ok(Turn::Updated)
+    }
+
+    // Now and then an update of more points than are put one by one.
+    fn drawn_update(&mut self, alloc: Global) -> Result<Update, Fail> {
+        match self.draws.below(8) {
+            0 => Ok(Update::Add(self.draws.scan(alloc, 80)?)),
+            1 => Ok(Update::Thin(self.draws.scan(alloc, 80)?)),
+            // The older half of the numbers, or fewer.
+            2 => {
+                let next = u64::from(self.plain.next());
+                Ok(Update::Expire((self.draws.below(next + 1) / 2) as u32))
+            }
+            _ => self.draws.update(alloc, self.plain.next()),
+        }
+    }
+
+    fn settle(&mut self, alloc: Global) -> Result<Turn, Fail> {
+        self.state.settle(alloc)?;
+        Ok(Turn::Settled)
+    }
+
+    fn detach(&mut self, alloc: Global) -> Result<Turn, Fail> {
+        let slot = 1 + self.draws.below(4) as u8;
+        let Some(job) = self.state.detach(alloc, slot)? else {
+            return Ok(Turn::NothingDetached);
+        };
+        self.jobs.push(job)?;
+        Ok(Turn::Detached)
+    }
+
+    fn build(&mut self, alloc: Global) -> Result<Turn, Fail> {
+        let Some(job) = taken(&mut self.draws, &mut self.jobs) else {
+            return Ok(Turn::Idle);
+        };
+        match job.build(alloc, LARGE) {
+            Err(_) => Err(Fail::new("nothing was built")),
+            Ok(value) => {
+                self.values.push(value)?;
+                Ok(Turn::Built)
+            }
+        }
+    }
+
+    fn catch_up(&mut self, alloc: Global) -> Result<Turn, Fail> {
+        let Some(value) = taken(&mut self.draws, &mut self.values) else {
+            return Ok(Turn::Idle);
+        };
+        let ops = match self.state.log_after(alloc, &value) {
+            Ok(ops) => ops,
+            Err(LogAsk::NoMemory) => return Err(Fail::new("no memory")),
+            Err(LogAsk::Stale { .. }) => return self.put_back(value),
+        };
+        match value.replay(alloc, LARGE, ops.as_slice()) {
+            Err(BuiltLeft { .. }) => Err(Fail::new("nothing was replayed")),
+            Ok(value) => {
+                self.values.push(value)?;
+                Ok(Turn::CaughtUp)
+            }
+        }
+    }
+
+    fn swap(&mut self, rt: &impl Abort, alloc: Global) -> Result<Turn, Fail> {
+        let Some(value) = taken(&mut self.draws, &mut self.values) else {
+            return Ok(Turn::Idle);
+        };
+        let force = self.draws.below(4) == 0;
+        let Err(left) = swapped(alloc, &mut self.state, value, force) else {
+            return Ok(Turn::Swapped);
+        };
+        match left.fault {
+            SwapFault::NoMemory => Err(Fail::new("no memory")),
+            SwapFault::Stale { ticket } => {
+                assert_eq!(rt; ticket, left.built.ticket());
+                self.put_back(left.built)
+            }
+            SwapFault::Behind { left: behind } => {
+                assert!(rt; !force && behind > 64);
+                self.values.push(left.built)?;
+                Ok(Turn::Behind)
+            }
+        }
+    }
+
+    // A stale value is handed in again, or given up.
+    fn put_back(&mut self, value: Built) -> Result<Turn, Fail> {
+        if self.draws.below(2) == 0 {
+            self.values.push(value)?;
+        }
+        Ok(Turn::Stale)
+    }
+
+    fn compare(&mut self, rt: &impl Abort, alloc: Global) -> Result<(), Fail> {
+        let version = self.state.version();
+        compare(rt, alloc, version, &self.plain, &mut self.draws)?;
+        let all = everything()?;
+        let found = in_cuboid(alloc, version.tree(), &all, 256)?;
+        let want = self.plain.in_cuboid(alloc, &all, 256)?;
+        assert!(rt; found.as_slice() == want.as_slice());
+        assert_eq!(rt; count_in(version.tree(), &all), self.plain.counts().live);
+        Ok(())
+    }
+}
+
+// The box round all that is drawn.
+fn everything() -> Result<Cuboid, Fail> {
+    let lo = Corner {
+        x: -99,
+        y: -99,
+        z: -99,
+    };
+    let hi = Corner {
+        x: 99,
+        y: 99,
+        z: 99,
+    };
+    Ok(Cuboid::new(lo, hi)?)
+}
+
+// One of them, taken out, if there is one: the last as often as any.
+fn taken<T: Drop>(draws: &mut Draws, from: &mut Vec<T>) -> Option<T> {
+    if from.is_empty() {
+        return None;
+    }
+    if draws.below(2) == 0 {
+        return from.pop();
+    }
+    let place = draws.below(from.len() as u64) as usize;
+    Some(from.swap_remove(place))
+}
+
+#[test]
+fn a_drawn_schedule_answers_as_the_plain_map_does(rt: HostRuntime) -> Result<(), Fail> {
+    let alloc = rt.alloc();
+    let mut schedule = Schedule::new(alloc)?;
+    let mut turns = Vec::new(alloc);
+    for _ in 0..3_000 {
+        turns.push(schedule.turn(&rt, alloc)?)?;
+        schedule.compare(&rt, alloc)?;
+    }
+    // The schedule came to each of these more than a handful of times.
+    for (turn, least) in [
+        (Turn::Updated, 1_000),
+        (Turn::Settled, 20),
+        (Turn::Detached, 100),
+        (Turn::NothingDetached, 20),
+        (Turn::Built, 50),
+        (Turn::CaughtUp, 20),
+        (Turn::Swapped, 20),
+        (Turn::Behind, 2),
+        (Turn::Stale, 20),
+    ] {
+        let count = turns.iter().filter(|t| **t == turn).count();
+        assert!(rt; count > least, "{turn:?}: {count}");
+    }
+    Ok(())
+}

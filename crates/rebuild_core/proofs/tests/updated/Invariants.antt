@@ -1,4 +1,0 @@
-use Rattle.rebuild_core.proofs.tests.updated.Given as goal
-
-abbrev pub ghosts-updated_by : goal.ghosts-updated_by
-ghosts-updated_by a = record { name = a.blank.name; parts = a.blank.parts }

@@ -1,0 +1,183 @@
+//! Subtrees that are detached behind the lock.
+use crate::trial::{Trial, cuboid, deleted, row, tried, updated};
+use kd_search::nearest;
+use point_geom::Point;
+use published_map::{Ended, MapName, Pass, Shared};
+use rebuild_core::{Built, Desk, Job, LogAsk, MapState, SwapFault, SwapLeft};
+use std::alloc::Global;
+use std::process::Abort;
+use std::sync::Wait;
+use std::test::Fail;
+
+fn some(job: Option<Job>) -> Result<Job, Fail> {
+    match job {
+        Some(job) => Ok(job),
+        None => Err(Fail::new("nothing was detached")),
+    }
+}
+
+fn built(alloc: Global, job: Job) -> Result<Built, Fail> {
+    match job.build(alloc, 16) {
+        Ok(built) => Ok(built),
+        Err(_) => Err(Fail::new("nothing was built")),
+    }
+}
+
+fn left(answer: Result<(), SwapLeft>) -> Result<SwapLeft, Fail> {
+    match answer {
+        Ok(()) => Err(Fail::new("it was swapped in")),
+        Err(left) => Ok(left),
+    }
+}
+
+// The points from 1 to 40 are built anew while more are added, of which 64 are few enough.
+struct AddedMeanwhile {
+    last: i64,
+}
+
+// The value of the first ticket.
+fn first<L: MapName, R: Wait + Abort>(
+    rt: &R,
+    alloc: Global,
+    shared: &Shared<L>,
+) -> Result<Built, Fail> {
+    let job = some(shared.detach(rt, alloc, 1)?)?;
+    assert_eq!(rt; job.ticket(), 1);
+    assert_eq!(rt; job.items().len(), 40);
+    built(alloc, job)
+}
+
+// Brings a value up to date that has 65 operations to do, and swaps it in.
+fn catch_up<L: MapName, R: Wait + Abort>(
+    rt: &R,
+    alloc: Global,
+    shared: &Shared<L>,
+    built: Built,
+) -> Result<(), Fail> {
+    let SwapLeft { built, fault } = left(shared.swap(rt, alloc, built, false))?;
+    assert_eq!(rt; fault, SwapFault::Behind { left: 65 });
+    let Ok(ops) = shared.log_after(rt, alloc, &built) else {
+        return Err(Fail::new("the value is of the part"));
+    };
+    assert_eq!(rt; ops.len(), 65);
+    let Ok(built) = built.replay(alloc, 16, ops.as_slice()) else {
+        return Err(Fail::new("nothing was replayed"));
+    };
+    assert!(rt; shared.swap(rt, alloc, built, false).is_ok());
+    Ok(())
+}
+
+// A subtree that is detached afresh leaves the first value stale.
+fn detach_twice<L: MapName, R: Wait + Abort>(
+    rt: &R,
+    alloc: Global,
+    shared: &Shared<L>,
+) -> Result<(), Fail> {
+    let second = some(shared.detach(rt, alloc, 1)?)?;
+    assert_eq!(rt; second.ticket(), 2);
+    assert_eq!(rt; some(shared.detach(rt, alloc, 1)?)?.ticket(), 3);
+    let second = built(alloc, second)?;
+    let stale = LogAsk::Stale { ticket: 2 };
+    assert_eq!(rt; shared.log_after(rt, alloc, &second).err(), Some(stale));
+    let SwapLeft { built: _, fault } = left(shared.swap(rt, alloc, second, true))?;
+    assert_eq!(rt; fault, SwapFault::Stale { ticket: 2 });
+    Ok(())
+}
+
+impl<R: Wait + Abort> Trial<R> for AddedMeanwhile {
+    fn run<L: MapName>(
+        &self,
+        rt: &R,
+        alloc: Global,
+        shared: &Shared<L>,
+        passes: &mut [Pass<L>],
+    ) -> Result<(), Fail> {
+        assert!(rt; shared.detach(rt, alloc, 1)?.is_none());
+        updated(rt, alloc, shared, passes, 0, row(alloc, 1, 41)?)?;
+        let built = first(rt, alloc, shared)?;
+        updated(rt, alloc, shared, passes, 0, row(alloc, 41, self.last)?)?;
+        if self.last < 106 {
+            assert!(rt; shared.swap(rt, alloc, built, false).is_ok());
+            return Ok(());
+        }
+        catch_up(rt, alloc, shared, built)?;
+        detach_twice(rt, alloc, shared)
+    }
+
+    fn end(&self, rt: &R, state: &MapState, _ended: &[Ended]) -> Result<(), Fail> {
+        assert_eq!(rt; i64::from(state.version().counts().live) + 1, self.last);
+        let part = state.part(1);
+        if self.last < 106 {
+            assert!(rt; part.is_none());
+            return Ok(());
+        }
+        let Some(part) = part else {
+            return Err(Fail::new("the subtree was forgotten"));
+        };
+        assert_eq!(rt; (part.ticket, part.logged), (3, 0));
+        Ok(())
+    }
+}
+
+#[test]
+fn a_value_that_is_64_behind_is_swapped_in(rt: HostRuntime) -> Result<(), Fail> {
+    tried(&rt, rt.alloc(), 1, &AddedMeanwhile { last: 105 })
+}
+
+#[test]
+fn a_value_that_is_65_behind_catches_up_and_a_stale_one_is_refused(
+    rt: HostRuntime,
+) -> Result<(), Fail> {
+    tried(&rt, rt.alloc(), 1, &AddedMeanwhile { last: 106 })
+}
+
+// A pass keeps a version while points are deleted and a built value is swapped in.
+struct KeptMeanwhile;
+
+// The second pass keeps the points from 1 to 40.
+fn assert_kept<L: MapName>(rt: &impl Abort, alloc: Global, passes: &[Pass<L>]) -> Result<(), Fail> {
+    let Some(pass) = passes.get(1) else {
+        return Err(Fail::new("no such pass"));
+    };
+    let version = pass.version();
+    assert_eq!(rt; (version.len(), version.counts().live), (1, 40));
+    let hits = nearest(alloc, version.tree(), 9, &Point::new(0, 0, 0)?, None)?;
+    assert_eq!(rt; hits.len(), 9);
+    for (place, hit) in hits.as_slice().iter().enumerate() {
+        assert_eq!(rt; hit.number as usize, place);
+    }
+    Ok(())
+}
+
+impl<R: Wait + Abort> Trial<R> for KeptMeanwhile {
+    fn run<L: MapName>(
+        &self,
+        rt: &R,
+        alloc: Global,
+        shared: &Shared<L>,
+        passes: &mut [Pass<L>],
+    ) -> Result<(), Fail> {
+        updated(rt, alloc, shared, passes, 0, row(alloc, 1, 41)?)?;
+        let Some(pass) = passes.get_mut(1) else {
+            return Err(Fail::new("no such pass"));
+        };
+        pass.renew();
+        let built = first(rt, alloc, shared)?;
+        let near = deleted(alloc, cuboid(10, 1, 1)?)?;
+        updated(rt, alloc, shared, passes, 0, near)?;
+        assert!(rt; shared.swap(rt, alloc, built, false).is_ok());
+        // The step after a swap is the one that lets go of what was before it.
+        updated(rt, alloc, shared, passes, 0, row(alloc, 41, 42)?)?;
+        assert_kept(rt, alloc, passes)
+    }
+
+    fn end(&self, rt: &R, state: &MapState, _ended: &[Ended]) -> Result<(), Fail> {
+        assert_eq!(rt; state.version().counts().live, 32);
+        Ok(())
+    }
+}
+
+#[test]
+fn a_swap_leaves_a_version_that_a_pass_keeps(rt: HostRuntime) -> Result<(), Fail> {
+    tried(&rt, rt.alloc(), 2, &KeptMeanwhile)
+}

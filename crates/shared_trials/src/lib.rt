@@ -1,0 +1,16 @@
+//! Shared maps, tried by their callers and by workers. These tests speak of public calls alone, and stand in a crate of their own,
+//! so that the shared map is proved once for all of them.
+#![tactic(auto)]
+
+#[cfg(test)]
+mod desk;
+#[cfg(test)]
+mod equal_points;
+#[cfg(test)]
+mod passes;
+#[cfg(test)]
+mod refusals;
+#[cfg(test)]
+mod threads;
+#[cfg(test)]
+mod trial;
