@@ -22,6 +22,8 @@ mod points;
 mod printing;
 mod putting;
 mod queries;
+#[cfg(test)]
+mod query_tests;
 mod reply;
 mod script;
 #[cfg(test)]
