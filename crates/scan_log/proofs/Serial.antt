@@ -4,8 +4,9 @@ use Rattle.std.proofs.lemmas.Bool.Decides.{nat_tests}
 use Rattle.std.specs.List.{AllByRecursion}
 use Rattle.map_fold.specs.declared.update.Update.{Update}
 use Rattle.scan_log.specs.declared.command.Command.{Command}
-use Rattle.scan_log.specs.declared.command.Command.TheVariants.{Change, Near, Nears, Inside, Ball, Lonely, Clusters, Sync}
+use Rattle.scan_log.specs.declared.command.Command.TheVariants.{Change, Near, Nears, Inside, Ball, Lonely, Clusters, Pose, Sync}
 use Rattle.scan_log.specs.Scripts.{ScriptAt}
+use Rattle.scan_log.specs.Poses.{plain_script}
 use Rattle.scan_log.specs.Spelling.{Spells}
 use Rattle.scan_log.specs.Transcript.{updates_in, put_update, marked_updates, serial_marks_from, serial_marks, history, reply_to, replies_from, replies, mark_of, text}
 use Rattle.scan_log.specs.Legal.{counted, MayFollow, IsLater, AllFollow, AreInOrder, IsLegal, AreLegalReplies, IsLegalTranscript}
@@ -33,6 +34,7 @@ serial_above n (Inside caller k c ∷ cs) = serial_above n cs
 serial_above n (Ball caller k r p ∷ cs) = serial_above n cs
 serial_above n (Lonely caller k r ∷ cs) = serial_above n cs
 serial_above n (Clusters caller k r ∷ cs) = serial_above n cs
+serial_above n (Pose caller rules p ∷ cs) = serial_above n cs
 serial_above n (Sync ∷ cs) = serial_above n cs
 
 counted-more : (n k : ℕ) → counted n (1 + k) ≡ n ∷ counted (n + 1) k
@@ -48,6 +50,7 @@ each_once n (Inside caller k c ∷ cs) = each_once n cs
 each_once n (Ball caller k r p ∷ cs) = each_once n cs
 each_once n (Lonely caller k r ∷ cs) = each_once n cs
 each_once n (Clusters caller k r ∷ cs) = each_once n cs
+each_once n (Pose caller rules p ∷ cs) = each_once n cs
 each_once n (Sync ∷ cs) = each_once n cs
 
 -- what is late enough for a command is so whoever asks
@@ -59,6 +62,7 @@ may_follow (Inside caller k c) m d n l = λ _. l
 may_follow (Ball caller k r p) m d n l = λ _. l
 may_follow (Lonely caller k r) m d n l = λ _. l
 may_follow (Clusters caller k r) m d n l = λ _. l
+may_follow (Pose caller rules p) m d n l = λ _. l
 may_follow Sync m d n l = l
 
 all_follow : (c : Command) (m n : ℕ) (cs : List Command) → m ≤ n → AllFollow c m cs (serial_marks_from n cs)
@@ -70,6 +74,7 @@ all_follow c m n (Inside caller k b ∷ cs) le = (may_follow c m (Inside caller 
 all_follow c m n (Ball caller k r p ∷ cs) le = (may_follow c m (Ball caller k r p) n le, all_follow c m n cs le)
 all_follow c m n (Lonely caller k r ∷ cs) le = (may_follow c m (Lonely caller k r) n le, all_follow c m n cs le)
 all_follow c m n (Clusters caller k r ∷ cs) le = (may_follow c m (Clusters caller k r) n le, all_follow c m n cs le)
+all_follow c m n (Pose caller rules p ∷ cs) le = (may_follow c m (Pose caller rules p) n le, all_follow c m n cs le)
 all_follow c m n (Sync ∷ cs) le = (may_follow c m Sync n le, all_follow c m n cs le)
 
 in_order : (n : ℕ) (cs : List Command) → AreInOrder cs (serial_marks_from n cs)
@@ -81,6 +86,7 @@ in_order n (Inside caller k c ∷ cs) = (all_follow (Inside caller k c) n n cs (
 in_order n (Ball caller k r p ∷ cs) = (all_follow (Ball caller k r p) n n cs (omega arith), in_order n cs)
 in_order n (Lonely caller k r ∷ cs) = (all_follow (Lonely caller k r) n n cs (omega arith), in_order n cs)
 in_order n (Clusters caller k r ∷ cs) = (all_follow (Clusters caller k r) n n cs (omega arith), in_order n cs)
+in_order n (Pose caller rules p ∷ cs) = (all_follow (Pose caller rules p) n n cs (omega arith), in_order n cs)
 in_order n (Sync ∷ cs) = (all_follow Sync n n cs (omega arith), in_order n cs)
 
 -- one mark for each command, and one for the end
@@ -93,6 +99,7 @@ length-serial_marks_from n (Inside caller k c ∷ cs) = omega (arith, length-ser
 length-serial_marks_from n (Ball caller k r p ∷ cs) = omega (arith, length-serial_marks_from n cs)
 length-serial_marks_from n (Lonely caller k r ∷ cs) = omega (arith, length-serial_marks_from n cs)
 length-serial_marks_from n (Clusters caller k r ∷ cs) = omega (arith, length-serial_marks_from n cs)
+length-serial_marks_from n (Pose caller rules p ∷ cs) = omega (arith, length-serial_marks_from n cs)
 length-serial_marks_from n (Sync ∷ cs) = omega (arith, length-serial_marks_from n cs)
 
 none_above : (n top : ℕ) (cs : List Command) → n + updates_in cs ≤ top → AllByRecursion (λ m. m ≤ top) (serial_marks_from n cs)
@@ -104,6 +111,7 @@ none_above n top (Inside caller k c ∷ cs) le = (omega arith, none_above n top 
 none_above n top (Ball caller k r p ∷ cs) le = (omega arith, none_above n top cs le)
 none_above n top (Lonely caller k r ∷ cs) le = (omega arith, none_above n top cs le)
 none_above n top (Clusters caller k r ∷ cs) le = (omega arith, none_above n top cs le)
+none_above n top (Pose caller rules p ∷ cs) le = (omega arith, none_above n top cs le)
 none_above n top (Sync ∷ cs) le = (omega arith, none_above n top cs le)
 
 at_end : (n : ℕ) (cs : List Command) → slice_get (serial_marks_from n cs) (length cs) ≡ Some (n + updates_in cs)
@@ -115,6 +123,7 @@ at_end n (Inside caller k c ∷ cs) = at_end n cs
 at_end n (Ball caller k r p ∷ cs) = at_end n cs
 at_end n (Lonely caller k r ∷ cs) = at_end n cs
 at_end n (Clusters caller k r ∷ cs) = at_end n cs
+at_end n (Pose caller rules p ∷ cs) = at_end n cs
 at_end n (Sync ∷ cs) = at_end n cs
 
 -- the marks of a run in the log's order are legal, whatever the script
@@ -135,6 +144,7 @@ mark_of-reply_to voxel h (Inside caller k c) m = refl
 mark_of-reply_to voxel h (Ball caller k r p) m = refl
 mark_of-reply_to voxel h (Lonely caller k r) m = refl
 mark_of-reply_to voxel h (Clusters caller k r) m = refl
+mark_of-reply_to voxel h (Pose caller rules p) m = refl
 mark_of-reply_to voxel h Sync m = refl
 
 marks-replies_from : (voxel : ℕ) (h : List Update) (cs : List Command) (marks : List ℕ) → length marks ≡ length cs + 1
@@ -163,6 +173,7 @@ pub serial_replies_legal : (s : ScriptAt) → AreLegalReplies s (replies s (seri
 serial_replies_legal s = replies_legal s (serial_marks s) (serial_is_legal s)
 
 -- the text of a run in the log's order is a legal transcript
-pub serial_text_legal : (log : List ℕ) (s : ScriptAt) → Spells log s → IsLegalTranscript log (text s (serial_marks s))
+pub serial_text_legal : (log : List ℕ) (s : ScriptAt) → Spells log s → IsLegalTranscript log (text s (serial_marks (plain_script s)))
 serial_text_legal log s spelled =
-    record { script = s; spelled = spelled; told = replies s (serial_marks s); legal = serial_replies_legal s; lines = refl }
+    let run = plain_script s in
+    record { script = s; spelled = spelled; told = replies run (serial_marks run); legal = serial_replies_legal run; lines = refl }

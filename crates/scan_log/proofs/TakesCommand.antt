@@ -15,11 +15,11 @@ use Rattle.scan_log.specs.declared.format.Format.{Format}
 use Rattle.scan_log.specs.Formats.{version_field, is_version, format_of, has_expiry, farthest, width}
 use Rattle.scan_log.specs.declared.format.Format.TheVariants.{One, Two}
 use Rattle.scan_log.specs.declared.command.Command.{Command}
-use Rattle.scan_log.specs.declared.command.Command.TheVariants.{Change, Near, Nears, Inside, Ball, Lonely, Clusters, Sync}
+use Rattle.scan_log.specs.declared.command.Command.TheVariants.{Change, Near, Nears, Inside, Ball, Lonely, Clusters, Pose, Sync}
 use Rattle.scan_log.specs.declared.fault.LogCause.TheVariants.{WrongCount}
 use Rattle.scan_log.specs.Steps.{◌>>=◌, given}
 use Rattle.scan_log.specs.Faults.{fields_points, fields_hits}
-use Rattle.scan_log.specs.Reading.{few_scanned_of, place_of, places_of, box_of, groups_of, few_places_of, few_boxes_of, units_of, expiry_of, update_of, near_of, inside_of, nears_of, ball_of, reach_of, basic_of, called_of, digit_caller, caller_of, after_caller, command_of, header_of}
+use Rattle.scan_log.specs.Reading.{few_scanned_of, place_of, places_of, box_of, groups_of, few_places_of, few_boxes_of, units_of, expiry_of, update_of, near_of, inside_of, nears_of, ball_of, reach_of, pose_of, basic_of, called_of, digit_caller, caller_of, after_caller, command_of, header_of}
 use Rattle.scan_log.specs.Numbers.{natural_in}
 use Rattle.scan_log.specs.Scripts.{AreScanned, IsCaller, ArePoints, AreBoxes, IsUpdate, IsCommand, room_of, asked, submitted}
 use Rattle.scan_log.specs.Spelling.{header_fields, scanned_fields, box_fields, caller_field, update_fields, command_fields, SpelledAsErase}
@@ -341,6 +341,45 @@ clusters_take room caller args c from e =
       listed = refl;
     })
 
+-- where a robot is
+pose_six_takes : (room caller : ℕ) (side ball step x y z : List ℕ) (c : Command) → IsCaller caller → pose_of caller (side ∷ ball ∷ step ∷ x ∷ y ∷ z ∷ []) ≡ Ok c
+    → TakesCommand Two room (caller_field caller ∷ codes "pose" ∷ side ∷ ball ∷ step ∷ x ∷ y ∷ z ∷ []) c
+unfolding pose_of
+pose_six_takes room caller side ball step x y z c from e =
+    let s = bound (natural_in 2 2199023255552 side) _ c e in
+    let b = bound (natural_in 0 ((s.0 - 1) / 2) ball) _ c s.2 in
+    let t = bound (natural_in 1 s.0 step) _ c b.2 in
+    let p = bound (place_of Two x y z) _ c t.2 in
+    let is : Pose caller (record { side = s.0; ball = b.0; step = t.0 }) p.0 ≡ c = cc p.2 in
+    let sides = natural_takes 2 2199023255552 side s.0 (omega arith) (omega arith) s.1 in
+    let balls = natural_takes 0 ((s.0 - 1) / 2) ball b.0 (omega arith) (omega (arith, sides.to)) b.1 in
+    let steps = natural_takes 1 s.0 step t.0 (omega arith) (omega (arith, sides.to)) t.1 in
+    let place = place_takes Two x y z p.0 p.1 in
+    rw (← is) (record {
+      spelled = inl (rw (← sides.text, ← balls.text, ← steps.text, ← place.0) refl);
+      limits = (
+        from,
+        record { side_from = sides.from; side_to = sides.to; ball = omega (arith, balls.to, sides.from); step_from = steps.from; step_to = steps.to },
+        place.1,
+        tt,
+      );
+      room = omega arith;
+      counted = refl;
+      listed = refl;
+    })
+
+pose_takes : (room caller : ℕ) (args : List (List ℕ)) (c : Command) → IsCaller caller → pose_of caller args ≡ Ok c
+    → TakesCommand Two room (caller_field caller ∷ codes "pose" ∷ args) c
+unfolding pose_of
+pose_takes room caller [] c from e = cc
+pose_takes room caller (k ∷ []) c from e = cc
+pose_takes room caller (k ∷ x ∷ []) c from e = cc
+pose_takes room caller (k ∷ x ∷ y ∷ []) c from e = cc
+pose_takes room caller (k ∷ x ∷ y ∷ z ∷ []) c from e = cc
+pose_takes room caller (k ∷ x ∷ y ∷ z ∷ f ∷ []) c from e = cc
+pose_takes room caller (k ∷ x ∷ y ∷ z ∷ f ∷ g ∷ []) c from e = pose_six_takes room caller k x y z f g c from e
+pose_takes room caller (k ∷ x ∷ y ∷ z ∷ f ∷ g ∷ h ∷ rest) c from e = cc
+
 -- a word of version 1, or an expiry
 basic_takes : (format : Format) (room caller : ℕ) (word : List ℕ) (args : List (List ℕ)) (c : Command) → IsCaller caller → basic_of format room caller word args ≡ Ok c
     → TakesCommand format room (caller_field caller ∷ word ∷ args) c
@@ -371,7 +410,10 @@ called_takes Two room caller word args c from e =
           | inl q ↦ rw (word_is word (codes "lonely") q.0) (lonely_takes room caller args c from q.1)
           | inr e ↦ elim (choice (bytes_eq word (codes "clusters")) _ _ c e) [
             | inl q ↦ rw (word_is word (codes "clusters") q.0) (clusters_take room caller args c from q.1)
-            | inr e ↦ basic_takes Two room caller word args c from e
+            | inr e ↦ elim (choice (bytes_eq word (codes "pose")) _ _ c e) [
+              | inl q ↦ rw (word_is word (codes "pose") q.0) (pose_takes room caller args c from q.1)
+              | inr e ↦ basic_takes Two room caller word args c from e
+            ]
           ]
         ]
       ]

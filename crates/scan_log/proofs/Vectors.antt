@@ -8,7 +8,7 @@ use Rattle.point_geom.specs.Place.{Place, Bounds}
 use Rattle.point_geom.specs.Boxes.{unit_box}
 use Rattle.point_geom.specs.Corners.{corner_of as corner_at}
 use Rattle.map_fold.specs.declared.update.Update.TheVariants.{Add, Thin, Delete, Suspend, Restore}
-use Rattle.scan_log.specs.declared.command.Command.TheVariants.{Change, Near, Nears, Inside, Ball, Lonely, Clusters, Sync}
+use Rattle.scan_log.specs.declared.command.Command.TheVariants.{Change, Near, Nears, Inside, Ball, Lonely, Clusters, Pose, Sync}
 use Rattle.scan_log.specs.declared.format.Format.TheVariants.{One, Two}
 use Rattle.scan_log.specs.declared.fault.LogCause.{LogCause}
 use Rattle.scan_log.specs.declared.fault.LogCause.TheVariants.{NoHeader, UnknownCommand, BadCaller, BadNumber, OutOfRange, WrongCount, InvertedBox, TooManyPoints, TooManyCommands, TooManyHits}
@@ -17,7 +17,8 @@ use Rattle.scan_log.specs.Numbers.{number_in}
 use Rattle.scan_log.specs.Faults.{FaultAt, command_fault, first_fault, fault_text}
 use Rattle.scan_log.specs.Scripts.{ScriptAt}
 use Rattle.scan_log.specs.Spelling.{header_fields, command_fields, LineSpells}
-use Rattle.scan_log.specs.Reading.{few_scanned_of, scanned_place_of, place_of, corner_of, box_of, groups_of, few_places_of, few_boxes_of, units_of, update_of, near_of, inside_of, nears_of, ball_of, reach_of, basic_of, called_of, caller_of, command_of, header_of, log_of}
+use Rattle.scan_log.specs.Reading.{few_scanned_of, scanned_place_of, place_of, corner_of, box_of, groups_of, few_places_of, few_boxes_of, units_of, update_of, near_of, inside_of, nears_of, ball_of, reach_of, pose_of, basic_of, called_of, caller_of, command_of, header_of, log_of}
+use Rattle.scan_log.specs.Poses.{plain_script}
 use Rattle.scan_log.specs.Transcript.{text, serial_marks}
 
 abbrev at : ℤ → ℤ → ℤ → Place
@@ -38,7 +39,7 @@ log_read : log_of log ≡ Ok script
 unfolding log_of header_of command_of caller_of called_of basic_of update_of few_places_of few_scanned_of groups_of place_of near_of
 log_read = refl
 
-script_told : text script (serial_marks script) ≡ codes "@1 ok 1\n@1 near 1 | 0 1 2 3 14\nend 1 live 1 suspended 0\n"
+script_told : text script (serial_marks (plain_script script)) ≡ codes "@1 ok 1\n@1 near 1 | 0 1 2 3 14\nend 1 live 1 suspended 0\n"
 unfolding digits
 script_told = refl
 
@@ -79,7 +80,7 @@ wide_log_read : log_of wide_log ≡ Ok wide_script
 unfolding log_of header_of command_of caller_of called_of basic_of update_of few_scanned_of scanned_place_of groups_of place_of near_of
 wide_log_read = refl
 
-wide_script_told : text wide_script (serial_marks wide_script)
+wide_script_told : text wide_script (serial_marks (plain_script wide_script))
     ≡ codes "@1 ok 1\n@1 near 1 | 1 1 2 3 65535 1208925819616828197961742 | 0 1099511627776 0 0 7 4835703278458516698824704\nend 1 live 2 suspended 0\n"
 unfolding digits
 wide_script_told = refl
@@ -103,10 +104,32 @@ searches_read : log_of log_of_searches ≡ Ok searches
 unfolding log_of header_of command_of caller_of called_of basic_of update_of few_scanned_of scanned_place_of groups_of place_of nears_of ball_of reach_of
 searches_read = refl
 
-searches_told : text searches (serial_marks searches)
+searches_told : text searches (serial_marks (plain_script searches))
     ≡ codes "@1 ok 1\n@1 nears 1 / | 0 0 0 0 1 1 / | 3 20 0 0 1 1\n@1 ball 1 3 | 0 0 0 0 1 | 1 3 0 0 1 | 2 6 0 0 1\n@1 lonely 1 2 | 3 20 0 0 1 | 4 24 0 0 1\n@1 clusters 1 3 | 0 3 | 3 1 | 4 1\n@1 clusters 1 2 | 0 3\nend 1 live 5 suspended 0\n"
 unfolding digits
 searches_told = refl
+
+-- a region that moves, as its caller's poses say, and what it leaves behind
+abbrev posed_script : ScriptAt
+posed_script = record {
+  format = Two;
+  sizes = record { voxel = 200; large = 1500 };
+  commands = Change 1 (Add (seen 0 ∷ record { x = negsuc 44; y = pos 0; z = pos 0; intensity = 2 } ∷ seen 45 ∷ []))
+      ∷ Pose 1 (record { side = 100; ball = 20; step = 30 }) (at (pos 0) (pos 0) (pos 0)) ∷ Pose 1 (record { side = 100; ball = 20; step = 30 }) (at (pos 30) (pos 0) (pos 0))
+      ∷ Near 1 3 (at (pos 0) (pos 0) (pos 0)) None ∷ [];
+}
+
+abbrev log_of_poses : List ℕ
+log_of_poses = codes "ikdmap 2 voxel 200 large 1500\n@1 add 0 0 0 1 -45 0 0 2 45 0 0 1\n@1 pose 100 20 30 0 0 0\n@1 pose 100 20 30 30 0 0\n@1 near 3 0 0 0\n"
+
+poses_read : log_of log_of_poses ≡ Ok posed_script
+unfolding log_of header_of command_of caller_of called_of basic_of update_of few_scanned_of scanned_place_of groups_of place_of near_of pose_of
+poses_read = refl
+
+poses_told : text posed_script (serial_marks (plain_script posed_script))
+    ≡ codes "@1 ok 1\n@1 ok 2\n@1 ok 3\n@1 near 3 | 0 0 0 0 1 0 | 2 45 0 0 1 2025\nend 3 live 2 suspended 0\n"
+unfolding digits
+poses_told = refl
 
 header_spelled : fields_of (codes "ikdmap 1 voxel 200 large 1500") ≡ header_fields One script.sizes
 unfolding digits
@@ -246,6 +269,10 @@ places_before_count = refl
 
 newer_word : command_fault One 0 0 0 (fields_of (codes "@1 lonely 5 3")) ≡ Some UnknownCommand
 newer_word = refl
+
+-- a ball that touches both faces of a region
+wide_ball : command_fault Two 0 0 0 (fields_of (codes "@1 pose 100 50 x 0 0 0")) ≡ Some OutOfRange
+wide_ball = refl
 
 distance_before_point : command_fault Two 0 0 0 (fields_of (codes "@1 ball 5 4398046511105 x 0 0")) ≡ Some OutOfRange
 distance_before_point = refl

@@ -10,7 +10,7 @@ use Rattle.scan_log.specs.declared.format.Format.{Format}
 use Rattle.scan_log.specs.declared.format.Format.TheVariants.{One, Two}
 use Rattle.scan_log.specs.Formats.{farthest}
 use Rattle.scan_log.specs.declared.command.Command.{Command}
-use Rattle.scan_log.specs.declared.command.Command.TheVariants.{Change, Near, Nears, Inside, Ball, Lonely, Clusters, Sync}
+use Rattle.scan_log.specs.declared.command.Command.TheVariants.{Change, Near, Nears, Inside, Ball, Lonely, Clusters, Pose, Sync}
 use Rattle.scan_log.specs.Scripts.{IsLogCoordinate, IsLogPlace, IsScannedPlace, AreScanned, IsBoxNumber, IsBoxCorner, IsCallerBox, AreBoxes, IsUpdate, IsCommand}
 
 coordinate_widens : (format : Format) (c : ℤ) → IsLogCoordinate format c → IsLogCoordinate Two c
@@ -70,6 +70,8 @@ command_widens One (Lonely caller k r) h = absurd h.4
 command_widens Two (Lonely caller k r) h = h
 command_widens One (Clusters caller k r) h = absurd h.4
 command_widens Two (Clusters caller k r) h = h
+command_widens One (Pose caller rules p) h = absurd h.3
+command_widens Two (Pose caller rules p) h = h
 command_widens format Sync h = tt
 
 pub commands_widen : (format : Format) (cs : List Command) → AllByRecursion (IsCommand format) cs → AllByRecursion (IsCommand Two) cs

@@ -1,5 +1,5 @@
 -- The fields of commands have no spaces and no line feeds.
-use Rattle.std.proofs.Common.{◌≡◌, ℕ, suc, ◌<◌, ◌≤◌, ◌^◌, true, List, [], ◌∷◌, ◌++◌, refl, arith, ℤ, pos, ◌≤ℤ◌, ◌∙◌, None, Some, Option}
+use Rattle.std.proofs.Common.{◌≡◌, ℕ, suc, ◌*◌, ◌<◌, ◌≤◌, ◌^◌, true, List, [], ◌∷◌, ◌++◌, refl, arith, ℤ, pos, ◌≤ℤ◌, ◌∙◌, None, Some, Option}
 use lib.IntN.{negsuc}
 use Rattle.std.specs.Prelude.{decimal}
 use Rattle.std.specs.Fmt.{signed_decimal}
@@ -23,7 +23,7 @@ use Rattle.scan_log.proofs.NumbersAgain.{farthest_fits}
 use Rattle.scan_log.specs.Formats.{version_field, highest, box_highest, farthest}
 use Rattle.scan_log.specs.declared.format.Format.TheVariants.{One, Two}
 use Rattle.scan_log.specs.declared.command.Command.{Command}
-use Rattle.scan_log.specs.declared.command.Command.TheVariants.{Change, Near, Nears, Inside, Ball, Lonely, Clusters, Sync}
+use Rattle.scan_log.specs.declared.command.Command.TheVariants.{Change, Near, Nears, Inside, Ball, Lonely, Clusters, Pose, Sync}
 use Rattle.scan_log.specs.Scripts.{IsCaller, IsBoxCorner, IsCallerBox, IsUpdate, IsCommand, IsLogPlace, IsScannedPlace, IsBoxNumber}
 use Rattle.scan_log.specs.Spelling.{header_fields, scanned_fields, corner_fields, point_fields, box_fields, update_fields, within_fields, caller_field, command_fields}
 use Rattle.scan_log.proofs.WrittenLines.{is_in_field, are_fields}
@@ -115,6 +115,13 @@ commands_fields format (Inside caller k c) h =
 commands_fields format (Ball caller k r p) h = reaches_fields format caller k r (point_fields p) h.0 h.2 h.3 (place_fields format p h.4)
 commands_fields format (Lonely caller k r) h = reaches_fields format caller k r [] h.0 h.2 h.3 refl
 commands_fields format (Clusters caller k r) h = reaches_fields format caller k r [] h.0 h.2 h.3 refl
+commands_fields format (Pose caller rules p) h =
+    let side : rules.side ≤ 2199023255552 = h.1.side_to in
+    let ball : 2 * rules.ball < rules.side = h.1.ball in
+    let step : rules.step ≤ rules.side = h.1.step_to in
+    and_from _ _ (decimal_field caller (omega (arith, h.0.1)))
+    (and_from _ _ (decimal_field rules.side (omega arith))
+    (and_from _ _ (decimal_field rules.ball (omega arith)) (and_from _ _ (decimal_field rules.step (omega arith)) (place_fields format p h.2))))
 commands_fields format Sync h = refl
 
 version_in_field : (format : Format) → list_all is_in_field (version_field format) ≡ true

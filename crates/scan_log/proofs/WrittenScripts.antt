@@ -3,7 +3,7 @@ use Rattle.std.proofs.Common.{◌≡◌, ◌+◌, true, List, [], ◌∷◌, len
 use Rattle.std.specs.List.{flat_map, AllByRecursion}
 use Rattle.scan_log.specs.declared.format.Format.{Format}
 use Rattle.scan_log.specs.declared.command.Command.{Command}
-use Rattle.scan_log.specs.declared.command.Command.TheVariants.{Change, Near, Nears, Inside, Ball, Lonely, Clusters, Sync}
+use Rattle.scan_log.specs.declared.command.Command.TheVariants.{Change, Near, Nears, Inside, Ball, Lonely, Clusters, Pose, Sync}
 use Rattle.scan_log.specs.Lines.{lines_of, is_kept, fields_of}
 use Rattle.scan_log.specs.Faults.{line_feeds}
 use Rattle.scan_log.specs.Scripts.{ScriptAt, IsCommand, IsScript}
@@ -21,6 +21,7 @@ command_is_kept format (Inside caller k b) = refl
 command_is_kept format (Ball caller k r p) = refl
 command_is_kept format (Lonely caller k r) = refl
 command_is_kept format (Clusters caller k r) = refl
+command_is_kept format (Pose caller rules p) = refl
 command_is_kept format Sync = refl
 
 -- and its fields are the command's
@@ -32,6 +33,7 @@ command_is_spelled format (Inside caller k b) h = fields_of-joined _ _ (commands
 command_is_spelled format (Ball caller k r p) h = fields_of-joined _ _ (commands_fields format (Ball caller k r p) h)
 command_is_spelled format (Lonely caller k r) h = fields_of-joined _ _ (commands_fields format (Lonely caller k r) h)
 command_is_spelled format (Clusters caller k r) h = fields_of-joined _ _ (commands_fields format (Clusters caller k r) h)
+command_is_spelled format (Pose caller rules p) h = fields_of-joined _ _ (commands_fields format (Pose caller rules p) h)
 command_is_spelled format Sync h = fields_of-joined _ _ (commands_fields format Sync h)
 
 commands_spelled : (format : Format) (cs : List Command) → AllByRecursion (IsCommand format) cs → LinesSpell format (filter is_kept (lines_of (flat_map (command_text format) cs))) cs

@@ -1,5 +1,5 @@
 -- The first fault of a log, in the order of the checks.
-use Rattle.std.specs.Prelude.{ℕ, ◌+◌, ◌*◌, ◌/◌, ◌%◌, ℤ, pos, unsigned_abs, Bool, true, false, not, ◌&&◌, ◌||◌, ◌==◌, nat_lt, nat_le, int_le, List, [], ◌∷◌, ◌++◌, count_by, length, codes, decimal, if◌then◌else◌}
+use Rattle.std.specs.Prelude.{ℕ, ◌+◌, ◌-◌, ◌*◌, ◌/◌, ◌%◌, ℤ, pos, unsigned_abs, Bool, true, false, not, ◌&&◌, ◌||◌, ◌==◌, nat_lt, nat_le, int_le, List, [], ◌∷◌, ◌++◌, count_by, length, codes, decimal, if◌then◌else◌}
 use Rattle.std.specs.Str.{bytes_eq}
 use Rattle.std.specs.Str.Parse.{signed_digits_value}
 use Rattle.std.specs.declared.option.Option.{Option}
@@ -141,6 +141,13 @@ abbrev pub reach_fault : List (List ℕ) → Option LogCause
 reach_fault (k ∷ r ∷ []) = k_fault k orelse distance_fault r
 reach_fault args = Some WrongCount
 
+-- twice the ball is to be below the side, and the step no longer than it
+abbrev pub pose_fault : List (List ℕ) → Option LogCause
+pose_fault (side ∷ ball ∷ step ∷ x ∷ y ∷ z ∷ []) =
+    number_fault (pos 2) (pos 2199023255552) side orelse number_fault (pos 0) (pos ((unsigned_abs (value side) - 1) / 2)) ball
+    orelse number_fault (pos 1) (pos (unsigned_abs (value side))) step orelse coordinates_fault Two (x ∷ y ∷ z ∷ [])
+pose_fault args = Some WrongCount
+
 -- a command of this word and these arguments, of those that version 1 has, or an expiry
 abbrev pub basic_fault : Format → ℕ → List ℕ → List (List ℕ) → Option LogCause
 basic_fault format before word args =
@@ -157,7 +164,8 @@ word_fault One before word args = basic_fault One before word args
 word_fault Two before word args =
     if bytes_eq word (codes "nears") then nears_fault args else (
     if bytes_eq word (codes "ball") then ball_fault args else (
-    if bytes_eq word (codes "lonely") || bytes_eq word (codes "clusters") then reach_fault args else basic_fault Two before word args))
+    if bytes_eq word (codes "lonely") || bytes_eq word (codes "clusters") then reach_fault args else (
+    if bytes_eq word (codes "pose") then pose_fault args else basic_fault Two before word args)))
 
 -- one digit from 1 to 8
 abbrev pub is_caller : List ℕ → Bool

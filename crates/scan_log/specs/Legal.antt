@@ -2,9 +2,10 @@
 use Rattle.std.specs.Prelude.{◌≡◌, ℕ, zero, suc, ◌+◌, ◌<◌, ◌≤◌, List, [], ◌∷◌, map, length, slice_get, Some}
 use Rattle.std.specs.List.{AllByRecursion}
 use Rattle.scan_log.specs.declared.command.Command.{Command}
-use Rattle.scan_log.specs.declared.command.Command.TheVariants.{Change, Near, Nears, Inside, Ball, Lonely, Clusters, Sync}
+use Rattle.scan_log.specs.declared.command.Command.TheVariants.{Change, Near, Nears, Inside, Ball, Lonely, Clusters, Pose, Sync}
 use Rattle.scan_log.specs.declared.reply.Reply.{Reply}
 use Rattle.scan_log.specs.Scripts.{ScriptAt}
+use Rattle.scan_log.specs.Poses.{plain_script}
 use Rattle.scan_log.specs.Spelling.{Spells}
 use Rattle.scan_log.specs.Transcript.{updates_in, marked_updates, replies, mark_of, lines_text}
 
@@ -22,6 +23,7 @@ Concerns x (Inside caller k c) = caller ≡ x
 Concerns x (Ball caller k r p) = caller ≡ x
 Concerns x (Lonely caller k r) = caller ≡ x
 Concerns x (Clusters caller k r) = caller ≡ x
+Concerns x (Pose caller rules p) = caller ≡ x
 Concerns x Sync = Unit {0}
 
 -- a later mark isn't below, and that of an update is above
@@ -33,6 +35,7 @@ IsLater m (Inside caller k c) n = m ≤ n
 IsLater m (Ball caller k r p) n = m ≤ n
 IsLater m (Lonely caller k r) n = m ≤ n
 IsLater m (Clusters caller k r) n = m ≤ n
+IsLater m (Pose caller rules p) n = m ≤ n
 IsLater m Sync n = m ≤ n
 
 -- after a caller's command with the mark m may come one with the mark n; after a barrier every command is asked
@@ -44,6 +47,7 @@ MayFollow (Inside caller k c) m d n = Concerns caller d → IsLater m d n
 MayFollow (Ball caller k r p) m d n = Concerns caller d → IsLater m d n
 MayFollow (Lonely caller k r) m d n = Concerns caller d → IsLater m d n
 MayFollow (Clusters caller k r) m d n = Concerns caller d → IsLater m d n
+MayFollow (Pose caller rules p) m d n = Concerns caller d → IsLater m d n
 MayFollow Sync m d n = IsLater m d n
 
 -- all these commands may come after it
@@ -74,10 +78,10 @@ pub record AreLegalReplies (s : ScriptAt) (rs : List Reply) : Type 0 where
   pub legal : IsLegal s.commands (map mark_of rs)
   pub replies : rs ≡ replies s (map mark_of rs)
 
--- the text is a legal transcript of the log
+-- the text is a legal transcript of the log, with each pose as the deletion that it submits
 pub record IsLegalTranscript (log out : List ℕ) : Type 0 where
   pub script : ScriptAt
   pub spelled : Spells log script
   pub told : List Reply
-  pub legal : AreLegalReplies script told
+  pub legal : AreLegalReplies (plain_script script) told
   pub lines : out ≡ lines_text script.format script.commands told

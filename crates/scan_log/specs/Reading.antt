@@ -14,7 +14,7 @@ use Rattle.scan_log.specs.declared.format.Format.{Format}
 use Rattle.scan_log.specs.declared.format.Format.TheVariants.{One, Two}
 use Rattle.scan_log.specs.Formats.{farthest, format_of, greatest_intensity, has_expiry, is_version, width}
 use Rattle.scan_log.specs.declared.command.Command.{Command}
-use Rattle.scan_log.specs.declared.command.Command.TheVariants.{Change, Near, Nears, Inside, Ball, Lonely, Clusters, Sync}
+use Rattle.scan_log.specs.declared.command.Command.TheVariants.{Change, Near, Nears, Inside, Ball, Lonely, Clusters, Pose, Sync}
 use Rattle.scan_log.specs.declared.fault.LogCause.{LogCause}
 use Rattle.scan_log.specs.declared.fault.LogCause.TheVariants.{NoHeader, UnknownCommand, BadCaller, WrongCount, InvertedBox, TooManyPoints, TooManyCommands, TooManyHits}
 use Rattle.scan_log.specs.Steps.{◌>>=◌, given}
@@ -200,6 +200,16 @@ reach_of (count ∷ distance ∷ []) = do
   Ok (k, r)
 reach_of args = Err WrongCount
 
+-- pose, and its six arguments: twice the ball is below the side, and the step no longer than it
+unfoldable pub pose_of : ℕ → List (List ℕ) → Result Command LogCause
+pose_of caller (side ∷ ball ∷ step ∷ x ∷ y ∷ z ∷ []) = do
+  s ← natural_in 2 2199023255552 side
+  b ← natural_in 0 ((s - 1) / 2) ball
+  t ← natural_in 1 s step
+  p ← place_of Two x y z
+  Ok (Pose caller (record { side = s; ball = b; step = t }) p)
+pose_of caller args = Err WrongCount
+
 -- the command of a word that version 1 has, or an expiry
 unfoldable pub basic_of : Format → ℕ → ℕ → List ℕ → List (List ℕ) → Result Command LogCause
 basic_of format room caller word args =
@@ -213,7 +223,8 @@ called_of Two room caller word args =
     if bytes_eq word (codes "nears") then nears_of caller args else
     (if bytes_eq word (codes "ball") then ball_of caller args else
     (if bytes_eq word (codes "lonely") then (reach_of args >>= λ q. Ok (Lonely caller q.0 q.1)) else
-    (if bytes_eq word (codes "clusters") then (reach_of args >>= λ q. Ok (Clusters caller q.0 q.1)) else basic_of Two room caller word args)))
+    (if bytes_eq word (codes "clusters") then (reach_of args >>= λ q. Ok (Clusters caller q.0 q.1)) else
+    (if bytes_eq word (codes "pose") then pose_of caller args else basic_of Two room caller word args))))
 
 -- the caller of one digit from 1 to 8
 abbrev pub digit_caller : List ℕ → Result ℕ LogCause

@@ -4,6 +4,7 @@ use Rattle.std.specs.List.{AllByRecursion}
 use Rattle.std.specs.Option.{ForSome}
 use Rattle.point_geom.specs.Place.{Place, Bounds, IsUpright}
 use Rattle.point_geom.specs.declared.cuboid.Corner.{Corner}
+use Rattle.local_region.specs.Rules.{AreRules}
 use Rattle.map_fold.specs.Sizes.{Sizes, AreSizes}
 use Rattle.map_fold.specs.Fold.{points_in}
 use Rattle.map_fold.specs.declared.update.Update.{Update}
@@ -12,7 +13,7 @@ use Rattle.scan_log.specs.declared.format.Format.{Format}
 use Rattle.scan_log.specs.declared.format.Format.TheVariants.{One, Two}
 use Rattle.scan_log.specs.Formats.{HasNewer, lowest, highest, box_highest, farthest, greatest_intensity}
 use Rattle.scan_log.specs.declared.command.Command.{Command}
-use Rattle.scan_log.specs.declared.command.Command.TheVariants.{Change, Near, Nears, Inside, Ball, Lonely, Clusters, Sync}
+use Rattle.scan_log.specs.declared.command.Command.TheVariants.{Change, Near, Nears, Inside, Ball, Lonely, Clusters, Pose, Sync}
 
 -- what a log says: its version, the settings, and the commands in order
 pub record ScriptAt : Type 0 where
@@ -89,6 +90,7 @@ IsCommand format (Inside caller k c) = IsCaller caller × (1 ≤ k) × (k ≤ 25
 IsCommand format (Ball caller k r p) = IsCaller caller × (1 ≤ k) × (k ≤ 256) × (r ≤ farthest format) × IsLogPlace format p × HasNewer format
 IsCommand format (Lonely caller k r) = IsCaller caller × (1 ≤ k) × (k ≤ 256) × (r ≤ farthest format) × HasNewer format
 IsCommand format (Clusters caller k r) = IsCaller caller × (1 ≤ k) × (k ≤ 256) × (r ≤ farthest format) × HasNewer format
+IsCommand format (Pose caller rules p) = IsCaller caller × AreRules rules × IsLogPlace format p × HasNewer format
 IsCommand format Sync = Unit {0}
 
 -- how many points a command submits
@@ -100,6 +102,7 @@ submitted (Inside caller k c) = 0
 submitted (Ball caller k r p) = 0
 submitted (Lonely caller k r) = 0
 submitted (Clusters caller k r) = 0
+submitted (Pose caller rules p) = 0
 submitted Sync = 0
 
 -- how many points the commands submit
@@ -120,6 +123,7 @@ asked (Inside caller k c) = 0
 asked (Ball caller k r p) = 0
 asked (Lonely caller k r) = 0
 asked (Clusters caller k r) = 0
+asked (Pose caller rules p) = 0
 asked Sync = 0
 
 -- how many hits the replies to the commands have room for

@@ -14,7 +14,7 @@ use Rattle.scan_log.specs.declared.format.Format.{Format}
 use Rattle.scan_log.specs.declared.format.Format.TheVariants.{One, Two}
 use Rattle.scan_log.specs.Formats.{version_field}
 use Rattle.scan_log.specs.declared.command.Command.{Command}
-use Rattle.scan_log.specs.declared.command.Command.TheVariants.{Change, Near, Nears, Inside, Ball, Lonely, Clusters, Sync}
+use Rattle.scan_log.specs.declared.command.Command.TheVariants.{Change, Near, Nears, Inside, Ball, Lonely, Clusters, Pose, Sync}
 use Rattle.scan_log.specs.Lines.{kept_lines, fields_of}
 use Rattle.scan_log.specs.Scripts.{ScriptAt, ArePoints, IsScript}
 
@@ -68,6 +68,8 @@ command_fields format (Inside caller k c) = caller_field caller ∷ codes "box" 
 command_fields format (Ball caller k r p) = caller_field caller ∷ codes "ball" ∷ decimal k ∷ decimal r ∷ point_fields p
 command_fields format (Lonely caller k r) = caller_field caller ∷ codes "lonely" ∷ decimal k ∷ decimal r ∷ []
 command_fields format (Clusters caller k r) = caller_field caller ∷ codes "clusters" ∷ decimal k ∷ decimal r ∷ []
+command_fields format (Pose caller rules p) =
+    caller_field caller ∷ codes "pose" ∷ decimal rules.side ∷ decimal rules.ball ∷ decimal rules.step ∷ point_fields p
 command_fields format Sync = codes "sync" ∷ []
 
 -- A deletion of points, each by its unit cuboid, may be spelled by the points alone.

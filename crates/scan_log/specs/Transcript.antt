@@ -19,11 +19,14 @@ use Rattle.map_fold.specs.Fold.{fold}
 use Rattle.scan_log.specs.declared.format.Format.{Format}
 use Rattle.scan_log.specs.declared.format.Format.TheVariants.{One, Two}
 use Rattle.scan_log.specs.declared.command.Command.{Command}
-use Rattle.scan_log.specs.declared.command.Command.TheVariants.{Change, Near, Nears, Inside, Ball, Lonely, Clusters, Sync}
+use Rattle.scan_log.specs.declared.command.Command.TheVariants.{Change, Near, Nears, Inside, Ball, Lonely, Clusters, Pose, Sync}
 use Rattle.scan_log.specs.declared.reply.Reply.{Reply}
 use Rattle.scan_log.specs.declared.reply.Reply.TheVariants as reply
 use Rattle.scan_log.specs.Scripts.{ScriptAt}
+use Rattle.scan_log.specs.Poses.{plain_script}
 use Rattle.scan_log.specs.Spelling.{caller_field, point_fields, scanned_fields}
+
+-- These speak of commands among which each pose stands as the deletion that it submits, and say nothing of a pose itself.
 
 -- how many of the commands are updates
 abbrev pub updates_in : List Command → ℕ
@@ -35,6 +38,7 @@ updates_in (Inside caller k c ∷ cs) = updates_in cs
 updates_in (Ball caller k r p ∷ cs) = updates_in cs
 updates_in (Lonely caller k r ∷ cs) = updates_in cs
 updates_in (Clusters caller k r ∷ cs) = updates_in cs
+updates_in (Pose caller rules p ∷ cs) = updates_in cs
 updates_in (Sync ∷ cs) = updates_in cs
 
 -- an update before the first whose mark is greater
@@ -51,6 +55,7 @@ marked_updates (Inside caller k c ∷ cs) (m ∷ marks) = marked_updates cs mark
 marked_updates (Ball caller k r p ∷ cs) (m ∷ marks) = marked_updates cs marks
 marked_updates (Lonely caller k r ∷ cs) (m ∷ marks) = marked_updates cs marks
 marked_updates (Clusters caller k r ∷ cs) (m ∷ marks) = marked_updates cs marks
+marked_updates (Pose caller rules p ∷ cs) (m ∷ marks) = marked_updates cs marks
 marked_updates (Sync ∷ cs) (m ∷ marks) = marked_updates cs marks
 marked_updates [] marks = []
 marked_updates cs [] = []
@@ -84,6 +89,7 @@ reply_to voxel h (Inside caller k c) m = reply.Inside (record { mark = m; count 
 reply_to voxel h (Ball caller k r p) m = reply.Ball (found_reply m (ball (held_at voxel h m) p r) k)
 reply_to voxel h (Lonely caller k r) m = reply.Lonely (found_reply m (lonely (held_at voxel h m) r) k)
 reply_to voxel h (Clusters caller k r) m = reply.Clusters (clusters_reply m (clusters (held_at voxel h m) r) k)
+reply_to voxel h (Pose caller rules p) m = reply.Done m
 reply_to voxel h Sync m = totals_reply voxel h m
 
 -- one reply for each command, and one for the end
@@ -117,6 +123,7 @@ serial_marks_from n (Inside caller k c ∷ cs) = n ∷ serial_marks_from n cs
 serial_marks_from n (Ball caller k r p ∷ cs) = n ∷ serial_marks_from n cs
 serial_marks_from n (Lonely caller k r ∷ cs) = n ∷ serial_marks_from n cs
 serial_marks_from n (Clusters caller k r ∷ cs) = n ∷ serial_marks_from n cs
+serial_marks_from n (Pose caller rules p ∷ cs) = n ∷ serial_marks_from n cs
 serial_marks_from n (Sync ∷ cs) = n ∷ serial_marks_from n cs
 
 -- the marks of a script that runs in the log's order
@@ -199,6 +206,7 @@ reply_text format (Some (Inside caller k c)) (reply.Inside r) = items_text forma
 reply_text format (Some (Ball caller k r p)) (reply.Ball found) = items_text format caller (codes "ball") found
 reply_text format (Some (Lonely caller k r)) (reply.Lonely found) = items_text format caller (codes "lonely") found
 reply_text format (Some (Clusters caller k r)) (reply.Clusters found) = clusters_text caller found
+reply_text format (Some (Pose caller rules p)) (reply.Done mark) = done_text caller mark
 reply_text format (Some Sync) (reply.Totals mark live suspended) = totals_text (codes "sync") mark live suspended
 reply_text format None (reply.Totals mark live suspended) = totals_text (codes "end") mark live suspended
 reply_text format c r = []
@@ -209,6 +217,6 @@ lines_text format (c ∷ cs) (r ∷ rs) = reply_text format (Some c) r ++ lines_
 lines_text format [] (r ∷ rs) = reply_text format None r
 lines_text format cs [] = []
 
--- the transcript of a script under these marks
+-- the transcript of a script under these marks: each pose is answered as the deletion that it submits
 abbrev pub text : ScriptAt → List ℕ → List ℕ
-text s marks = lines_text s.format s.commands (replies s marks)
+text s marks = lines_text s.format s.commands (replies (plain_script s) marks)

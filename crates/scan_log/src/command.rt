@@ -2,6 +2,7 @@
 ghost use Rattle.std.specs.Prelude.{◌≡◌};
 ghost use Rattle.scan_log.specs.Scripts.{room_of};
 
+use local_region::RegionRules;
 use map_fold::{Points, Update};
 use point_geom::{Cuboid, Point};
 
@@ -71,6 +72,15 @@ pub enum Command {
         /// Up to which distance two points are joined, in millimetres, at most 4,398,046,511,104.
         r: u64,
     },
+    /// A place that a robot has come to. What its region of the map leaves behind by it is deleted. In logs of version 2 alone.
+    Pose {
+        /// From 1 to 8.
+        caller: u8,
+        /// How its region moves. Under other rules than before, a new region begins.
+        rules: RegionRules,
+        /// Of intensity 0.
+        point: Point,
+    },
     /// A barrier: what stands after it comes after what stands before it.
     Sync,
 }
@@ -92,6 +102,7 @@ impl Command {
             | Command::Ball { .. }
             | Command::Lonely { .. }
             | Command::Clusters { .. }
+            | Command::Pose { .. }
             | Command::Sync => 0,
         }
     }
@@ -109,6 +120,7 @@ impl Command {
             | Command::Ball { .. }
             | Command::Lonely { .. }
             | Command::Clusters { .. }
+            | Command::Pose { .. }
             | Command::Sync => 0,
         }
     }

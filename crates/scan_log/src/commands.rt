@@ -10,6 +10,7 @@ use crate::fields::Fields;
 use crate::line_fault::LineFault;
 use crate::number::natural_in;
 use crate::points::scanned_points;
+use crate::poses::pose;
 use crate::queries::{ball, inside, near, nears, reach};
 use crate::{Command, Format, LogCause};
 use map_fold::Update;
@@ -113,6 +114,9 @@ fn wide(
     if word == b"clusters".as_slice() {
         let (k, r) = reach(fields)?;
         return Ok(Command::Clusters { caller, k, r });
+    }
+    if word == b"pose".as_slice() {
+        return Ok(pose(caller, fields)?);
     }
     basic(alloc, Format::Two, room, caller, word, fields)
 }

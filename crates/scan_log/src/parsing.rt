@@ -17,6 +17,7 @@ use std::alloc::Global;
 
 const MAX_POINTS: usize = 4_194_304;
 
+// Of all replies together, which are kept in memory.
 const MAX_HITS: usize = 16_777_216;
 
 /// The script that the log spells, or the first fault of the first faulty line. Costs time by the log's length, and memory

@@ -60,6 +60,7 @@ fn put_answer(
 {
     match (command, reply) {
         (Command::Change { caller, .. }, Reply::Done { mark }) => put_done(out, *caller, *mark),
+        (Command::Pose { caller, .. }, Reply::Done { mark }) => put_done(out, *caller, *mark),
         (Command::Near { caller, .. }, Reply::Near(near)) => put_near(out, format, *caller, near),
         (Command::Nears { caller, .. }, Reply::Nears(nears)) => {
             put_nears(out, format, *caller, nears)

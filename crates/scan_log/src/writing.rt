@@ -9,6 +9,7 @@ ghost use Rattle.scan_log.specs.Written.{command_text, corner_text, cuboid_text,
 
 use crate::putting::{put, put_caller, put_point, put_spaced, put_word};
 use crate::{Command, Format, Script};
+use local_region::RegionRules;
 use map_fold::{NoMemory, Settings, Update};
 use point_geom::{Corner, Cuboid, Point};
 use std::alloc::Global;
@@ -91,6 +92,11 @@ fn put_command(out: &mut Vec<u8>, format: Format, command: &Command) -> Result<(
         } => put_ball(out, *caller, *k, *r, point)?,
         Command::Lonely { caller, k, r } => put_reach(out, *caller, b"lonely", *k, *r)?,
         Command::Clusters { caller, k, r } => put_reach(out, *caller, b"clusters", *k, *r)?,
+        Command::Pose {
+            caller,
+            rules,
+            point,
+        } => put_pose(out, *caller, rules, point)?,
         Command::Sync => put(out, b"sync")?,
     }
     put(out, b"\n")
@@ -154,6 +160,22 @@ fn put_reach(out: &mut Vec<u8>, caller: u8, word: &[u8], k: u32, r: u64) -> Resu
     put_word(out, word)?;
     put_spaced(out, k)?;
     put_spaced(out, r)
+}
+
+fn put_pose(
+    out: &mut Vec<u8>,
+    caller: u8,
+    rules: &RegionRules,
+    point: &Point,
+) -> Result<(), NoMemory>
+    ensures { OnOk result (out.new.items ≡ out.old.items ++ joined (caller_field caller ∷ codes "pose" ∷ decimal rules.now.side ∷ decimal rules.now.ball ∷ decimal rules.now.step ∷ point_fields point.now)) }
+{
+    put_caller(out, caller)?;
+    put_word(out, b"pose")?;
+    put_spaced(out, rules.side())?;
+    put_spaced(out, rules.ball())?;
+    put_spaced(out, rules.step())?;
+    put_point(out, point)
 }
 
 #[tactic(auto, using(crate::proofs::WrittenLines::spaced_points, crate::proofs::WrittenLines::spaced_boxes))]
