@@ -3,8 +3,9 @@ ghost use Rattle.std.specs.Prelude.{◌≡◌};
 ghost use Rattle.scan_log.specs.Scripts.{room_of};
 
 use local_region::RegionRules;
-use map_fold::{Points, Update};
+use map_fold::{NoMemory, Points, Update};
 use point_geom::{Cuboid, Point};
+use std::alloc::Global;
 
 /// A command of a log.
 #[derive(Debug, Drop)]
@@ -86,7 +87,7 @@ pub enum Command {
 }
 
 impl Command {
-    ghost use Rattle.std.specs.Prelude.{◌≡◌};
+    ghost use Rattle.std.specs.Prelude.{◌≡◌, IfOk};
     ghost use Rattle.scan_log.specs.declared.format.Format.TheVariants.{Two};
     ghost use Rattle.scan_log.specs.Scripts.{IsCommand, asked, submitted};
 
@@ -123,6 +124,61 @@ impl Command {
             | Command::Pose { .. }
             | Command::Sync => 0,
         }
+    }
+
+    /// An equal command, with memory of its own.
+    pub fn copy(&self, alloc: Global) -> Result<Command, NoMemory>
+        ensures { IfOk result (λ copy. copy ≡ self.now) }
+    {
+        Ok(match *self {
+            Command::Change { caller, ref update } => {
+                let update = update.copy(alloc)?;
+                Command::Change { caller, update }
+            }
+            Command::Nears {
+                caller,
+                k,
+                ref points,
+            } => {
+                let points = points.copy(alloc)?;
+                Command::Nears { caller, k, points }
+            }
+            Command::Near {
+                caller,
+                k,
+                point,
+                within,
+            } => Command::Near {
+                caller,
+                k,
+                point,
+                within,
+            },
+            Command::Inside { caller, k, cuboid } => Command::Inside { caller, k, cuboid },
+            Command::Ball {
+                caller,
+                k,
+                r,
+                point,
+            } => Command::Ball {
+                caller,
+                k,
+                r,
+                point,
+            },
+            Command::Lonely { caller, k, r } => Command::Lonely { caller, k, r },
+            Command::Clusters { caller, k, r } => Command::Clusters { caller, k, r },
+            Command::Pose {
+                caller,
+                rules,
+                point,
+            } => Command::Pose {
+                caller,
+                rules,
+                point,
+            },
+            Command::Sync => Command::Sync,
+        })
     }
 }
 

@@ -12,8 +12,7 @@ use point_geom::Point;
 use std::alloc::Global;
 use std::marker::Model;
 
-/// A script in which each pose stands as the change that it submits: the deletion of what its caller's region leaves. The changes
-/// are copies, so it takes about as much memory as the script.
+/// A script in which each pose stands as the change that it submits: the deletion of what its caller's region leaves.
 #[derive(Debug, Drop)]
 pub struct PlainScript {
     format: Format,
@@ -35,16 +34,26 @@ impl Model for PlainScript {
 impl PlainScript {
     ghost use Rattle.scan_log.specs.Plain.{IsPlainScript};
 
-    /// The script with each pose as the change that it submits.
-    pub fn of(alloc: Global, script: &Script) -> Result<PlainScript, NoMemory>
-        ensures { IfOk result (λ s. s ≡ plain_script script.now) }
+    /// The script with each pose's change put in its place. Takes memory for these changes alone, and lets the script go where that
+    /// is wanting.
+    pub fn of(alloc: Global, script: Script) -> Result<PlainScript, NoMemory>
+        ensures { IfOk result (λ s. s ≡ plain_script script) }
     {
-        let commands = plain_commands(alloc, script.commands())?;
+        let format = script.format();
+        let settings = *script.settings();
+        let commands = with_changes(alloc, script.into_commands())?;
         Ok(PlainScript {
-            format: script.format(),
-            settings: *script.settings(),
+            format,
+            settings,
             commands,
         })
+    }
+
+    /// The same of a copy, which takes about as much memory as the script.
+    pub fn copied(alloc: Global, script: &Script) -> Result<PlainScript, NoMemory>
+        ensures { IfOk result (λ s. s ≡ plain_script script.now) }
+    {
+        PlainScript::of(alloc, script.copy(alloc)?)
     }
 
     /// The version of the log.
@@ -70,17 +79,26 @@ impl PlainScript {
     }
 }
 
-fn plain_commands(alloc: Global, commands: &[Command]) -> Result<Vec<Command>, NoMemory>
-    requires { AllByRecursion (IsCommand Two) commands.now }
-    ensures { IfOk result (λ v. v.items ≡ plain commands.now) }
+// The commands, each pose's change put in its place.
+fn with_changes(alloc: Global, commands: Vec<Command>) -> Result<Vec<Command>, NoMemory>
+    requires { AllByRecursion (IsCommand Two) commands.items }
+    ensures { IfOk result (λ v. v.items ≡ plain commands.items) }
+{
+    let mut commands = commands;
+    put_changes(alloc, commands.as_mut_slice())?;
+    Ok(commands)
+}
+
+// Puts each pose's change in its place.
+fn put_changes(alloc: Global, commands: &mut [Command]) -> Result<(), NoMemory>
+    requires { AllByRecursion (IsCommand Two) commands.old }
+    ensures { OnOk result (commands.new ≡ plain commands.old) }
 {
     let mut regions = no_regions(alloc)?;
-    let mut all = Vec::with_capacity(alloc, commands.len())?;
-    for command in commands {
-        let command = plain_command(alloc, regions.as_mut_slice(), command)?;
-        all.push(command)?;
+    for command in commands.iter_mut() {
+        put_change(alloc, regions.as_mut_slice(), command)?;
     }
-    Ok(all)
+    Ok(())
 }
 
 // None of the eight callers has a region yet.
@@ -92,16 +110,16 @@ fn no_regions(alloc: Global) -> Result<Vec<Option<Region>>, NoMemory>
     Ok(regions)
 }
 
-// A pose as the change that it submits, where these are the regions of callers 1 to 8, which it moves; any other command as it is.
-fn plain_command(
+// Puts the change that a pose submits in its place, where these are the regions of callers 1 to 8, which it moves.
+fn put_change(
     alloc: Global,
     regions: &mut [Option<Region>],
-    command: &Command,
-) -> Result<Command, NoMemory>
-    requires good { IsCommand Two command.now }
+    command: &mut Command,
+) -> Result<(), NoMemory>
+    requires good { IsCommand Two command.old }
     requires eight { length regions.old ≡ 8 }
-    ensures value { IfOk result (λ c. c ≡ plain_command regions.old command.now) }
-    ensures regions { OnOk result (regions.new ≡ regions_after regions.old command.now) }
+    ensures value { OnOk result (command.new ≡ plain_command regions.old command.old) }
+    ensures regions { OnOk result (regions.new ≡ regions_after regions.old command.old) }
     ensures eight { length regions.new ≡ 8 }
 {
     let Command::Pose {
@@ -110,67 +128,15 @@ fn plain_command(
         point,
     } = command
     else {
-        return copied(alloc, command);
+        return Ok(());
     };
-    let boxes = left_at(alloc, &mut regions[*caller as usize - 1], *rules, point)?;
-    Ok(Command::Change {
-        caller: *caller,
+    let caller = *caller;
+    let boxes = left_at(alloc, &mut regions[caller as usize - 1], *rules, point)?;
+    *command = Command::Change {
+        caller,
         update: Update::Delete(boxes),
-    })
-}
-
-fn copied(alloc: Global, command: &Command) -> Result<Command, NoMemory>
-    ensures { IfOk result (λ c. c ≡ command.now) }
-{
-    Ok(match *command {
-        Command::Change { caller, ref update } => {
-            let update = update.copy(alloc)?;
-            Command::Change { caller, update }
-        }
-        Command::Nears {
-            caller,
-            k,
-            ref points,
-        } => {
-            let points = points.copy(alloc)?;
-            Command::Nears { caller, k, points }
-        }
-        Command::Near {
-            caller,
-            k,
-            point,
-            within,
-        } => Command::Near {
-            caller,
-            k,
-            point,
-            within,
-        },
-        Command::Inside { caller, k, cuboid } => Command::Inside { caller, k, cuboid },
-        Command::Ball {
-            caller,
-            k,
-            r,
-            point,
-        } => Command::Ball {
-            caller,
-            k,
-            r,
-            point,
-        },
-        Command::Lonely { caller, k, r } => Command::Lonely { caller, k, r },
-        Command::Clusters { caller, k, r } => Command::Clusters { caller, k, r },
-        Command::Pose {
-            caller,
-            rules,
-            point,
-        } => Command::Pose {
-            caller,
-            rules,
-            point,
-        },
-        Command::Sync => Command::Sync,
-    })
+    };
+    Ok(())
 }
 
 // Moves a caller's region, or begins it, and answers what it leaves.

@@ -87,7 +87,7 @@ fn a_pose_is_written_as_it_was_read_and_told_by_its_place(rt: HostRuntime) -> Re
 
 // What each command of the script that is run deletes.
 fn deletions(alloc: Global, script: &Script) -> Result<Vec<usize>, Fail> {
-    let plain = PlainScript::of(alloc, script)?;
+    let plain = PlainScript::copied(alloc, script)?;
     let mut counts = Vec::new(alloc);
     for command in plain.commands() {
         match command {
@@ -128,7 +128,7 @@ fn what_a_region_leaves_is_deleted(rt: HostRuntime) -> Result<(), Fail> {
     let log =
         b"ikdmap 2 voxel 200 large 1500\n@1 pose 100 20 30 0 0 0\n@1 pose 100 20 30 30 0 0\n".as_slice();
     let script = read(alloc, log)?;
-    let plain = PlainScript::of(alloc, &script)?;
+    let plain = PlainScript::of(alloc, script)?;
     let lo = Corner {
         x: -50,
         y: -50,

@@ -3,4 +3,4 @@ use Rattle.scan_log.proofs.plain.PlainScript.of.Goals as goal
 
 pub invariant_of-result : goal.invariant_of-result
 invariant_of-result c =
-    rw (c.format.ensures, c.settings.ensures, c.in_ok-commands.ensures, c.commands.ensures.all) (plain_script_is c.args.script.now c.commands.ensures.limits)
+    rw (c.format-format.ensures, c.settings-settings.ensures, c.in_ok-commands.ensures, c.into_commands.ensures.all) (plain_script_is c.args.script c.into_commands.ensures.limits)
