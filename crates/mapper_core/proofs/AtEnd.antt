@@ -8,7 +8,7 @@ use Rattle.map_fold.specs.Fold.{fold, points_in}
 use Rattle.rebuild_core.specs.History.{updates}
 use Rattle.published_map.specs.Marks.{Seen, times, AllOf, callers_of, AllMet, AllGrown, AllMetNow}
 use Rattle.scan_log.specs.declared.command.Command.{Command}
-use Rattle.scan_log.specs.declared.command.Command.TheVariants.{Change, Near, Inside, Sync}
+use Rattle.scan_log.specs.declared.command.Command.TheVariants.{Change, Near, Nears, Inside, Ball, Lonely, Clusters, Sync}
 use Rattle.scan_log.specs.declared.reply.Reply.{Reply}
 use Rattle.scan_log.specs.Scripts.{ScriptAt, submitted, points_of}
 use Rattle.scan_log.specs.Legal.{AreLegalReplies}
@@ -45,7 +45,11 @@ own_weight : (w : Update → ℕ) (x : ℕ) (c : Command) → is_by x c ≡ true
 unfolding weigh weigh_all
 own_weight w x (Change caller u) is = let e : (caller == x) ≡ true = is in rw e refl
 own_weight w x (Near caller k p within) is = refl
+own_weight w x (Nears caller k ps) is = refl
 own_weight w x (Inside caller k b) is = refl
+own_weight w x (Ball caller k r p) is = refl
+own_weight w x (Lonely caller k r) is = refl
+own_weight w x (Clusters caller k r) is = refl
 own_weight w x Sync is = refl
 
 -- and where it was stopped, the next command is one of them too
@@ -167,7 +171,11 @@ changes_told voxel cs h lows (Change x u ∷ ds) (r ∷ rs) highs o t =
     let at = (t.0 x refl).reply.placed in
     (subst (λ z. times z cs ≡ 1) at.2.2 (only_at cs h at.0 at.2.0 o at.2.1), changes_told voxel cs h (raised lows (Change x u) (mark_of r)) ds rs highs o t.1)
 changes_told voxel cs h lows (Near x k p within ∷ ds) (r ∷ rs) highs o t = changes_told voxel cs h (raised lows (Near x k p within) (mark_of r)) ds rs highs o t.1
+changes_told voxel cs h lows (Nears x k ps ∷ ds) (r ∷ rs) highs o t = changes_told voxel cs h (raised lows (Nears x k ps) (mark_of r)) ds rs highs o t.1
 changes_told voxel cs h lows (Inside x k b ∷ ds) (r ∷ rs) highs o t = changes_told voxel cs h (raised lows (Inside x k b) (mark_of r)) ds rs highs o t.1
+changes_told voxel cs h lows (Ball x k far p ∷ ds) (r ∷ rs) highs o t = changes_told voxel cs h (raised lows (Ball x k far p) (mark_of r)) ds rs highs o t.1
+changes_told voxel cs h lows (Lonely x k far ∷ ds) (r ∷ rs) highs o t = changes_told voxel cs h (raised lows (Lonely x k far) (mark_of r)) ds rs highs o t.1
+changes_told voxel cs h lows (Clusters x k far ∷ ds) (r ∷ rs) highs o t = changes_told voxel cs h (raised lows (Clusters x k far) (mark_of r)) ds rs highs o t.1
 changes_told voxel cs h lows (Sync ∷ ds) (r ∷ rs) highs o t = changes_told voxel cs h (raised lows Sync (mark_of r)) ds rs highs o t.1
 
 -- Callers who have met after all commands were told the transcript

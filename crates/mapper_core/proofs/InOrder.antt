@@ -5,17 +5,19 @@ use Rattle.std.proofs.lemmas.List.{length-map, take-append-le}
 use Rattle.std.specs.List.{AllByRecursion}
 use Rattle.map_fold.specs.declared.entry.Entry.{Entry}
 use Rattle.map_fold.specs.declared.update.Update.{Update}
-use Rattle.map_fold.specs.Answers.{nearest, inside, count, live_count, suspended_count}
+use Rattle.map_fold.specs.Answers.{nearest, nears, inside, count, live_count, suspended_count}
+use Rattle.map_fold.specs.Neighbours.{ball, lonely}
+use Rattle.map_fold.specs.Clusters.{clusters}
 use Rattle.map_fold.specs.Fold.{fold}
 use Rattle.map_fold.specs.Sizes.{Sizes}
 use Rattle.rebuild_core.specs.History.{updates}
 use Rattle.rebuild_core.specs.Lawful.{StateAt, new_state}
 use Rattle.scan_log.specs.declared.command.Command.{Command}
-use Rattle.scan_log.specs.declared.command.Command.TheVariants.{Change, Near, Inside, Sync}
+use Rattle.scan_log.specs.declared.command.Command.TheVariants.{Change, Near, Nears, Inside, Ball, Lonely, Clusters, Sync}
 use Rattle.scan_log.specs.declared.reply.Reply.{Reply}
 use Rattle.scan_log.specs.declared.reply.Reply.TheVariants as reply
 use Rattle.scan_log.specs.Scripts.{ScriptAt, IsScript, points_of}
-use Rattle.scan_log.specs.Transcript.{history, marked_updates, put_update, serial_marks, serial_marks_from, replies, replies_from, reply_to}
+use Rattle.scan_log.specs.Transcript.{history, marked_updates, put_update, serial_marks, serial_marks_from, replies, replies_from, reply_to, found_reply, clusters_reply}
 use Rattle.mapper_core.specs.Turns.{Follows, reply_of, updates_of}
 
 -- each mark is above n
@@ -35,7 +37,11 @@ serial_above n [] = tt
 serial_above n (Change caller u ∷ cs) =
     rw (put_first (n + 1) u _ (serial_above (n + 1) cs)) (omega arith, higher (n + 1) n _ (omega arith) (serial_above (n + 1) cs))
 serial_above n (Near caller k p within ∷ cs) = serial_above n cs
+serial_above n (Nears caller k ps ∷ cs) = serial_above n cs
 serial_above n (Inside caller k c ∷ cs) = serial_above n cs
+serial_above n (Ball caller k r p ∷ cs) = serial_above n cs
+serial_above n (Lonely caller k r ∷ cs) = serial_above n cs
+serial_above n (Clusters caller k r ∷ cs) = serial_above n cs
 serial_above n (Sync ∷ cs) = serial_above n cs
 
 -- the history of a run in the log's order is its updates in order
@@ -43,28 +49,44 @@ pub serial_history : (n : ℕ) (cs : List Command) → history cs (serial_marks_
 serial_history n [] = refl
 serial_history n (Change caller u ∷ cs) = rw (put_first (n + 1) u _ (serial_above (n + 1) cs)) (ap (λ us. u ∷ us) (serial_history (n + 1) cs))
 serial_history n (Near caller k p within ∷ cs) = serial_history n cs
+serial_history n (Nears caller k ps ∷ cs) = serial_history n cs
 serial_history n (Inside caller k c ∷ cs) = serial_history n cs
+serial_history n (Ball caller k r p ∷ cs) = serial_history n cs
+serial_history n (Lonely caller k r ∷ cs) = serial_history n cs
+serial_history n (Clusters caller k r ∷ cs) = serial_history n cs
 serial_history n (Sync ∷ cs) = serial_history n cs
 
 -- the first command's update stands before the others
 updates_cons : (c : Command) (cs : List Command) → updates_of (c ∷ cs) ≡ updates_of (c ∷ []) ++ updates_of cs
 updates_cons (Change caller u) cs = refl
 updates_cons (Near caller k p within) cs = refl
+updates_cons (Nears caller k ps) cs = refl
 updates_cons (Inside caller k b) cs = refl
+updates_cons (Ball caller k r p) cs = refl
+updates_cons (Lonely caller k r) cs = refl
+updates_cons (Clusters caller k r) cs = refl
 updates_cons Sync cs = refl
 
 -- a command has one update at most
 at_most_one : (c : Command) → length (updates_of (c ∷ [])) ≤ 1
 at_most_one (Change caller u) = omega arith
 at_most_one (Near caller k p within) = omega arith
+at_most_one (Nears caller k ps) = omega arith
 at_most_one (Inside caller k b) = omega arith
+at_most_one (Ball caller k r p) = omega arith
+at_most_one (Lonely caller k r) = omega arith
+at_most_one (Clusters caller k r) = omega arith
 at_most_one Sync = omega arith
 
 -- the first mark counts the first command's update, and the others go on from there
 marks_cons : (n m : ℕ) (c : Command) (cs : List Command) → m ≡ n + length (updates_of (c ∷ [])) → serial_marks_from n (c ∷ cs) ≡ m ∷ serial_marks_from m cs
 marks_cons n m (Change caller u) cs e = ap (λ k. k ∷ serial_marks_from k cs) (sym e)
 marks_cons n m (Near caller k p within) cs e = let same : n ≡ m = omega (arith, e) in ap (λ k. k ∷ serial_marks_from k cs) same
+marks_cons n m (Nears caller k ps) cs e = let same : n ≡ m = omega (arith, e) in ap (λ k. k ∷ serial_marks_from k cs) same
 marks_cons n m (Inside caller k b) cs e = let same : n ≡ m = omega (arith, e) in ap (λ k. k ∷ serial_marks_from k cs) same
+marks_cons n m (Ball caller k r p) cs e = let same : n ≡ m = omega (arith, e) in ap (λ k. k ∷ serial_marks_from k cs) same
+marks_cons n m (Lonely caller k r) cs e = let same : n ≡ m = omega (arith, e) in ap (λ k. k ∷ serial_marks_from k cs) same
+marks_cons n m (Clusters caller k r) cs e = let same : n ≡ m = omega (arith, e) in ap (λ k. k ∷ serial_marks_from k cs) same
 marks_cons n m Sync cs e = let same : n ≡ m = omega (arith, e) in ap (λ k. k ∷ serial_marks_from k cs) same
 
 -- what comes after the first updates doesn't matter to a reply at their number
@@ -77,7 +99,11 @@ reply_early voxel n us vs c long =
     same : (c : Command) → take n (us ++ vs) ≡ take n us → reply_to voxel (us ++ vs) c n ≡ reply_to voxel us c n
     same (Change caller u) e = refl
     same (Near caller k p within) e = ap (λ ts. reply.Near (record { mark = n; hits = nearest (fold voxel ts).items k p within })) e
+    same (Nears caller k ps) e = ap (λ ts. reply.Nears (record { mark = n; lists = nears (fold voxel ts).items k ps })) e
     same (Inside caller k b) e = ap (λ ts. reply.Inside (record { mark = n; count = count (fold voxel ts).items b; items = inside (fold voxel ts).items b k })) e
+    same (Ball caller k r p) e = ap (λ ts. reply.Ball (found_reply n (ball (fold voxel ts).items p r) k)) e
+    same (Lonely caller k r) e = ap (λ ts. reply.Lonely (found_reply n (lonely (fold voxel ts).items r) k)) e
+    same (Clusters caller k r) e = ap (λ ts. reply.Clusters (clusters_reply n (clusters (fold voxel ts).items r) k)) e
     same Sync e = ap (λ ts. reply.Totals n (live_count (fold voxel ts).items) (suspended_count (fold voxel ts).items)) e
 
 -- How far a run has come: the updates that were made and those of the commands that are left are the script's, and the

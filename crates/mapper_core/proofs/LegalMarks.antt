@@ -6,7 +6,7 @@ use Rattle.map_fold.specs.declared.entry.Entry.{Entry}
 use Rattle.map_fold.specs.declared.update.Update.{Update}
 use Rattle.rebuild_core.specs.History.{updates}
 use Rattle.scan_log.specs.declared.command.Command.{Command}
-use Rattle.scan_log.specs.declared.command.Command.TheVariants.{Change, Near, Inside, Sync}
+use Rattle.scan_log.specs.declared.command.Command.TheVariants.{Change, Near, Nears, Inside, Ball, Lonely, Clusters, Sync}
 use Rattle.scan_log.specs.declared.reply.Reply.{Reply}
 use Rattle.scan_log.specs.Scripts.{ScriptAt}
 use Rattle.scan_log.specs.Legal.{counted, Concerns, AllFollow, AreInOrder, IsLegal, AreLegalReplies}
@@ -104,9 +104,21 @@ no_other voxel h lows (Change y v ∷ cs) (r ∷ rs) highs ends x m u t le at =
 no_other voxel h lows (Near y k p within ∷ cs) (r ∷ rs) highs ends x m u t le at =
     let up = told_raises voxel h lows (Near y k p within) r t.0 x in
     no_other voxel h (raised lows (Near y k p within) (mark_of r)) cs rs highs ends x m u t.1 (omega arith) at
+no_other voxel h lows (Nears y k ps ∷ cs) (r ∷ rs) highs ends x m u t le at =
+    let up = told_raises voxel h lows (Nears y k ps) r t.0 x in
+    no_other voxel h (raised lows (Nears y k ps) (mark_of r)) cs rs highs ends x m u t.1 (omega arith) at
 no_other voxel h lows (Inside y k b ∷ cs) (r ∷ rs) highs ends x m u t le at =
     let up = told_raises voxel h lows (Inside y k b) r t.0 x in
     no_other voxel h (raised lows (Inside y k b) (mark_of r)) cs rs highs ends x m u t.1 (omega arith) at
+no_other voxel h lows (Ball y k far p ∷ cs) (r ∷ rs) highs ends x m u t le at =
+    let up = told_raises voxel h lows (Ball y k far p) r t.0 x in
+    no_other voxel h (raised lows (Ball y k far p) (mark_of r)) cs rs highs ends x m u t.1 (omega arith) at
+no_other voxel h lows (Lonely y k far ∷ cs) (r ∷ rs) highs ends x m u t le at =
+    let up = told_raises voxel h lows (Lonely y k far) r t.0 x in
+    no_other voxel h (raised lows (Lonely y k far) (mark_of r)) cs rs highs ends x m u t.1 (omega arith) at
+no_other voxel h lows (Clusters y k far ∷ cs) (r ∷ rs) highs ends x m u t le at =
+    let up = told_raises voxel h lows (Clusters y k far) r t.0 x in
+    no_other voxel h (raised lows (Clusters y k far) (mark_of r)) cs rs highs ends x m u t.1 (omega arith) at
 no_other voxel h lows (Sync ∷ cs) (r ∷ rs) highs ends x m u t le at =
     let up = told_raises voxel h lows Sync r t.0 x in
     no_other voxel h (raised lows Sync (mark_of r)) cs rs highs ends x m u t.1 (omega arith) at
@@ -135,7 +147,11 @@ placed voxel h lows (Change x u ∷ cs) (r ∷ rs) highs ends t =
       many = put_length (mark_of r) u hs ∙ (let j = p.many in omega arith);
     }
 placed voxel h lows (Near x k p within ∷ cs) (r ∷ rs) highs ends t = placed voxel h (raised lows (Near x k p within) (mark_of r)) cs rs highs ends t.1
+placed voxel h lows (Nears x k ps ∷ cs) (r ∷ rs) highs ends t = placed voxel h (raised lows (Nears x k ps) (mark_of r)) cs rs highs ends t.1
 placed voxel h lows (Inside x k b ∷ cs) (r ∷ rs) highs ends t = placed voxel h (raised lows (Inside x k b) (mark_of r)) cs rs highs ends t.1
+placed voxel h lows (Ball x k far p ∷ cs) (r ∷ rs) highs ends t = placed voxel h (raised lows (Ball x k far p) (mark_of r)) cs rs highs ends t.1
+placed voxel h lows (Lonely x k far ∷ cs) (r ∷ rs) highs ends t = placed voxel h (raised lows (Lonely x k far) (mark_of r)) cs rs highs ends t.1
+placed voxel h lows (Clusters x k far ∷ cs) (r ∷ rs) highs ends t = placed voxel h (raised lows (Clusters x k far) (mark_of r)) cs rs highs ends t.1
 placed voxel h lows (Sync ∷ cs) (r ∷ rs) highs ends t = placed voxel h (raised lows Sync (mark_of r)) cs rs highs ends t.1
 
 stands_below : (h : List Entry) (g : ℕ × Update) → StandsAt h g → g.0 ≤ length h
@@ -168,7 +184,11 @@ rising_whole h low (g ∷ hs) r p is =
 pub placed_below : (h : List Entry) (c : Command) (m : ℕ) → IsPlaced h c m → m ≤ length h
 placed_below h (Change x u) m a = let k = get_below h a.0 a.2.0 a.2.1 in let e = a.1 in omega arith
 placed_below h (Near x k p within) m a = a
+placed_below h (Nears x k ps) m a = a
 placed_below h (Inside x k b) m a = a
+placed_below h (Ball x k r p) m a = a
+placed_below h (Lonely x k r) m a = a
+placed_below h (Clusters x k r) m a = a
 placed_below h Sync m a = a
 
 -- the replies as a whole: those of the transcript over the history, marks that it has, one reply for each command

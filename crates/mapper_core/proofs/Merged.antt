@@ -130,7 +130,11 @@ replies_left voxel c left lists x a is =
     same : (c : Command) (x k : ℕ) → IsBy c x → IsBy c (k + 1) → x ≡ k + 1
     same (Command.Change caller u) x k a b = let e : caller ≡ x = a in let f : caller ≡ k + 1 = b in sym e ∙ f
     same (Command.Near caller n p within) x k a b = let e : caller ≡ x = a in let f : caller ≡ k + 1 = b in sym e ∙ f
+    same (Command.Nears caller n ps) x k a b = let e : caller ≡ x = a in let f : caller ≡ k + 1 = b in sym e ∙ f
     same (Command.Inside caller n p) x k a b = let e : caller ≡ x = a in let f : caller ≡ k + 1 = b in sym e ∙ f
+    same (Command.Ball caller n r p) x k a b = let e : caller ≡ x = a in let f : caller ≡ k + 1 = b in sym e ∙ f
+    same (Command.Lonely caller n r) x k a b = let e : caller ≡ x = a in let f : caller ≡ k + 1 = b in sym e ∙ f
+    same (Command.Clusters caller n r) x k a b = let e : caller ≡ x = a in let f : caller ≡ k + 1 = b in sym e ∙ f
     same Command.Sync x k a b = absurd a
 
 set_length : {A : Type 0} (xs : List A) (k : ℕ) (x : A) → length (set xs k x) ≡ length xs

@@ -1,5 +1,5 @@
 -- What a caller's thread shows of its pass.
-use Rattle.std.proofs.Common.{◌≡◌, ℕ, ◌+◌, ◌==◌, Bool, true, false, List, [], ◌∷◌, ◌++◌, length, take, Option, Some, None, slice_get, inl, inr, refl, ap, sym, ◌∙◌, subst, arith, append_assoc, append-nil, length-append, MatchBool}
+use Rattle.std.proofs.Common.{◌≡◌, ℕ, ◌+◌, ◌≤◌, ◌==◌, Bool, true, false, List, [], ◌∷◌, ◌++◌, length, take, Option, Some, None, slice_get, inl, inr, refl, ap, ap₂, sym, ◌∙◌, subst, arith, append_assoc, append-nil, length-append, MatchBool}
 use Rattle.std.proofs.Math.Seq.{take-length}
 use Rattle.std.proofs.lemmas.Bool.Decides.{nat_tests}
 use Rattle.std.proofs.lemmas.List.{length-map, take-map}
@@ -7,17 +7,24 @@ use mathlib.Core.List.{IsPrefix}
 use Rattle.point_geom.specs.Place.{Place, Bounds}
 use Rattle.map_fold.specs.declared.entry.Entry.{Entry}
 use Rattle.map_fold.specs.declared.update.Update.{Update}
-use Rattle.map_fold.specs.Answers.{nearest, inside, count}
-use Rattle.map_fold.specs.Fold.{fold}
+use Rattle.map_fold.specs.declared.item.Item.{Item}
+use Rattle.map_fold.specs.Answers.{nearest, nears, inside, count}
+use Rattle.map_fold.specs.Neighbours.{ball, lonely}
+use Rattle.map_fold.specs.Clusters.{clusters}
+use Rattle.map_fold.specs.Fold.{MapAt, fold}
+use Rattle.kd_tree.specs.Contents.{contents}
 use Rattle.rebuild_core.specs.History.{updates, entry_by}
+use Rattle.rebuild_core.specs.Lawful.{VersionAt}
 use Rattle.published_map.specs.Marks.{Seen, Grown, Added, keep_if}
 use Rattle.published_map.specs.Answers.{near_reply, box_reply}
+use Rattle.published_map.specs.Versions.{IsVersionOf, held}
 use Rattle.scan_log.specs.declared.command.Command.{Command}
-use Rattle.scan_log.specs.declared.command.Command.TheVariants.{Change, Near, Inside, Sync}
+use Rattle.scan_log.specs.declared.command.Command.TheVariants.{Change, Near, Nears, Inside, Ball, Lonely, Clusters, Sync}
 use Rattle.scan_log.specs.declared.reply.Reply.{Reply}
 use Rattle.scan_log.specs.declared.reply.Reply.TheVariants as reply
-use Rattle.scan_log.specs.Transcript.{reply_to, mark_of}
-use Rattle.mapper_core.specs.Told.{is_by, Answers}
+use Rattle.scan_log.specs.Legal.{IsLater}
+use Rattle.scan_log.specs.Transcript.{reply_to, mark_of, held_at, found_reply, clusters_reply}
+use Rattle.mapper_core.specs.Told.{is_by, Answers, IsPlaced}
 use Rattle.mapper_core.specs.Mine.{updates_by, Mine, Answered, Tried, RanTo, Turned}
 use Rattle.mapper_core.proofs.Beginnings.{prefix_self, prefix_trans, prefix_length, take_prefix, get_prefix, get_last}
 use Rattle.mapper_core.proofs.Whose.{reply_take}
@@ -60,41 +67,77 @@ seen_tells voxel s h c pre =
 seen_whole : (s : List Entry) → take (length s) (updates s) ≡ updates s
 seen_whole s = ap (λ n. take n (updates s)) (sym (length-map s (λ (e : Entry). e.update))) ∙ take-length (updates s)
 
-pub near_answered : (voxel : ℕ) (p q : Seen) (k : ℕ) (at : Place) (within : Option ℕ) → Grown p q
-    → Answered voxel (Near p.caller k at within) p q (reply.Near (near_reply voxel q.seen k at within))
-near_answered voxel p q k at within g =
+-- a command that changes nothing, may be anywhere in a history, and whose mark may stay
+record IsQuery (c : Command) : Type 0 where
+  changes : (x : ℕ) → updates_by x (c ∷ []) ≡ []
+  placed : (h : List Entry) (m : ℕ) → m ≤ length h → IsPlaced h c m
+  later : (m n : ℕ) → m ≤ n → IsLater m c n
+
+-- the reply to a query, of what the history leaves, at its length
+query_answered : (voxel : ℕ) (p q : Seen) (c : Command) (ask : ℕ → List Item → Reply) → Grown p q → IsQuery c
+    → ((h : List Update) (m : ℕ) → reply_to voxel h c m ≡ ask m (held_at voxel h m)) → ((m : ℕ) (is : List Item) → mark_of (ask m is) ≡ m)
+    → Answered voxel c p q (ask (length q.seen) (held voxel q.seen))
+query_answered voxel p q c ask g is told marked =
+    let m : ℕ = length q.seen in
+    let r : Reply = ask m (held voxel q.seen) in
+    let mark : mark_of r ≡ m = marked m (held voxel q.seen) in
     record {
       caller = g.0;
       seen = g.1;
-      mine = g.2 ∙ sym (append-nil p.mine);
-      mark = refl;
+      mine = g.2 ∙ sym (append-nil p.mine) ∙ ap (λ us. p.mine ++ us) (sym (is.changes p.caller));
+      mark = mark;
       told = λ h pre. record {
         reply = record {
-          placed = prefix_length q.seen h pre;
-          told = ap (λ us. reply.Near (record { mark = length q.seen; hits = nearest (fold voxel us).items k at within })) (sym (seen_whole q.seen))
-              ∙ seen_tells voxel q.seen h (Near p.caller k at within) pre;
+          placed = rw mark (is.placed h m (prefix_length q.seen h pre));
+          told = rw mark (ap (λ us. ask m (fold voxel us).items) (sym (seen_whole q.seen)) ∙ sym (told (updates q.seen) m) ∙ seen_tells voxel q.seen h c pre);
         };
-        later = prefix_length p.seen q.seen g.1;
+        later = rw mark (is.later (length p.seen) m (prefix_length p.seen q.seen g.1));
       };
     }
+
+-- the same of a version of what was seen
+version_answered : (voxel : ℕ) (p q : Seen) (c : Command) (ask : ℕ → List Item → Reply) (v : VersionAt) → Grown p q → IsVersionOf voxel q.seen v → IsQuery c
+    → ((h : List Update) (m : ℕ) → reply_to voxel h c m ≡ ask m (held_at voxel h m)) → ((m : ℕ) (is : List Item) → mark_of (ask m is) ≡ m)
+    → Answered voxel c p q (ask v.len (contents v.tree))
+version_answered voxel p q c ask v g shows is told marked =
+    let same : ask v.len (contents v.tree) ≡ ask (length q.seen) (held voxel q.seen) = ap₂ ask shows.len (ap (λ (m : MapAt). m.items) shows.folded) in
+    subst (λ r. Answered voxel c p q r) (sym same) (query_answered voxel p q c ask g is told marked)
+
+pub near_answered : (voxel : ℕ) (p q : Seen) (k : ℕ) (at : Place) (within : Option ℕ) → Grown p q
+    → Answered voxel (Near p.caller k at within) p q (reply.Near (near_reply voxel q.seen k at within))
+near_answered voxel p q k at within g =
+    query_answered voxel p q (Near p.caller k at within) (λ m is. reply.Near (record { mark = m; hits = nearest is k at within })) g
+    (record { changes = λ x. refl; placed = λ h m le. le; later = λ m n le. le }) (λ h m. refl) (λ m is. refl)
+
+pub nears_answered : (voxel : ℕ) (p q : Seen) (k : ℕ) (ps : List Place) (v : VersionAt) → Grown p q → IsVersionOf voxel q.seen v
+    → Answered voxel (Nears p.caller k ps) p q (reply.Nears (record { mark = v.len; lists = nears (contents v.tree) k ps }))
+nears_answered voxel p q k ps v g shows =
+    version_answered voxel p q (Nears p.caller k ps) (λ m is. reply.Nears (record { mark = m; lists = nears is k ps })) v g shows
+    (record { changes = λ x. refl; placed = λ h m le. le; later = λ m n le. le }) (λ h m. refl) (λ m is. refl)
 
 pub inside_answered : (voxel : ℕ) (p q : Seen) (k : ℕ) (c : Bounds) → Grown p q
     → Answered voxel (Inside p.caller k c) p q (reply.Inside (box_reply voxel q.seen c k))
 inside_answered voxel p q k c g =
-    record {
-      caller = g.0;
-      seen = g.1;
-      mine = g.2 ∙ sym (append-nil p.mine);
-      mark = refl;
-      told = λ h pre. record {
-        reply = record {
-          placed = prefix_length q.seen h pre;
-          told = ap (λ us. reply.Inside (record { mark = length q.seen; count = count (fold voxel us).items c; items = inside (fold voxel us).items c k })) (sym (seen_whole q.seen))
-              ∙ seen_tells voxel q.seen h (Inside p.caller k c) pre;
-        };
-        later = prefix_length p.seen q.seen g.1;
-      };
-    }
+    query_answered voxel p q (Inside p.caller k c) (λ m is. reply.Inside (record { mark = m; count = count is c; items = inside is c k })) g
+    (record { changes = λ x. refl; placed = λ h m le. le; later = λ m n le. le }) (λ h m. refl) (λ m is. refl)
+
+pub ball_answered : (voxel : ℕ) (p q : Seen) (k r : ℕ) (at : Place) (v : VersionAt) → Grown p q → IsVersionOf voxel q.seen v
+    → Answered voxel (Ball p.caller k r at) p q (reply.Ball (found_reply v.len (ball (contents v.tree) at r) k))
+ball_answered voxel p q k r at v g shows =
+    version_answered voxel p q (Ball p.caller k r at) (λ m is. reply.Ball (found_reply m (ball is at r) k)) v g shows
+    (record { changes = λ x. refl; placed = λ h m le. le; later = λ m n le. le }) (λ h m. refl) (λ m is. refl)
+
+pub lonely_answered : (voxel : ℕ) (p q : Seen) (k r : ℕ) (v : VersionAt) → Grown p q → IsVersionOf voxel q.seen v
+    → Answered voxel (Lonely p.caller k r) p q (reply.Lonely (found_reply v.len (lonely (contents v.tree) r) k))
+lonely_answered voxel p q k r v g shows =
+    version_answered voxel p q (Lonely p.caller k r) (λ m is. reply.Lonely (found_reply m (lonely is r) k)) v g shows
+    (record { changes = λ x. refl; placed = λ h m le. le; later = λ m n le. le }) (λ h m. refl) (λ m is. refl)
+
+pub clusters_answered : (voxel : ℕ) (p q : Seen) (k r : ℕ) (v : VersionAt) → Grown p q → IsVersionOf voxel q.seen v
+    → Answered voxel (Clusters p.caller k r) p q (reply.Clusters (clusters_reply v.len (clusters (contents v.tree) r) k))
+clusters_answered voxel p q k r v g shows =
+    version_answered voxel p q (Clusters p.caller k r) (λ m is. reply.Clusters (clusters_reply m (clusters is r) k)) v g shows
+    (record { changes = λ x. refl; placed = λ h m le. le; later = λ m n le. le }) (λ h m. refl) (λ m is. refl)
 
 -- the command is this caller's
 pub change_by : (x caller : ℕ) (u : Update) → is_by x (Change caller u) ≡ true → Change caller u ≡ Change x u
@@ -103,8 +146,20 @@ change_by x caller u is = let same : caller ≡ x = grind (arith, nat_tests) in 
 pub near_by : (x caller k : ℕ) (at : Place) (within : Option ℕ) → is_by x (Near caller k at within) ≡ true → Near caller k at within ≡ Near x k at within
 near_by x caller k at within is = let same : caller ≡ x = grind (arith, nat_tests) in ap (λ z. Near z k at within) same
 
+pub nears_by : (x caller k : ℕ) (ps : List Place) → is_by x (Nears caller k ps) ≡ true → Nears caller k ps ≡ Nears x k ps
+nears_by x caller k ps is = let same : caller ≡ x = grind (arith, nat_tests) in ap (λ z. Nears z k ps) same
+
 pub inside_by : (x caller k : ℕ) (c : Bounds) → is_by x (Inside caller k c) ≡ true → Inside caller k c ≡ Inside x k c
 inside_by x caller k c is = let same : caller ≡ x = grind (arith, nat_tests) in ap (λ z. Inside z k c) same
+
+pub ball_by : (x caller k r : ℕ) (at : Place) → is_by x (Ball caller k r at) ≡ true → Ball caller k r at ≡ Ball x k r at
+ball_by x caller k r at is = let same : caller ≡ x = grind (arith, nat_tests) in ap (λ z. Ball z k r at) same
+
+pub lonely_by : (x caller k r : ℕ) → is_by x (Lonely caller k r) ≡ true → Lonely caller k r ≡ Lonely x k r
+lonely_by x caller k r is = let same : caller ≡ x = grind (arith, nat_tests) in ap (λ z. Lonely z k r) same
+
+pub clusters_by : (x caller k r : ℕ) → is_by x (Clusters caller k r) ≡ true → Clusters caller k r ≡ Clusters x k r
+clusters_by x caller k r is = let same : caller ≡ x = grind (arith, nat_tests) in ap (λ z. Clusters z k r) same
 
 pub ran_start : (voxel : ℕ) (cs : List Command) (p : Seen) → RanTo voxel cs cs p p []
 ran_start voxel cs p = record { caller = refl; seen = prefix_self p.seen; mine = refl; told = λ h pre rest high m. m }
@@ -124,13 +179,21 @@ updates_own x (Change caller u) cs = kept (caller == x) u (updates_by x cs)
     kept true u us = refl
     kept false u us = refl
 updates_own x (Near caller k p within) cs = refl
+updates_own x (Nears caller k ps) cs = refl
 updates_own x (Inside caller k b) cs = refl
+updates_own x (Ball caller k r p) cs = refl
+updates_own x (Lonely caller k r) cs = refl
+updates_own x (Clusters caller k r) cs = refl
 updates_own x Sync cs = refl
 
 updates_other : (x : ℕ) (c : Command) (cs : List Command) → is_by x c ≡ false → updates_by x (c ∷ cs) ≡ updates_by x cs
 updates_other x (Change caller u) cs is = let e : (caller == x) ≡ false = is in rw e refl
 updates_other x (Near caller k p within) cs is = refl
+updates_other x (Nears caller k ps) cs is = refl
 updates_other x (Inside caller k b) cs is = refl
+updates_other x (Ball caller k r p) cs is = refl
+updates_other x (Lonely caller k r) cs is = refl
+updates_other x (Clusters caller k r) cs is = refl
 updates_other x Sync cs is = refl
 
 pub ran_own : (voxel : ℕ) (cs left : List Command) (c : Command) (p q s : Seen) (rs : List Reply) (r : Reply)

@@ -8,7 +8,7 @@ use Rattle.scan_log.specs.declared.format.Format.TheVariants.{One}
 use Rattle.scan_log.specs.Scripts.{IsScannedPlace}
 use Rattle.map_fold.specs.Sizes.{Sizes}
 use Rattle.scan_log.specs.declared.command.Command.{Command}
-use Rattle.scan_log.specs.Scripts.{ScriptAt, IsScript, IsCommand, points_of, submitted, with_command}
+use Rattle.scan_log.specs.Scripts.{ScriptAt, IsScript, IsCommand, points_of, hits_of, submitted, asked, with_command}
 use Rattle.mapper_core.specs.Generated.{next, drawn, next_draws, after, point, points_of_draws, scan_commands, commands_from, generated}
 
 -- more draws are the first ones, and those after them
@@ -64,14 +64,19 @@ pub points_push : (cs : List Command) (c : Command) → points_of (cs ++ c ∷ [
 points_push [] c = omega arith
 points_push (d ∷ cs) c = omega (arith, points_push cs c)
 
+pub hits_push : (cs : List Command) (c : Command) → hits_of (cs ++ c ∷ []) ≡ hits_of cs + asked c
+hits_push [] c = omega arith
+hits_push (d ∷ cs) c = omega (arith, hits_push cs c)
+
 -- a script with one more command is in its limits, where there was room
 pub script_push : (s : ScriptAt) (c : Command) → IsScript s → IsCommand s.format c → length s.commands < 65536 → points_of s.commands + submitted c ≤ 4194304
-    → IsScript (with_command s c)
-script_push s c is good few room = record {
+    → hits_of s.commands ≤ 256 * length s.commands → asked c ≤ 256 → IsScript (with_command s c)
+script_push s c is good few room held asks = record {
   sizes = is.sizes;
   each = each_push (IsCommand s.format) s.commands c is.each good;
   few = omega (arith, few, length_push s.commands c);
   room = omega (arith, room, points_push s.commands c);
+  hits = omega (arith, few, held, asks, hits_push s.commands c);
 }
 
 pub seen_next : (i s left k t u : ℕ) (ps : List Place) (p : Place) → HasSeen i s left t ps → left ≡ suc k → IsScannedPlace One p
@@ -112,14 +117,15 @@ pub record HasMade (n left i t : ℕ) (z : ScriptAt) : Type 0 where
   pub rest : z.commands ++ commands_from i left (next_draws (6000 * left) t) ≡ (generated n).commands
   pub few : length z.commands ≤ 5 * i
   pub room : points_of z.commands ≡ 2000 * i
+  pub held : hits_of z.commands ≤ 256 * length z.commands
 
 pub made_start : (n : ℕ) (z : ScriptAt) → z ≡ record { format = One; sizes = record { voxel = 500; large = 1500 }; commands = [] } → HasMade n n 0 1 z
-made_start n z e = rw e (record { format = refl; sizes = refl; rest = refl; few = omega arith; room = refl })
+made_start n z e = rw e (record { format = refl; sizes = refl; rest = refl; few = omega arith; room = refl; held = omega arith })
 
 pub made_next : (n left k i t u : ℕ) (z w : ScriptAt) → HasMade n left i t z → left ≡ suc k → w.format ≡ One → w.sizes ≡ z.sizes
     → w.commands ≡ z.commands ++ scan_commands i (points_of_draws i (next_draws 6000 t)) → length w.commands ≤ length z.commands + 5
-    → points_of w.commands ≡ points_of z.commands + 2000 → u ≡ after 6000 t → HasMade n k (i + 1) u w
-made_next n left k i t u z w made one format sizes commands few room moved =
+    → points_of w.commands ≡ points_of z.commands + 2000 → hits_of w.commands ≤ 256 * length w.commands → u ≡ after 6000 t → HasMade n k (i + 1) u w
+made_next n left k i t u z w made one format sizes commands few room held moved =
     let all : z.commands ++ commands_from i (suc k) (next_draws (6000 * suc k) t) ≡ (generated n).commands = rw one at made.rest in
     record {
       format = format;
@@ -127,6 +133,7 @@ made_next n left k i t u z w made one format sizes commands few room moved =
       rest = rw (commands, moved) (append_assoc z.commands (scan_commands i (points_of_draws i (next_draws 6000 t))) _ ∙ ap (λ cs. z.commands ++ cs) (sym (scans_next i k t)) ∙ all);
       few = omega (arith, few, made.few);
       room = omega (arith, room, made.room);
+      held = held;
     }
 
 pub made_all : (n left i t : ℕ) (z : ScriptAt) → HasMade n left i t z → left ≡ 0 → z ≡ generated n

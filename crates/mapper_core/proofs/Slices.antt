@@ -2,7 +2,7 @@
 use Rattle.std.proofs.Common.{◌≡◌, ℕ, zero, suc, ◌+◌, ◌-◌, ◌≤◌, true, false, List, [], ◌∷◌, ◌++◌, length, take, drop, Some, slice_get, refl, ap, ◌∙◌, subst, arith}
 use Rattle.std.specs.List.{AllByRecursion}
 use Rattle.scan_log.specs.declared.command.Command.{Command}
-use Rattle.scan_log.specs.declared.command.Command.TheVariants.{Change, Near, Inside, Sync}
+use Rattle.scan_log.specs.declared.command.Command.TheVariants.{Change, Near, Nears, Inside, Ball, Lonely, Clusters, Sync}
 use Rattle.scan_log.specs.Scripts.{points_of}
 use Rattle.mapper_core.specs.Meetings.{is_barrier, IsOfCallers, HasCaller}
 use Rattle.mapper_core.proofs.Beginnings.{take_next}
@@ -50,14 +50,22 @@ points_take (suc n) (c ∷ cs) = let r = points_take n cs in omega arith
 pub barrier_is : (c : Command) → is_barrier c ≡ true → c ≡ Sync
 barrier_is (Change caller u) is = absurd (cc is)
 barrier_is (Near caller k p within) is = absurd (cc is)
+barrier_is (Nears caller k ps) is = absurd (cc is)
 barrier_is (Inside caller k b) is = absurd (cc is)
+barrier_is (Ball caller k r p) is = absurd (cc is)
+barrier_is (Lonely caller k r) is = absurd (cc is)
+barrier_is (Clusters caller k r) is = absurd (cc is)
 barrier_is Sync is = refl
 
 -- a command that is no barrier is one of the callers'
 pub caller_is : (n : ℕ) (c : Command) → is_barrier c ≡ false → HasCaller n c → IsOfCallers n c
 caller_is n (Change caller u) is has = (caller - 1, (let a : 1 ≤ caller = has.0 in omega arith), (let a : 1 ≤ caller = has.0 in let b : caller ≤ n = has.1 in omega arith))
 caller_is n (Near caller k p within) is has = (caller - 1, (let a : 1 ≤ caller = has.0 in omega arith), (let a : 1 ≤ caller = has.0 in let b : caller ≤ n = has.1 in omega arith))
+caller_is n (Nears caller k ps) is has = (caller - 1, (let a : 1 ≤ caller = has.0 in omega arith), (let a : 1 ≤ caller = has.0 in let b : caller ≤ n = has.1 in omega arith))
 caller_is n (Inside caller k c) is has = (caller - 1, (let a : 1 ≤ caller = has.0 in omega arith), (let a : 1 ≤ caller = has.0 in let b : caller ≤ n = has.1 in omega arith))
+caller_is n (Ball caller k r p) is has = (caller - 1, (let a : 1 ≤ caller = has.0 in omega arith), (let a : 1 ≤ caller = has.0 in let b : caller ≤ n = has.1 in omega arith))
+caller_is n (Lonely caller k r) is has = (caller - 1, (let a : 1 ≤ caller = has.0 in omega arith), (let a : 1 ≤ caller = has.0 in let b : caller ≤ n = has.1 in omega arith))
+caller_is n (Clusters caller k r) is has = (caller - 1, (let a : 1 ≤ caller = has.0 in omega arith), (let a : 1 ≤ caller = has.0 in let b : caller ≤ n = has.1 in omega arith))
 caller_is n Sync is has = absurd (cc is)
 
 drop_slice : {A : Type 0} (n k : ℕ) (xs : List A) (x : A) → slice_get xs (n + k) ≡ Some x → slice_get (drop n xs) k ≡ Some x
@@ -81,7 +89,11 @@ slice_next from at xs x le there =
 pub has_caller_more : (n m : ℕ) (c : Command) → n ≤ m → HasCaller n c → HasCaller m c
 has_caller_more n m (Change caller u) le has = (has.0, (let a : caller ≤ n = has.1 in omega arith))
 has_caller_more n m (Near caller k p within) le has = (has.0, (let a : caller ≤ n = has.1 in omega arith))
+has_caller_more n m (Nears caller k ps) le has = (has.0, (let a : caller ≤ n = has.1 in omega arith))
 has_caller_more n m (Inside caller k c) le has = (has.0, (let a : caller ≤ n = has.1 in omega arith))
+has_caller_more n m (Ball caller k r p) le has = (has.0, (let a : caller ≤ n = has.1 in omega arith))
+has_caller_more n m (Lonely caller k r) le has = (has.0, (let a : caller ≤ n = has.1 in omega arith))
+has_caller_more n m (Clusters caller k r) le has = (has.0, (let a : caller ≤ n = has.1 in omega arith))
 has_caller_more n m Sync le has = tt
 
 pub all_none : {A : Type 0} (P : A → Type 0) (n : ℕ) (xs : List A) → n ≡ 0 → AllByRecursion P (take n xs)

@@ -8,7 +8,7 @@ use Rattle.map_fold.proofs.Folds.{step_next}
 use Rattle.rebuild_core.specs.History.{updates}
 use Rattle.published_map.specs.Marks.{Seen, keep_if, updates_of, one_if, times, IsDistinct, AllOf, callers_of, AllMet}
 use Rattle.scan_log.specs.declared.command.Command.{Command}
-use Rattle.scan_log.specs.declared.command.Command.TheVariants.{Change, Near, Inside, Sync}
+use Rattle.scan_log.specs.declared.command.Command.TheVariants.{Change, Near, Nears, Inside, Ball, Lonely, Clusters, Sync}
 use Rattle.scan_log.specs.Scripts.{points_of}
 use Rattle.scan_log.specs.Transcript.{updates_in}
 use Rattle.mapper_core.specs.Mine.{updates_by}
@@ -95,7 +95,11 @@ unfoldable pub weigh_all : (Update → ℕ) → List Command → ℕ
 weigh_all w [] = 0
 weigh_all w (Change caller u ∷ ds) = w u + weigh_all w ds
 weigh_all w (Near caller k p within ∷ ds) = weigh_all w ds
+weigh_all w (Nears caller k ps ∷ ds) = weigh_all w ds
 weigh_all w (Inside caller k c ∷ ds) = weigh_all w ds
+weigh_all w (Ball caller k r p ∷ ds) = weigh_all w ds
+weigh_all w (Lonely caller k r ∷ ds) = weigh_all w ds
+weigh_all w (Clusters caller k r ∷ ds) = weigh_all w ds
 weigh_all w (Sync ∷ ds) = weigh_all w ds
 
 entries_nil : (w : Update → ℕ) (cs : List ℕ) → entries_of w cs [] ≡ 0
@@ -137,7 +141,11 @@ commands_most w cs [] d = let k = commands_nil w cs in omega arith
 commands_most w cs (Change x u ∷ ds) d =
     let k = commands_cons w cs x u ds in let one = share_most x cs (w u) d in let r = commands_most w cs ds d in omega arith
 commands_most w cs (Near x n p within ∷ ds) d = let k = commands_skip w cs (Near x n p within) ds (λ c. refl) in let r = commands_most w cs ds d in omega arith
+commands_most w cs (Nears x n ps ∷ ds) d = let k = commands_skip w cs (Nears x n ps) ds (λ c. refl) in let r = commands_most w cs ds d in omega arith
 commands_most w cs (Inside x n b ∷ ds) d = let k = commands_skip w cs (Inside x n b) ds (λ c. refl) in let r = commands_most w cs ds d in omega arith
+commands_most w cs (Ball x n far p ∷ ds) d = let k = commands_skip w cs (Ball x n far p) ds (λ c. refl) in let r = commands_most w cs ds d in omega arith
+commands_most w cs (Lonely x n far ∷ ds) d = let k = commands_skip w cs (Lonely x n far) ds (λ c. refl) in let r = commands_most w cs ds d in omega arith
+commands_most w cs (Clusters x n far ∷ ds) d = let k = commands_skip w cs (Clusters x n far) ds (λ c. refl) in let r = commands_most w cs ds d in omega arith
 commands_most w cs (Sync ∷ ds) d = let k = commands_skip w cs Sync ds (λ c. refl) in let r = commands_most w cs ds d in omega arith
 
 -- each of the updates is of one of these callers
@@ -145,7 +153,11 @@ unfoldable pub AllChangesOf : List ℕ → List Command → Type 0
 AllChangesOf cs [] = Unit {0}
 AllChangesOf cs (Change x u ∷ ds) = (times x cs ≡ 1) × AllChangesOf cs ds
 AllChangesOf cs (Near x k p within ∷ ds) = AllChangesOf cs ds
+AllChangesOf cs (Nears x k ps ∷ ds) = AllChangesOf cs ds
 AllChangesOf cs (Inside x k b ∷ ds) = AllChangesOf cs ds
+AllChangesOf cs (Ball x k r p ∷ ds) = AllChangesOf cs ds
+AllChangesOf cs (Lonely x k r ∷ ds) = AllChangesOf cs ds
+AllChangesOf cs (Clusters x k r ∷ ds) = AllChangesOf cs ds
 AllChangesOf cs (Sync ∷ ds) = AllChangesOf cs ds
 
 pub commands_whole : (w : Update → ℕ) (cs : List ℕ) (ds : List Command) → AllChangesOf cs ds → commands_of w cs ds ≡ weigh_all w ds
@@ -154,7 +166,11 @@ commands_whole w cs [] o = commands_nil w cs
 commands_whole w cs (Change x u ∷ ds) o =
     let k = commands_cons w cs x u ds in let one = share_one x cs (w u) o.0 in let r = commands_whole w cs ds o.1 in omega arith
 commands_whole w cs (Near x n p within ∷ ds) o = commands_skip w cs (Near x n p within) ds (λ c. refl) ∙ commands_whole w cs ds o
+commands_whole w cs (Nears x n ps ∷ ds) o = commands_skip w cs (Nears x n ps) ds (λ c. refl) ∙ commands_whole w cs ds o
 commands_whole w cs (Inside x n b ∷ ds) o = commands_skip w cs (Inside x n b) ds (λ c. refl) ∙ commands_whole w cs ds o
+commands_whole w cs (Ball x n r p ∷ ds) o = commands_skip w cs (Ball x n r p) ds (λ c. refl) ∙ commands_whole w cs ds o
+commands_whole w cs (Lonely x n r ∷ ds) o = commands_skip w cs (Lonely x n r) ds (λ c. refl) ∙ commands_whole w cs ds o
+commands_whole w cs (Clusters x n r ∷ ds) o = commands_skip w cs (Clusters x n r) ds (λ c. refl) ∙ commands_whole w cs ds o
 commands_whole w cs (Sync ∷ ds) o = commands_skip w cs Sync ds (λ c. refl) ∙ commands_whole w cs ds o
 
 pub all_ones : (ds : List Command) → weigh_all (λ u. 1) ds ≡ updates_in ds
@@ -162,7 +178,11 @@ unfolding weigh_all
 all_ones [] = refl
 all_ones (Change x u ∷ ds) = let r = all_ones ds in omega arith
 all_ones (Near x k p within ∷ ds) = all_ones ds
+all_ones (Nears x k ps ∷ ds) = all_ones ds
 all_ones (Inside x k b ∷ ds) = all_ones ds
+all_ones (Ball x k r p ∷ ds) = all_ones ds
+all_ones (Lonely x k r ∷ ds) = all_ones ds
+all_ones (Clusters x k r ∷ ds) = all_ones ds
 all_ones (Sync ∷ ds) = all_ones ds
 
 pub all_points : (ds : List Command) → weigh_all points_in ds ≡ points_of ds
@@ -170,14 +190,22 @@ unfolding weigh_all
 all_points [] = refl
 all_points (Change x u ∷ ds) = let r = all_points ds in omega arith
 all_points (Near x k p within ∷ ds) = let r = all_points ds in omega arith
+all_points (Nears x k ps ∷ ds) = let r = all_points ds in omega arith
 all_points (Inside x k b ∷ ds) = let r = all_points ds in omega arith
+all_points (Ball x k far p ∷ ds) = let r = all_points ds in omega arith
+all_points (Lonely x k far ∷ ds) = let r = all_points ds in omega arith
+all_points (Clusters x k far ∷ ds) = let r = all_points ds in omega arith
 all_points (Sync ∷ ds) = let r = all_points ds in omega arith
 
 pub updates_few : (ds : List Command) → updates_in ds ≤ length ds
 updates_few [] = omega arith
 updates_few (Change x u ∷ ds) = let r = updates_few ds in omega arith
 updates_few (Near x k p within ∷ ds) = let r = updates_few ds in omega arith
+updates_few (Nears x k ps ∷ ds) = let r = updates_few ds in omega arith
 updates_few (Inside x k b ∷ ds) = let r = updates_few ds in omega arith
+updates_few (Ball x k far p ∷ ds) = let r = updates_few ds in omega arith
+updates_few (Lonely x k far ∷ ds) = let r = updates_few ds in omega arith
+updates_few (Clusters x k far ∷ ds) = let r = updates_few ds in omega arith
 updates_few (Sync ∷ ds) = let r = updates_few ds in omega arith
 
 -- what these passes have made

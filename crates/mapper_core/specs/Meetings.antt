@@ -6,7 +6,7 @@ use Rattle.map_fold.specs.declared.memory.NoMemory.{NoMemory}
 use Rattle.rebuild_core.specs.History.{updates}
 use Rattle.published_map.specs.Marks.{Seen, AllMet, AllOf, callers_of, newcomer_of}
 use Rattle.scan_log.specs.declared.command.Command.{Command}
-use Rattle.scan_log.specs.declared.command.Command.TheVariants.{Change, Near, Inside, Sync}
+use Rattle.scan_log.specs.declared.command.Command.TheVariants.{Change, Near, Nears, Inside, Ball, Lonely, Clusters, Sync}
 use Rattle.scan_log.specs.declared.reply.Reply.{Reply}
 use Rattle.scan_log.specs.Legal.{counted}
 use Rattle.scan_log.specs.Transcript.{totals_reply}
@@ -17,13 +17,21 @@ use Rattle.mapper_core.specs.Mine.{updates_by, Mine, Turned}
 abbrev pub IsBy : Command → ℕ → Type 0
 IsBy (Change caller u) x = caller ≡ x
 IsBy (Near caller k p within) x = caller ≡ x
+IsBy (Nears caller k ps) x = caller ≡ x
 IsBy (Inside caller k c) x = caller ≡ x
+IsBy (Ball caller k r p) x = caller ≡ x
+IsBy (Lonely caller k r) x = caller ≡ x
+IsBy (Clusters caller k r) x = caller ≡ x
 IsBy Sync x = ⊥
 
 abbrev pub is_barrier : Command → Bool
 is_barrier (Change caller u) = false
 is_barrier (Near caller k p within) = false
+is_barrier (Nears caller k ps) = false
 is_barrier (Inside caller k c) = false
+is_barrier (Ball caller k r p) = false
+is_barrier (Lonely caller k r) = false
+is_barrier (Clusters caller k r) = false
 is_barrier Sync = true
 
 -- the command is one of these callers', who are numbered from 1
@@ -34,7 +42,11 @@ IsOfCallers n c = (k : ℕ) × IsBy c (k + 1) × (k < n)
 abbrev pub HasCaller : ℕ → Command → Type 0
 HasCaller n (Change caller u) = (1 ≤ caller) × (caller ≤ n)
 HasCaller n (Near caller k p within) = (1 ≤ caller) × (caller ≤ n)
+HasCaller n (Nears caller k ps) = (1 ≤ caller) × (caller ≤ n)
 HasCaller n (Inside caller k c) = (1 ≤ caller) × (caller ≤ n)
+HasCaller n (Ball caller k r p) = (1 ≤ caller) × (caller ≤ n)
+HasCaller n (Lonely caller k r) = (1 ≤ caller) × (caller ≤ n)
+HasCaller n (Clusters caller k r) = (1 ≤ caller) × (caller ≤ n)
 HasCaller n Sync = Unit {0}
 
 -- what is left to be told to each caller, the first of whom is 1

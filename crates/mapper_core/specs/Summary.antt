@@ -2,19 +2,23 @@
 use Rattle.std.specs.Prelude.{ℕ, ◌+◌, ◌-◌, List, [], ◌∷◌, ◌++◌, length, slice_get, codes, decimal, None, Some}
 use Rattle.std.specs.declared.option.Option.{Option}
 use Rattle.scan_log.specs.declared.reply.Reply.{Reply}
-use Rattle.scan_log.specs.declared.reply.Reply.TheVariants.{Done, Near, Inside, Totals}
+use Rattle.scan_log.specs.declared.reply.Reply.TheVariants.{Done, Near, Nears, Inside, Ball, Lonely, Clusters, Totals}
 use Rattle.scan_log.specs.Scripts.{ScriptAt, points_of}
 use Rattle.scan_log.specs.Transcript.{replies, serial_marks}
 use Rattle.mapper_core.specs.Generated.{generated}
 
--- the hits of a reply
+-- the hits of a reply to a single search
 abbrev pub hits_of : Reply → ℕ
 hits_of (Near r) = length r.hits
 hits_of (Done mark) = 0
+hits_of (Nears r) = 0
 hits_of (Inside r) = 0
+hits_of (Ball r) = 0
+hits_of (Lonely r) = 0
+hits_of (Clusters r) = 0
 hits_of (Totals mark live suspended) = 0
 
--- the hits of all replies
+-- the hits of all single searches
 abbrev pub hits_in : List Reply → ℕ
 hits_in [] = 0
 hits_in (r ∷ rs) = hits_of r + hits_in rs
@@ -29,7 +33,11 @@ abbrev pub told_by : Option Reply → Held
 told_by (Some (Totals mark live suspended)) = record { live = live; suspended = suspended }
 told_by (Some (Done mark)) = record { live = 0; suspended = 0 }
 told_by (Some (Near r)) = record { live = 0; suspended = 0 }
+told_by (Some (Nears r)) = record { live = 0; suspended = 0 }
 told_by (Some (Inside r)) = record { live = 0; suspended = 0 }
+told_by (Some (Ball r)) = record { live = 0; suspended = 0 }
+told_by (Some (Lonely r)) = record { live = 0; suspended = 0 }
+told_by (Some (Clusters r)) = record { live = 0; suspended = 0 }
 told_by None = record { live = 0; suspended = 0 }
 
 -- how many points are held when all commands are done: the last reply tells it

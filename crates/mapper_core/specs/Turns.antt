@@ -5,7 +5,7 @@ use Rattle.map_fold.specs.declared.update.Update.{Update}
 use Rattle.rebuild_core.specs.History.{updates}
 use Rattle.rebuild_core.specs.Lawful.{StateAt}
 use Rattle.scan_log.specs.declared.command.Command.{Command}
-use Rattle.scan_log.specs.declared.command.Command.TheVariants.{Change, Near, Inside, Sync}
+use Rattle.scan_log.specs.declared.command.Command.TheVariants.{Change, Near, Nears, Inside, Ball, Lonely, Clusters, Sync}
 use Rattle.scan_log.specs.declared.reply.Reply.{Reply}
 use Rattle.scan_log.specs.Scripts.{submitted}
 use Rattle.scan_log.specs.Transcript.{reply_to}
@@ -15,7 +15,11 @@ abbrev pub updates_of : List Command → List Update
 updates_of [] = []
 updates_of (Change caller u ∷ cs) = u ∷ updates_of cs
 updates_of (Near caller k p within ∷ cs) = updates_of cs
+updates_of (Nears caller k ps ∷ cs) = updates_of cs
 updates_of (Inside caller k c ∷ cs) = updates_of cs
+updates_of (Ball caller k r p ∷ cs) = updates_of cs
+updates_of (Lonely caller k r ∷ cs) = updates_of cs
+updates_of (Clusters caller k r ∷ cs) = updates_of cs
 updates_of (Sync ∷ cs) = updates_of cs
 
 -- The second state is the first after the command: its updates are one more, or the same.

@@ -1,14 +1,17 @@
 //! One command, on the state of a map.
 ghost use Rattle.std.specs.Prelude.{◌≡◌, ◌≤◌, ◌<◌, ◌+◌, length, IfOk, OnOk};
 ghost use Rattle.std.specs.Option.{ForSome};
+ghost use Rattle.kd_tree.specs.Contents.{contents};
+ghost use Rattle.map_fold.specs.Answers.{nears};
 ghost use Rattle.rebuild_core.specs.Steps.{HasRoom, IsUpdateStep};
 ghost use Rattle.scan_log.specs.declared.format.Format.TheVariants.{Two};
 ghost use Rattle.scan_log.specs.Scripts.{IsCommand, submitted};
 ghost use Rattle.mapper_core.specs.Turns.{Follows, IsTended, reply_of};
 
+use crate::neighbours::{ball_reply, clusters_reply, lonely_reply};
 use kd_search::{count_in, in_cuboid, nearest};
-use kd_tree::Steps;
-use map_fold::{BoxReply, NearReply, NoMemory, Update};
+use kd_tree::{Steps, Tree};
+use map_fold::{BoxReply, HitLists, NearReply, NearsReply, NoMemory, Points, Update};
 use point_geom::{Cuboid, Point};
 use rebuild_core::{Built, MapState, StateFault, SwapFault};
 use scan_log::{Command, Reply};
@@ -32,7 +35,11 @@ pub fn answer(alloc: Global, state: &mut MapState, command: &Command) -> Result<
             within,
             ..
         } => near(alloc, state, *k, point, *within),
+        Command::Nears { k, points, .. } => nears(alloc, state, *k, points),
         Command::Inside { k, cuboid, .. } => inside(alloc, state, *k, cuboid),
+        Command::Ball { k, r, point, .. } => ball(alloc, state, *k, *r, point),
+        Command::Lonely { k, r, .. } => lonely(alloc, state, *k, *r),
+        Command::Clusters { k, r, .. } => clusters(alloc, state, *k, *r),
         Command::Sync => {
             state.settle(alloc)?;
             Ok(totals(state))
@@ -136,6 +143,34 @@ fn near(
     Ok(Reply::Near(NearReply { mark, hits }))
 }
 
+fn nears(alloc: Global, state: &MapState, k: u32, points: &Points) -> Result<Reply, NoMemory>
+    requires k_from { 1 ≤ k }
+    requires k_to { k ≤ 256 }
+    ensures { IfOk result (λ r. r ≡ reply_of state.now.state (Command.Nears 1 k points.now)) }
+{
+    let mark = state.history().len() as u64;
+    let lists = nearest_in_turn(alloc, state.version().tree(), k, points.as_slice())?;
+    Ok(Reply::Nears(NearsReply { mark, lists }))
+}
+
+// One search after another.
+fn nearest_in_turn(
+    alloc: Global,
+    tree: &Tree,
+    k: u32,
+    points: &[Point],
+) -> Result<HitLists, NoMemory>
+    requires k_from { 1 ≤ k }
+    requires k_to { k ≤ 256 }
+    ensures { IfOk result (λ lists. lists ≡ nears (contents tree.now) k points.now) }
+{
+    let mut lists = HitLists::new(alloc);
+    for point in points {
+        lists.push(nearest(alloc, tree, k, point, None)?)?;
+    }
+    Ok(lists)
+}
+
 fn inside(alloc: Global, state: &MapState, k: u32, cuboid: &Cuboid) -> Result<Reply, NoMemory>
     requires k_from { 1 ≤ k }
     requires k_to { k ≤ 256 }
@@ -146,6 +181,39 @@ fn inside(alloc: Global, state: &MapState, k: u32, cuboid: &Cuboid) -> Result<Re
     let count = count_in(tree, cuboid);
     let items = in_cuboid(alloc, tree, cuboid, k)?;
     Ok(Reply::Inside(BoxReply { mark, count, items }))
+}
+
+fn ball(alloc: Global, state: &MapState, k: u32, r: u64, point: &Point) -> Result<Reply, NoMemory>
+    requires k_from { 1 ≤ k }
+    requires k_to { k ≤ 256 }
+    requires r_to { r ≤ 4398046511104 }
+    ensures { IfOk result (λ z. z ≡ reply_of state.now.state (Command.Ball 1 k r point.now)) }
+{
+    let mark = state.history().len() as u64;
+    let found = ball_reply(alloc, state.version().tree(), mark, k, r, point)?;
+    Ok(Reply::Ball(found))
+}
+
+fn lonely(alloc: Global, state: &MapState, k: u32, r: u64) -> Result<Reply, NoMemory>
+    requires k_from { 1 ≤ k }
+    requires k_to { k ≤ 256 }
+    requires r_to { r ≤ 4398046511104 }
+    ensures { IfOk result (λ z. z ≡ reply_of state.now.state (Command.Lonely 1 k r)) }
+{
+    let mark = state.history().len() as u64;
+    let found = lonely_reply(alloc, state.version().tree(), mark, k, r)?;
+    Ok(Reply::Lonely(found))
+}
+
+fn clusters(alloc: Global, state: &MapState, k: u32, r: u64) -> Result<Reply, NoMemory>
+    requires k_from { 1 ≤ k }
+    requires k_to { k ≤ 256 }
+    requires r_to { r ≤ 4398046511104 }
+    ensures { IfOk result (λ z. z ≡ reply_of state.now.state (Command.Clusters 1 k r)) }
+{
+    let mark = state.history().len() as u64;
+    let found = clusters_reply(alloc, state.version().tree(), mark, k, r)?;
+    Ok(Reply::Clusters(found))
 }
 
 /// How many points are held.

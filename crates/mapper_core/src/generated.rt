@@ -1,9 +1,9 @@
 //! The generated script: scans of a robot that moves a metre along x from scan to scan.
-ghost use Rattle.std.specs.Prelude.{◌≡◌, ◌≤◌, ◌<◌, ◌+◌, ◌++◌, length, IfOk, OnOk};
+ghost use Rattle.std.specs.Prelude.{◌≡◌, ◌≤◌, ◌<◌, ◌+◌, ◌*◌, ◌++◌, length, IfOk, OnOk};
 ghost use Rattle.std.specs.List.{AllByRecursion};
 ghost use Rattle.std.specs.Option.{ForSome};
 ghost use Rattle.scan_log.specs.declared.format.Format.TheVariants.{One};
-ghost use Rattle.scan_log.specs.Scripts.{IsCaller, IsCallerBox, IsCommand, IsScannedPlace, points_of, submitted, with_command};
+ghost use Rattle.scan_log.specs.Scripts.{IsCaller, IsCallerBox, IsCommand, IsScannedPlace, asked, hits_of, points_of, submitted, with_command};
 ghost use Rattle.mapper_core.specs.Generated.{after, behind, deletions, generated, next_draws, points_of_draws, robot, scan_commands};
 
 use crate::draws::{Draws, point_at};
@@ -53,11 +53,13 @@ fn push_scan(
     requires scan { scan < 200 }
     requires few { length script.old.commands + 5 ≤ 65536 }
     requires room { points_of script.old.commands + 2000 ≤ 4194304 }
+    requires hits { hits_of script.old.commands ≤ 256 * length script.old.commands }
     ensures format { OnOk result (script.new.format ≡ One) }
     ensures sizes { OnOk result (script.new.sizes ≡ script.old.sizes) }
     ensures commands { OnOk result (script.new.commands ≡ script.old.commands ++ scan_commands scan (points_of_draws scan (next_draws 6000 draws.old))) }
     ensures few { OnOk result (length script.new.commands ≤ length script.old.commands + 5) }
     ensures points { OnOk result (points_of script.new.commands ≡ points_of script.old.commands + 2000) }
+    ensures hits { OnOk result (hits_of script.new.commands ≤ 256 * length script.new.commands) }
     ensures moved { OnOk result (draws.new ≡ after 6000 draws.old) }
 {
     let update = Update::Thin(scan_points(alloc, draws, scan)?);
@@ -104,11 +106,13 @@ fn push_deletions(alloc: Global, script: &mut Script, scan: u32) -> Result<(), N
     requires scan { scan < 200 }
     requires few { length script.old.commands < 65536 }
     requires room { points_of script.old.commands ≤ 4194304 }
+    requires hits { hits_of script.old.commands ≤ 256 * length script.old.commands }
     ensures format { OnOk result (script.new.format ≡ One) }
     ensures sizes { OnOk result (script.new.sizes ≡ script.old.sizes) }
     ensures commands { OnOk result (script.new.commands ≡ script.old.commands ++ deletions scan) }
     ensures few { OnOk result (length script.new.commands ≤ length script.old.commands + 1) }
     ensures points { OnOk result (points_of script.new.commands ≡ points_of script.old.commands) }
+    ensures hits { OnOk result (hits_of script.new.commands ≤ 256 * length script.new.commands) }
 {
     if scan % 10 != 9 {
         return Ok(());
@@ -148,10 +152,13 @@ fn push(script: &mut Script, command: Command) -> Result<(), NoMemory>
     requires good { IsCommand One command }
     requires few { length script.old.commands < 65536 }
     requires room { points_of script.old.commands + submitted command ≤ 4194304 }
+    requires hits { hits_of script.old.commands ≤ 256 * length script.old.commands }
+    requires asks { asked command ≤ 256 }
     ensures format { OnOk result (script.new.format ≡ One) }
     ensures pushed { OnOk result (script.new ≡ with_command script.old command) }
     ensures few { OnOk result (length script.new.commands ≡ length script.old.commands + 1) }
     ensures points { OnOk result (points_of script.new.commands ≡ points_of script.old.commands + submitted command) }
+    ensures hits { OnOk result (hits_of script.new.commands ≤ 256 * length script.new.commands) }
 {
     // Says that the script is in its limits.
     let _ = script.commands();

@@ -8,6 +8,7 @@ mod ending;
 mod generated;
 mod hearing;
 mod mem;
+mod neighbours;
 mod notes;
 mod outside;
 mod reading;

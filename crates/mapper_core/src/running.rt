@@ -35,7 +35,7 @@ use std::thread::Threads;
 
 /// Reads a log to its end, runs it, and writes its transcript to out, or to notes a line of why not; or does the same of a
 /// generated script, for which no log is read. Nothing is written to out before the whole text stands, and a fault of notes
-/// doesn't change the answer. Takes memory of a small multiple of the log's length. The words `run` have each caller's commands run
+/// doesn't change the answer. Takes memory of a small multiple of the log's length and of the hits that it asks for. The words `run` have each caller's commands run
 /// on a thread of its own; the gate is told of each build and each reply, and may hold them up.
 pub fn run<H: Threads + Wait + Sync, R: Source, W: Sink, E: Sink, G: Gate + Sync>(
     rt: &H,

@@ -9,7 +9,7 @@ use scan_log::{Reply, Script};
 use std::alloc::Global;
 
 /// The line of a run of so many scans: its commands, the points that it submitted, those that are live and suspended at its end,
-/// and the hits of all its replies.
+/// and the hits of all its single searches.
 pub fn summary(
     alloc: Global,
     scans: u32,
@@ -72,7 +72,16 @@ fn held_at_end(replies: &[Reply]) -> Counted
             live: *live,
             suspended: *suspended,
         },
-        Some(Reply::Done { .. } | Reply::Near(_) | Reply::Inside(_)) | None => Counted {
+        Some(
+            Reply::Done { .. }
+            | Reply::Near(_)
+            | Reply::Nears(_)
+            | Reply::Inside(_)
+            | Reply::Ball(_)
+            | Reply::Lonely(_)
+            | Reply::Clusters(_),
+        )
+        | None => Counted {
             live: 0,
             suspended: 0,
         },
@@ -95,6 +104,12 @@ fn hits_of(reply: &Reply) -> usize
 {
     match reply {
         Reply::Near(found) => found.hits.len(),
-        Reply::Done { .. } | Reply::Inside(_) | Reply::Totals { .. } => 0,
+        Reply::Done { .. }
+        | Reply::Nears(_)
+        | Reply::Inside(_)
+        | Reply::Ball(_)
+        | Reply::Lonely(_)
+        | Reply::Clusters(_)
+        | Reply::Totals { .. } => 0,
     }
 }

@@ -11,6 +11,7 @@ mod examples;
 mod faults;
 mod generated;
 mod limits;
+mod neighbours;
 mod outside;
 mod prefixes;
 mod rows;

@@ -1,8 +1,9 @@
 -- What is spelled so is read.
-use Rattle.std.proofs.Common.{◌≡◌, ℕ, ◌+◌, ◌*◌, ◌/◌, ◌%◌, ◌<◌, ◌≤◌, true, false, inl, inr, List, [], ◌∷◌, map, length, min, refl, sym, ap, ◌∙◌, arith, None, Some, Ok}
+use Rattle.std.proofs.Common.{◌≡◌, ℕ, ◌+◌, ◌-◌, ◌*◌, ◌/◌, ◌%◌, ◌<◌, ◌≤◌, true, false, inl, inr, List, [], ◌∷◌, map, length, min, refl, sym, ap, ◌∙◌, arith, None, Some, Ok}
 use Rattle.std.specs.Prelude.{◌++◌, codes, decimal, nat_eq, nat_le, int_le}
 use Rattle.std.specs.List.{flat_map, AllByRecursion}
 use Rattle.std.specs.Fmt.{signed_decimal}
+use Rattle.std.specs.Str.{bytes_eq}
 use Rattle.std.specs.declared.option.Option.{Option}
 use Rattle.std.proofs.lemmas.Bool.Decides.{nat_tests}
 use Rattle.std.proofs.lemmas.Int.{ints}
@@ -10,6 +11,7 @@ use Rattle.std.proofs.lemmas.Fmt.{decimal_digit}
 use Rattle.point_geom.specs.Place.{Place, Bounds, IsUpright, bare}
 use Rattle.point_geom.specs.Boxes.{unit_box}
 use Rattle.point_geom.specs.declared.cuboid.Corner.{Corner}
+use Rattle.local_region.specs.Rules.{Rules}
 use Rattle.map_fold.specs.Sizes.{Sizes, AreSizes}
 use Rattle.map_fold.specs.declared.update.Update.{Update}
 use Rattle.map_fold.specs.declared.update.Update.TheVariants.{Add, Thin, Delete, Suspend, Restore, Expire}
@@ -17,8 +19,8 @@ use Rattle.scan_log.specs.declared.format.Format.{Format}
 use Rattle.scan_log.specs.Formats.{farthest, width}
 use Rattle.scan_log.specs.declared.format.Format.TheVariants.{One, Two}
 use Rattle.scan_log.specs.declared.command.Command.{Command}
-use Rattle.scan_log.specs.declared.command.Command.TheVariants.{Change, Near, Inside, Sync}
-use Rattle.scan_log.specs.Reading.{place_of, places_of, scanned_place_of, scanned_places_of, few_scanned_of, corner_of, is_upright, box_of, boxes_of, groups_of, few_places_of, few_boxes_of, units_of, expiry_of, update_of, near_of, inside_of, called_of, digit_caller, caller_of, after_caller, command_of, header_of}
+use Rattle.scan_log.specs.declared.command.Command.TheVariants.{Change, Near, Nears, Inside, Ball, Lonely, Clusters, Pose, Sync}
+use Rattle.scan_log.specs.Reading.{place_of, places_of, scanned_place_of, scanned_places_of, few_scanned_of, corner_of, is_upright, box_of, boxes_of, groups_of, few_places_of, few_boxes_of, units_of, expiry_of, update_of, near_of, inside_of, nears_of, ball_of, reach_of, pose_of, basic_of, called_of, digit_caller, caller_of, after_caller, command_of, header_of}
 use Rattle.scan_log.specs.Scripts.{IsCaller, ArePoints, AreBoxes, IsBoxCorner, IsCallerBox, IsCommand, submitted, IsLogPlace, IsScannedPlace, AreScanned}
 use Rattle.scan_log.specs.Spelling.{header_fields, point_fields, scanned_fields, box_fields, within_fields, caller_field, update_fields, command_fields}
 use Rattle.scan_log.proofs.NumbersAgain.{farthest_fits, natural_in-decimal, coordinate-signed_decimal, corner_number-signed_decimal}
@@ -139,6 +141,44 @@ unfolding inside_of
 inside_of-box_fields format caller k c h =
     rw (natural_in-decimal 1 256 k (omega arith) h.1 h.2, box_of-signed_decimal format c h.3) refl
 
+nears_of-point_fields : (caller k : ℕ) (ps : List Place) → IsCommand Two (Nears caller k ps)
+    → nears_of caller (decimal k ∷ flat_map point_fields ps) ≡ Ok (Nears caller k ps)
+unfolding nears_of
+nears_of-point_fields caller k ps h =
+    let count = length-point_fields ps in
+    let some : 0 < length ps = h.3.0 in
+    rw (
+      groups_of-many 3 262144 (length ps) (flat_map point_fields ps) count (omega (arith, count)) (omega (arith, count)) (omega (arith, count)) h.3.1,
+      natural_in-decimal 1 256 k (omega arith) h.1 h.2,
+      places_of-flat_map Two ps h.3.2,
+    ) refl
+
+ball_of-fields : (caller k r : ℕ) (p : Place) → IsCommand Two (Ball caller k r p) → ball_of caller (decimal k ∷ decimal r ∷ point_fields p) ≡ Ok (Ball caller k r p)
+unfolding ball_of
+ball_of-fields caller k r p h =
+    rw (natural_in-decimal 1 256 k (omega arith) h.1 h.2, natural_in-decimal 0 (farthest Two) r (farthest_fits Two) (omega arith) h.3, place_of-signed_decimal Two p h.4) refl
+
+reach_of-fields : (k r : ℕ) → 1 ≤ k → k ≤ 256 → r ≤ farthest Two → reach_of (decimal k ∷ decimal r ∷ []) ≡ Ok (k, r)
+unfolding reach_of
+reach_of-fields k r from to near =
+    rw (natural_in-decimal 1 256 k (omega arith) from to, natural_in-decimal 0 (farthest Two) r (farthest_fits Two) (omega arith) near) refl
+
+pose_of-fields : (caller : ℕ) (rules : Rules) (p : Place) → IsCommand Two (Pose caller rules p)
+    → pose_of caller (decimal rules.side ∷ decimal rules.ball ∷ decimal rules.step ∷ point_fields p) ≡ Ok (Pose caller rules p)
+unfolding pose_of
+pose_of-fields caller rules p h =
+    let side_from : 2 ≤ rules.side = h.1.side_from in
+    let side_to : rules.side ≤ 2199023255552 = h.1.side_to in
+    let ball : 2 * rules.ball < rules.side = h.1.ball in
+    let step_from : 1 ≤ rules.step = h.1.step_from in
+    let step_to : rules.step ≤ rules.side = h.1.step_to in
+    rw (
+      natural_in-decimal 2 2199023255552 rules.side (omega arith) side_from side_to,
+      natural_in-decimal 0 ((rules.side - 1) / 2) rules.ball (omega arith) (omega arith) (omega arith),
+      natural_in-decimal 1 rules.side rules.step (omega arith) step_from step_to,
+      place_of-signed_decimal Two p h.2,
+    ) refl
+
 digit_caller-decimal : (caller : ℕ) → IsCaller caller → digit_caller (decimal caller) ≡ Ok caller
 digit_caller-decimal caller h =
     let from : 1 ≤ caller = h.0 in
@@ -153,31 +193,90 @@ called_again : (format : Format) (room caller : ℕ) (fields : List (List ℕ)) 
 unfolding command_of caller_of
 called_again format room caller fields h = rw (digit_caller-decimal caller h) refl
 
+-- a word that version 1 has, too
+called_basic : (format : Format) (room caller : ℕ) (word : List ℕ) (args : List (List ℕ))
+    → bytes_eq word (codes "nears") ≡ false → bytes_eq word (codes "ball") ≡ false → bytes_eq word (codes "lonely") ≡ false → bytes_eq word (codes "clusters") ≡ false → bytes_eq word (codes "pose") ≡ false
+    → called_of format room caller word args ≡ basic_of format room caller word args
+unfolding called_of
+called_basic One room caller word args n b l c p = refl
+called_basic Two room caller word args n b l c p = rw (n, b, l, c, p) refl
+
 update_again : (format : Format) (room caller : ℕ) (u : Update) → IsCommand format (Change caller u) → submitted (Change caller u) ≤ room
     → after_caller format room caller (update_fields format u) ≡ Ok (Change caller u)
-unfolding called_of update_of expiry_of
-update_again format room caller (Add ps) h fits = rw (points_again format room ps h.1 fits) refl
-update_again format room caller (Thin ps) h fits = rw (points_again format room ps h.1 fits) refl
-update_again format room caller (Delete cs) h fits = rw (few_boxes_of-flat_map format cs h.1) refl
-update_again format room caller (Suspend cs) h fits = rw (few_boxes_of-flat_map format cs h.1) refl
-update_again format room caller (Restore cs) h fits = rw (few_boxes_of-flat_map format cs h.1) refl
+unfolding basic_of update_of expiry_of
+update_again format room caller (Add ps) h fits = called_basic format room caller _ _ refl refl refl refl refl ∙ rw (points_again format room ps h.1 fits) refl
+update_again format room caller (Thin ps) h fits = called_basic format room caller _ _ refl refl refl refl refl ∙ rw (points_again format room ps h.1 fits) refl
+update_again format room caller (Delete cs) h fits = called_basic format room caller _ _ refl refl refl refl refl ∙ rw (few_boxes_of-flat_map format cs h.1) refl
+update_again format room caller (Suspend cs) h fits = called_basic format room caller _ _ refl refl refl refl refl ∙ rw (few_boxes_of-flat_map format cs h.1) refl
+update_again format room caller (Restore cs) h fits = called_basic format room caller _ _ refl refl refl refl refl ∙ rw (few_boxes_of-flat_map format cs h.1) refl
 update_again One room caller (Expire n) h fits = absurd h.1
-update_again Two room caller (Expire n) h fits = rw (natural_in-decimal 0 4194304 n (omega arith) (omega arith) h.1) refl
+update_again Two room caller (Expire n) h fits =
+    called_basic Two room caller _ _ refl refl refl refl refl ∙ rw (natural_in-decimal 0 4194304 n (omega arith) (omega arith) h.1) refl
+
+near_again : (format : Format) (room caller k : ℕ) (p : Place) (within : Option ℕ) → IsCommand format (Near caller k p within)
+    → after_caller format room caller (codes "near" ∷ decimal k ∷ (point_fields p ++ within_fields within)) ≡ Ok (Near caller k p within)
+unfolding basic_of
+near_again format room caller k p within h = called_basic format room caller _ _ refl refl refl refl refl ∙ near_of-point_fields format caller k p within h
+
+inside_again : (format : Format) (room caller k : ℕ) (c : Bounds) → IsCommand format (Inside caller k c)
+    → after_caller format room caller (codes "box" ∷ decimal k ∷ box_fields c) ≡ Ok (Inside caller k c)
+unfolding basic_of
+inside_again format room caller k c h = called_basic format room caller _ _ refl refl refl refl refl ∙ inside_of-box_fields format caller k c h
+
+nears_again : (format : Format) (room caller k : ℕ) (ps : List Place) → IsCommand format (Nears caller k ps)
+    → after_caller format room caller (codes "nears" ∷ decimal k ∷ flat_map point_fields ps) ≡ Ok (Nears caller k ps)
+unfolding called_of
+nears_again One room caller k ps h = absurd h.4
+nears_again Two room caller k ps h = nears_of-point_fields caller k ps h
+
+ball_again : (format : Format) (room caller k r : ℕ) (p : Place) → IsCommand format (Ball caller k r p)
+    → after_caller format room caller (codes "ball" ∷ decimal k ∷ decimal r ∷ point_fields p) ≡ Ok (Ball caller k r p)
+unfolding called_of
+ball_again One room caller k r p h = absurd h.5
+ball_again Two room caller k r p h = ball_of-fields caller k r p h
+
+lonely_again : (format : Format) (room caller k r : ℕ) → IsCommand format (Lonely caller k r)
+    → after_caller format room caller (codes "lonely" ∷ decimal k ∷ decimal r ∷ []) ≡ Ok (Lonely caller k r)
+unfolding called_of
+lonely_again One room caller k r h = absurd h.4
+lonely_again Two room caller k r h = rw (reach_of-fields k r h.1 h.2 h.3) refl
+
+clusters_again : (format : Format) (room caller k r : ℕ) → IsCommand format (Clusters caller k r)
+    → after_caller format room caller (codes "clusters" ∷ decimal k ∷ decimal r ∷ []) ≡ Ok (Clusters caller k r)
+unfolding called_of
+clusters_again One room caller k r h = absurd h.4
+clusters_again Two room caller k r h = rw (reach_of-fields k r h.1 h.2 h.3) refl
+
+pose_again : (format : Format) (room caller : ℕ) (rules : Rules) (p : Place) → IsCommand format (Pose caller rules p)
+    → after_caller format room caller (codes "pose" ∷ decimal rules.side ∷ decimal rules.ball ∷ decimal rules.step ∷ point_fields p) ≡ Ok (Pose caller rules p)
+unfolding called_of
+pose_again One room caller rules p h = absurd h.3
+pose_again Two room caller rules p h = pose_of-fields caller rules p h
 
 command_of-command_fields : (format : Format) (room : ℕ) (c : Command) → IsCommand format c → submitted c ≤ room → command_of format room (command_fields format c) ≡ Ok c
-unfolding command_of called_of
+unfolding command_of
 command_of-command_fields format room (Change caller u) h fits = called_again format room caller (update_fields format u) h.0 ∙ update_again format room caller u h fits
 command_of-command_fields format room (Near caller k p within) h fits =
-    called_again format room caller (codes "near" ∷ decimal k ∷ (point_fields p ++ within_fields within)) h.0 ∙ near_of-point_fields format caller k p within h
+    called_again format room caller (codes "near" ∷ decimal k ∷ (point_fields p ++ within_fields within)) h.0 ∙ near_again format room caller k p within h
+command_of-command_fields format room (Nears caller k ps) h fits =
+    called_again format room caller (codes "nears" ∷ decimal k ∷ flat_map point_fields ps) h.0 ∙ nears_again format room caller k ps h
 command_of-command_fields format room (Inside caller k c) h fits =
-    called_again format room caller (codes "box" ∷ decimal k ∷ box_fields c) h.0 ∙ inside_of-box_fields format caller k c h
+    called_again format room caller (codes "box" ∷ decimal k ∷ box_fields c) h.0 ∙ inside_again format room caller k c h
+command_of-command_fields format room (Ball caller k r p) h fits =
+    called_again format room caller (codes "ball" ∷ decimal k ∷ decimal r ∷ point_fields p) h.0 ∙ ball_again format room caller k r p h
+command_of-command_fields format room (Lonely caller k r) h fits =
+    called_again format room caller (codes "lonely" ∷ decimal k ∷ decimal r ∷ []) h.0 ∙ lonely_again format room caller k r h
+command_of-command_fields format room (Clusters caller k r) h fits =
+    called_again format room caller (codes "clusters" ∷ decimal k ∷ decimal r ∷ []) h.0 ∙ clusters_again format room caller k r h
+command_of-command_fields format room (Pose caller rules p) h fits =
+    called_again format room caller (codes "pose" ∷ decimal rules.side ∷ decimal rules.ball ∷ decimal rules.step ∷ point_fields p) h.0 ∙ pose_again format room caller rules p h
 command_of-command_fields format room Sync h fits = refl
 
 command_of-erasure : (format : Format) (room caller : ℕ) (ps : List Place) → IsCaller caller → ArePoints format ps
     → command_of format room (caller_field caller ∷ codes "erase" ∷ flat_map point_fields ps) ≡ Ok (Change caller (Delete (map unit_box ps)))
-unfolding called_of update_of
+unfolding basic_of update_of
 command_of-erasure format room caller ps from h =
-    called_again format room caller (codes "erase" ∷ flat_map point_fields ps) from ∙ rw (units_of-flat_map format ps h) refl
+    called_again format room caller (codes "erase" ∷ flat_map point_fields ps) from ∙ called_basic format room caller _ _ refl refl refl refl refl ∙ rw (units_of-flat_map format ps h) refl
 
 -- a command is read where the fields spell it, in either way
 pub command_of-spelled : (format : Format) (room : ℕ) (fields : List (List ℕ)) (c : Command) → FieldsSpell format fields c → IsCommand format c → submitted c ≤ room

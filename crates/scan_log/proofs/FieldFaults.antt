@@ -14,13 +14,14 @@ use Rattle.map_fold.specs.Sizes.{Sizes}
 use Rattle.scan_log.specs.declared.format.Format.{Format}
 use Rattle.scan_log.specs.Formats.{is_version, format_of, lowest, highest, box_highest, farthest, width, has_expiry}
 use Rattle.scan_log.specs.declared.format.Format.TheVariants.{One, Two}
-use Rattle.scan_log.specs.declared.command.Command.TheVariants.{Change, Sync}
+use Rattle.scan_log.specs.declared.command.Command.TheVariants.{Change, Lonely, Clusters, Sync}
+use Rattle.scan_log.specs.declared.command.Command.{Command}
 use Rattle.scan_log.specs.declared.fault.LogCause.{LogCause}
 use Rattle.scan_log.specs.declared.fault.LogCause.TheVariants.{NoHeader, BadNumber, OutOfRange, UnknownCommand, BadCaller, WrongCount, InvertedBox, TooManyPoints}
 use Rattle.scan_log.specs.Steps.{◌>>=◌, given}
 use Rattle.scan_log.specs.Numbers.{is_numeral, number_in, in_range, natural_in, coordinate, corner_number}
-use Rattle.scan_log.specs.Faults.{scanned_fault, named_format, ◌orelse◌, check, value, number_fault, coordinates_fault, corner_fault, boxes_fault, are_groups, expire_fault, points_fault, erase_fault, marks_fault, k_fault, near_fault, box_fault, word_fault, is_caller, called_fault, header_fault}
-use Rattle.scan_log.specs.Reading.{scanned_place_of, scanned_places_of, few_scanned_of, place_of, places_of, corner_of, is_upright, box_of, boxes_of, groups_of, few_places_of, few_boxes_of, units_of, expiry_of, update_of, near_of, inside_of, called_of, digit_caller, caller_of, after_caller, command_of, header_of}
+use Rattle.scan_log.specs.Faults.{scanned_fault, named_format, ◌orelse◌, check, value, number_fault, coordinates_fault, corner_fault, boxes_fault, are_groups, expire_fault, points_fault, erase_fault, marks_fault, k_fault, near_fault, box_fault, nears_fault, distance_fault, ball_fault, reach_fault, pose_fault, basic_fault, word_fault, is_caller, called_fault, header_fault}
+use Rattle.scan_log.specs.Reading.{scanned_place_of, scanned_places_of, few_scanned_of, place_of, places_of, corner_of, is_upright, box_of, boxes_of, groups_of, few_places_of, few_boxes_of, units_of, expiry_of, update_of, near_of, inside_of, nears_of, ball_of, reach_of, pose_of, basic_of, called_of, digit_caller, caller_of, after_caller, command_of, header_of}
 use Rattle.scan_log.proofs.StepLemmas.{both, passed, bound, orelse-None, orelse_assoc, result_err-given, result_err-bind, result_err-last}
 
 result_err-number_in : (low high : ℤ) (f : List ℕ) → result_err (number_in low high f) ≡ number_fault low high f
@@ -231,7 +232,7 @@ update_choice false false false false false false false points units boxes expir
 
 result_err-update_of : (format : Format) (before room : ℕ) (word : List ℕ) (args : List (List ℕ)) → before + room ≡ 4194304
     → bytes_eq word (codes "near") ≡ false → bytes_eq word (codes "box") ≡ false
-    → result_err (update_of format room word args) ≡ word_fault format before word args
+    → result_err (update_of format room word args) ≡ basic_fault format before word args
 unfolding update_of
 result_err-update_of format before room word args h near box =
     update_choice (bytes_eq word (codes "add")) (bytes_eq word (codes "thin")) (bytes_eq word (codes "erase"))
@@ -294,24 +295,139 @@ result_err-inside_of format caller (k ∷ a ∷ b ∷ c ∷ d ∷ e ∷ []) = re
 result_err-inside_of format caller (k ∷ a ∷ b ∷ c ∷ d ∷ e ∷ f ∷ []) = result_err-inside_seven format caller k a b c d e f
 result_err-inside_of format caller (k ∷ a ∷ b ∷ c ∷ d ∷ e ∷ f ∷ g ∷ rest) = refl
 
-result_err-called_of : (format : Format) (before room caller : ℕ) (word : List ℕ) (args : List (List ℕ)) → before + room ≡ 4194304
-    → result_err (called_of format room caller word args) ≡ word_fault format before word args
-unfolding called_of
-result_err-called_of format before room caller word args h = by_near (bytes_eq word (codes "near")) refl
+-- a word of version 1, or an expiry
+result_err-basic_of : (format : Format) (before room caller : ℕ) (word : List ℕ) (args : List (List ℕ)) → before + room ≡ 4194304
+    → result_err (basic_of format room caller word args) ≡ basic_fault format before word args
+unfolding basic_of
+result_err-basic_of format before room caller word args h = by_near (bytes_eq word (codes "near")) refl
   where
     is_word : (xs ys : List ℕ) → bytes_eq xs ys ≡ true → xs ≡ ys
     is_word xs ys e = (bytes_eq-Decides xs ys).0 e
 
     by_box : (b : Bool) → bytes_eq word (codes "box") ≡ b → bytes_eq word (codes "near") ≡ false
-        → result_err (called_of format room caller word args) ≡ word_fault format before word args
+        → result_err (basic_of format room caller word args) ≡ basic_fault format before word args
     by_box true e n = rw (is_word word (codes "box") e) (result_err-inside_of format caller args)
     by_box false e n =
-        let plain : called_of format room caller word args ≡ (update_of format room word args >>= λ u. Ok (Change caller u)) = rw (n, e) refl in
+        let plain : basic_of format room caller word args ≡ (update_of format room word args >>= λ u. Ok (Change caller u)) = rw (n, e) refl in
         ap result_err plain ∙ result_err-last (update_of format room word args) _ ∙ result_err-update_of format before room word args h n e
 
-    by_near : (b : Bool) → bytes_eq word (codes "near") ≡ b → result_err (called_of format room caller word args) ≡ word_fault format before word args
+    by_near : (b : Bool) → bytes_eq word (codes "near") ≡ b → result_err (basic_of format room caller word args) ≡ basic_fault format before word args
     by_near true e = rw (is_word word (codes "near") e) (result_err-near_of format caller args)
     by_near false e = by_box (bytes_eq word (codes "box")) refl e
+
+-- a count, and points
+result_err-nears_of : (caller : ℕ) (args : List (List ℕ)) → result_err (nears_of caller args) ≡ nears_fault args
+unfolding nears_of
+result_err-nears_of caller [] = refl
+result_err-nears_of caller (k ∷ args) =
+    result_err-bind (groups_of 3 262144 args) _ (k_fault k orelse coordinates_fault Two args) (λ n is.
+    result_err-bind (natural_in 1 256 k) _ (coordinates_fault Two args) (λ m at.
+    result_err-last (places_of Two args) _ ∙ result_err-places_of Two args (in_groups 3 262144 args n is))
+    ∙ ap (λ (d : Option LogCause). d orelse coordinates_fault Two args) (result_err-natural_in 1 256 k))
+    ∙ ap (λ (d : Option LogCause). d orelse (k_fault k orelse coordinates_fault Two args)) (result_err-groups_of 3 262144 args)
+    ∙ sym (orelse_assoc (check (are_groups 3 args) WrongCount orelse check (nat_le (length args / 3) 262144) TooManyPoints) (k_fault k) (coordinates_fault Two args))
+
+-- a count, a distance and a point
+result_err-ball_five : (caller : ℕ) (k r x y z : List ℕ) → result_err (ball_of caller (k ∷ r ∷ x ∷ y ∷ z ∷ [])) ≡ ball_fault (k ∷ r ∷ x ∷ y ∷ z ∷ [])
+unfolding ball_of
+result_err-ball_five caller k r x y z =
+    let place = coordinates_fault Two (x ∷ y ∷ z ∷ []) in
+    result_err-bind (natural_in 1 256 k) _ (distance_fault r orelse place) (λ n is.
+    result_err-bind (natural_in 0 (farthest Two) r) _ place (λ d at. result_err-last (place_of Two x y z) _ ∙ result_err-place_of Two x y z)
+    ∙ ap (λ (d : Option LogCause). d orelse place) (result_err-natural_in 0 (farthest Two) r))
+    ∙ ap (λ (d : Option LogCause). d orelse (distance_fault r orelse place)) (result_err-natural_in 1 256 k)
+    ∙ sym (orelse_assoc (k_fault k) (distance_fault r) place)
+
+result_err-ball_of : (caller : ℕ) (args : List (List ℕ)) → result_err (ball_of caller args) ≡ ball_fault args
+unfolding ball_of
+result_err-ball_of caller [] = refl
+result_err-ball_of caller (k ∷ []) = refl
+result_err-ball_of caller (k ∷ r ∷ []) = refl
+result_err-ball_of caller (k ∷ r ∷ x ∷ []) = refl
+result_err-ball_of caller (k ∷ r ∷ x ∷ y ∷ []) = refl
+result_err-ball_of caller (k ∷ r ∷ x ∷ y ∷ z ∷ []) = result_err-ball_five caller k r x y z
+result_err-ball_of caller (k ∷ r ∷ x ∷ y ∷ z ∷ f ∷ rest) = refl
+
+-- a count and a distance
+result_err-reach_two : (k r : List ℕ) → result_err (reach_of (k ∷ r ∷ [])) ≡ reach_fault (k ∷ r ∷ [])
+unfolding reach_of
+result_err-reach_two k r =
+    result_err-bind (natural_in 1 256 k) _ (distance_fault r) (λ n is. result_err-last (natural_in 0 (farthest Two) r) _ ∙ result_err-natural_in 0 (farthest Two) r)
+    ∙ ap (λ (d : Option LogCause). d orelse distance_fault r) (result_err-natural_in 1 256 k)
+
+result_err-reach_of : (args : List (List ℕ)) → result_err (reach_of args) ≡ reach_fault args
+unfolding reach_of
+result_err-reach_of [] = refl
+result_err-reach_of (k ∷ []) = refl
+result_err-reach_of (k ∷ r ∷ []) = result_err-reach_two k r
+result_err-reach_of (k ∷ r ∷ x ∷ rest) = refl
+
+-- the number that was read, without its sign
+natural_value : (low high : ℕ) (f : List ℕ) (n : ℕ) → natural_in low high f ≡ Ok n → n ≡ unsigned_abs (value f)
+natural_value low high f n e =
+    let r = bound (number_in (pos low) (pos high) f) _ n e in
+    let is : unsigned_abs r.0 ≡ n = cc r.2 in sym is ∙ ap unsigned_abs (sym (read_value (pos low) (pos high) f r.0 r.1))
+
+-- what is asked of the ball, the step and the point, where this is the side
+abbrev behind_side : List ℕ → List ℕ → List ℕ → List ℕ → List ℕ → ℕ → Option LogCause
+behind_side ball step x y z side =
+    number_fault (pos 0) (pos ((side - 1) / 2)) ball orelse (number_fault (pos 1) (pos side) step orelse coordinates_fault Two (x ∷ y ∷ z ∷ []))
+
+result_err-pose_six : (caller : ℕ) (side ball step x y z : List ℕ)
+    → result_err (pose_of caller (side ∷ ball ∷ step ∷ x ∷ y ∷ z ∷ [])) ≡ pose_fault (side ∷ ball ∷ step ∷ x ∷ y ∷ z ∷ [])
+unfolding pose_of
+result_err-pose_six caller side ball step x y z =
+    let n = unsigned_abs (value side) in
+    let place = coordinates_fault Two (x ∷ y ∷ z ∷ []) in
+    result_err-bind (natural_in 2 2199023255552 side) _ (behind_side ball step x y z n) (λ s is.
+    result_err-bind (natural_in 0 ((s - 1) / 2) ball) _ (number_fault (pos 1) (pos s) step orelse place) (λ b at.
+    result_err-bind (natural_in 1 s step) _ place (λ t too. result_err-last (place_of Two x y z) _ ∙ result_err-place_of Two x y z)
+    ∙ ap (λ (d : Option LogCause). d orelse place) (result_err-natural_in 1 s step))
+    ∙ ap (λ (d : Option LogCause). d orelse (number_fault (pos 1) (pos s) step orelse place)) (result_err-natural_in 0 ((s - 1) / 2) ball)
+    ∙ ap (behind_side ball step x y z) (natural_value 2 2199023255552 side s is))
+    ∙ ap (λ (d : Option LogCause). d orelse behind_side ball step x y z n) (result_err-natural_in 2 2199023255552 side)
+    ∙ sym (regroup (number_fault (pos 2) (pos 2199023255552) side) (number_fault (pos 0) (pos ((n - 1) / 2)) ball) (number_fault (pos 1) (pos n) step) place)
+  where
+    regroup : (a b c d : Option LogCause) → a orelse b orelse c orelse d ≡ a orelse (b orelse (c orelse d))
+    regroup a b c d = simp orelse_assoc
+
+result_err-pose_of : (caller : ℕ) (args : List (List ℕ)) → result_err (pose_of caller args) ≡ pose_fault args
+unfolding pose_of
+result_err-pose_of caller [] = refl
+result_err-pose_of caller (k ∷ []) = refl
+result_err-pose_of caller (k ∷ a ∷ []) = refl
+result_err-pose_of caller (k ∷ a ∷ b ∷ []) = refl
+result_err-pose_of caller (k ∷ a ∷ b ∷ c ∷ []) = refl
+result_err-pose_of caller (k ∷ a ∷ b ∷ c ∷ d ∷ []) = refl
+result_err-pose_of caller (k ∷ a ∷ b ∷ c ∷ d ∷ e ∷ []) = result_err-pose_six caller k a b c d e
+result_err-pose_of caller (k ∷ a ∷ b ∷ c ∷ d ∷ e ∷ f ∷ rest) = refl
+
+-- the word of version 2 that it is
+called_choice : (caller : ℕ) (n b l c p : Bool) (nears ball pose basic : Result Command LogCause) (reach : Result (ℕ × ℕ) LogCause)
+    → result_err (if n then nears else
+    (if b then ball else
+    (if l then (reach >>= λ q. Ok (Lonely caller q.0 q.1)) else
+    (if c then (reach >>= λ q. Ok (Clusters caller q.0 q.1)) else
+    (if p then pose else basic)))))
+    ≡ (if n then result_err nears else
+    (if b then result_err ball else
+    (if l || c then result_err reach else
+    (if p then result_err pose else result_err basic))))
+called_choice caller true b l c p nears ball pose basic reach = refl
+called_choice caller false true l c p nears ball pose basic reach = refl
+called_choice caller false false true c p nears ball pose basic reach = result_err-last reach _
+called_choice caller false false false true p nears ball pose basic reach = result_err-last reach _
+called_choice caller false false false false true nears ball pose basic reach = refl
+called_choice caller false false false false false nears ball pose basic reach = refl
+
+result_err-called_of : (format : Format) (before room caller : ℕ) (word : List ℕ) (args : List (List ℕ)) → before + room ≡ 4194304
+    → result_err (called_of format room caller word args) ≡ word_fault format before word args
+unfolding called_of
+result_err-called_of One before room caller word args h = result_err-basic_of One before room caller word args h
+result_err-called_of Two before room caller word args h =
+    called_choice caller (bytes_eq word (codes "nears")) (bytes_eq word (codes "ball")) (bytes_eq word (codes "lonely")) (bytes_eq word (codes "clusters")) (bytes_eq word (codes "pose"))
+    (nears_of caller args) (ball_of caller args) (pose_of caller args) (basic_of Two room caller word args) (reach_of args)
+    ∙ rw (result_err-nears_of caller args, result_err-ball_of caller args, result_err-reach_of args, result_err-pose_of caller args, result_err-basic_of Two before room caller word args h) refl
 
 result_err-digit_caller : (digits : List ℕ) → result_err (digit_caller digits) ≡ check (is_caller digits) BadCaller
 result_err-digit_caller [] = refl

@@ -23,4 +23,5 @@ pub mod Serial
 pub mod WrittenLines
 pub mod WrittenFields
 pub mod WrittenScripts
+pub mod Plains
 mod Vectors

@@ -70,6 +70,7 @@ spelled (c ∷ d ∷ cs) h fits = more_text c d cs _ refl h fits
 -- what is read is spelled so, and in the range
 pub record Takes (low high : ℤ) (f : List ℕ) (n : ℤ) : Type 0 where
   pub text : f ≡ signed_decimal n
+  pub value : signed_digits_value 10 f ≡ n
   pub from : low ≤ℤ n
   pub to : n ≤ℤ high
 
@@ -84,11 +85,12 @@ number_takes low high f n l h e =
     let from : low ≤ℤ n = rw (← is) (grind (arith, ints, r.0)) in
     let to : n ≤ℤ high = rw (← is) (grind (arith, ints, r.1)) in
     let fits : FitsSigned w64 v = rw is (grind (arith, ints, from, to)) in
-    record { text = spelled f p.0 fits ∙ ap signed_decimal is; from = from; to = to }
+    record { text = spelled f p.0 fits ∙ ap signed_decimal is; value = is; from = from; to = to }
 
 -- the same of a number that is not below 0
 pub record TakesNatural (low high : ℕ) (f : List ℕ) (n : ℕ) : Type 0 where
   pub text : f ≡ decimal n
+  pub value : unsigned_abs (signed_digits_value 10 f) ≡ n
   pub from : low ≤ n
   pub to : n ≤ high
 
@@ -96,7 +98,7 @@ natural : (z : ℤ) (low high n : ℕ) (f : List ℕ) → Takes (pos low) (pos h
 natural (pos k) low high n f t is =
     let from : pos low ≤ℤ pos k = t.from in
     let to : pos k ≤ℤ pos high = t.to in
-    rw (← is) (record { text = t.text; from = omega (arith, ints); to = omega (arith, ints) })
+    rw (← is) (record { text = t.text; value = ap unsigned_abs t.value; from = omega (arith, ints); to = omega (arith, ints) })
 natural (negsuc k) low high n f t is = absurd (let from : pos low ≤ℤ negsuc k = t.from in grind (arith, ints))
 
 pub natural_takes : (low high : ℕ) (f : List ℕ) (n : ℕ) → low < 2 ^ 63 → high < 2 ^ 63 → natural_in low high f ≡ Ok n

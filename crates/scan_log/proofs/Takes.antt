@@ -179,14 +179,18 @@ pub record FewPlaces (format : Format) (most : ℕ) (args : List (List ℕ)) (ps
   pub few : length ps ≤ most
   pub each : AllByRecursion (IsLogPlace format) ps
 
+pub places_take : (format : Format) (most : ℕ) (args : List (List ℕ)) (n : ℕ) (ps : List Place) → groups_of 3 most args ≡ Ok n → places_of format args ≡ Ok ps
+    → FewPlaces format most args ps
+places_take format most args n ps e f =
+    let g = groups_take 3 most args n e in
+    let t = places_takes format args ps f in
+    let count : length args ≡ length ps * 3 = ap length t.0 ∙ length-point_fields ps in
+    record { text = t.0; some = omega (arith, g.some, count); few = omega (arith, g.few, count); each = t.1 }
+
 pub few_places_take : (format : Format) (most : ℕ) (args : List (List ℕ)) (ps : List Place) → few_places_of format most args ≡ Ok ps → FewPlaces format most args ps
 unfolding few_places_of
 few_places_take format most args ps e =
-    let n = bound (groups_of 3 most args) _ ps e in
-    let g = groups_take 3 most args n.0 n.1 in
-    let t = places_takes format args ps n.2 in
-    let count : length args ≡ length ps * 3 = ap length t.0 ∙ length-point_fields ps in
-    record { text = t.0; some = omega (arith, g.some, count); few = omega (arith, g.few, count); each = t.1 }
+    let n = bound (groups_of 3 most args) _ ps e in places_take format most args n.0 ps n.1 n.2
 
 -- the points of a command that adds or thins them
 pub record FewScanned (format : Format) (most : ℕ) (args : List (List ℕ)) (ps : List Place) : Type 0 where

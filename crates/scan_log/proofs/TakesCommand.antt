@@ -1,5 +1,5 @@
 -- What is read of a line is spelled so, and in its limits.
-use Rattle.std.proofs.Common.{◌≡◌, ℕ, ◌+◌, ◌-◌, ◌/◌, ◌≤◌, Bool, true, false, cond, ◌⊎◌, inl, inr, List, [], ◌∷◌, ◌++◌, map, length, min, refl, sym, ap, ◌∙◌, arith, None, Some, Result, Ok}
+use Rattle.std.proofs.Common.{◌≡◌, ℕ, ◌+◌, ◌-◌, ◌*◌, ◌/◌, ◌≤◌, Bool, true, false, cond, ◌⊎◌, inl, inr, List, [], ◌∷◌, ◌++◌, map, length, min, refl, sym, ap, ◌∙◌, arith, None, Some, Result, Ok}
 use Rattle.std.specs.Prelude.{◌&&◌, ◌||◌, if◌then◌else◌, codes, decimal, nat_eq, nat_le}
 use Rattle.std.specs.List.{flat_map}
 use Rattle.std.specs.Str.{bytes_eq}
@@ -15,17 +15,17 @@ use Rattle.scan_log.specs.declared.format.Format.{Format}
 use Rattle.scan_log.specs.Formats.{version_field, is_version, format_of, has_expiry, farthest, width}
 use Rattle.scan_log.specs.declared.format.Format.TheVariants.{One, Two}
 use Rattle.scan_log.specs.declared.command.Command.{Command}
-use Rattle.scan_log.specs.declared.command.Command.TheVariants.{Change, Near, Inside, Sync}
+use Rattle.scan_log.specs.declared.command.Command.TheVariants.{Change, Near, Nears, Inside, Ball, Lonely, Clusters, Pose, Sync}
 use Rattle.scan_log.specs.declared.fault.LogCause.TheVariants.{WrongCount}
 use Rattle.scan_log.specs.Steps.{◌>>=◌, given}
-use Rattle.scan_log.specs.Faults.{fields_points}
-use Rattle.scan_log.specs.Reading.{few_scanned_of, place_of, box_of, few_places_of, few_boxes_of, units_of, expiry_of, update_of, near_of, inside_of, called_of, digit_caller, caller_of, after_caller, command_of, header_of}
+use Rattle.scan_log.specs.Faults.{fields_points, fields_hits}
+use Rattle.scan_log.specs.Reading.{few_scanned_of, place_of, places_of, box_of, groups_of, few_places_of, few_boxes_of, units_of, expiry_of, update_of, near_of, inside_of, nears_of, ball_of, reach_of, pose_of, basic_of, called_of, digit_caller, caller_of, after_caller, command_of, header_of}
 use Rattle.scan_log.specs.Numbers.{natural_in}
-use Rattle.scan_log.specs.Scripts.{AreScanned, IsCaller, ArePoints, AreBoxes, IsUpdate, IsCommand, submitted}
+use Rattle.scan_log.specs.Scripts.{AreScanned, IsCaller, ArePoints, AreBoxes, IsUpdate, IsCommand, room_of, asked, submitted}
 use Rattle.scan_log.specs.Spelling.{header_fields, scanned_fields, box_fields, caller_field, update_fields, command_fields, SpelledAsErase}
 use Rattle.scan_log.proofs.StepLemmas.{both, bound, passed}
 use Rattle.scan_log.proofs.Spelled.{natural_takes}
-use Rattle.scan_log.proofs.Takes.{word_is, place_takes, box_takes, few_places_take, few_scanned_take, few_boxes_take}
+use Rattle.scan_log.proofs.Takes.{word_is, place_takes, box_takes, length-point_fields, places_take, few_places_take, few_scanned_take, few_boxes_take}
 use Rattle.scan_log.proofs.NumbersAgain.{farthest_fits}
 use Rattle.scan_log.proofs.Units.{units_are}
 
@@ -39,14 +39,15 @@ pub record TakesCommand (format : Format) (most : ℕ) (fields : List (List ℕ)
   pub limits : IsCommand format c
   pub room : submitted c ≤ most
   pub counted : fields_points format fields ≡ submitted c
+  pub listed : fields_hits fields ≡ asked c
 
 -- points that are added or thinned
 added_takes : (format : Format) (word : List ℕ) (done : List Place → Update) (room caller : ℕ) (args : List (List ℕ)) (u : Update) → IsCaller caller
     → ((ps : List Place) → update_fields format (done ps) ≡ word ∷ flat_map (scanned_fields format) ps)
     → ((ps : List Place) → AreScanned format ps → IsUpdate format (done ps)) → ((ps : List Place) → points_in (done ps) ≡ length ps)
-    → fields_points format (caller_field caller ∷ word ∷ args) ≡ length args / width format
+    → fields_points format (caller_field caller ∷ word ∷ args) ≡ length args / width format → fields_hits (caller_field caller ∷ word ∷ args) ≡ 0
     → (few_scanned_of format (min 262144 room) args >>= λ ps. Ok (done ps)) ≡ Ok u → TakesCommand format room (caller_field caller ∷ word ∷ args) (Change caller u)
-added_takes format word done room caller args u from fields is count points e =
+added_takes format word done room caller args u from fields is count points hits e =
     let r = bound (few_scanned_of format (min 262144 room) args) _ u e in
     let t = few_scanned_take format (min 262144 room) args r.0 r.1 in
     let made : done r.0 ≡ u = cc r.2 in
@@ -55,15 +56,16 @@ added_takes format word done room caller args u from fields is count points e =
       limits = (from, is r.0 (t.some, omega (arith, t.few), t.each));
       room = rw (count r.0) (omega (arith, t.few));
       counted = points ∙ t.count ∙ sym (count r.0);
+      listed = hits;
     })
 
 -- boxes that something is done to
 boxes_done : (format : Format) (word : List ℕ) (done : List Bounds → Update) (room caller : ℕ) (args : List (List ℕ)) (u : Update) → IsCaller caller
     → ((cs : List Bounds) → update_fields format (done cs) ≡ word ∷ flat_map box_fields cs)
     → ((cs : List Bounds) → AreBoxes format cs → IsUpdate format (done cs)) → ((cs : List Bounds) → points_in (done cs) ≡ 0)
-    → fields_points format (caller_field caller ∷ word ∷ args) ≡ 0
+    → fields_points format (caller_field caller ∷ word ∷ args) ≡ 0 → fields_hits (caller_field caller ∷ word ∷ args) ≡ 0
     → (few_boxes_of format args >>= λ cs. Ok (done cs)) ≡ Ok u → TakesCommand format room (caller_field caller ∷ word ∷ args) (Change caller u)
-boxes_done format word done room caller args u from fields is count points e =
+boxes_done format word done room caller args u from fields is count points hits e =
     let r = bound (few_boxes_of format args) _ u e in
     let t = few_boxes_take format args r.0 r.1 in
     let made : done r.0 ≡ u = cc r.2 in
@@ -72,6 +74,7 @@ boxes_done format word done room caller args u from fields is count points e =
       limits = (from, is r.0 t.1);
       room = rw (count r.0) (omega arith);
       counted = points ∙ sym (count r.0);
+      listed = hits;
     })
 
 -- points that are erased
@@ -90,6 +93,7 @@ erased_takes format room caller args u from e =
       limits = (from, units_are format p.0 are);
       room = omega arith;
       counted = refl;
+      listed = refl;
     })
 
 -- what expires
@@ -108,6 +112,7 @@ expiry_takes Two room caller (f ∷ []) u from has e =
       limits = (from, t.to);
       room = omega arith;
       counted = refl;
+      listed = refl;
     })
 
 -- one of two was read
@@ -121,17 +126,17 @@ update_takes : (format : Format) (room caller : ℕ) (word : List ℕ) (args : L
 unfolding update_of
 update_takes format room caller word args u from e =
     elim (choice (bytes_eq word (codes "add")) _ _ u e) [
-      | inl q ↦ rw (word_is word (codes "add") q.0) (added_takes format (codes "add") Add room caller args u from (λ ps. refl) (λ ps h. h) (λ ps. refl) refl q.1)
+      | inl q ↦ rw (word_is word (codes "add") q.0) (added_takes format (codes "add") Add room caller args u from (λ ps. refl) (λ ps h. h) (λ ps. refl) refl refl q.1)
       | inr e ↦ elim (choice (bytes_eq word (codes "thin")) _ _ u e) [
-        | inl q ↦ rw (word_is word (codes "thin") q.0) (added_takes format (codes "thin") Thin room caller args u from (λ ps. refl) (λ ps h. h) (λ ps. refl) refl q.1)
+        | inl q ↦ rw (word_is word (codes "thin") q.0) (added_takes format (codes "thin") Thin room caller args u from (λ ps. refl) (λ ps h. h) (λ ps. refl) refl refl q.1)
         | inr e ↦ elim (choice (bytes_eq word (codes "erase")) _ _ u e) [
           | inl q ↦ rw (word_is word (codes "erase") q.0) (erased_takes format room caller args u from q.1)
           | inr e ↦ elim (choice (bytes_eq word (codes "delete")) _ _ u e) [
-            | inl q ↦ rw (word_is word (codes "delete") q.0) (boxes_done format (codes "delete") Delete room caller args u from (λ cs. refl) (λ cs h. h) (λ cs. refl) refl q.1)
+            | inl q ↦ rw (word_is word (codes "delete") q.0) (boxes_done format (codes "delete") Delete room caller args u from (λ cs. refl) (λ cs h. h) (λ cs. refl) refl refl q.1)
             | inr e ↦ elim (choice (bytes_eq word (codes "suspend")) _ _ u e) [
-              | inl q ↦ rw (word_is word (codes "suspend") q.0) (boxes_done format (codes "suspend") Suspend room caller args u from (λ cs. refl) (λ cs h. h) (λ cs. refl) refl q.1)
+              | inl q ↦ rw (word_is word (codes "suspend") q.0) (boxes_done format (codes "suspend") Suspend room caller args u from (λ cs. refl) (λ cs h. h) (λ cs. refl) refl refl q.1)
               | inr e ↦ elim (choice (bytes_eq word (codes "restore")) _ _ u e) [
-                | inl q ↦ rw (word_is word (codes "restore") q.0) (boxes_done format (codes "restore") Restore room caller args u from (λ cs. refl) (λ cs h. h) (λ cs. refl) refl q.1)
+                | inl q ↦ rw (word_is word (codes "restore") q.0) (boxes_done format (codes "restore") Restore room caller args u from (λ cs. refl) (λ cs h. h) (λ cs. refl) refl refl q.1)
                 | inr e ↦ elim (choice (has_expiry format && bytes_eq word (codes "expire")) _ _ u e) [
                   | inl q ↦
                       let b = both (has_expiry format) (bytes_eq word (codes "expire")) q.0 in
@@ -160,6 +165,7 @@ near_plain_takes format room caller k x y z c from e =
       limits = (from, tn.from, tn.to, tp.1, λ r h. cc h);
       room = omega arith;
       counted = refl;
+      listed = ap room_of tn.value;
     })
 
 near_within_takes : (format : Format) (room caller : ℕ) (k x y z word r : List ℕ) (c : Command) → IsCaller caller
@@ -181,6 +187,7 @@ near_within_takes format room caller k x y z word r c from e =
       limits = (from, tn.from, tn.to, tp.1, λ n h. let same : d.0 ≡ n = cc h in rw (← same) td.to);
       room = omega arith;
       counted = refl;
+      listed = ap room_of tn.value;
     })
 
 near_takes : (format : Format) (room caller : ℕ) (args : List (List ℕ)) (c : Command) → IsCaller caller → near_of format caller args ≡ Ok c
@@ -209,6 +216,7 @@ inside_seven_takes format room caller k x y z f g h c from e =
       limits = (from, tn.from, tn.to, tb.1);
       room = omega arith;
       counted = refl;
+      listed = refl;
     })
 
 inside_takes : (format : Format) (room caller : ℕ) (args : List (List ℕ)) (c : Command) → IsCaller caller → inside_of format caller args ≡ Ok c
@@ -224,11 +232,159 @@ inside_takes format room caller (k ∷ x ∷ y ∷ z ∷ f ∷ g ∷ []) c from 
 inside_takes format room caller (k ∷ x ∷ y ∷ z ∷ f ∷ g ∷ h ∷ []) c from e = inside_seven_takes format room caller k x y z f g h c from e
 inside_takes format room caller (k ∷ x ∷ y ∷ z ∷ f ∷ g ∷ h ∷ i ∷ rest) c from e = cc
 
--- a caller's word and its arguments
-called_takes : (format : Format) (room caller : ℕ) (word : List ℕ) (args : List (List ℕ)) (c : Command) → IsCaller caller → called_of format room caller word args ≡ Ok c
+-- searches round several places
+nears_some_take : (room caller : ℕ) (k : List ℕ) (args : List (List ℕ)) (c : Command) → IsCaller caller → nears_of caller (k ∷ args) ≡ Ok c
+    → TakesCommand Two room (caller_field caller ∷ codes "nears" ∷ k ∷ args) c
+unfolding nears_of
+nears_some_take room caller k args c from e =
+    let g = bound (groups_of 3 262144 args) _ c e in
+    let n = bound (natural_in 1 256 k) _ c g.2 in
+    let p = bound (places_of Two args) _ c n.2 in
+    let is : Nears caller n.0 p.0 ≡ c = cc p.2 in
+    let tn = natural_takes 1 256 k n.0 (omega arith) (omega arith) n.1 in
+    let tp = places_take Two 262144 args g.0 p.0 g.1 p.1 in
+    let many : length (k ∷ args) / 3 ≡ length p.0 = omega (arith, ap length tp.text, length-point_fields p.0) in
+    rw (← is) (record {
+      spelled = inl (rw (← tn.text, ← tp.text) refl);
+      limits = (from, tn.from, tn.to, (tp.some, tp.few, tp.each), tt);
+      room = omega arith;
+      counted = refl;
+      listed = rw many (ap (λ (m : ℕ). length p.0 * room_of m) tn.value);
+    })
+
+nears_take : (room caller : ℕ) (args : List (List ℕ)) (c : Command) → IsCaller caller → nears_of caller args ≡ Ok c
+    → TakesCommand Two room (caller_field caller ∷ codes "nears" ∷ args) c
+unfolding nears_of
+nears_take room caller [] c from e = cc
+nears_take room caller (k ∷ args) c from e = nears_some_take room caller k args c from e
+
+-- what is in a ball
+ball_five_takes : (room caller : ℕ) (k r x y z : List ℕ) (c : Command) → IsCaller caller → ball_of caller (k ∷ r ∷ x ∷ y ∷ z ∷ []) ≡ Ok c
+    → TakesCommand Two room (caller_field caller ∷ codes "ball" ∷ k ∷ r ∷ x ∷ y ∷ z ∷ []) c
+unfolding ball_of
+ball_five_takes room caller k r x y z c from e =
+    let n = bound (natural_in 1 256 k) _ c e in
+    let d = bound (natural_in 0 (farthest Two) r) _ c n.2 in
+    let p = bound (place_of Two x y z) _ c d.2 in
+    let is : Ball caller n.0 d.0 p.0 ≡ c = cc p.2 in
+    let tn = natural_takes 1 256 k n.0 (omega arith) (omega arith) n.1 in
+    let td = natural_takes 0 (farthest Two) r d.0 (omega arith) (farthest_fits Two) d.1 in
+    let tp = place_takes Two x y z p.0 p.1 in
+    rw (← is) (record {
+      spelled = inl (rw (← tn.text, ← td.text, ← tp.0) refl);
+      limits = (from, tn.from, tn.to, td.to, tp.1, tt);
+      room = omega arith;
+      counted = refl;
+      listed = refl;
+    })
+
+ball_takes : (room caller : ℕ) (args : List (List ℕ)) (c : Command) → IsCaller caller → ball_of caller args ≡ Ok c
+    → TakesCommand Two room (caller_field caller ∷ codes "ball" ∷ args) c
+unfolding ball_of
+ball_takes room caller [] c from e = cc
+ball_takes room caller (k ∷ []) c from e = cc
+ball_takes room caller (k ∷ r ∷ []) c from e = cc
+ball_takes room caller (k ∷ r ∷ x ∷ []) c from e = cc
+ball_takes room caller (k ∷ r ∷ x ∷ y ∷ []) c from e = cc
+ball_takes room caller (k ∷ r ∷ x ∷ y ∷ z ∷ []) c from e = ball_five_takes room caller k r x y z c from e
+ball_takes room caller (k ∷ r ∷ x ∷ y ∷ z ∷ f ∷ rest) c from e = cc
+
+-- a count and a distance
+record TakesReach (args : List (List ℕ)) (k r : ℕ) : Type 0 where
+  text : args ≡ decimal k ∷ decimal r ∷ []
+  from : 1 ≤ k
+  to : k ≤ 256
+  near : r ≤ farthest Two
+
+reach_two_takes : (f g : List ℕ) (q : ℕ × ℕ) → reach_of (f ∷ g ∷ []) ≡ Ok q → TakesReach (f ∷ g ∷ []) q.0 q.1
+unfolding reach_of
+reach_two_takes f g q e =
+    let n = bound (natural_in 1 256 f) _ q e in
+    let d = bound (natural_in 0 (farthest Two) g) _ q n.2 in
+    let is : (n.0, d.0) ≡ q = cc d.2 in
+    let tn = natural_takes 1 256 f n.0 (omega arith) (omega arith) n.1 in
+    let td = natural_takes 0 (farthest Two) g d.0 (omega arith) (farthest_fits Two) d.1 in
+    rw (← is) (record { text = rw (← tn.text, ← td.text) refl; from = tn.from; to = tn.to; near = td.to })
+
+reach_takes : (args : List (List ℕ)) (q : ℕ × ℕ) → reach_of args ≡ Ok q → TakesReach args q.0 q.1
+unfolding reach_of
+reach_takes [] q e = cc
+reach_takes (f ∷ []) q e = cc
+reach_takes (f ∷ g ∷ []) q e = reach_two_takes f g q e
+reach_takes (f ∷ g ∷ h ∷ rest) q e = cc
+
+lonely_takes : (room caller : ℕ) (args : List (List ℕ)) (c : Command) → IsCaller caller → (reach_of args >>= λ q. Ok (Lonely caller q.0 q.1)) ≡ Ok c
+    → TakesCommand Two room (caller_field caller ∷ codes "lonely" ∷ args) c
+lonely_takes room caller args c from e =
+    let q = bound (reach_of args) _ c e in
+    let is : Lonely caller q.0.0 q.0.1 ≡ c = cc q.2 in
+    let t = reach_takes args q.0 q.1 in
+    rw (← is) (record {
+      spelled = inl (rw (← t.text) refl);
+      limits = (from, t.from, t.to, t.near, tt);
+      room = omega arith;
+      counted = refl;
+      listed = refl;
+    })
+
+clusters_take : (room caller : ℕ) (args : List (List ℕ)) (c : Command) → IsCaller caller → (reach_of args >>= λ q. Ok (Clusters caller q.0 q.1)) ≡ Ok c
+    → TakesCommand Two room (caller_field caller ∷ codes "clusters" ∷ args) c
+clusters_take room caller args c from e =
+    let q = bound (reach_of args) _ c e in
+    let is : Clusters caller q.0.0 q.0.1 ≡ c = cc q.2 in
+    let t = reach_takes args q.0 q.1 in
+    rw (← is) (record {
+      spelled = inl (rw (← t.text) refl);
+      limits = (from, t.from, t.to, t.near, tt);
+      room = omega arith;
+      counted = refl;
+      listed = refl;
+    })
+
+-- where a robot is
+pose_six_takes : (room caller : ℕ) (side ball step x y z : List ℕ) (c : Command) → IsCaller caller → pose_of caller (side ∷ ball ∷ step ∷ x ∷ y ∷ z ∷ []) ≡ Ok c
+    → TakesCommand Two room (caller_field caller ∷ codes "pose" ∷ side ∷ ball ∷ step ∷ x ∷ y ∷ z ∷ []) c
+unfolding pose_of
+pose_six_takes room caller side ball step x y z c from e =
+    let s = bound (natural_in 2 2199023255552 side) _ c e in
+    let b = bound (natural_in 0 ((s.0 - 1) / 2) ball) _ c s.2 in
+    let t = bound (natural_in 1 s.0 step) _ c b.2 in
+    let p = bound (place_of Two x y z) _ c t.2 in
+    let is : Pose caller (record { side = s.0; ball = b.0; step = t.0 }) p.0 ≡ c = cc p.2 in
+    let sides = natural_takes 2 2199023255552 side s.0 (omega arith) (omega arith) s.1 in
+    let balls = natural_takes 0 ((s.0 - 1) / 2) ball b.0 (omega arith) (omega (arith, sides.to)) b.1 in
+    let steps = natural_takes 1 s.0 step t.0 (omega arith) (omega (arith, sides.to)) t.1 in
+    let place = place_takes Two x y z p.0 p.1 in
+    rw (← is) (record {
+      spelled = inl (rw (← sides.text, ← balls.text, ← steps.text, ← place.0) refl);
+      limits = (
+        from,
+        record { side_from = sides.from; side_to = sides.to; ball = omega (arith, balls.to, sides.from); step_from = steps.from; step_to = steps.to },
+        place.1,
+        tt,
+      );
+      room = omega arith;
+      counted = refl;
+      listed = refl;
+    })
+
+pose_takes : (room caller : ℕ) (args : List (List ℕ)) (c : Command) → IsCaller caller → pose_of caller args ≡ Ok c
+    → TakesCommand Two room (caller_field caller ∷ codes "pose" ∷ args) c
+unfolding pose_of
+pose_takes room caller [] c from e = cc
+pose_takes room caller (k ∷ []) c from e = cc
+pose_takes room caller (k ∷ x ∷ []) c from e = cc
+pose_takes room caller (k ∷ x ∷ y ∷ []) c from e = cc
+pose_takes room caller (k ∷ x ∷ y ∷ z ∷ []) c from e = cc
+pose_takes room caller (k ∷ x ∷ y ∷ z ∷ f ∷ []) c from e = cc
+pose_takes room caller (k ∷ x ∷ y ∷ z ∷ f ∷ g ∷ []) c from e = pose_six_takes room caller k x y z f g c from e
+pose_takes room caller (k ∷ x ∷ y ∷ z ∷ f ∷ g ∷ h ∷ rest) c from e = cc
+
+-- a word of version 1, or an expiry
+basic_takes : (format : Format) (room caller : ℕ) (word : List ℕ) (args : List (List ℕ)) (c : Command) → IsCaller caller → basic_of format room caller word args ≡ Ok c
     → TakesCommand format room (caller_field caller ∷ word ∷ args) c
-unfolding called_of
-called_takes format room caller word args c from e =
+unfolding basic_of
+basic_takes format room caller word args c from e =
     elim (choice (bytes_eq word (codes "near")) _ _ c e) [
       | inl q ↦ rw (word_is word (codes "near") q.0) (near_takes format room caller args c from q.1)
       | inr e ↦ elim (choice (bytes_eq word (codes "box")) _ _ c e) [
@@ -237,6 +393,29 @@ called_takes format room caller word args c from e =
             let u = bound (update_of format room word args) _ c e in
             let is : Change caller u.0 ≡ c = cc u.2 in
             rw (← is) (update_takes format room caller word args u.0 from u.1)
+      ]
+    ]
+
+-- a caller's word and its arguments
+called_takes : (format : Format) (room caller : ℕ) (word : List ℕ) (args : List (List ℕ)) (c : Command) → IsCaller caller → called_of format room caller word args ≡ Ok c
+    → TakesCommand format room (caller_field caller ∷ word ∷ args) c
+unfolding called_of
+called_takes One room caller word args c from e = basic_takes One room caller word args c from e
+called_takes Two room caller word args c from e =
+    elim (choice (bytes_eq word (codes "nears")) _ _ c e) [
+      | inl q ↦ rw (word_is word (codes "nears") q.0) (nears_take room caller args c from q.1)
+      | inr e ↦ elim (choice (bytes_eq word (codes "ball")) _ _ c e) [
+        | inl q ↦ rw (word_is word (codes "ball") q.0) (ball_takes room caller args c from q.1)
+        | inr e ↦ elim (choice (bytes_eq word (codes "lonely")) _ _ c e) [
+          | inl q ↦ rw (word_is word (codes "lonely") q.0) (lonely_takes room caller args c from q.1)
+          | inr e ↦ elim (choice (bytes_eq word (codes "clusters")) _ _ c e) [
+            | inl q ↦ rw (word_is word (codes "clusters") q.0) (clusters_take room caller args c from q.1)
+            | inr e ↦ elim (choice (bytes_eq word (codes "pose")) _ _ c e) [
+              | inl q ↦ rw (word_is word (codes "pose") q.0) (pose_takes room caller args c from q.1)
+              | inr e ↦ basic_takes Two room caller word args c from e
+            ]
+          ]
+        ]
       ]
     ]
 
@@ -274,7 +453,7 @@ command_takes format room (who ∷ fields) c e = elim (choice (bytes_eq who (cod
 ]
   where
     sync : (fields : List (List ℕ)) → given (nat_eq (length fields) 0) WrongCount (Ok Sync) ≡ Ok c → TakesCommand format room (codes "sync" ∷ fields) c
-    sync [] e = let is : Sync ≡ c = cc in rw (← is) (record { spelled = inl refl; limits = tt; room = omega arith; counted = refl })
+    sync [] e = let is : Sync ≡ c = cc in rw (← is) (record { spelled = inl refl; limits = tt; room = omega arith; counted = refl; listed = refl })
     sync (f ∷ fields) e =
         let p = passed (nat_eq (length (f ∷ fields)) 0) WrongCount (Ok Sync) c e in
         let none : length (f ∷ fields) ≡ 0 = grind (arith, nat_tests, p.0) in absurd (omega (arith, none))

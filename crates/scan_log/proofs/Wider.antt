@@ -10,7 +10,7 @@ use Rattle.scan_log.specs.declared.format.Format.{Format}
 use Rattle.scan_log.specs.declared.format.Format.TheVariants.{One, Two}
 use Rattle.scan_log.specs.Formats.{farthest}
 use Rattle.scan_log.specs.declared.command.Command.{Command}
-use Rattle.scan_log.specs.declared.command.Command.TheVariants.{Change, Near, Inside, Sync}
+use Rattle.scan_log.specs.declared.command.Command.TheVariants.{Change, Near, Nears, Inside, Ball, Lonely, Clusters, Pose, Sync}
 use Rattle.scan_log.specs.Scripts.{IsLogCoordinate, IsLogPlace, IsScannedPlace, AreScanned, IsBoxNumber, IsBoxCorner, IsCallerBox, AreBoxes, IsUpdate, IsCommand}
 
 coordinate_widens : (format : Format) (c : ℤ) → IsLogCoordinate format c → IsLogCoordinate Two c
@@ -61,7 +61,17 @@ pub command_widens : (format : Format) (c : Command) → IsCommand format c → 
 command_widens format (Change caller u) h = (h.0, update_widens format u h.1)
 command_widens format (Near caller k p within) h =
     (h.0, h.1, h.2, place_widens format p h.3, λ r e. farthest_widens format r (h.4 r e))
+command_widens One (Nears caller k ps) h = absurd h.4
+command_widens Two (Nears caller k ps) h = h
 command_widens format (Inside caller k c) h = (h.0, h.1, h.2, box_widens format c h.3)
+command_widens One (Ball caller k r p) h = absurd h.5
+command_widens Two (Ball caller k r p) h = h
+command_widens One (Lonely caller k r) h = absurd h.4
+command_widens Two (Lonely caller k r) h = h
+command_widens One (Clusters caller k r) h = absurd h.4
+command_widens Two (Clusters caller k r) h = h
+command_widens One (Pose caller rules p) h = absurd h.3
+command_widens Two (Pose caller rules p) h = h
 command_widens format Sync h = tt
 
 pub commands_widen : (format : Format) (cs : List Command) → AllByRecursion (IsCommand format) cs → AllByRecursion (IsCommand Two) cs

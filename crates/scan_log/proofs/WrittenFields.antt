@@ -1,5 +1,5 @@
 -- The fields of commands have no spaces and no line feeds.
-use Rattle.std.proofs.Common.{◌≡◌, ℕ, suc, ◌<◌, ◌≤◌, ◌^◌, true, List, [], ◌∷◌, ◌++◌, refl, arith, ℤ, pos, ◌≤ℤ◌, ◌∙◌, None, Some, Option}
+use Rattle.std.proofs.Common.{◌≡◌, ℕ, suc, ◌*◌, ◌<◌, ◌≤◌, ◌^◌, true, List, [], ◌∷◌, ◌++◌, refl, arith, ℤ, pos, ◌≤ℤ◌, ◌∙◌, None, Some, Option}
 use lib.IntN.{negsuc}
 use Rattle.std.specs.Prelude.{decimal}
 use Rattle.std.specs.Fmt.{signed_decimal}
@@ -23,9 +23,9 @@ use Rattle.scan_log.proofs.NumbersAgain.{farthest_fits}
 use Rattle.scan_log.specs.Formats.{version_field, highest, box_highest, farthest}
 use Rattle.scan_log.specs.declared.format.Format.TheVariants.{One, Two}
 use Rattle.scan_log.specs.declared.command.Command.{Command}
-use Rattle.scan_log.specs.declared.command.Command.TheVariants.{Change, Near, Inside, Sync}
-use Rattle.scan_log.specs.Scripts.{IsBoxCorner, IsCallerBox, IsUpdate, IsCommand, IsLogPlace, IsScannedPlace, IsBoxNumber}
-use Rattle.scan_log.specs.Spelling.{header_fields, scanned_fields, corner_fields, point_fields, box_fields, update_fields, within_fields, command_fields}
+use Rattle.scan_log.specs.declared.command.Command.TheVariants.{Change, Near, Nears, Inside, Ball, Lonely, Clusters, Pose, Sync}
+use Rattle.scan_log.specs.Scripts.{IsCaller, IsBoxCorner, IsCallerBox, IsUpdate, IsCommand, IsLogPlace, IsScannedPlace, IsBoxNumber}
+use Rattle.scan_log.specs.Spelling.{header_fields, scanned_fields, corner_fields, point_fields, box_fields, update_fields, within_fields, caller_field, command_fields}
 use Rattle.scan_log.proofs.WrittenLines.{is_in_field, are_fields}
 
 digits_field : (ds : List ℕ) → AllDigits 10 ds → list_all is_in_field ds ≡ true
@@ -94,14 +94,34 @@ limits_fields : (format : Format) (within : Option ℕ) → ForSome within (λ r
 limits_fields format None h = refl
 limits_fields format (Some r) h = let few : r ≤ farthest format = h r refl in and_from _ _ (decimal_field r (omega (arith, farthest_fits format))) refl
 
+-- a caller's word, a count, a distance, and more
+reaches_fields : (format : Format) (caller k r : ℕ) (more : List (List ℕ)) → IsCaller caller → k ≤ 256 → r ≤ farthest format → are_fields more ≡ true
+    → are_fields (caller_field caller ∷ decimal k ∷ decimal r ∷ more) ≡ true
+reaches_fields format caller k r more from few near rest =
+    and_from _ _ (decimal_field caller (omega (arith, from.1)))
+    (and_from _ _ (decimal_field k (omega (arith, few))) (and_from _ _ (decimal_field r (omega (arith, near, farthest_fits format))) rest))
+
 -- a command's fields
 pub commands_fields : (format : Format) (c : Command) → IsCommand format c → are_fields (command_fields format c) ≡ true
 commands_fields format (Change caller u) h = and_from _ _ (decimal_field caller (omega (arith, h.0.1))) (updates_fields format u h.1)
 commands_fields format (Near caller k p within) h =
     and_from _ _ (decimal_field caller (omega (arith, h.0.1)))
     (and_from _ _ (decimal_field k (omega (arith, h.2))) (append_fields (point_fields p) (within_fields within) (place_fields format p h.3) (limits_fields format within h.4)))
+commands_fields format (Nears caller k ps) h =
+    and_from _ _ (decimal_field caller (omega (arith, h.0.1)))
+    (and_from _ _ (decimal_field k (omega (arith, h.2))) (each_fields (IsLogPlace format) point_fields (place_fields format) ps h.3.2))
 commands_fields format (Inside caller k c) h =
     and_from _ _ (decimal_field caller (omega (arith, h.0.1))) (and_from _ _ (decimal_field k (omega (arith, h.2))) (cuboid_fields format c h.3))
+commands_fields format (Ball caller k r p) h = reaches_fields format caller k r (point_fields p) h.0 h.2 h.3 (place_fields format p h.4)
+commands_fields format (Lonely caller k r) h = reaches_fields format caller k r [] h.0 h.2 h.3 refl
+commands_fields format (Clusters caller k r) h = reaches_fields format caller k r [] h.0 h.2 h.3 refl
+commands_fields format (Pose caller rules p) h =
+    let side : rules.side ≤ 2199023255552 = h.1.side_to in
+    let ball : 2 * rules.ball < rules.side = h.1.ball in
+    let step : rules.step ≤ rules.side = h.1.step_to in
+    and_from _ _ (decimal_field caller (omega (arith, h.0.1)))
+    (and_from _ _ (decimal_field rules.side (omega arith))
+    (and_from _ _ (decimal_field rules.ball (omega arith)) (and_from _ _ (decimal_field rules.step (omega arith)) (place_fields format p h.2))))
 commands_fields format Sync h = refl
 
 version_in_field : (format : Format) → list_all is_in_field (version_field format) ≡ true

@@ -11,8 +11,8 @@ use Rattle.point_geom.specs.Place.{Place, Bounds}
 use Rattle.scan_log.specs.declared.format.Format.{Format}
 use Rattle.scan_log.specs.Lines.{lines_of, fields_of}
 use Rattle.scan_log.specs.Faults.{line_feeds}
-use Rattle.scan_log.specs.Spelling.{scanned_fields, box_fields}
-use Rattle.scan_log.specs.Transcript.{spaced, all_spaced, scanned_text}
+use Rattle.scan_log.specs.Spelling.{scanned_fields, point_fields, box_fields}
+use Rattle.scan_log.specs.Transcript.{spaced, all_spaced, point_text, scanned_text}
 use Rattle.scan_log.specs.Written.{joined, written_line, cuboid_text}
 
 -- the fields of several, and the several fields
@@ -22,6 +22,9 @@ all_spaced-flat_map f (x ∷ xs) = flat_map-append spaced (f x) (flat_map f xs) 
 
 pub spaced_points : (format : Format) (ps : List Place) → all_spaced (flat_map (scanned_fields format) ps) ≡ flat_map (scanned_text format) ps
 spaced_points format ps = all_spaced-flat_map (scanned_fields format) ps
+
+pub spaced_places : (ps : List Place) → all_spaced (flat_map point_fields ps) ≡ flat_map point_text ps
+spaced_places ps = all_spaced-flat_map point_fields ps
 
 pub spaced_boxes : (cs : List Bounds) → all_spaced (flat_map box_fields cs) ≡ flat_map cuboid_text cs
 spaced_boxes cs = all_spaced-flat_map box_fields cs

@@ -3,7 +3,7 @@ use Rattle.std.proofs.Common.{◌≡◌, ◌+◌, true, List, [], ◌∷◌, len
 use Rattle.std.specs.List.{flat_map, AllByRecursion}
 use Rattle.scan_log.specs.declared.format.Format.{Format}
 use Rattle.scan_log.specs.declared.command.Command.{Command}
-use Rattle.scan_log.specs.declared.command.Command.TheVariants.{Change, Near, Inside, Sync}
+use Rattle.scan_log.specs.declared.command.Command.TheVariants.{Change, Near, Nears, Inside, Ball, Lonely, Clusters, Pose, Sync}
 use Rattle.scan_log.specs.Lines.{lines_of, is_kept, fields_of}
 use Rattle.scan_log.specs.Faults.{line_feeds}
 use Rattle.scan_log.specs.Scripts.{ScriptAt, IsCommand, IsScript}
@@ -16,14 +16,24 @@ use Rattle.scan_log.proofs.WrittenFields.{commands_fields, headers_fields}
 command_is_kept : (format : Format) (c : Command) → is_kept (joined (command_fields format c)) ≡ true
 command_is_kept format (Change caller u) = refl
 command_is_kept format (Near caller k p within) = refl
+command_is_kept format (Nears caller k ps) = refl
 command_is_kept format (Inside caller k b) = refl
+command_is_kept format (Ball caller k r p) = refl
+command_is_kept format (Lonely caller k r) = refl
+command_is_kept format (Clusters caller k r) = refl
+command_is_kept format (Pose caller rules p) = refl
 command_is_kept format Sync = refl
 
 -- and its fields are the command's
 command_is_spelled : (format : Format) (c : Command) → IsCommand format c → fields_of (joined (command_fields format c)) ≡ command_fields format c
 command_is_spelled format (Change caller u) h = fields_of-joined _ _ (commands_fields format (Change caller u) h)
 command_is_spelled format (Near caller k p within) h = fields_of-joined _ _ (commands_fields format (Near caller k p within) h)
+command_is_spelled format (Nears caller k ps) h = fields_of-joined _ _ (commands_fields format (Nears caller k ps) h)
 command_is_spelled format (Inside caller k b) h = fields_of-joined _ _ (commands_fields format (Inside caller k b) h)
+command_is_spelled format (Ball caller k r p) h = fields_of-joined _ _ (commands_fields format (Ball caller k r p) h)
+command_is_spelled format (Lonely caller k r) h = fields_of-joined _ _ (commands_fields format (Lonely caller k r) h)
+command_is_spelled format (Clusters caller k r) h = fields_of-joined _ _ (commands_fields format (Clusters caller k r) h)
+command_is_spelled format (Pose caller rules p) h = fields_of-joined _ _ (commands_fields format (Pose caller rules p) h)
 command_is_spelled format Sync h = fields_of-joined _ _ (commands_fields format Sync h)
 
 commands_spelled : (format : Format) (cs : List Command) → AllByRecursion (IsCommand format) cs → LinesSpell format (filter is_kept (lines_of (flat_map (command_text format) cs))) cs

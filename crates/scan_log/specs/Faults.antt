@@ -1,5 +1,5 @@
 -- The first fault of a log, in the order of the checks.
-use Rattle.std.specs.Prelude.{ℕ, ◌+◌, ◌/◌, ◌%◌, ℤ, pos, Bool, true, false, not, ◌&&◌, ◌||◌, ◌==◌, nat_lt, nat_le, int_le, List, [], ◌∷◌, ◌++◌, count_by, length, codes, decimal, if◌then◌else◌}
+use Rattle.std.specs.Prelude.{ℕ, ◌+◌, ◌-◌, ◌*◌, ◌/◌, ◌%◌, ℤ, pos, unsigned_abs, Bool, true, false, not, ◌&&◌, ◌||◌, ◌==◌, nat_lt, nat_le, int_le, List, [], ◌∷◌, ◌++◌, count_by, length, codes, decimal, if◌then◌else◌}
 use Rattle.std.specs.Str.{bytes_eq}
 use Rattle.std.specs.Str.Parse.{signed_digits_value}
 use Rattle.std.specs.declared.option.Option.{Option}
@@ -8,9 +8,10 @@ use Rattle.scan_log.specs.declared.format.Format.{Format}
 use Rattle.scan_log.specs.declared.format.Format.TheVariants.{One, Two}
 use Rattle.scan_log.specs.Formats.{is_version, format_of, lowest, highest, box_highest, farthest, width, greatest_intensity, has_expiry}
 use Rattle.scan_log.specs.declared.fault.LogCause.{LogCause}
-use Rattle.scan_log.specs.declared.fault.LogCause.TheVariants.{NoHeader, UnknownCommand, BadCaller, BadNumber, OutOfRange, WrongCount, InvertedBox, TooManyPoints, TooManyCommands}
+use Rattle.scan_log.specs.declared.fault.LogCause.TheVariants.{NoHeader, UnknownCommand, BadCaller, BadNumber, OutOfRange, WrongCount, InvertedBox, TooManyPoints, TooManyCommands, TooManyHits}
 use Rattle.scan_log.specs.Lines.{lines_of, kept_from, fields_of}
 use Rattle.scan_log.specs.Numbers.{is_numeral}
+use Rattle.scan_log.specs.Scripts.{room_of}
 
 -- a fault, and the number of the line that has it
 pub record FaultAt : Type 0 where
@@ -27,6 +28,7 @@ cause_text WrongCount = codes "wrong count"
 cause_text InvertedBox = codes "inverted box"
 cause_text TooManyPoints = codes "too many points"
 cause_text TooManyCommands = codes "too many commands"
+cause_text TooManyHits = codes "too many hits"
 
 -- the log is refused for its length alone
 abbrev pub is_limit : LogCause → Bool
@@ -39,6 +41,7 @@ is_limit WrongCount = false
 is_limit InvertedBox = false
 is_limit TooManyPoints = true
 is_limit TooManyCommands = true
+is_limit TooManyHits = true
 
 -- the first of two checks that fails
 infixl 10 ◌orelse◌
@@ -119,15 +122,50 @@ abbrev pub box_fault : Format → List (List ℕ) → Option LogCause
 box_fault format (k ∷ a ∷ b ∷ c ∷ d ∷ e ∷ f ∷ []) = k_fault k orelse boxes_fault format (a ∷ b ∷ c ∷ d ∷ e ∷ f ∷ [])
 box_fault format args = Some WrongCount
 
--- a command of this word and these arguments, where so many points were submitted before
-abbrev pub word_fault : Format → ℕ → List ℕ → List (List ℕ) → Option LogCause
-word_fault format before word args =
+-- a count, and the points that are searched round
+abbrev pub nears_fault : List (List ℕ) → Option LogCause
+nears_fault (k ∷ args) =
+    check (are_groups 3 args) WrongCount orelse check (nat_le (length args / 3) 262144) TooManyPoints orelse k_fault k orelse coordinates_fault Two args
+nears_fault [] = Some WrongCount
+
+-- a distance, in version 2
+abbrev pub distance_fault : List ℕ → Option LogCause
+distance_fault f = number_fault (pos 0) (pos (farthest Two)) f
+
+abbrev pub ball_fault : List (List ℕ) → Option LogCause
+ball_fault (k ∷ r ∷ x ∷ y ∷ z ∷ []) = k_fault k orelse distance_fault r orelse coordinates_fault Two (x ∷ y ∷ z ∷ [])
+ball_fault args = Some WrongCount
+
+-- what lonely and clusters are asked with
+abbrev pub reach_fault : List (List ℕ) → Option LogCause
+reach_fault (k ∷ r ∷ []) = k_fault k orelse distance_fault r
+reach_fault args = Some WrongCount
+
+-- twice the ball is to be below the side, and the step no longer than it
+abbrev pub pose_fault : List (List ℕ) → Option LogCause
+pose_fault (side ∷ ball ∷ step ∷ x ∷ y ∷ z ∷ []) =
+    number_fault (pos 2) (pos 2199023255552) side orelse number_fault (pos 0) (pos ((unsigned_abs (value side) - 1) / 2)) ball
+    orelse number_fault (pos 1) (pos (unsigned_abs (value side))) step orelse coordinates_fault Two (x ∷ y ∷ z ∷ [])
+pose_fault args = Some WrongCount
+
+-- a command of this word and these arguments, of those that version 1 has, or an expiry
+abbrev pub basic_fault : Format → ℕ → List ℕ → List (List ℕ) → Option LogCause
+basic_fault format before word args =
     if bytes_eq word (codes "add") || bytes_eq word (codes "thin") then points_fault format before args else (
     if bytes_eq word (codes "erase") then erase_fault format args else (
     if bytes_eq word (codes "delete") || bytes_eq word (codes "suspend") || bytes_eq word (codes "restore") then marks_fault format args else (
     if bytes_eq word (codes "near") then near_fault format args else (
     if bytes_eq word (codes "box") then box_fault format args else (
     if has_expiry format && bytes_eq word (codes "expire") then expire_fault args else Some UnknownCommand)))))
+
+-- a command of this word and these arguments, where so many points were submitted before
+abbrev pub word_fault : Format → ℕ → List ℕ → List (List ℕ) → Option LogCause
+word_fault One before word args = basic_fault One before word args
+word_fault Two before word args =
+    if bytes_eq word (codes "nears") then nears_fault args else (
+    if bytes_eq word (codes "ball") then ball_fault args else (
+    if bytes_eq word (codes "lonely") || bytes_eq word (codes "clusters") then reach_fault args else (
+    if bytes_eq word (codes "pose") then pose_fault args else basic_fault Two before word args)))
 
 -- one digit from 1 to 8
 abbrev pub is_caller : List ℕ → Bool
@@ -140,12 +178,25 @@ called_fault format before (c ∷ digits) (word ∷ args) = check (c == 64) Unkn
 called_fault format before (c ∷ digits) [] = check (c == 64) UnknownCommand orelse check (is_caller digits) BadCaller orelse Some UnknownCommand
 called_fault format before [] fields = Some UnknownCommand
 
--- the fault of a command's fields, where so many commands and points stand before it
-abbrev pub command_fault : Format → ℕ → ℕ → List (List ℕ) → Option LogCause
-command_fault format commands points (first ∷ fields) =
+-- how many hits a list has room for whose count the first argument spells
+abbrev pub count_room : List (List ℕ) → ℕ
+count_room (k ∷ args) = room_of (unsigned_abs (value k))
+count_room [] = 0
+
+-- how many hits the reply to the fields of a good command has room for
+abbrev pub fields_hits : List (List ℕ) → ℕ
+fields_hits (caller ∷ word ∷ args) =
+    if bytes_eq word (codes "near") then count_room args else (
+    if bytes_eq word (codes "nears") then length args / 3 * count_room args else 0)
+fields_hits fields = 0
+
+-- the fault of a command's fields, where so many commands, points and hits stand before it
+abbrev pub command_fault : Format → ℕ → ℕ → ℕ → List (List ℕ) → Option LogCause
+command_fault format commands points hits (first ∷ fields) =
     check (nat_lt commands 65536) TooManyCommands
     orelse (if bytes_eq first (codes "sync") then check (length fields == 0) WrongCount else called_fault format points first fields)
-command_fault format commands points [] = Some UnknownCommand
+    orelse check (nat_le (hits + fields_hits (first ∷ fields)) 16777216) TooManyHits
+command_fault format commands points hits [] = Some UnknownCommand
 
 -- how many points the fields of a good command submit
 abbrev pub fields_points : Format → List (List ℕ) → ℕ
@@ -169,17 +220,17 @@ abbrev pub at_line : ℕ → Option LogCause → Option FaultAt
 at_line n None = None
 at_line n (Some c) = Some (record { line = n; cause = c })
 
--- the first fault of the commands' lines, where so many commands and points stand before them
-abbrev pub commands_fault : Format → ℕ → ℕ → List (ℕ × List ℕ) → Option FaultAt
-commands_fault format commands points [] = None
-commands_fault format commands points ((n, line) ∷ lines) =
-    at_line n (command_fault format commands points (fields_of line))
-    orelse commands_fault format (commands + 1) (points + fields_points format (fields_of line)) lines
+-- the first fault of the commands' lines, where so many commands, points and hits stand before them
+abbrev pub commands_fault : Format → ℕ → ℕ → ℕ → List (ℕ × List ℕ) → Option FaultAt
+commands_fault format commands points hits [] = None
+commands_fault format commands points hits ((n, line) ∷ lines) =
+    at_line n (command_fault format commands points hits (fields_of line))
+    orelse commands_fault format (commands + 1) (points + fields_points format (fields_of line)) (hits + fields_hits (fields_of line)) lines
 
 -- the first fault of the kept lines, where the log has so many line feeds
 abbrev pub lines_fault : ℕ → List (ℕ × List ℕ) → Option FaultAt
 lines_fault feeds [] = Some (record { line = feeds + 1; cause = NoHeader })
-lines_fault feeds ((n, header) ∷ lines) = at_line n (header_fault (fields_of header)) orelse commands_fault (named_format (fields_of header)) 0 0 lines
+lines_fault feeds ((n, header) ∷ lines) = at_line n (header_fault (fields_of header)) orelse commands_fault (named_format (fields_of header)) 0 0 0 lines
 
 abbrev pub line_feeds : List ℕ → ℕ
 line_feeds bytes = count_by (λ b. b == 10) bytes

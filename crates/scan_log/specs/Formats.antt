@@ -22,6 +22,11 @@ abbrev pub has_expiry : Format → Bool
 has_expiry One = false
 has_expiry Two = true
 
+-- there are commands that logs of version 2 alone have
+abbrev pub HasNewer : Format → Type 0
+HasNewer One = ⊥
+HasNewer Two = Unit {0}
+
 -- the least coordinate, in millimetres
 abbrev pub lowest : Format → ℤ
 lowest One = negsuc 999999999

@@ -11,3 +11,5 @@ pub mod Outcomes
 pub mod Transcript
 pub mod Legal
 pub mod Written
+pub mod Poses
+pub mod Plain

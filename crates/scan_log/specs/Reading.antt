@@ -14,14 +14,14 @@ use Rattle.scan_log.specs.declared.format.Format.{Format}
 use Rattle.scan_log.specs.declared.format.Format.TheVariants.{One, Two}
 use Rattle.scan_log.specs.Formats.{farthest, format_of, greatest_intensity, has_expiry, is_version, width}
 use Rattle.scan_log.specs.declared.command.Command.{Command}
-use Rattle.scan_log.specs.declared.command.Command.TheVariants.{Change, Near, Inside, Sync}
+use Rattle.scan_log.specs.declared.command.Command.TheVariants.{Change, Near, Nears, Inside, Ball, Lonely, Clusters, Pose, Sync}
 use Rattle.scan_log.specs.declared.fault.LogCause.{LogCause}
-use Rattle.scan_log.specs.declared.fault.LogCause.TheVariants.{NoHeader, UnknownCommand, BadCaller, WrongCount, InvertedBox, TooManyPoints, TooManyCommands}
+use Rattle.scan_log.specs.declared.fault.LogCause.TheVariants.{NoHeader, UnknownCommand, BadCaller, WrongCount, InvertedBox, TooManyPoints, TooManyCommands, TooManyHits}
 use Rattle.scan_log.specs.Steps.{◌>>=◌, given}
 use Rattle.scan_log.specs.Lines.{lines_of, kept_from, fields_of}
 use Rattle.scan_log.specs.Numbers.{coordinate, corner_number, natural_in, read_number}
 use Rattle.scan_log.specs.Faults.{FaultAt, are_groups, line_feeds}
-use Rattle.scan_log.specs.Scripts.{ScriptAt, submitted}
+use Rattle.scan_log.specs.Scripts.{ScriptAt, asked, submitted}
 
 -- a point of three fields
 unfoldable pub place_of : Format → List ℕ → List ℕ → List ℕ → Result Place LogCause
@@ -174,11 +174,57 @@ inside_of format caller (count ∷ a ∷ b ∷ c ∷ d ∷ e ∷ f ∷ []) = do
   Ok (Inside caller k box)
 inside_of format caller args = Err WrongCount
 
--- the command of a word and its arguments
-unfoldable pub called_of : Format → ℕ → ℕ → List ℕ → List (List ℕ) → Result Command LogCause
-called_of format room caller word args =
+-- nears, a count, and a point for each three fields behind it
+unfoldable pub nears_of : ℕ → List (List ℕ) → Result Command LogCause
+nears_of caller (count ∷ args) = do
+  n ← groups_of 3 262144 args
+  k ← natural_in 1 256 count
+  ps ← places_of Two args
+  Ok (Nears caller k ps)
+nears_of caller [] = Err WrongCount
+
+-- ball, and its five arguments
+unfoldable pub ball_of : ℕ → List (List ℕ) → Result Command LogCause
+ball_of caller (count ∷ distance ∷ x ∷ y ∷ z ∷ []) = do
+  k ← natural_in 1 256 count
+  r ← natural_in 0 (farthest Two) distance
+  p ← place_of Two x y z
+  Ok (Ball caller k r p)
+ball_of caller args = Err WrongCount
+
+-- the count and the distance that lonely and clusters are asked with
+unfoldable pub reach_of : List (List ℕ) → Result (ℕ × ℕ) LogCause
+reach_of (count ∷ distance ∷ []) = do
+  k ← natural_in 1 256 count
+  r ← natural_in 0 (farthest Two) distance
+  Ok (k, r)
+reach_of args = Err WrongCount
+
+-- pose, and its six arguments: twice the ball is below the side, and the step no longer than it
+unfoldable pub pose_of : ℕ → List (List ℕ) → Result Command LogCause
+pose_of caller (side ∷ ball ∷ step ∷ x ∷ y ∷ z ∷ []) = do
+  s ← natural_in 2 2199023255552 side
+  b ← natural_in 0 ((s - 1) / 2) ball
+  t ← natural_in 1 s step
+  p ← place_of Two x y z
+  Ok (Pose caller (record { side = s; ball = b; step = t }) p)
+pose_of caller args = Err WrongCount
+
+-- the command of a word that version 1 has, or an expiry
+unfoldable pub basic_of : Format → ℕ → ℕ → List ℕ → List (List ℕ) → Result Command LogCause
+basic_of format room caller word args =
     if bytes_eq word (codes "near") then near_of format caller args else
     (if bytes_eq word (codes "box") then inside_of format caller args else (update_of format room word args >>= λ u. Ok (Change caller u)))
+
+-- the command of a word and its arguments
+unfoldable pub called_of : Format → ℕ → ℕ → List ℕ → List (List ℕ) → Result Command LogCause
+called_of One room caller word args = basic_of One room caller word args
+called_of Two room caller word args =
+    if bytes_eq word (codes "nears") then nears_of caller args else
+    (if bytes_eq word (codes "ball") then ball_of caller args else
+    (if bytes_eq word (codes "lonely") then (reach_of args >>= λ q. Ok (Lonely caller q.0 q.1)) else
+    (if bytes_eq word (codes "clusters") then (reach_of args >>= λ q. Ok (Clusters caller q.0 q.1)) else
+    (if bytes_eq word (codes "pose") then pose_of caller args else basic_of Two room caller word args))))
 
 -- the caller of one digit from 1 to 8
 abbrev pub digit_caller : List ℕ → Result ℕ LogCause
@@ -216,22 +262,26 @@ abbrev pub on_line : {A : Type 0} → ℕ → Result A LogCause → Result A Fau
 on_line n (Ok x) = Ok x
 on_line n (Err c) = Err (record { line = n; cause = c })
 
--- the command of a line, where so many commands stand before it, and the log has room for so many points
-abbrev pub line_command : Format → ℕ → ℕ → List ℕ → Result Command LogCause
-line_command format before room line = given (nat_lt before 65536) TooManyCommands (command_of format room (fields_of line))
+-- the command, if there is room for the hits of its reply
+abbrev pub few_hits : ℕ → Command → Result Command LogCause
+few_hits hits c = given (nat_le (asked c) hits) TooManyHits (Ok c)
 
--- the commands of the lines, where so many commands stand before them, and the log has room for so many points
-abbrev pub commands_of : Format → ℕ → ℕ → List (ℕ × List ℕ) → Result (List Command) FaultAt
-commands_of format before room [] = Ok []
-commands_of format before room ((n, line) ∷ lines) = do
-  c ← on_line n (line_command format before room line)
-  cs ← commands_of format (before + 1) (room - submitted c) lines
+-- the command of a line, where so many commands stand before it, and the log has room for so many points and hits
+abbrev pub line_command : Format → ℕ → ℕ → ℕ → List ℕ → Result Command LogCause
+line_command format before room hits line = given (nat_lt before 65536) TooManyCommands (command_of format room (fields_of line) >>= few_hits hits)
+
+-- the commands of the lines, where so many commands stand before them, and the log has room for so many points and hits
+abbrev pub commands_of : Format → ℕ → ℕ → ℕ → List (ℕ × List ℕ) → Result (List Command) FaultAt
+commands_of format before room hits [] = Ok []
+commands_of format before room hits ((n, line) ∷ lines) = do
+  c ← on_line n (line_command format before room hits line)
+  cs ← commands_of format (before + 1) (room - submitted c) (hits - asked c) lines
   Ok (c ∷ cs)
 
 -- the script of this version and these settings, and of the lines after the header
 abbrev pub body_of : Format → Sizes → List (ℕ × List ℕ) → Result ScriptAt FaultAt
 body_of format sizes lines = do
-  cs ← commands_of format 0 4194304 lines
+  cs ← commands_of format 0 4194304 16777216 lines
   Ok (record { format = format; sizes = sizes; commands = cs })
 
 -- the script of the kept lines, where the log has so many line feeds

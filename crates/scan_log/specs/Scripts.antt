@@ -1,18 +1,19 @@
 -- Scripts, and their limits.
-use Rattle.std.specs.Prelude.{◌≡◌, ℕ, ◌+◌, ◌≤◌, ◌<◌, ℤ, ◌≤ℤ◌, List, [], ◌∷◌, ◌++◌, length}
+use Rattle.std.specs.Prelude.{◌≡◌, ℕ, ◌+◌, ◌*◌, ◌≤◌, ◌<◌, max, ℤ, ◌≤ℤ◌, List, [], ◌∷◌, ◌++◌, length}
 use Rattle.std.specs.List.{AllByRecursion}
 use Rattle.std.specs.Option.{ForSome}
 use Rattle.point_geom.specs.Place.{Place, Bounds, IsUpright}
 use Rattle.point_geom.specs.declared.cuboid.Corner.{Corner}
+use Rattle.local_region.specs.Rules.{AreRules}
 use Rattle.map_fold.specs.Sizes.{Sizes, AreSizes}
 use Rattle.map_fold.specs.Fold.{points_in}
 use Rattle.map_fold.specs.declared.update.Update.{Update}
 use Rattle.map_fold.specs.declared.update.Update.TheVariants.{Add, Thin, Delete, Suspend, Restore, Expire}
 use Rattle.scan_log.specs.declared.format.Format.{Format}
 use Rattle.scan_log.specs.declared.format.Format.TheVariants.{One, Two}
-use Rattle.scan_log.specs.Formats.{lowest, highest, box_highest, farthest, greatest_intensity}
+use Rattle.scan_log.specs.Formats.{HasNewer, lowest, highest, box_highest, farthest, greatest_intensity}
 use Rattle.scan_log.specs.declared.command.Command.{Command}
-use Rattle.scan_log.specs.declared.command.Command.TheVariants.{Change, Near, Inside, Sync}
+use Rattle.scan_log.specs.declared.command.Command.TheVariants.{Change, Near, Nears, Inside, Ball, Lonely, Clusters, Pose, Sync}
 
 -- what a log says: its version, the settings, and the commands in order
 pub record ScriptAt : Type 0 where
@@ -40,7 +41,7 @@ IsLogPlace format p = IsLogCoordinate format p.x × IsLogCoordinate format p.y �
 abbrev pub IsScannedPlace : Format → Place → Type 0
 IsScannedPlace format p = IsLogCoordinate format p.x × IsLogCoordinate format p.y × IsLogCoordinate format p.z × (p.intensity ≤ greatest_intensity format)
 
--- the points that one command erases
+-- the points that one command erases, or that searches are made round
 abbrev pub ArePoints : Format → List Place → Type 0
 ArePoints format ps = (0 < length ps) × (length ps ≤ 262144) × AllByRecursion (IsLogPlace format) ps
 
@@ -84,14 +85,24 @@ abbrev pub IsCommand : Format → Command → Type 0
 IsCommand format (Change caller u) = IsCaller caller × IsUpdate format u
 IsCommand format (Near caller k p within) =
     IsCaller caller × (1 ≤ k) × (k ≤ 256) × IsLogPlace format p × ForSome within (λ r. r ≤ farthest format)
+IsCommand format (Nears caller k ps) = IsCaller caller × (1 ≤ k) × (k ≤ 256) × ArePoints format ps × HasNewer format
 IsCommand format (Inside caller k c) = IsCaller caller × (1 ≤ k) × (k ≤ 256) × IsCallerBox format c
+IsCommand format (Ball caller k r p) = IsCaller caller × (1 ≤ k) × (k ≤ 256) × (r ≤ farthest format) × IsLogPlace format p × HasNewer format
+IsCommand format (Lonely caller k r) = IsCaller caller × (1 ≤ k) × (k ≤ 256) × (r ≤ farthest format) × HasNewer format
+IsCommand format (Clusters caller k r) = IsCaller caller × (1 ≤ k) × (k ≤ 256) × (r ≤ farthest format) × HasNewer format
+IsCommand format (Pose caller rules p) = IsCaller caller × AreRules rules × IsLogPlace format p × HasNewer format
 IsCommand format Sync = Unit {0}
 
 -- how many points a command submits
 abbrev pub submitted : Command → ℕ
 submitted (Change caller u) = points_in u
 submitted (Near caller k p within) = 0
+submitted (Nears caller k ps) = 0
 submitted (Inside caller k c) = 0
+submitted (Ball caller k r p) = 0
+submitted (Lonely caller k r) = 0
+submitted (Clusters caller k r) = 0
+submitted (Pose caller rules p) = 0
 submitted Sync = 0
 
 -- how many points the commands submit
@@ -99,9 +110,31 @@ abbrev pub points_of : List Command → ℕ
 points_of [] = 0
 points_of (c ∷ cs) = submitted c + points_of cs
 
--- the settings and each command are in their limits, and there are few enough commands and points
+-- how many hits a list has room for: it has room for 16 in itself
+abbrev pub room_of : ℕ → ℕ
+room_of k = max k 16
+
+-- how many hits the reply to a command has room for
+abbrev pub asked : Command → ℕ
+asked (Change caller u) = 0
+asked (Near caller k p within) = room_of k
+asked (Nears caller k ps) = length ps * room_of k
+asked (Inside caller k c) = 0
+asked (Ball caller k r p) = 0
+asked (Lonely caller k r) = 0
+asked (Clusters caller k r) = 0
+asked (Pose caller rules p) = 0
+asked Sync = 0
+
+-- how many hits the replies to the commands have room for
+abbrev pub hits_of : List Command → ℕ
+hits_of [] = 0
+hits_of (c ∷ cs) = asked c + hits_of cs
+
+-- the settings and each command are in their limits, and there are few enough commands, points and hits
 pub record IsScript (s : ScriptAt) : Type 0 where
   pub sizes : AreSizes s.sizes
   pub each : AllByRecursion (IsCommand s.format) s.commands
   pub few : length s.commands ≤ 65536
   pub room : points_of s.commands ≤ 4194304
+  pub hits : hits_of s.commands ≤ 16777216

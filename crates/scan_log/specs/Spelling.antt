@@ -14,7 +14,7 @@ use Rattle.scan_log.specs.declared.format.Format.{Format}
 use Rattle.scan_log.specs.declared.format.Format.TheVariants.{One, Two}
 use Rattle.scan_log.specs.Formats.{version_field}
 use Rattle.scan_log.specs.declared.command.Command.{Command}
-use Rattle.scan_log.specs.declared.command.Command.TheVariants.{Change, Near, Inside, Sync}
+use Rattle.scan_log.specs.declared.command.Command.TheVariants.{Change, Near, Nears, Inside, Ball, Lonely, Clusters, Pose, Sync}
 use Rattle.scan_log.specs.Lines.{kept_lines, fields_of}
 use Rattle.scan_log.specs.Scripts.{ScriptAt, ArePoints, IsScript}
 
@@ -63,7 +63,13 @@ abbrev pub command_fields : Format → Command → List (List ℕ)
 command_fields format (Change caller u) = caller_field caller ∷ update_fields format u
 command_fields format (Near caller k p within) =
     caller_field caller ∷ codes "near" ∷ decimal k ∷ (point_fields p ++ within_fields within)
+command_fields format (Nears caller k ps) = caller_field caller ∷ codes "nears" ∷ decimal k ∷ flat_map point_fields ps
 command_fields format (Inside caller k c) = caller_field caller ∷ codes "box" ∷ decimal k ∷ box_fields c
+command_fields format (Ball caller k r p) = caller_field caller ∷ codes "ball" ∷ decimal k ∷ decimal r ∷ point_fields p
+command_fields format (Lonely caller k r) = caller_field caller ∷ codes "lonely" ∷ decimal k ∷ decimal r ∷ []
+command_fields format (Clusters caller k r) = caller_field caller ∷ codes "clusters" ∷ decimal k ∷ decimal r ∷ []
+command_fields format (Pose caller rules p) =
+    caller_field caller ∷ codes "pose" ∷ decimal rules.side ∷ decimal rules.ball ∷ decimal rules.step ∷ point_fields p
 command_fields format Sync = codes "sync" ∷ []
 
 -- A deletion of points, each by its unit cuboid, may be spelled by the points alone.

@@ -1,5 +1,5 @@
 -- The replies to a script, and their text.
-use Rattle.std.specs.Prelude.{ℕ, ◌+◌, List, [], ◌∷◌, ◌++◌, map, take, codes, decimal, nat_lt, if◌then◌else◌}
+use Rattle.std.specs.Prelude.{ℕ, ◌+◌, List, [], ◌∷◌, ◌++◌, map, take, length, codes, decimal, nat_lt, if◌then◌else◌}
 use Rattle.std.specs.List.{flat_map}
 use Rattle.std.specs.declared.option.Option.{Option}
 use Rattle.std.specs.declared.option.Option.TheVariants.{None, Some}
@@ -7,25 +7,38 @@ use Rattle.point_geom.specs.Place.{Place}
 use Rattle.map_fold.specs.declared.hits.Hit.{Hit}
 use Rattle.map_fold.specs.declared.item.Item.{Item}
 use Rattle.map_fold.specs.declared.reply.NearReply.{NearReply}
+use Rattle.map_fold.specs.declared.reply.NearsReply.{NearsReply}
 use Rattle.map_fold.specs.declared.reply.BoxReply.{BoxReply}
+use Rattle.map_fold.specs.declared.reply.ClusterReply.{ClusterReply}
+use Rattle.map_fold.specs.declared.group.Group.{Group}
 use Rattle.map_fold.specs.declared.update.Update.{Update}
-use Rattle.map_fold.specs.Answers.{nearest, inside, count, live_count, suspended_count}
+use Rattle.map_fold.specs.Answers.{nearest, nears, inside, count, live_count, suspended_count}
+use Rattle.map_fold.specs.Neighbours.{ball, lonely}
+use Rattle.map_fold.specs.Clusters.{clusters}
 use Rattle.map_fold.specs.Fold.{fold}
 use Rattle.scan_log.specs.declared.format.Format.{Format}
 use Rattle.scan_log.specs.declared.format.Format.TheVariants.{One, Two}
 use Rattle.scan_log.specs.declared.command.Command.{Command}
-use Rattle.scan_log.specs.declared.command.Command.TheVariants.{Change, Near, Inside, Sync}
+use Rattle.scan_log.specs.declared.command.Command.TheVariants.{Change, Near, Nears, Inside, Ball, Lonely, Clusters, Pose, Sync}
 use Rattle.scan_log.specs.declared.reply.Reply.{Reply}
 use Rattle.scan_log.specs.declared.reply.Reply.TheVariants as reply
 use Rattle.scan_log.specs.Scripts.{ScriptAt}
+use Rattle.scan_log.specs.Poses.{plain_script}
 use Rattle.scan_log.specs.Spelling.{caller_field, point_fields, scanned_fields}
+
+-- These speak of commands among which each pose stands as the deletion that it submits, and say nothing of a pose itself.
 
 -- how many of the commands are updates
 abbrev pub updates_in : List Command → ℕ
 updates_in [] = 0
 updates_in (Change caller u ∷ cs) = 1 + updates_in cs
 updates_in (Near caller k p within ∷ cs) = updates_in cs
+updates_in (Nears caller k ps ∷ cs) = updates_in cs
 updates_in (Inside caller k c ∷ cs) = updates_in cs
+updates_in (Ball caller k r p ∷ cs) = updates_in cs
+updates_in (Lonely caller k r ∷ cs) = updates_in cs
+updates_in (Clusters caller k r ∷ cs) = updates_in cs
+updates_in (Pose caller rules p ∷ cs) = updates_in cs
 updates_in (Sync ∷ cs) = updates_in cs
 
 -- an update before the first whose mark is greater
@@ -37,7 +50,12 @@ put_update m u (h ∷ hs) = if nat_lt h.0 m then h ∷ put_update m u hs else (m
 abbrev pub marked_updates : List Command → List ℕ → List (ℕ × Update)
 marked_updates (Change caller u ∷ cs) (m ∷ marks) = put_update m u (marked_updates cs marks)
 marked_updates (Near caller k p within ∷ cs) (m ∷ marks) = marked_updates cs marks
+marked_updates (Nears caller k ps ∷ cs) (m ∷ marks) = marked_updates cs marks
 marked_updates (Inside caller k c ∷ cs) (m ∷ marks) = marked_updates cs marks
+marked_updates (Ball caller k r p ∷ cs) (m ∷ marks) = marked_updates cs marks
+marked_updates (Lonely caller k r ∷ cs) (m ∷ marks) = marked_updates cs marks
+marked_updates (Clusters caller k r ∷ cs) (m ∷ marks) = marked_updates cs marks
+marked_updates (Pose caller rules p ∷ cs) (m ∷ marks) = marked_updates cs marks
 marked_updates (Sync ∷ cs) (m ∷ marks) = marked_updates cs marks
 marked_updates [] marks = []
 marked_updates cs [] = []
@@ -54,11 +72,24 @@ held_at voxel h m = (fold voxel (take m h)).items
 abbrev pub totals_reply : ℕ → List Update → ℕ → Reply
 totals_reply voxel h m = reply.Totals m (live_count (held_at voxel h m)) (suspended_count (held_at voxel h m))
 
+-- how many items were found, and the first k of them
+abbrev pub found_reply : ℕ → List Item → ℕ → BoxReply
+found_reply m items k = record { mark = m; count = length items; items = take k items }
+
+-- the same of clusters
+abbrev pub clusters_reply : ℕ → List Group → ℕ → ClusterReply
+clusters_reply m groups k = record { mark = m; count = length groups; groups = take k groups }
+
 -- the reply to a command, where its mark is m
 abbrev pub reply_to : ℕ → List Update → Command → ℕ → Reply
 reply_to voxel h (Change caller u) m = reply.Done m
 reply_to voxel h (Near caller k p within) m = reply.Near (record { mark = m; hits = nearest (held_at voxel h m) k p within })
+reply_to voxel h (Nears caller k ps) m = reply.Nears (record { mark = m; lists = nears (held_at voxel h m) k ps })
 reply_to voxel h (Inside caller k c) m = reply.Inside (record { mark = m; count = count (held_at voxel h m) c; items = inside (held_at voxel h m) c k })
+reply_to voxel h (Ball caller k r p) m = reply.Ball (found_reply m (ball (held_at voxel h m) p r) k)
+reply_to voxel h (Lonely caller k r) m = reply.Lonely (found_reply m (lonely (held_at voxel h m) r) k)
+reply_to voxel h (Clusters caller k r) m = reply.Clusters (clusters_reply m (clusters (held_at voxel h m) r) k)
+reply_to voxel h (Pose caller rules p) m = reply.Done m
 reply_to voxel h Sync m = totals_reply voxel h m
 
 -- one reply for each command, and one for the end
@@ -75,7 +106,11 @@ replies s marks = replies_from s.sizes.voxel (history s.commands marks) s.comman
 abbrev pub mark_of : Reply → ℕ
 mark_of (reply.Done m) = m
 mark_of (reply.Near r) = r.mark
+mark_of (reply.Nears r) = r.mark
 mark_of (reply.Inside r) = r.mark
+mark_of (reply.Ball r) = r.mark
+mark_of (reply.Lonely r) = r.mark
+mark_of (reply.Clusters r) = r.mark
 mark_of (reply.Totals m live suspended) = m
 
 -- the marks of a run in the log's order, where n updates stand before
@@ -83,7 +118,12 @@ abbrev pub serial_marks_from : ℕ → List Command → List ℕ
 serial_marks_from n [] = n ∷ []
 serial_marks_from n (Change caller u ∷ cs) = (n + 1) ∷ serial_marks_from (n + 1) cs
 serial_marks_from n (Near caller k p within ∷ cs) = n ∷ serial_marks_from n cs
+serial_marks_from n (Nears caller k ps ∷ cs) = n ∷ serial_marks_from n cs
 serial_marks_from n (Inside caller k c ∷ cs) = n ∷ serial_marks_from n cs
+serial_marks_from n (Ball caller k r p ∷ cs) = n ∷ serial_marks_from n cs
+serial_marks_from n (Lonely caller k r ∷ cs) = n ∷ serial_marks_from n cs
+serial_marks_from n (Clusters caller k r ∷ cs) = n ∷ serial_marks_from n cs
+serial_marks_from n (Pose caller rules p ∷ cs) = n ∷ serial_marks_from n cs
 serial_marks_from n (Sync ∷ cs) = n ∷ serial_marks_from n cs
 
 -- the marks of a script that runs in the log's order
@@ -127,10 +167,27 @@ done_text caller mark = caller_field caller ++ codes " ok " ++ decimal mark ++ 1
 abbrev pub near_text : Format → ℕ → NearReply → List ℕ
 near_text format caller r = caller_field caller ++ codes " near " ++ decimal r.mark ++ flat_map (hit_text format) r.hits ++ 10 ∷ []
 
--- @c box M C, and the items
-abbrev pub box_text : Format → ℕ → BoxReply → List ℕ
-box_text format caller r =
-    caller_field caller ++ codes " box " ++ decimal r.mark ++ spaced (decimal r.count) ++ flat_map (item_text format) r.items ++ 10 ∷ []
+-- a stroke, and the hits
+abbrev pub list_text : Format → List Hit → List ℕ
+list_text format hits = codes " /" ++ flat_map (hit_text format) hits
+
+-- @c nears M, and the hits of each place
+abbrev pub nears_text : Format → ℕ → NearsReply → List ℕ
+nears_text format caller r = caller_field caller ++ codes " nears " ++ decimal r.mark ++ flat_map (list_text format) r.lists ++ 10 ∷ []
+
+-- @c, the word of a search that counts items, M C, and the items
+abbrev pub items_text : Format → ℕ → List ℕ → BoxReply → List ℕ
+items_text format caller word r =
+    caller_field caller ++ spaced word ++ spaced (decimal r.mark) ++ spaced (decimal r.count) ++ flat_map (item_text format) r.items ++ 10 ∷ []
+
+-- n s, after a bar
+abbrev pub group_text : Group → List ℕ
+group_text g = codes " | " ++ decimal g.least ++ spaced (decimal g.size)
+
+-- @c clusters M C, and the clusters
+abbrev pub clusters_text : ℕ → ClusterReply → List ℕ
+clusters_text caller r =
+    caller_field caller ++ codes " clusters " ++ decimal r.mark ++ spaced (decimal r.count) ++ flat_map group_text r.groups ++ 10 ∷ []
 
 -- live A suspended B
 abbrev pub counts_text : ℕ → ℕ → List ℕ
@@ -144,7 +201,12 @@ totals_text word mark live suspended = word ++ spaced (decimal mark) ++ counts_t
 abbrev pub reply_text : Format → Option Command → Reply → List ℕ
 reply_text format (Some (Change caller u)) (reply.Done mark) = done_text caller mark
 reply_text format (Some (Near caller k p within)) (reply.Near r) = near_text format caller r
-reply_text format (Some (Inside caller k c)) (reply.Inside r) = box_text format caller r
+reply_text format (Some (Nears caller k ps)) (reply.Nears r) = nears_text format caller r
+reply_text format (Some (Inside caller k c)) (reply.Inside r) = items_text format caller (codes "box") r
+reply_text format (Some (Ball caller k r p)) (reply.Ball found) = items_text format caller (codes "ball") found
+reply_text format (Some (Lonely caller k r)) (reply.Lonely found) = items_text format caller (codes "lonely") found
+reply_text format (Some (Clusters caller k r)) (reply.Clusters found) = clusters_text caller found
+reply_text format (Some (Pose caller rules p)) (reply.Done mark) = done_text caller mark
 reply_text format (Some Sync) (reply.Totals mark live suspended) = totals_text (codes "sync") mark live suspended
 reply_text format None (reply.Totals mark live suspended) = totals_text (codes "end") mark live suspended
 reply_text format c r = []
@@ -155,6 +217,6 @@ lines_text format (c ∷ cs) (r ∷ rs) = reply_text format (Some c) r ++ lines_
 lines_text format [] (r ∷ rs) = reply_text format None r
 lines_text format cs [] = []
 
--- the transcript of a script under these marks
+-- the transcript of a script under these marks: each pose is answered as the deletion that it submits
 abbrev pub text : ScriptAt → List ℕ → List ℕ
-text s marks = lines_text s.format s.commands (replies s marks)
+text s marks = lines_text s.format s.commands (replies (plain_script s) marks)

@@ -1,6 +1,11 @@
 //! Commands.
-use map_fold::Update;
+ghost use Rattle.std.specs.Prelude.{◌≡◌};
+ghost use Rattle.scan_log.specs.Scripts.{room_of};
+
+use local_region::RegionRules;
+use map_fold::{NoMemory, Points, Update};
 use point_geom::{Cuboid, Point};
+use std::alloc::Global;
 
 /// A command of a log.
 #[derive(Debug, Drop)]
@@ -22,6 +27,15 @@ pub enum Command {
         /// The greatest distance, in millimetres, up to 4,000,000,000 in version 1 and 4,398,046,511,104 in version 2.
         within: Option<u64>,
     },
+    /// Searches for the nearest points of several places, all at one version. In logs of version 2 alone.
+    Nears {
+        /// From 1 to 8.
+        caller: u8,
+        /// How many points are looked for at most round each place, from 1 to 256.
+        k: u32,
+        /// The places, each of intensity 0.
+        points: Points,
+    },
     /// A search for the points of a box.
     Inside {
         /// From 1 to 8.
@@ -30,13 +44,52 @@ pub enum Command {
         k: u32,
         cuboid: Cuboid,
     },
+    /// A search for the points of a ball. In logs of version 2 alone.
+    Ball {
+        /// From 1 to 8.
+        caller: u8,
+        /// How many points are listed at most, from 1 to 256.
+        k: u32,
+        /// The greatest distance, in millimetres, up to 4,398,046,511,104.
+        r: u64,
+        /// Of intensity 0.
+        point: Point,
+    },
+    /// A search for the points that have no other near them. In logs of version 2 alone.
+    Lonely {
+        /// From 1 to 8.
+        caller: u8,
+        /// How many points are listed at most, from 1 to 256.
+        k: u32,
+        /// Up to which distance a point is near, in millimetres, at most 4,398,046,511,104.
+        r: u64,
+    },
+    /// A search for the clusters. In logs of version 2 alone.
+    Clusters {
+        /// From 1 to 8.
+        caller: u8,
+        /// How many clusters are listed at most, from 1 to 256.
+        k: u32,
+        /// Up to which distance two points are joined, in millimetres, at most 4,398,046,511,104.
+        r: u64,
+    },
+    /// A place that a robot has come to. What its region of the map leaves behind by it is deleted. In logs of version 2 alone.
+    Pose {
+        /// From 1 to 8.
+        caller: u8,
+        /// How its region moves. Under other rules than before, a new region begins.
+        rules: RegionRules,
+        /// Of intensity 0.
+        point: Point,
+    },
     /// A barrier: what stands after it comes after what stands before it.
     Sync,
 }
 
 impl Command {
-    ghost use Rattle.std.specs.Prelude.{◌≡◌};
-    ghost use Rattle.scan_log.specs.Scripts.{submitted};
+    ghost use Rattle.std.specs.Prelude.{◌≡◌, IfOk};
+    ghost use Rattle.scan_log.specs.declared.format.Format.TheVariants.{Two};
+    ghost use Rattle.scan_log.specs.Scripts.{IsCommand, asked, submitted};
 
     /// How many points it submits.
     pub fn points(&self) -> usize
@@ -44,7 +97,94 @@ impl Command {
     {
         match self {
             Command::Change { update, .. } => update.points(),
-            Command::Near { .. } | Command::Inside { .. } | Command::Sync => 0,
+            Command::Near { .. }
+            | Command::Nears { .. }
+            | Command::Inside { .. }
+            | Command::Ball { .. }
+            | Command::Lonely { .. }
+            | Command::Clusters { .. }
+            | Command::Pose { .. }
+            | Command::Sync => 0,
         }
     }
+
+    /// How many hits its reply has room for.
+    pub fn hits(&self) -> usize
+        requires { IsCommand Two self.now }
+        ensures { result ≡ asked self.now }
+    {
+        match self {
+            Command::Near { k, .. } => room_of(*k),
+            Command::Nears { k, points, .. } => points.len() * room_of(*k),
+            Command::Change { .. }
+            | Command::Inside { .. }
+            | Command::Ball { .. }
+            | Command::Lonely { .. }
+            | Command::Clusters { .. }
+            | Command::Pose { .. }
+            | Command::Sync => 0,
+        }
+    }
+
+    /// An equal command, with memory of its own.
+    pub fn copy(&self, alloc: Global) -> Result<Command, NoMemory>
+        ensures { IfOk result (λ copy. copy ≡ self.now) }
+    {
+        Ok(match *self {
+            Command::Change { caller, ref update } => {
+                let update = update.copy(alloc)?;
+                Command::Change { caller, update }
+            }
+            Command::Nears {
+                caller,
+                k,
+                ref points,
+            } => {
+                let points = points.copy(alloc)?;
+                Command::Nears { caller, k, points }
+            }
+            Command::Near {
+                caller,
+                k,
+                point,
+                within,
+            } => Command::Near {
+                caller,
+                k,
+                point,
+                within,
+            },
+            Command::Inside { caller, k, cuboid } => Command::Inside { caller, k, cuboid },
+            Command::Ball {
+                caller,
+                k,
+                r,
+                point,
+            } => Command::Ball {
+                caller,
+                k,
+                r,
+                point,
+            },
+            Command::Lonely { caller, k, r } => Command::Lonely { caller, k, r },
+            Command::Clusters { caller, k, r } => Command::Clusters { caller, k, r },
+            Command::Pose {
+                caller,
+                rules,
+                point,
+            } => Command::Pose {
+                caller,
+                rules,
+                point,
+            },
+            Command::Sync => Command::Sync,
+        })
+    }
+}
+
+// A list of hits has room for 16 in itself.
+fn room_of(k: u32) -> usize
+    ensures { result ≡ room_of k }
+{
+    k.max(16) as usize
 }

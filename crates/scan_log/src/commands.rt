@@ -1,15 +1,17 @@
 //! Reading the command of a line.
 ghost use Rattle.std.specs.Prelude.{◌≡◌};
+ghost use Rattle.scan_log.specs.declared.format.Format.TheVariants.{Two};
 ghost use Rattle.scan_log.specs.Outcomes.{Gives};
 ghost use Rattle.scan_log.specs.Lines.{fields_of};
-ghost use Rattle.scan_log.specs.Reading.{called_of, caller_of, command_of, digit_caller, expiry_of, line_command, update_of};
+ghost use Rattle.scan_log.specs.Reading.{basic_of, called_of, caller_of, command_of, digit_caller, expiry_of, line_command, update_of};
 
 use crate::boxes::{boxes, units};
 use crate::fields::Fields;
 use crate::line_fault::LineFault;
 use crate::number::natural_in;
 use crate::points::scanned_points;
-use crate::queries::{inside, near};
+use crate::poses::pose;
+use crate::queries::{ball, inside, near, nears, reach};
 use crate::{Command, Format, LogCause};
 use map_fold::Update;
 use std::alloc::Global;
@@ -21,20 +23,26 @@ const MAX_POINTS_OF_COMMAND: usize = 262_144;
 // Of a history, so no number is greater.
 const MAX_POINTS: u32 = 4_194_304;
 
-/// The command that the line spells, where so many commands stand before it, and the log has room for so many points.
+/// The command that the line spells, where so many commands stand before it, and the log has room for so many points and its
+/// replies for so many hits.
 pub fn line_command(
     alloc: Global,
     format: Format,
     before: usize,
     room: usize,
+    hits: usize,
     line: &[u8],
 ) -> Result<Command, LineFault>
-    ensures { Gives result (line_command format before room line.now) }
+    ensures { Gives result (line_command format before room hits line.now) }
 {
     if before >= MAX_COMMANDS {
         return Err(LineFault::Bad(LogCause::TooManyCommands));
     }
-    command(alloc, format, room, Fields::new(line))
+    let command = command(alloc, format, room, Fields::new(line))?;
+    if command.hits() > hits {
+        return Err(LineFault::Bad(LogCause::TooManyHits));
+    }
+    Ok(command)
 }
 
 #[tactic(auto, unfolding(crate::specs::Reading::command_of))]
@@ -75,6 +83,54 @@ fn called(
     fields: Fields,
 ) -> Result<Command, LineFault>
     ensures { Gives result (called_of format room caller word.now fields.entry) }
+{
+    match format {
+        Format::One => basic(alloc, Format::One, room, caller, word, fields),
+        Format::Two => wide(alloc, room, caller, word, fields),
+    }
+}
+
+// The command of version 2.
+#[tactic(auto, unfolding(crate::specs::Reading::called_of))]
+fn wide(
+    alloc: Global,
+    room: usize,
+    caller: u8,
+    word: &[u8],
+    fields: Fields,
+) -> Result<Command, LineFault>
+    ensures { Gives result (called_of Two room caller word.now fields.entry) }
+{
+    if word == b"nears".as_slice() {
+        return nears(alloc, caller, fields);
+    }
+    if word == b"ball".as_slice() {
+        return Ok(ball(caller, fields)?);
+    }
+    if word == b"lonely".as_slice() {
+        let (k, r) = reach(fields)?;
+        return Ok(Command::Lonely { caller, k, r });
+    }
+    if word == b"clusters".as_slice() {
+        let (k, r) = reach(fields)?;
+        return Ok(Command::Clusters { caller, k, r });
+    }
+    if word == b"pose".as_slice() {
+        return Ok(pose(caller, fields)?);
+    }
+    basic(alloc, Format::Two, room, caller, word, fields)
+}
+
+#[tactic(auto, unfolding(crate::specs::Reading::basic_of))]
+fn basic(
+    alloc: Global,
+    format: Format,
+    room: usize,
+    caller: u8,
+    word: &[u8],
+    fields: Fields,
+) -> Result<Command, LineFault>
+    ensures { Gives result (basic_of format room caller word.now fields.entry) }
 {
     if word == b"near".as_slice() {
         return Ok(near(format, caller, fields)?);

@@ -13,6 +13,7 @@ pub enum LogCause {
     InvertedBox,
     TooManyPoints,
     TooManyCommands,
+    TooManyHits,
 }
 
 impl LogCause {
@@ -33,6 +34,7 @@ impl LogCause {
             LogCause::InvertedBox => b"inverted box",
             LogCause::TooManyPoints => b"too many points",
             LogCause::TooManyCommands => b"too many commands",
+            LogCause::TooManyHits => b"too many hits",
         }
     }
 
@@ -40,7 +42,10 @@ impl LogCause {
     pub fn is_limit(self) -> bool
         ensures { result ≡ is_limit self }
     {
-        matches!(self, LogCause::TooManyPoints | LogCause::TooManyCommands)
+        matches!(
+            self,
+            LogCause::TooManyPoints | LogCause::TooManyCommands | LogCause::TooManyHits
+        )
     }
 }
 

@@ -18,10 +18,16 @@ mod number;
 mod number_tests;
 mod parsing;
 mod piece;
+mod plain;
 mod points;
+#[cfg(test)]
+mod pose_tests;
+mod poses;
 mod printing;
 mod putting;
 mod queries;
+#[cfg(test)]
+mod query_tests;
 mod reply;
 mod script;
 #[cfg(test)]
@@ -34,6 +40,7 @@ pub use command::Command;
 pub use fault::{LogCause, ParseFault};
 pub use format::Format;
 pub use parsing::parse;
+pub use plain::PlainScript;
 pub use printing::reply_line;
 pub use reply::Reply;
 pub use script::Script;

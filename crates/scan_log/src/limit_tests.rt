@@ -1,5 +1,5 @@
 //! How long a log may be, by hand.
-use crate::tests::{fault_of, log_of};
+use crate::tests::{WIDE_HEADER, fault_of, log_of, log_with};
 use crate::{LogCause, ParseFault};
 use std::alloc::{AllocError, Global};
 use std::test::Fail;
@@ -67,5 +67,59 @@ fn a_log_has_at_most_65536_commands(rt: HostRuntime) -> Result<(), Fail> {
         cause: LogCause::TooManyCommands,
     });
     assert_eq!(rt; fault_of(alloc, log.as_slice()), many);
+    Ok(())
+}
+
+// A log of version 2 with one line, which asks for the k nearest of so many places.
+fn searches(alloc: Global, word: &[u8], times: u32) -> Result<Vec<u8>, AllocError> {
+    let mut log = log_with(alloc, WIDE_HEADER, word)?;
+    for _ in 0..times {
+        log.extend_from_slice(b" 0 0 0")?;
+    }
+    Ok(log)
+}
+
+#[test]
+fn a_command_has_at_most_262144_searches(rt: HostRuntime) -> Result<(), Fail> {
+    let alloc = rt.alloc();
+    let log = searches(alloc, b"@1 nears 1", 262_144)?;
+    assert_eq!(rt; fault_of(alloc, log.as_slice()), None);
+    let log = searches(alloc, b"@1 nears x", 262_145)?;
+    let many = Some(ParseFault::Bad {
+        line: 2,
+        cause: LogCause::TooManyPoints,
+    });
+    assert_eq!(rt; fault_of(alloc, log.as_slice()), many);
+    Ok(())
+}
+
+#[test]
+fn a_log_asks_for_at_most_16777216_hits(rt: HostRuntime) -> Result<(), Fail> {
+    let alloc = rt.alloc();
+    let mut log = searches(alloc, b"@1 nears 256", 65_535)?;
+    // Each of these has room for 16, though one is asked for.
+    for _ in 0..16 {
+        log.extend_from_slice(b"\n@1 near 1 0 0 0")?;
+    }
+    assert_eq!(rt; fault_of(alloc, log.as_slice()), None);
+    log.extend_from_slice(b"\n@1 near 1 0 0 0 within 0\n@1 what")?;
+    let many = Some(ParseFault::Bad {
+        line: 19,
+        cause: LogCause::TooManyHits,
+    });
+    assert_eq!(rt; fault_of(alloc, log.as_slice()), many);
+    Ok(())
+}
+
+#[test]
+fn a_bad_number_is_told_before_too_many_hits(rt: HostRuntime) -> Result<(), Fail> {
+    let alloc = rt.alloc();
+    let mut log = searches(alloc, b"@1 nears 256", 65_536)?;
+    log.extend_from_slice(b"\n@1 near 1 0 0 x")?;
+    let bad = Some(ParseFault::Bad {
+        line: 3,
+        cause: LogCause::BadNumber,
+    });
+    assert_eq!(rt; fault_of(alloc, log.as_slice()), bad);
     Ok(())
 }

@@ -57,6 +57,17 @@ pub fn natural_in(low: u32, high: u32, field: &[u8]) -> Result<u32, LogCause>
     Ok(number as u32)
 }
 
+/// The same of a number that may be longer.
+pub fn long_in(low: u64, high: u64, field: &[u8]) -> Result<u64, LogCause>
+    requires low { low ≤ high }
+    requires high { high ≤ 999999999999999999 }
+    ensures value { result ≡ natural_in low high field.now }
+    ensures range { IfOk result (λ n. (low ≤ n) × (n ≤ high)) }
+{
+    let number = number_in(low as i64, high as i64, field)?;
+    Ok(number as u64)
+}
+
 fn number_in(low: i64, high: i64, field: &[u8]) -> Result<i64, LogCause>
     requires low { negsuc 999999999999999998 ≤ℤ low }
     requires high { high ≤ℤ pos 999999999999999999 }

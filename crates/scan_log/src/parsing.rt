@@ -17,6 +17,9 @@ use std::alloc::Global;
 
 const MAX_POINTS: usize = 4_194_304;
 
+// Of all replies together, which are kept in memory.
+const MAX_HITS: usize = 16_777_216;
+
 /// The script that the log spells, or the first fault of the first faulty line. Costs time by the log's length, and memory
 /// by the points and commands read.
 pub fn parse(alloc: Global, log: &[u8]) -> Result<Script, ParseFault>
@@ -68,13 +71,15 @@ fn body(
     let mut lines = lines;
     let mut script = Script::new(alloc, format, settings);
     let mut room = MAX_POINTS;
+    let mut hits = MAX_HITS;
     while let Some((number, line)) = lines.next() {
         let before = script.commands().len();
-        let command = match line_command(alloc, script.format(), before, room, line) {
+        let command = match line_command(alloc, script.format(), before, room, hits, line) {
             Ok(command) => command,
             Err(fault) => return Err(fault.on_line(number)),
         };
         room -= command.points();
+        hits -= command.hits();
         script.push(command)?;
     }
     Ok(script)

@@ -88,9 +88,10 @@ fn next_scanned(fields: &mut Fields) -> Result<Point, LogCause>
     Ok(point.with_intensity(intensity))
 }
 
-// Takes memory for so many at once. Part of its callers, so that where the version is known its limits are constants.
+/// The points that so many groups of fields spell. Takes memory for so many at once. Part of its callers, so that where the
+/// version is known its limits are constants.
 #[inline(always)]
-fn all_points(
+pub fn all_points(
     alloc: Global,
     format: Format,
     count: usize,

@@ -23,6 +23,13 @@ pub(crate) fn put_point(out: &mut Vec<u8>, point: &Point) -> Result<(), NoMemory
     put_spaced(out, point.z())
 }
 
+pub(crate) fn put_word(out: &mut Vec<u8>, word: &[u8]) -> Result<(), NoMemory>
+    ensures { OnOk result (out.new.items ≡ out.old.items ++ spaced word.now) }
+{
+    put(out, b" ")?;
+    put(out, word)
+}
+
 pub(crate) fn put_spaced<I: Integer>(out: &mut Vec<u8>, number: I) -> Result<(), NoMemory>
     ensures { OnOk result (out.new.items ≡ out.old.items ++ spaced (I.text number)) }
 {

@@ -1,12 +1,17 @@
 //! Reading what is asked.
 ghost use Rattle.std.specs.Prelude.{◌≡◌};
-ghost use Rattle.scan_log.specs.Reading.{inside_of, near_of};
+ghost use Rattle.scan_log.specs.Outcomes.{Gives};
+ghost use Rattle.scan_log.specs.Reading.{ball_of, inside_of, near_of, nears_of, reach_of};
 
 use crate::boxes::cuboid;
 use crate::fields::Fields;
+use crate::line_fault::LineFault;
 use crate::number::{distance as distance_in, natural_in};
-use crate::points::point;
+use crate::points::{all_points, groups, point};
 use crate::{Command, Format, LogCause};
+use std::alloc::Global;
+
+const MAX_PLACES_OF_COMMAND: usize = 262_144;
 
 /// The search for the nearest points that the fields behind `near` spell.
 #[tactic(auto, unfolding(crate::specs::Reading::near_of))]
@@ -60,4 +65,58 @@ pub fn inside(format: Format, caller: u8, fields: Fields) -> Result<Command, Log
     let k = natural_in(1, 256, k)?;
     let cuboid = cuboid(format, x, y, z, far_x, far_y, far_z)?;
     Ok(Command::Inside { caller, k, cuboid })
+}
+
+/// The searches for the nearest points of several places that the fields behind `nears` spell.
+#[tactic(auto, unfolding(crate::specs::Reading::nears_of))]
+pub fn nears(alloc: Global, caller: u8, fields: Fields) -> Result<Command, LineFault>
+    ensures { Gives result (nears_of caller fields.entry) }
+{
+    let mut fields = fields;
+    let k = fields.next().ok_or(LogCause::WrongCount)?;
+    let count = groups(&fields, 3, MAX_PLACES_OF_COMMAND)?;
+    let k = natural_in(1, 256, k)?;
+    let points = all_points(alloc, Format::Two, count, fields)?;
+    Ok(Command::Nears { caller, k, points })
+}
+
+/// The search of a ball that the fields behind `ball` spell.
+#[tactic(auto, unfolding(crate::specs::Reading::ball_of))]
+pub fn ball(caller: u8, fields: Fields) -> Result<Command, LogCause>
+    ensures { result ≡ ball_of caller fields.entry }
+{
+    let mut fields = fields;
+    let k = fields.next().ok_or(LogCause::WrongCount)?;
+    let r = fields.next().ok_or(LogCause::WrongCount)?;
+    let x = fields.next().ok_or(LogCause::WrongCount)?;
+    let y = fields.next().ok_or(LogCause::WrongCount)?;
+    let z = fields.next().ok_or(LogCause::WrongCount)?;
+    if fields.next().is_some() {
+        return Err(LogCause::WrongCount);
+    }
+    let k = natural_in(1, 256, k)?;
+    let r = distance_in(Format::Two, r)?;
+    let point = point(Format::Two, x, y, z)?;
+    Ok(Command::Ball {
+        caller,
+        k,
+        r,
+        point,
+    })
+}
+
+/// The count and the distance that the fields behind `lonely` or `clusters` spell.
+#[tactic(auto, unfolding(crate::specs::Reading::reach_of))]
+pub fn reach(fields: Fields) -> Result<(u32, u64), LogCause>
+    ensures { result ≡ reach_of fields.entry }
+{
+    let mut fields = fields;
+    let k = fields.next().ok_or(LogCause::WrongCount)?;
+    let r = fields.next().ok_or(LogCause::WrongCount)?;
+    if fields.next().is_some() {
+        return Err(LogCause::WrongCount);
+    }
+    let k = natural_in(1, 256, k)?;
+    let r = distance_in(Format::Two, r)?;
+    Ok((k, r))
 }

@@ -1,5 +1,5 @@
 //! Replies.
-use map_fold::{BoxReply, NearReply};
+use map_fold::{BoxReply, ClusterReply, NearReply, NearsReply};
 
 /// The reply to a command, or the one at the end.
 #[derive(Debug, Drop)]
@@ -11,8 +11,16 @@ pub enum Reply {
     },
     /// What a search for the nearest points found.
     Near(NearReply),
+    /// What searches for the nearest points of several places found.
+    Nears(NearsReply),
     /// What a search of a box found.
     Inside(BoxReply),
+    /// What a search of a ball found.
+    Ball(BoxReply),
+    /// Which points have no other near them.
+    Lonely(BoxReply),
+    /// The clusters.
+    Clusters(ClusterReply),
     /// How many points are held.
     Totals {
         /// The number of changes of the log that stand before it.

@@ -1,5 +1,5 @@
 //! Scripts: what a log says.
-ghost use Rattle.std.specs.Prelude.{◌≡◌, [], ◌∷◌, ◌++◌, OnOk, OnErr};
+ghost use Rattle.std.specs.Prelude.{◌≡◌, [], ◌∷◌, ◌++◌, OnOk, OnErr, IfOk};
 
 use crate::{Command, Format};
 use map_fold::{NoMemory, Settings};
@@ -78,4 +78,34 @@ impl Script {
         self.commands.push(command)?;
         Ok(())
     }
+
+    /// An equal script, with memory of its own.
+    pub fn copy(&self, alloc: Global) -> Result<Script, NoMemory>
+        ensures { IfOk result (λ copy. copy ≡ self.now) }
+    {
+        let commands = copies(alloc, self.commands.as_slice())?;
+        Ok(Script {
+            format: self.format,
+            settings: self.settings,
+            commands,
+        })
+    }
+
+    pub(crate) fn into_commands(self) -> Vec<Command>
+        ensures all { result.items ≡ self.commands }
+        ensures limits { IsScript self }
+        ensures wide { AllByRecursion (IsCommand Two) result.items }
+    {
+        self.commands
+    }
+}
+
+fn copies(alloc: Global, commands: &[Command]) -> Result<Vec<Command>, NoMemory>
+    ensures { IfOk result (λ copies. copies.items ≡ commands.now) }
+{
+    let mut copies = Vec::with_capacity(alloc, commands.len())?;
+    for command in commands {
+        copies.push(command.copy(alloc)?)?;
+    }
+    Ok(copies)
 }

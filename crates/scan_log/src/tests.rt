@@ -8,14 +8,14 @@ use std::test::Fail;
 
 const HEADER: &[u8] = b"ikdmap 1 voxel 200 large 1500\n";
 
-// That of version 2.
-const WIDE_HEADER: &[u8] = b"ikdmap 2 voxel 200 large 1500\n";
+/// That of version 2.
+pub const WIDE_HEADER: &[u8] = b"ikdmap 2 voxel 200 large 1500\n";
 
 pub fn log_of(alloc: Global, lines: &[u8]) -> Result<Vec<u8>, AllocError> {
     log_with(alloc, HEADER, lines)
 }
 
-fn log_with(alloc: Global, header: &[u8], lines: &[u8]) -> Result<Vec<u8>, AllocError> {
+pub fn log_with(alloc: Global, header: &[u8], lines: &[u8]) -> Result<Vec<u8>, AllocError> {
     let mut log = Vec::from_slice(alloc, header)?;
     log.extend_from_slice(lines)?;
     Ok(log)
@@ -47,7 +47,8 @@ pub fn assert_faults(
     assert_faults_behind(rt, alloc, HEADER, cause, lines)
 }
 
-fn assert_faults_behind(
+// Each of these lines, alone behind this header, has this fault.
+pub fn assert_faults_behind(
     rt: &impl Abort,
     alloc: Global,
     header: &[u8],
@@ -301,7 +302,7 @@ fn the_first_faulty_line_is_named_and_all_lines_count(rt: HostRuntime) -> Result
 }
 
 // Each of these lines, alone behind the header, is read, and so are all.
-fn assert_reads(
+pub fn assert_reads(
     rt: &impl Abort,
     alloc: Global,
     header: &[u8],

@@ -3,12 +3,13 @@ ghost use Rattle.std.specs.Prelude.{◌≡◌, ◌+◌, [], ◌∷◌, ◌++◌,
 ghost use Rattle.std.specs.List.{flat_map};
 ghost use Rattle.scan_log.specs.Formats.{version_field};
 ghost use Rattle.scan_log.specs.Faults.{line_feeds};
-ghost use Rattle.scan_log.specs.Spelling.{Spells, header_fields, update_fields, within_fields};
-ghost use Rattle.scan_log.specs.Transcript.{all_spaced, scanned_text, spaced};
-ghost use Rattle.scan_log.specs.Written.{command_text, corner_text, cuboid_text, written_line, script_text};
+ghost use Rattle.scan_log.specs.Spelling.{Spells, box_fields, caller_field, header_fields, point_fields, update_fields, within_fields};
+ghost use Rattle.scan_log.specs.Transcript.{all_spaced, point_text, scanned_text, spaced};
+ghost use Rattle.scan_log.specs.Written.{command_text, corner_text, cuboid_text, joined, written_line, script_text};
 
-use crate::putting::{put, put_caller, put_point, put_spaced};
+use crate::putting::{put, put_caller, put_point, put_spaced, put_word};
 use crate::{Command, Format, Script};
+use local_region::RegionRules;
 use map_fold::{NoMemory, Settings, Update};
 use point_geom::{Corner, Cuboid, Point};
 use std::alloc::Global;
@@ -77,22 +78,104 @@ fn put_command(out: &mut Vec<u8>, format: Format, command: &Command) -> Result<(
             k,
             point,
             within,
-        } => {
+        } => put_near(out, *caller, *k, point, *within)?,
+        Command::Nears { caller, k, points } => {
             put_caller(out, *caller)?;
-            put_word(out, b"near")?;
-            put_spaced(out, *k)?;
-            put_point(out, point)?;
-            put_within(out, *within)?;
+            put_nears(out, *k, points.as_slice())?;
         }
-        Command::Inside { caller, k, cuboid } => {
-            put_caller(out, *caller)?;
-            put_word(out, b"box")?;
-            put_spaced(out, *k)?;
-            put_cuboid(out, cuboid)?;
-        }
+        Command::Inside { caller, k, cuboid } => put_inside(out, *caller, *k, cuboid)?,
+        Command::Ball {
+            caller,
+            k,
+            r,
+            point,
+        } => put_ball(out, *caller, *k, *r, point)?,
+        Command::Lonely { caller, k, r } => put_reach(out, *caller, b"lonely", *k, *r)?,
+        Command::Clusters { caller, k, r } => put_reach(out, *caller, b"clusters", *k, *r)?,
+        Command::Pose {
+            caller,
+            rules,
+            point,
+        } => put_pose(out, *caller, rules, point)?,
         Command::Sync => put(out, b"sync")?,
     }
     put(out, b"\n")
+}
+
+fn put_near(
+    out: &mut Vec<u8>,
+    caller: u8,
+    k: u32,
+    point: &Point,
+    within: Option<u64>,
+) -> Result<(), NoMemory>
+    ensures { OnOk result (out.new.items ≡ out.old.items ++ joined (caller_field caller ∷ codes "near" ∷ decimal k ∷ (point_fields point.now ++ within_fields within))) }
+{
+    put_caller(out, caller)?;
+    put_word(out, b"near")?;
+    put_spaced(out, k)?;
+    put_point(out, point)?;
+    put_within(out, within)
+}
+
+// What stands behind the caller.
+fn put_nears(out: &mut Vec<u8>, k: u32, points: &[Point]) -> Result<(), NoMemory>
+    ensures { OnOk result (out.new.items ≡ out.old.items ++ all_spaced (codes "nears" ∷ decimal k ∷ flat_map point_fields points.now)) }
+{
+    put_word(out, b"nears")?;
+    put_spaced(out, k)?;
+    put_places(out, points)
+}
+
+fn put_places(out: &mut Vec<u8>, points: &[Point]) -> Result<(), NoMemory>
+    ensures { OnOk result (out.new.items ≡ out.old.items ++ flat_map point_text points.now) }
+{
+    for point in points {
+        put_point(out, point)?;
+    }
+    Ok(())
+}
+
+fn put_inside(out: &mut Vec<u8>, caller: u8, k: u32, cuboid: &Cuboid) -> Result<(), NoMemory>
+    ensures { OnOk result (out.new.items ≡ out.old.items ++ joined (caller_field caller ∷ codes "box" ∷ decimal k ∷ box_fields cuboid.now)) }
+{
+    put_caller(out, caller)?;
+    put_word(out, b"box")?;
+    put_spaced(out, k)?;
+    put_cuboid(out, cuboid)
+}
+
+fn put_ball(out: &mut Vec<u8>, caller: u8, k: u32, r: u64, point: &Point) -> Result<(), NoMemory>
+    ensures { OnOk result (out.new.items ≡ out.old.items ++ joined (caller_field caller ∷ codes "ball" ∷ decimal k ∷ decimal r ∷ point_fields point.now)) }
+{
+    put_reach(out, caller, b"ball", k, r)?;
+    put_point(out, point)
+}
+
+// A count and a distance.
+fn put_reach(out: &mut Vec<u8>, caller: u8, word: &[u8], k: u32, r: u64) -> Result<(), NoMemory>
+    ensures { OnOk result (out.new.items ≡ out.old.items ++ joined (caller_field caller ∷ word.now ∷ decimal k ∷ decimal r ∷ [])) }
+{
+    put_caller(out, caller)?;
+    put_word(out, word)?;
+    put_spaced(out, k)?;
+    put_spaced(out, r)
+}
+
+fn put_pose(
+    out: &mut Vec<u8>,
+    caller: u8,
+    rules: &RegionRules,
+    point: &Point,
+) -> Result<(), NoMemory>
+    ensures { OnOk result (out.new.items ≡ out.old.items ++ joined (caller_field caller ∷ codes "pose" ∷ decimal rules.now.side ∷ decimal rules.now.ball ∷ decimal rules.now.step ∷ point_fields point.now)) }
+{
+    put_caller(out, caller)?;
+    put_word(out, b"pose")?;
+    put_spaced(out, rules.side())?;
+    put_spaced(out, rules.ball())?;
+    put_spaced(out, rules.step())?;
+    put_point(out, point)
 }
 
 #[tactic(auto, using(crate::proofs::WrittenLines::spaced_points, crate::proofs::WrittenLines::spaced_boxes))]
@@ -176,11 +259,4 @@ fn put_within(out: &mut Vec<u8>, within: Option<u64>) -> Result<(), NoMemory>
         }
         None => Ok(()),
     }
-}
-
-fn put_word(out: &mut Vec<u8>, word: &[u8]) -> Result<(), NoMemory>
-    ensures { OnOk result (out.new.items ≡ out.old.items ++ spaced word.now) }
-{
-    put(out, b" ")?;
-    put(out, word)
 }

@@ -1,7 +1,7 @@
 //! What is written, by hand: logs, and the lines of replies.
 ghost use Rattle.std.specs.Prelude.{◌≡◌, ◌≤◌, IfOk, IfErr};
 ghost use Rattle.scan_log.specs.declared.format.Format.TheVariants.{One, Two};
-ghost use Rattle.scan_log.specs.Scripts.{AreBoxes, AreScanned, IsCallerBox, IsCommand, submitted};
+ghost use Rattle.scan_log.specs.Scripts.{AreBoxes, AreScanned, IsCallerBox, IsCommand, asked, submitted};
 ghost use Rattle.scan_log.specs.declared.fault.ParseFault.TheVariants.{NoMemory as want};
 
 use crate::tests::read;
@@ -17,6 +17,7 @@ use std::test::Fail;
 fn log_of(alloc: Global, format: Format, command: Command) -> Result<Vec<u8>, Fail>
     requires limits { IsCommand format command }
     requires room { submitted command ≤ 262144 }
+    requires hits { asked command ≤ 4194304 }
 {
     let mut script = Script::new(alloc, format, Settings::new(200, 1500));
     script.push(command)?;

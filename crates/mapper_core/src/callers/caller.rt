@@ -11,7 +11,9 @@ ghost use Rattle.mapper_core.specs.Mine.{Tried, Turned};
 use super::alarm::{Bells, Signals};
 use super::naming::is_own;
 use super::queue::Queue;
-use map_fold::{NoMemory, Update};
+use crate::neighbours::{ball_reply, clusters_reply, lonely_reply};
+use batch_near::nearest_each;
+use map_fold::{NearsReply, NoMemory, Points, Update};
 use point_geom::{Cuboid, Point};
 use published_map::{MapName, Pass, Shared};
 use rebuild_core::StateFault;
@@ -19,6 +21,7 @@ use rebuild_worker::Gate;
 use scan_log::{Command, Reply};
 use std::alloc::Global;
 use std::sync::Wait;
+use std::thread::Threads;
 
 // Makes the update, and wakes the workers. There is no reply where a limit of the map refuses it.
 #[tactic(auto, using(crate::proofs::OneCaller::change_tried))]
@@ -61,6 +64,26 @@ fn near<L: MapName>(
     Ok(Some(Reply::Near(found)))
 }
 
+// All at one version, by threads of their own.
+#[tactic(auto, using(crate::proofs::OneCaller::nears_answered))]
+fn nears<L: MapName, R: Threads + Sync>(
+    rt: &R,
+    alloc: Global,
+    pass: &mut Pass<L>,
+    k: u32,
+    points: &Points,
+) -> Result<Option<Reply>, NoMemory>
+    requires k_from { 1 ≤ k }
+    requires k_to { k ≤ 256 }
+    ensures { IfOk result (λ r. Tried L.voxel (command_of.Nears pass.old.caller k points.now) pass.old pass.new r) }
+{
+    pass.renew();
+    let version = pass.version();
+    let lists = nearest_each(rt, alloc, version.tree(), k, points, None)?;
+    let mark = version.len();
+    Ok(Some(Reply::Nears(NearsReply { mark, lists })))
+}
+
 #[tactic(auto, using(crate::proofs::OneCaller::inside_answered))]
 fn inside<L: MapName>(
     alloc: Global,
@@ -76,9 +99,64 @@ fn inside<L: MapName>(
     Ok(Some(Reply::Inside(found)))
 }
 
+#[tactic(auto, using(crate::proofs::OneCaller::ball_answered))]
+fn ball<L: MapName>(
+    alloc: Global,
+    pass: &mut Pass<L>,
+    k: u32,
+    r: u64,
+    point: &Point,
+) -> Result<Option<Reply>, NoMemory>
+    requires k_from { 1 ≤ k }
+    requires k_to { k ≤ 256 }
+    requires r_to { r ≤ 4398046511104 }
+    ensures { IfOk result (λ z. Tried L.voxel (command_of.Ball pass.old.caller k r point.now) pass.old pass.new z) }
+{
+    pass.renew();
+    let version = pass.version();
+    let found = ball_reply(alloc, version.tree(), version.len(), k, r, point)?;
+    Ok(Some(Reply::Ball(found)))
+}
+
+#[tactic(auto, using(crate::proofs::OneCaller::lonely_answered))]
+fn lonely<L: MapName>(
+    alloc: Global,
+    pass: &mut Pass<L>,
+    k: u32,
+    r: u64,
+) -> Result<Option<Reply>, NoMemory>
+    requires k_from { 1 ≤ k }
+    requires k_to { k ≤ 256 }
+    requires r_to { r ≤ 4398046511104 }
+    ensures { IfOk result (λ z. Tried L.voxel (command_of.Lonely pass.old.caller k r) pass.old pass.new z) }
+{
+    pass.renew();
+    let version = pass.version();
+    let found = lonely_reply(alloc, version.tree(), version.len(), k, r)?;
+    Ok(Some(Reply::Lonely(found)))
+}
+
+#[tactic(auto, using(crate::proofs::OneCaller::clusters_answered))]
+fn clusters<L: MapName>(
+    alloc: Global,
+    pass: &mut Pass<L>,
+    k: u32,
+    r: u64,
+) -> Result<Option<Reply>, NoMemory>
+    requires k_from { 1 ≤ k }
+    requires k_to { k ≤ 256 }
+    requires r_to { r ≤ 4398046511104 }
+    ensures { IfOk result (λ z. Tried L.voxel (command_of.Clusters pass.old.caller k r) pass.old pass.new z) }
+{
+    pass.renew();
+    let version = pass.version();
+    let found = clusters_reply(alloc, version.tree(), version.len(), k, r)?;
+    Ok(Some(Reply::Clusters(found)))
+}
+
 // Runs one command of the pass's caller.
-#[tactic(auto, using(crate::proofs::OneCaller::change_by, crate::proofs::OneCaller::near_by, crate::proofs::OneCaller::inside_by))]
-fn answer<L: MapName, R: Wait>(
+#[tactic(auto, using(crate::proofs::OneCaller::change_by, crate::proofs::OneCaller::near_by, crate::proofs::OneCaller::nears_by, crate::proofs::OneCaller::inside_by, crate::proofs::OneCaller::ball_by, crate::proofs::OneCaller::lonely_by, crate::proofs::OneCaller::clusters_by))]
+fn answer<L: MapName, R: Threads + Wait + Sync>(
     rt: &R,
     alloc: Global,
     shared: &Shared<L>,
@@ -98,14 +176,18 @@ fn answer<L: MapName, R: Wait>(
             within,
             ..
         } => near(alloc, pass, *k, point, *within),
+        Command::Nears { k, points, .. } => nears(rt, alloc, pass, *k, points),
         Command::Inside { k, cuboid, .. } => inside(alloc, pass, *k, cuboid),
+        Command::Ball { k, r, point, .. } => ball(alloc, pass, *k, *r, point),
+        Command::Lonely { k, r, .. } => lonely(alloc, pass, *k, *r),
+        Command::Clusters { k, r, .. } => clusters(alloc, pass, *k, *r),
         Command::Sync => unreachable!(),
     }
 }
 
 /// Runs the commands of the pass's caller among these, in order, and tells the gate of each reply. Where a limit of the map refuses an update, the caller ends before it: that no limit is passed shows only
 /// when all callers have met.
-pub fn run_own<L: MapName, G: Gate, R: Wait>(
+pub fn run_own<L: MapName, G: Gate, R: Threads + Wait + Sync>(
     rt: &R,
     alloc: Global,
     shared: &Shared<L>,

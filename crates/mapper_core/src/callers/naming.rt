@@ -15,7 +15,11 @@ pub fn is_own(command: &Command, caller: u8) -> bool
     match command {
         Command::Change { caller: own, .. } => *own == caller,
         Command::Near { caller: own, .. } => *own == caller,
+        Command::Nears { caller: own, .. } => *own == caller,
         Command::Inside { caller: own, .. } => *own == caller,
+        Command::Ball { caller: own, .. } => *own == caller,
+        Command::Lonely { caller: own, .. } => *own == caller,
+        Command::Clusters { caller: own, .. } => *own == caller,
         Command::Sync => false,
     }
 }
@@ -35,7 +39,11 @@ pub fn caller_of(command: &Command) -> u8
     match command {
         Command::Change { caller, .. } => *caller,
         Command::Near { caller, .. } => *caller,
+        Command::Nears { caller, .. } => *caller,
         Command::Inside { caller, .. } => *caller,
+        Command::Ball { caller, .. } => *caller,
+        Command::Lonely { caller, .. } => *caller,
+        Command::Clusters { caller, .. } => *caller,
         Command::Sync => unreachable!(),
     }
 }
@@ -50,7 +58,11 @@ fn named(command: &Command) -> u8
     match command {
         Command::Change { caller, .. } => *caller,
         Command::Near { caller, .. } => *caller,
+        Command::Nears { caller, .. } => *caller,
         Command::Inside { caller, .. } => *caller,
+        Command::Ball { caller, .. } => *caller,
+        Command::Lonely { caller, .. } => *caller,
+        Command::Clusters { caller, .. } => *caller,
         Command::Sync => 1,
     }
 }

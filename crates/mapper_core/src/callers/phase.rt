@@ -46,7 +46,7 @@ fn run_each<L: MapName + Send + Sync, G: Gate + Sync, R: Threads + Wait + Sync>(
     let (turn, turns) = join(
         rt,
         move || -> Turn<L>
-            requires { AllByRecursion (IsCommand Two) commands.now × (signals.now.from + length commands.now ≤ 65536) }
+            requires { IsSync R.row × AllByRecursion (IsCommand Two) commands.now × (signals.now.from + length commands.now ≤ 65536) }
             ensures { IfOk result (λ r. Turned L.voxel commands.entry.now last r.0 r.1) }
         { run_own(rt, alloc, shared, signals, commands, last) },
         move || -> Result<Vec<Turn<L>>, NoMemory>

@@ -66,8 +66,9 @@ fn beside_second<L: MapName + Send + Sync, G: Gate + Sync, R: Threads + Wait + S
 
 /// Each caller runs its commands of the script on a thread of its own, in order, beside two workers. At each barrier all meet, and
 /// so they do at the end. The passes are all of this map's, and the map was started with the script's settings. Each caller rings
-/// the workers' bells after each of its changes, and tells the gate of each reply. What no thread can be made for is done by the
-/// thread that calls: the commands of a caller, in the callers' order, while the others run, and a worker once it is stopped.
+/// the workers' bells after each of its changes, and tells the gate of each reply. A query of many places is split among threads of
+/// its own. What no thread can be made for is done by the thread that calls: the commands of a caller, in the callers' order, while
+/// the others run, and a worker once it is stopped.
 pub fn run_callers<L: MapName + Send + Sync, G: Gate + Sync, R: Threads + Wait + Sync>(
     rt: &R,
     alloc: Global,

@@ -110,3 +110,17 @@ fn a_log_has_at_most_so_many_commands_and_points(rt: HostRuntime) -> Result<(), 
     }
     Ok(())
 }
+
+#[test]
+fn a_log_asks_for_at_most_so_many_hits(rt: HostRuntime) -> Result<(), Fail> {
+    let alloc = rt.alloc();
+    let places = " 0 0 0".repeat(alloc, 65_536)?;
+    let log = format!(in alloc;
+        "ikdmap 2 voxel 200 large 1500\n@1 nears 256{places}\n@1 near 1 0 0 0\n"
+    )?;
+    let ran = ran(&rt, alloc, "run", log.as_bytes())?;
+    assert_eq!(rt; ran.status, Status::OverLimit);
+    assert_eq!(rt; ran.out.bytes(), b"".as_slice());
+    assert_eq!(rt; ran.notes.bytes(), b"line 3: too many hits\n".as_slice());
+    Ok(())
+}

@@ -117,6 +117,26 @@ fn worked_logs_of_version_2_give_their_transcripts(rt: HostRuntime) -> Result<()
             "@1 expire 9\n@1 add 1 0 0 9\n@1 expire 0\n",
             "@1 ok 1\n@1 ok 2\n@1 ok 3\nend 3 live 1 suspended 0\n",
         ),
+        // Each place has its own list, empty where nothing is held.
+        (
+            "@1 nears 2 0 0 0 1 1 1\n@1 add 1 0 0 9 5 0 0 8\n@1 nears 1 0 0 0 6 0 0\n",
+            "@1 nears 0 / /\n@1 ok 1\n@1 nears 1 / | 0 1 0 0 9 1 / | 1 5 0 0 8 1\nend 1 live 2 suspended 0\n",
+        ),
+        // A distance admits its own value, and a chain of short steps makes one cluster.
+        (
+            "@1 add 0 0 0 1 3 0 0 1 6 0 0 1 20 0 0 1 24 0 0 1\n@1 ball 5 3 3 0 0\n@1 lonely 5 3\n@1 clusters 5 3\n@1 clusters 1 4\n",
+            "@1 ok 1\n@1 ball 1 3 | 0 0 0 0 1 | 1 3 0 0 1 | 2 6 0 0 1\n@1 lonely 1 2 | 3 20 0 0 1 | 4 24 0 0 1\n@1 clusters 1 3 | 0 3 | 3 1 | 4 1\n@1 clusters 1 2 | 0 3\nend 1 live 5 suspended 0\n",
+        ),
+        // Two points at one place are near each other at any distance.
+        (
+            "@1 clusters 1 0\n@1 add 7 7 7 1 7 7 7 2\n@1 lonely 5 0\n@1 clusters 5 0\n",
+            "@1 clusters 0 0\n@1 ok 1\n@1 lonely 1 0\n@1 clusters 1 1 | 0 2\nend 1 live 2 suspended 0\n",
+        ),
+        // What is suspended is near nothing, and only the first are listed of all that are counted.
+        (
+            "@1 add 0 0 0 1 3 0 0 1 6 0 0 1\n@1 suspend 3 0 0 4 1 1\n@1 ball 1 6 3 0 0\n@1 lonely 1 3\n@1 clusters 1 3\n@1 nears 2 3 0 0\n",
+            "@1 ok 1\n@1 ok 2\n@1 ball 2 2 | 0 0 0 0 1\n@1 lonely 2 2 | 0 0 0 0 1\n@1 clusters 2 2 | 0 1\n@1 nears 2 / | 0 0 0 0 1 9 | 2 6 0 0 1 9\nend 2 live 2 suspended 1\n",
+        ),
     ] {
         let log = format!(in alloc; "ikdmap 2 voxel 200 large 16\n{commands}")?;
         for words in ["run", "run --serial"] {
@@ -138,6 +158,22 @@ fn each_version_has_its_own_limits(rt: HostRuntime) -> Result<(), Fail> {
         ),
         (
             "ikdmap 1 voxel 200 large 1500\n@1 expire 2\n",
+            "line 2: unknown command\n",
+        ),
+        (
+            "ikdmap 1 voxel 200 large 1500\n@1 nears 1 0 0 0\n",
+            "line 2: unknown command\n",
+        ),
+        (
+            "ikdmap 1 voxel 200 large 1500\n@1 ball 1 5 0 0 0\n",
+            "line 2: unknown command\n",
+        ),
+        (
+            "ikdmap 1 voxel 200 large 1500\n@1 lonely 1 5\n",
+            "line 2: unknown command\n",
+        ),
+        (
+            "ikdmap 1 voxel 200 large 1500\n@1 clusters 1 5\n",
             "line 2: unknown command\n",
         ),
         (

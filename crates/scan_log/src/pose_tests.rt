@@ -1,0 +1,153 @@
+//! Poses, by hand.
+use crate::tests::{WIDE_HEADER, assert_faults, assert_faults_behind, assert_reads, read};
+use crate::{Command, Format, LogCause, PlainScript, Reply, Script, reply_line, write_script};
+use map_fold::{Cuboids, Update};
+use point_geom::{Corner, Cuboid};
+use std::alloc::Global;
+use std::test::Fail;
+
+#[test]
+fn version_1_has_no_poses(rt: HostRuntime) -> Result<(), Fail> {
+    assert_faults(
+        &rt,
+        rt.alloc(),
+        LogCause::UnknownCommand,
+        b"@1 pose 100 20 30 0 0 0\n\
+          @1 pose\n",
+    )?;
+    Ok(())
+}
+
+#[test]
+fn a_pose_has_six_numbers(rt: HostRuntime) -> Result<(), Fail> {
+    assert_faults_behind(
+        &rt,
+        rt.alloc(),
+        WIDE_HEADER,
+        LogCause::WrongCount,
+        b"@1 pose\n\
+          @1 pose 100 20 30 0 0\n\
+          @1 pose 1 x 0 0 0 0 0\n\
+          @1 pose 100 20 30 0 0 0 \n",
+    )?;
+    assert_faults_behind(
+        &rt,
+        rt.alloc(),
+        WIDE_HEADER,
+        LogCause::BadNumber,
+        b"@1 pose x 50 0 0 0 0\n\
+          @1 pose 100 020 0 0 0 0\n\
+          @1 pose 100 20 +3 1099511627777 0 0\n\
+          @1 pose 100 20 30 0 0 -0\n",
+    )?;
+    Ok(())
+}
+
+#[test]
+fn a_ball_and_a_step_fit_into_the_side(rt: HostRuntime) -> Result<(), Fail> {
+    assert_faults_behind(
+        &rt,
+        rt.alloc(),
+        WIDE_HEADER,
+        LogCause::OutOfRange,
+        b"@1 pose 1 x 1 0 0 0\n\
+          @1 pose 2199023255553 0 1 0 0 0\n\
+          @1 pose 100 50 x 0 0 0\n\
+          @1 pose 101 51 1 0 0 0\n\
+          @1 pose 100 -1 1 0 0 0\n\
+          @1 pose 100 20 0 x 0 0\n\
+          @1 pose 100 20 101 0 0 0\n\
+          @1 pose 100 20 30 0 1099511627777 x\n\
+          @1 pose 100 20 30 0 0 -1099511627777\n",
+    )?;
+    assert_reads(
+        &rt,
+        rt.alloc(),
+        WIDE_HEADER,
+        b"@1 pose 2 0 1 0 0 0\n\
+          @2 pose 100 49 100 1099511627776 0 -1099511627776\n\
+          @3 pose 101 50 101 0 0 0\n\
+          @8 pose 2199023255552 1099511627775 2199023255552 0 0 0\n",
+    )?;
+    Ok(())
+}
+
+#[test]
+fn a_pose_is_written_as_it_was_read_and_told_by_its_place(rt: HostRuntime) -> Result<(), Fail> {
+    let alloc = rt.alloc();
+    let log = b"ikdmap 2 voxel 200 large 1500\n@7 pose 100 20 30 1 -2 3\n".as_slice();
+    let script = read(alloc, log)?;
+    assert_eq!(rt; write_script(alloc, &script)?.as_slice(), log);
+    let mut line = Vec::new(alloc);
+    let done = Reply::Done { mark: 3 };
+    reply_line(&mut line, Format::Two, Some(&script.commands()[0]), &done)?;
+    assert_eq!(rt; line.as_slice(), b"@7 ok 3\n".as_slice());
+    Ok(())
+}
+
+// What each command of the script that is run deletes.
+fn deletions(alloc: Global, script: &Script) -> Result<Vec<usize>, Fail> {
+    let plain = PlainScript::copied(alloc, script)?;
+    let mut counts = Vec::new(alloc);
+    for command in plain.commands() {
+        match command {
+            Command::Change {
+                update: Update::Delete(boxes),
+                ..
+            } => counts.push(boxes.len())?,
+            _ => counts.push(9)?,
+        }
+    }
+    Ok(counts)
+}
+
+#[test]
+fn each_caller_has_a_region_of_its_own(rt: HostRuntime) -> Result<(), Fail> {
+    let alloc = rt.alloc();
+    let log = b"ikdmap 2 voxel 200 large 1500\n\
+                @1 pose 100 20 30 0 0 0\n\
+                @2 pose 100 20 30 30 0 0\n\
+                @1 pose 100 20 30 30 0 0\n\
+                @1 pose 100 20 30 30 0 0\n\
+                @2 pose 100 20 30 60 30 30\n\
+                @2 pose 100 20 31 90 0 0\n\
+                @2 pose 100 20 31 120 0 0\n\
+                sync\n"
+        .as_slice();
+    let script = read(alloc, log)?;
+    assert_eq!(rt;
+        deletions(alloc, &script)?.as_slice(),
+        [0, 0, 1, 0, 3, 0, 1, 9].as_slice()
+    );
+    Ok(())
+}
+
+#[test]
+fn what_a_region_leaves_is_deleted(rt: HostRuntime) -> Result<(), Fail> {
+    let alloc = rt.alloc();
+    let log =
+        b"ikdmap 2 voxel 200 large 1500\n@1 pose 100 20 30 0 0 0\n@1 pose 100 20 30 30 0 0\n".as_slice();
+    let script = read(alloc, log)?;
+    let plain = PlainScript::of(alloc, script)?;
+    let lo = Corner {
+        x: -50,
+        y: -50,
+        z: -50,
+    };
+    let hi = Corner {
+        x: -20,
+        y: 50,
+        z: 50,
+    };
+    let mut left = Cuboids::new(alloc);
+    left.push(Cuboid::new(lo, hi)?)?;
+    let Command::Change {
+        caller: 1,
+        update: Update::Delete(boxes),
+    } = &plain.commands()[1]
+    else {
+        return Err(Fail::new("a pose stands as a deletion"));
+    };
+    assert_eq!(rt; boxes.as_slice(), left.as_slice());
+    Ok(())
+}

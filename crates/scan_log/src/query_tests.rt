@@ -1,0 +1,236 @@
+//! The searches that version 2 alone has, by hand.
+use crate::tests::{WIDE_HEADER, assert_faults, assert_faults_behind, assert_reads, read};
+use crate::{Command, Format, LogCause, Reply, reply_line, write_script};
+use map_fold::{
+    BoxReply, ClusterReply, Group, Groups, Hit, HitLists, Hits, Item, Items, Label, NearsReply,
+    Points,
+};
+use point_geom::Point;
+use std::alloc::Global;
+use std::test::Fail;
+
+#[test]
+fn version_1_has_no_such_words(rt: HostRuntime) -> Result<(), Fail> {
+    assert_faults(
+        &rt,
+        rt.alloc(),
+        LogCause::UnknownCommand,
+        b"@1 nears 1 0 0 0\n\
+          @1 ball 1 1 0 0 0\n\
+          @1 lonely 1 1\n\
+          @1 clusters 1 1\n",
+    )?;
+    Ok(())
+}
+
+#[test]
+fn each_search_has_its_fields(rt: HostRuntime) -> Result<(), Fail> {
+    assert_faults_behind(
+        &rt,
+        rt.alloc(),
+        WIDE_HEADER,
+        LogCause::WrongCount,
+        b"@1 nears\n\
+          @1 nears 5\n\
+          @1 nears x 1 2\n\
+          @1 nears 0 1 2 3 4\n\
+          @1 nears 5 1 2 3 \n\
+          @1 ball\n\
+          @1 ball 5 3\n\
+          @1 ball x 3 0 0\n\
+          @1 ball 0 3 0 0 0 0\n\
+          @1 lonely\n\
+          @1 lonely x\n\
+          @1 lonely 0 3 1\n\
+          @1 clusters 5\n\
+          @1 clusters 5 3 \n",
+    )?;
+    Ok(())
+}
+
+#[test]
+fn each_number_of_a_search_is_one(rt: HostRuntime) -> Result<(), Fail> {
+    assert_faults_behind(
+        &rt,
+        rt.alloc(),
+        WIDE_HEADER,
+        LogCause::BadNumber,
+        b"@1 nears x 1 2 1099511627777\n\
+          @1 nears 5 1 2 x\n\
+          @1 nears 5 1 2 3 04 5 6\n\
+          @1 ball 05 4398046511105 0 0 0\n\
+          @1 ball 5 -0 1099511627777 0 0\n\
+          @1 ball 5 3 0 0 +1\n\
+          @1 lonely x -1\n\
+          @1 lonely 5 x\n\
+          @1 clusters  3\n\
+          @1 clusters 5 3\r\n",
+    )?;
+    Ok(())
+}
+
+#[test]
+fn each_number_of_a_search_has_its_limits(rt: HostRuntime) -> Result<(), Fail> {
+    assert_faults_behind(
+        &rt,
+        rt.alloc(),
+        WIDE_HEADER,
+        LogCause::OutOfRange,
+        b"@1 nears 0 x 2 3\n\
+          @1 nears 257 1 2 3\n\
+          @1 nears 5 1099511627777 x 0\n\
+          @1 nears 5 0 0 0 0 0 -1099511627777\n\
+          @1 ball 0 x 0 0 0\n\
+          @1 ball 257 3 0 0 0\n\
+          @1 ball 5 -1 x 0 0\n\
+          @1 ball 5 4398046511105 0 0 0\n\
+          @1 ball 5 3 0 1099511627777 x\n\
+          @1 lonely 0 x\n\
+          @1 lonely 257 3\n\
+          @1 lonely 5 4398046511105\n\
+          @1 clusters 257 x\n\
+          @1 clusters 5 -1\n",
+    )?;
+    Ok(())
+}
+
+#[test]
+fn each_search_is_read(rt: HostRuntime) -> Result<(), Fail> {
+    assert_reads(
+        &rt,
+        rt.alloc(),
+        WIDE_HEADER,
+        b"@1 nears 1 0 0 0\n\
+          @2 nears 256 1099511627776 0 -1099511627776 1 2 3\n\
+          @3 ball 1 0 1099511627776 0 -1099511627776\n\
+          @4 ball 256 4398046511104 0 0 0\n\
+          @5 lonely 1 0\n\
+          @6 lonely 256 4398046511104\n\
+          @7 clusters 1 0\n\
+          @8 clusters 256 4398046511104\n",
+    )?;
+    Ok(())
+}
+
+#[test]
+fn each_search_is_written_as_it_was_read(rt: HostRuntime) -> Result<(), Fail> {
+    let alloc = rt.alloc();
+    let log = b"ikdmap 2 voxel 200 large 1500\n\
+                @3 nears 2 1 -2 3 4 5 -6\n\
+                @2 ball 256 4398046511104 1 -2 3\n\
+                @8 lonely 5 0\n\
+                @1 clusters 7 12\n"
+        .as_slice();
+    let script = read(alloc, log)?;
+    assert_eq!(rt; write_script(alloc, &script)?.as_slice(), log);
+    assert_eq!(rt; script.commands()[0].points(), 0);
+    Ok(())
+}
+
+// The line of this reply in version 2.
+fn line_of(alloc: Global, command: &Command, reply: &Reply) -> Result<Vec<u8>, Fail> {
+    let mut line = Vec::new(alloc);
+    reply_line(&mut line, Format::Two, Some(command), reply)?;
+    Ok(line)
+}
+
+fn hits(alloc: Global, number: u32) -> Result<Hits, Fail> {
+    let point = Point::new(1, 0, -1)?.with_intensity(9);
+    let mut hits = Hits::new(alloc);
+    hits.push(Hit {
+        number,
+        point,
+        dist2: 4,
+    })?;
+    Ok(hits)
+}
+
+#[test]
+fn each_place_has_its_hits_behind_a_stroke(rt: HostRuntime) -> Result<(), Fail> {
+    let alloc = rt.alloc();
+    let nears = Command::Nears {
+        caller: 3,
+        k: 2,
+        points: Points::new(alloc),
+    };
+    let mut lists = HitLists::new(alloc);
+    lists.push(hits(alloc, 5)?)?;
+    lists.push(Hits::new(alloc))?;
+    lists.push(hits(alloc, 0)?)?;
+    let reply = Reply::Nears(NearsReply { mark: 12, lists });
+    assert_eq!(rt;
+        line_of(alloc, &nears, &reply)?.as_slice(),
+        b"@3 nears 12 / | 5 1 0 -1 9 4 / / | 0 1 0 -1 9 4\n".as_slice()
+    );
+    Ok(())
+}
+
+fn found(alloc: Global) -> Result<BoxReply, Fail> {
+    let mut items = Items::new(alloc);
+    items.push(Item {
+        number: 6,
+        point: Point::new(1, -2, 3)?.with_intensity(4),
+        label: Label::Live,
+    })?;
+    Ok(BoxReply {
+        mark: 9,
+        count: 7,
+        items,
+    })
+}
+
+#[test]
+fn what_is_in_a_ball_is_told_after_its_number(rt: HostRuntime) -> Result<(), Fail> {
+    let alloc = rt.alloc();
+    let point = Point::new(0, 0, 0)?;
+    let ball = Command::Ball {
+        caller: 2,
+        k: 1,
+        r: 5,
+        point,
+    };
+    let line = line_of(alloc, &ball, &Reply::Ball(found(alloc)?))?;
+    assert_eq!(rt; line.as_slice(), b"@2 ball 9 7 | 6 1 -2 3 4\n".as_slice());
+    let line = line_of(alloc, &ball, &Reply::Inside(found(alloc)?))?;
+    assert_eq!(rt; line.as_slice(), b"".as_slice(), "a box is no ball");
+    Ok(())
+}
+
+#[test]
+fn the_lonely_points_are_told_after_their_number(rt: HostRuntime) -> Result<(), Fail> {
+    let alloc = rt.alloc();
+    let lonely = Command::Lonely {
+        caller: 8,
+        k: 1,
+        r: 5,
+    };
+    let line = line_of(alloc, &lonely, &Reply::Lonely(found(alloc)?))?;
+    assert_eq!(rt; line.as_slice(), b"@8 lonely 9 7 | 6 1 -2 3 4\n".as_slice());
+    Ok(())
+}
+
+#[test]
+fn a_cluster_is_told_by_its_least_number_and_its_size(rt: HostRuntime) -> Result<(), Fail> {
+    let alloc = rt.alloc();
+    let clusters = Command::Clusters {
+        caller: 1,
+        k: 2,
+        r: 5,
+    };
+    let mut groups = Groups::new(alloc);
+    groups.push(Group { least: 0, size: 3 })?;
+    groups.push(Group {
+        least: 4_194_303,
+        size: 1,
+    })?;
+    let reply = Reply::Clusters(ClusterReply {
+        mark: 1,
+        count: 4,
+        groups,
+    });
+    assert_eq!(rt;
+        line_of(alloc, &clusters, &reply)?.as_slice(),
+        b"@1 clusters 1 4 | 0 3 | 4194303 1\n".as_slice()
+    );
+    Ok(())
+}
