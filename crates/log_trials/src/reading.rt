@@ -1,7 +1,7 @@
 //! Logs and lines, by hand.
-use crate::{Command, Format, LogCause, ParseFault, Reply, Script, parse, reply_line};
 use map_fold::{Hit, Hits, NearReply, Settings, Update};
 use point_geom::Point;
+use scan_log::{Command, Format, LogCause, ParseFault, Reply, Script, parse, reply_line};
 use std::alloc::{AllocError, Global};
 use std::process::Abort;
 use std::test::Fail;

@@ -1,7 +1,7 @@
 //! Numbers in a log, by hand.
-use crate::tests::{assert_faults, fault_of, log_of, read};
-use crate::{Command, LogCause, ParseFault};
+use crate::reading::{assert_faults, fault_of, log_of, read};
 use map_fold::Update;
+use scan_log::{Command, LogCause, ParseFault};
 use std::test::Fail;
 
 #[test]

@@ -4,12 +4,12 @@ ghost use Rattle.scan_log.specs.declared.format.Format.TheVariants.{One, Two};
 ghost use Rattle.scan_log.specs.Scripts.{AreBoxes, AreScanned, IsCallerBox, IsCommand, asked, submitted};
 ghost use Rattle.scan_log.specs.declared.fault.ParseFault.TheVariants.{NoMemory as want};
 
-use crate::tests::read;
-use crate::{Command, Format, ParseFault, Reply, Script, parse, reply_line, write_script};
+use crate::reading::read;
 use map_fold::{
     BoxReply, Cuboids, Hit, Hits, Item, Items, Label, NearReply, Points, Settings, Update,
 };
 use point_geom::{Corner, Cuboid, Point};
+use scan_log::{Command, Format, ParseFault, Reply, Script, parse, reply_line, write_script};
 use std::alloc::Global;
 use std::test::Fail;
 

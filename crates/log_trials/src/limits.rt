@@ -1,6 +1,6 @@
 //! How long a log may be, by hand.
-use crate::tests::{WIDE_HEADER, fault_of, log_of, log_with};
-use crate::{LogCause, ParseFault};
+use crate::reading::{WIDE_HEADER, fault_of, log_of, log_with};
+use scan_log::{LogCause, ParseFault};
 use std::alloc::{AllocError, Global};
 use std::test::Fail;
 

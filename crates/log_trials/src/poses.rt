@@ -1,8 +1,8 @@
 //! Poses, by hand.
-use crate::tests::{WIDE_HEADER, assert_faults, assert_faults_behind, assert_reads, read};
-use crate::{Command, Format, LogCause, PlainScript, Reply, Script, reply_line, write_script};
+use crate::reading::{WIDE_HEADER, assert_faults, assert_faults_behind, assert_reads, read};
 use map_fold::{Cuboids, Update};
 use point_geom::{Corner, Cuboid};
+use scan_log::{Command, Format, LogCause, PlainScript, Reply, Script, reply_line, write_script};
 use std::alloc::Global;
 use std::test::Fail;
 

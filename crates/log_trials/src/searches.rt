@@ -1,11 +1,11 @@
 //! The searches that version 2 alone has, by hand.
-use crate::tests::{WIDE_HEADER, assert_faults, assert_faults_behind, assert_reads, read};
-use crate::{Command, Format, LogCause, Reply, reply_line, write_script};
+use crate::reading::{WIDE_HEADER, assert_faults, assert_faults_behind, assert_reads, read};
 use map_fold::{
     BoxReply, ClusterReply, Group, Groups, Hit, HitLists, Hits, Item, Items, Label, NearsReply,
     Points,
 };
 use point_geom::Point;
+use scan_log::{Command, Format, LogCause, Reply, reply_line, write_script};
 use std::alloc::Global;
 use std::test::Fail;
 

@@ -1,0 +1,16 @@
+//! Logs that are read and written, and lines of transcripts. These tests speak of public calls alone, and stand in a crate of their
+//! own, so that reading and writing are proved once for all of them.
+#![tactic(auto)]
+
+#[cfg(test)]
+mod limits;
+#[cfg(test)]
+mod numbers;
+#[cfg(test)]
+mod poses;
+#[cfg(test)]
+mod reading;
+#[cfg(test)]
+mod searches;
+#[cfg(test)]
+mod written;
