@@ -141,10 +141,12 @@ fn what_a_region_leaves_is_deleted(rt: HostRuntime) -> Result<(), Fail> {
     };
     let mut left = Cuboids::new(alloc);
     left.push(Cuboid::new(lo, hi)?)?;
-    let Command::Change {
-        caller: 1,
-        update: Update::Delete(boxes),
-    } = &plain.commands()[1]
+    let Some(
+        Command::Change {
+            caller: 1,
+            update: Update::Delete(boxes),
+        },
+    ) = plain.commands().last()
     else {
         return Err(Fail::new("a pose stands as a deletion"));
     };
