@@ -8,7 +8,7 @@ use Rattle.map_fold.specs.Fold.{fold, points_in}
 use Rattle.rebuild_core.specs.History.{updates}
 use Rattle.published_map.specs.Marks.{Seen, times, AllOf, callers_of, AllMet, AllGrown, AllMetNow}
 use Rattle.scan_log.specs.declared.command.Command.{Command}
-use Rattle.scan_log.specs.declared.command.Command.TheVariants.{Change, Near, Nears, Inside, Ball, Lonely, Clusters, Sync}
+use Rattle.scan_log.specs.declared.command.Command.TheVariants.{Change, Near, Nears, Inside, Ball, Lonely, Clusters, Pose, Sync}
 use Rattle.scan_log.specs.declared.reply.Reply.{Reply}
 use Rattle.scan_log.specs.Scripts.{ScriptAt, submitted, points_of}
 use Rattle.scan_log.specs.Legal.{AreLegalReplies}
@@ -50,6 +50,7 @@ own_weight w x (Inside caller k b) is = refl
 own_weight w x (Ball caller k r p) is = refl
 own_weight w x (Lonely caller k r) is = refl
 own_weight w x (Clusters caller k r) is = refl
+own_weight w x (Pose caller rules place) is = refl
 own_weight w x Sync is = refl
 
 -- and where it was stopped, the next command is one of them too
@@ -176,6 +177,7 @@ changes_told voxel cs h lows (Inside x k b ∷ ds) (r ∷ rs) highs o t = change
 changes_told voxel cs h lows (Ball x k far p ∷ ds) (r ∷ rs) highs o t = changes_told voxel cs h (raised lows (Ball x k far p) (mark_of r)) ds rs highs o t.1
 changes_told voxel cs h lows (Lonely x k far ∷ ds) (r ∷ rs) highs o t = changes_told voxel cs h (raised lows (Lonely x k far) (mark_of r)) ds rs highs o t.1
 changes_told voxel cs h lows (Clusters x k far ∷ ds) (r ∷ rs) highs o t = changes_told voxel cs h (raised lows (Clusters x k far) (mark_of r)) ds rs highs o t.1
+changes_told voxel cs h lows (Pose x rules place ∷ ds) (r ∷ rs) highs o t = changes_told voxel cs h (raised lows (Pose x rules place) (mark_of r)) ds rs highs o t.1
 changes_told voxel cs h lows (Sync ∷ ds) (r ∷ rs) highs o t = changes_told voxel cs h (raised lows Sync (mark_of r)) ds rs highs o t.1
 
 -- Callers who have met after all commands were told the transcript

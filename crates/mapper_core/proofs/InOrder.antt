@@ -13,10 +13,11 @@ use Rattle.map_fold.specs.Sizes.{Sizes}
 use Rattle.rebuild_core.specs.History.{updates}
 use Rattle.rebuild_core.specs.Lawful.{StateAt, new_state}
 use Rattle.scan_log.specs.declared.command.Command.{Command}
-use Rattle.scan_log.specs.declared.command.Command.TheVariants.{Change, Near, Nears, Inside, Ball, Lonely, Clusters, Sync}
+use Rattle.scan_log.specs.declared.command.Command.TheVariants.{Change, Near, Nears, Inside, Ball, Lonely, Clusters, Pose, Sync}
 use Rattle.scan_log.specs.declared.reply.Reply.{Reply}
 use Rattle.scan_log.specs.declared.reply.Reply.TheVariants as reply
-use Rattle.scan_log.specs.Scripts.{ScriptAt, IsScript, points_of}
+use Rattle.scan_log.specs.Plain.{IsPlainScript}
+use Rattle.scan_log.specs.Scripts.{ScriptAt, points_of}
 use Rattle.scan_log.specs.Transcript.{history, marked_updates, put_update, serial_marks, serial_marks_from, replies, replies_from, reply_to, found_reply, clusters_reply}
 use Rattle.mapper_core.specs.Turns.{Follows, reply_of, updates_of}
 
@@ -42,6 +43,7 @@ serial_above n (Inside caller k c ∷ cs) = serial_above n cs
 serial_above n (Ball caller k r p ∷ cs) = serial_above n cs
 serial_above n (Lonely caller k r ∷ cs) = serial_above n cs
 serial_above n (Clusters caller k r ∷ cs) = serial_above n cs
+serial_above n (Pose caller rules place ∷ cs) = serial_above n cs
 serial_above n (Sync ∷ cs) = serial_above n cs
 
 -- the history of a run in the log's order is its updates in order
@@ -54,6 +56,7 @@ serial_history n (Inside caller k c ∷ cs) = serial_history n cs
 serial_history n (Ball caller k r p ∷ cs) = serial_history n cs
 serial_history n (Lonely caller k r ∷ cs) = serial_history n cs
 serial_history n (Clusters caller k r ∷ cs) = serial_history n cs
+serial_history n (Pose caller rules place ∷ cs) = serial_history n cs
 serial_history n (Sync ∷ cs) = serial_history n cs
 
 -- the first command's update stands before the others
@@ -65,6 +68,7 @@ updates_cons (Inside caller k b) cs = refl
 updates_cons (Ball caller k r p) cs = refl
 updates_cons (Lonely caller k r) cs = refl
 updates_cons (Clusters caller k r) cs = refl
+updates_cons (Pose caller rules place) cs = refl
 updates_cons Sync cs = refl
 
 -- a command has one update at most
@@ -76,6 +80,7 @@ at_most_one (Inside caller k b) = omega arith
 at_most_one (Ball caller k r p) = omega arith
 at_most_one (Lonely caller k r) = omega arith
 at_most_one (Clusters caller k r) = omega arith
+at_most_one (Pose caller rules place) = omega arith
 at_most_one Sync = omega arith
 
 -- the first mark counts the first command's update, and the others go on from there
@@ -87,6 +92,7 @@ marks_cons n m (Inside caller k b) cs e = let same : n ≡ m = omega (arith, e) 
 marks_cons n m (Ball caller k r p) cs e = let same : n ≡ m = omega (arith, e) in ap (λ k. k ∷ serial_marks_from k cs) same
 marks_cons n m (Lonely caller k r) cs e = let same : n ≡ m = omega (arith, e) in ap (λ k. k ∷ serial_marks_from k cs) same
 marks_cons n m (Clusters caller k r) cs e = let same : n ≡ m = omega (arith, e) in ap (λ k. k ∷ serial_marks_from k cs) same
+marks_cons n m (Pose caller rules place) cs e = let same : n ≡ m = omega (arith, e) in ap (λ k. k ∷ serial_marks_from k cs) same
 marks_cons n m Sync cs e = let same : n ≡ m = omega (arith, e) in ap (λ k. k ∷ serial_marks_from k cs) same
 
 -- what comes after the first updates doesn't matter to a reply at their number
@@ -104,6 +110,7 @@ reply_early voxel n us vs c long =
     same (Ball caller k r p) e = ap (λ ts. reply.Ball (found_reply n (ball (fold voxel ts).items p r) k)) e
     same (Lonely caller k r) e = ap (λ ts. reply.Lonely (found_reply n (lonely (fold voxel ts).items r) k)) e
     same (Clusters caller k r) e = ap (λ ts. reply.Clusters (clusters_reply n (clusters (fold voxel ts).items r) k)) e
+    same (Pose caller rules place) e = refl
     same Sync e = ap (λ ts. reply.Totals n (live_count (fold voxel ts).items) (suspended_count (fold voxel ts).items)) e
 
 -- How far a run has come: the updates that were made and those of the commands that are left are the script's, and the
@@ -115,7 +122,7 @@ pub record Ran (s : ScriptAt) (left : List Command) (t : StateAt) (rs : List Rep
   pub room : t.next + points_of left ≤ 4194304
   pub told : rs ++ replies_from s.sizes.voxel (updates_of s.commands) left (serial_marks_from (length t.history) left) ≡ replies s (serial_marks s)
 
-pub ran_start : (s : ScriptAt) (t : StateAt) → IsScript s → t ≡ new_state s.sizes → Ran s s.commands t []
+pub ran_start : (s : ScriptAt) (t : StateAt) → IsPlainScript s → t ≡ new_state s.sizes → Ran s s.commands t []
 ran_start s t h e = rw e (record {
   settings = refl;
   made = refl;

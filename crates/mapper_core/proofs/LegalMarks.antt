@@ -6,7 +6,7 @@ use Rattle.map_fold.specs.declared.entry.Entry.{Entry}
 use Rattle.map_fold.specs.declared.update.Update.{Update}
 use Rattle.rebuild_core.specs.History.{updates}
 use Rattle.scan_log.specs.declared.command.Command.{Command}
-use Rattle.scan_log.specs.declared.command.Command.TheVariants.{Change, Near, Nears, Inside, Ball, Lonely, Clusters, Sync}
+use Rattle.scan_log.specs.declared.command.Command.TheVariants.{Change, Near, Nears, Inside, Ball, Lonely, Clusters, Pose, Sync}
 use Rattle.scan_log.specs.declared.reply.Reply.{Reply}
 use Rattle.scan_log.specs.Scripts.{ScriptAt}
 use Rattle.scan_log.specs.Legal.{counted, Concerns, AllFollow, AreInOrder, IsLegal, AreLegalReplies}
@@ -119,6 +119,9 @@ no_other voxel h lows (Lonely y k far ∷ cs) (r ∷ rs) highs ends x m u t le a
 no_other voxel h lows (Clusters y k far ∷ cs) (r ∷ rs) highs ends x m u t le at =
     let up = told_raises voxel h lows (Clusters y k far) r t.0 x in
     no_other voxel h (raised lows (Clusters y k far) (mark_of r)) cs rs highs ends x m u t.1 (omega arith) at
+no_other voxel h lows (Pose y rules place ∷ cs) (r ∷ rs) highs ends x m u t le at =
+    let up = told_raises voxel h lows (Pose y rules place) r t.0 x in
+    no_other voxel h (raised lows (Pose y rules place) (mark_of r)) cs rs highs ends x m u t.1 (omega arith) at
 no_other voxel h lows (Sync ∷ cs) (r ∷ rs) highs ends x m u t le at =
     let up = told_raises voxel h lows Sync r t.0 x in
     no_other voxel h (raised lows Sync (mark_of r)) cs rs highs ends x m u t.1 (omega arith) at
@@ -152,6 +155,7 @@ placed voxel h lows (Inside x k b ∷ cs) (r ∷ rs) highs ends t = placed voxel
 placed voxel h lows (Ball x k far p ∷ cs) (r ∷ rs) highs ends t = placed voxel h (raised lows (Ball x k far p) (mark_of r)) cs rs highs ends t.1
 placed voxel h lows (Lonely x k far ∷ cs) (r ∷ rs) highs ends t = placed voxel h (raised lows (Lonely x k far) (mark_of r)) cs rs highs ends t.1
 placed voxel h lows (Clusters x k far ∷ cs) (r ∷ rs) highs ends t = placed voxel h (raised lows (Clusters x k far) (mark_of r)) cs rs highs ends t.1
+placed voxel h lows (Pose x rules place ∷ cs) (r ∷ rs) highs ends t = placed voxel h (raised lows (Pose x rules place) (mark_of r)) cs rs highs ends t.1
 placed voxel h lows (Sync ∷ cs) (r ∷ rs) highs ends t = placed voxel h (raised lows Sync (mark_of r)) cs rs highs ends t.1
 
 stands_below : (h : List Entry) (g : ℕ × Update) → StandsAt h g → g.0 ≤ length h
@@ -189,6 +193,7 @@ placed_below h (Inside x k b) m a = a
 placed_below h (Ball x k r p) m a = a
 placed_below h (Lonely x k r) m a = a
 placed_below h (Clusters x k r) m a = a
+placed_below h (Pose x rules place) m a = a
 placed_below h Sync m a = a
 
 -- the replies as a whole: those of the transcript over the history, marks that it has, one reply for each command

@@ -8,7 +8,7 @@ use Rattle.map_fold.specs.declared.entry.Entry.{Entry}
 use Rattle.rebuild_core.specs.History.{updates}
 use Rattle.published_map.specs.Marks.{Seen, keep_if, times, IsDistinct, AllOf, callers_of, AllMet, AllGrown, AllMetNow, newcomer_of}
 use Rattle.scan_log.specs.declared.command.Command.{Command}
-use Rattle.scan_log.specs.declared.command.Command.TheVariants.{Change, Near, Nears, Inside, Ball, Lonely, Clusters, Sync}
+use Rattle.scan_log.specs.declared.command.Command.TheVariants.{Change, Near, Nears, Inside, Ball, Lonely, Clusters, Pose, Sync}
 use Rattle.scan_log.specs.declared.reply.Reply.{Reply}
 use Rattle.scan_log.specs.Legal.{counted}
 use Rattle.scan_log.specs.Transcript.{mark_of, totals_reply}
@@ -43,6 +43,7 @@ placed_longer h g (Inside x k b) m p a = let l = prefix_length h g p in let le :
 placed_longer h g (Ball x k r place) m p a = let l = prefix_length h g p in let le : m ≤ length h = a in omega arith
 placed_longer h g (Lonely x k r) m p a = let l = prefix_length h g p in let le : m ≤ length h = a in omega arith
 placed_longer h g (Clusters x k r) m p a = let l = prefix_length h g p in let le : m ≤ length h = a in omega arith
+placed_longer h g (Pose x rules place) m p a = let l = prefix_length h g p in let le : m ≤ length h = a in omega arith
 placed_longer h g Sync m p a = let l = prefix_length h g p in let le : m ≤ length h = a in omega arith
 
 -- a reply stands in a longer history too
@@ -148,6 +149,7 @@ updates_append x (Inside caller k b ∷ cs) ds = updates_append x cs ds
 updates_append x (Ball caller k r p ∷ cs) ds = updates_append x cs ds
 updates_append x (Lonely caller k r ∷ cs) ds = updates_append x cs ds
 updates_append x (Clusters caller k r ∷ cs) ds = updates_append x cs ds
+updates_append x (Pose caller rules place ∷ cs) ds = updates_append x cs ds
 updates_append x (Sync ∷ cs) ds = updates_append x cs ds
 
 all_done : (voxel : ℕ) (cs ds : List Command) (ps qs ss : List Seen) (lists : List (List Reply)) → AllDone cs ps → AllBack (Ran voxel ds) ps qs lists → AllGrown qs ss → AllDone (cs ++ ds) ss

@@ -135,6 +135,7 @@ replies_left voxel c left lists x a is =
     same (Command.Ball caller n r p) x k a b = let e : caller ≡ x = a in let f : caller ≡ k + 1 = b in sym e ∙ f
     same (Command.Lonely caller n r) x k a b = let e : caller ≡ x = a in let f : caller ≡ k + 1 = b in sym e ∙ f
     same (Command.Clusters caller n r) x k a b = let e : caller ≡ x = a in let f : caller ≡ k + 1 = b in sym e ∙ f
+    same (Command.Pose caller rules place) x k a b = let e : caller ≡ x = a in let f : caller ≡ k + 1 = b in sym e ∙ f
     same Command.Sync x k a b = absurd a
 
 set_length : {A : Type 0} (xs : List A) (k : ℕ) (x : A) → length (set xs k x) ≡ length xs

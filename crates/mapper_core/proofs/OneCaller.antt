@@ -19,7 +19,7 @@ use Rattle.published_map.specs.Marks.{Seen, Grown, Added, keep_if}
 use Rattle.published_map.specs.Answers.{near_reply, box_reply}
 use Rattle.published_map.specs.Versions.{IsVersionOf, held}
 use Rattle.scan_log.specs.declared.command.Command.{Command}
-use Rattle.scan_log.specs.declared.command.Command.TheVariants.{Change, Near, Nears, Inside, Ball, Lonely, Clusters, Sync}
+use Rattle.scan_log.specs.declared.command.Command.TheVariants.{Change, Near, Nears, Inside, Ball, Lonely, Clusters, Pose, Sync}
 use Rattle.scan_log.specs.declared.reply.Reply.{Reply}
 use Rattle.scan_log.specs.declared.reply.Reply.TheVariants as reply
 use Rattle.scan_log.specs.Legal.{IsLater}
@@ -184,6 +184,7 @@ updates_own x (Inside caller k b) cs = refl
 updates_own x (Ball caller k r p) cs = refl
 updates_own x (Lonely caller k r) cs = refl
 updates_own x (Clusters caller k r) cs = refl
+updates_own x (Pose caller rules place) cs = refl
 updates_own x Sync cs = refl
 
 updates_other : (x : ℕ) (c : Command) (cs : List Command) → is_by x c ≡ false → updates_by x (c ∷ cs) ≡ updates_by x cs
@@ -194,6 +195,7 @@ updates_other x (Inside caller k b) cs is = refl
 updates_other x (Ball caller k r p) cs is = refl
 updates_other x (Lonely caller k r) cs is = refl
 updates_other x (Clusters caller k r) cs is = refl
+updates_other x (Pose caller rules place) cs is = refl
 updates_other x Sync cs is = refl
 
 pub ran_own : (voxel : ℕ) (cs left : List Command) (c : Command) (p q s : Seen) (rs : List Reply) (r : Reply)

@@ -1,9 +1,12 @@
 -- Slices of a script's commands.
 use Rattle.std.proofs.Common.{◌≡◌, ℕ, zero, suc, ◌+◌, ◌-◌, ◌≤◌, true, false, List, [], ◌∷◌, ◌++◌, length, take, drop, Some, slice_get, refl, ap, ◌∙◌, subst, arith}
 use Rattle.std.specs.List.{AllByRecursion}
+use Rattle.std.specs.declared.option.Option.{Option}
 use Rattle.scan_log.specs.declared.command.Command.{Command}
-use Rattle.scan_log.specs.declared.command.Command.TheVariants.{Change, Near, Nears, Inside, Ball, Lonely, Clusters, Sync}
+use Rattle.scan_log.specs.declared.command.Command.TheVariants.{Change, Near, Nears, Inside, Ball, Lonely, Clusters, Pose, Sync}
 use Rattle.scan_log.specs.Scripts.{points_of}
+use Rattle.scan_log.specs.Poses.{plain_command, plain_from, regions_after}
+use Rattle.local_region.specs.Regions.{RegionAt}
 use Rattle.mapper_core.specs.Meetings.{is_barrier, IsOfCallers, HasCaller}
 use Rattle.mapper_core.proofs.Beginnings.{take_next}
 
@@ -55,6 +58,7 @@ barrier_is (Inside caller k b) is = absurd (cc is)
 barrier_is (Ball caller k r p) is = absurd (cc is)
 barrier_is (Lonely caller k r) is = absurd (cc is)
 barrier_is (Clusters caller k r) is = absurd (cc is)
+barrier_is (Pose caller rules place) is = absurd (cc is)
 barrier_is Sync is = refl
 
 -- a command that is no barrier is one of the callers'
@@ -66,6 +70,7 @@ caller_is n (Inside caller k c) is has = (caller - 1, (let a : 1 ≤ caller = ha
 caller_is n (Ball caller k r p) is has = (caller - 1, (let a : 1 ≤ caller = has.0 in omega arith), (let a : 1 ≤ caller = has.0 in let b : caller ≤ n = has.1 in omega arith))
 caller_is n (Lonely caller k r) is has = (caller - 1, (let a : 1 ≤ caller = has.0 in omega arith), (let a : 1 ≤ caller = has.0 in let b : caller ≤ n = has.1 in omega arith))
 caller_is n (Clusters caller k r) is has = (caller - 1, (let a : 1 ≤ caller = has.0 in omega arith), (let a : 1 ≤ caller = has.0 in let b : caller ≤ n = has.1 in omega arith))
+caller_is n (Pose caller rules place) is has = (caller - 1, (let a : 1 ≤ caller = has.0 in omega arith), (let a : 1 ≤ caller = has.0 in let b : caller ≤ n = has.1 in omega arith))
 caller_is n Sync is has = absurd (cc is)
 
 drop_slice : {A : Type 0} (n k : ℕ) (xs : List A) (x : A) → slice_get xs (n + k) ≡ Some x → slice_get (drop n xs) k ≡ Some x
@@ -94,9 +99,26 @@ has_caller_more n m (Inside caller k c) le has = (has.0, (let a : caller ≤ n =
 has_caller_more n m (Ball caller k r p) le has = (has.0, (let a : caller ≤ n = has.1 in omega arith))
 has_caller_more n m (Lonely caller k r) le has = (has.0, (let a : caller ≤ n = has.1 in omega arith))
 has_caller_more n m (Clusters caller k r) le has = (has.0, (let a : caller ≤ n = has.1 in omega arith))
+has_caller_more n m (Pose caller rules place) le has = (has.0, (let a : caller ≤ n = has.1 in omega arith))
 has_caller_more n m Sync le has = tt
 
 pub all_none : {A : Type 0} (P : A → Type 0) (n : ℕ) (xs : List A) → n ≡ 0 → AllByRecursion P (take n xs)
 all_none P zero [] is = tt
 all_none P zero (x ∷ xs) is = tt
 all_none P (suc n) xs is = absurd (omega arith)
+
+-- whoever has a script's commands has them without poses
+command_has : (n : ℕ) (regions : List (Option RegionAt)) (c : Command) → HasCaller n c → HasCaller n (plain_command regions c)
+command_has n regions (Change caller u) has = has
+command_has n regions (Near caller k p within) has = has
+command_has n regions (Nears caller k ps) has = has
+command_has n regions (Inside caller k c) has = has
+command_has n regions (Ball caller k r p) has = has
+command_has n regions (Lonely caller k r) has = has
+command_has n regions (Clusters caller k r) has = has
+command_has n regions (Pose caller rules p) has = has
+command_has n regions Sync has = has
+
+pub plain_has : (n : ℕ) (regions : List (Option RegionAt)) (cs : List Command) → AllByRecursion (HasCaller n) cs → AllByRecursion (HasCaller n) (plain_from regions cs)
+plain_has n regions [] all = tt
+plain_has n regions (c ∷ cs) all = (command_has n regions c all.0, plain_has n (regions_after regions c) cs all.1)

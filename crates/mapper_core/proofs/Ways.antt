@@ -9,6 +9,7 @@ use Rattle.scan_log.specs.Faults.{FaultAt, first_fault, is_limit}
 use Rattle.scan_log.specs.declared.fault.LogCause.{LogCause}
 use Rattle.scan_log.specs.Refusal.{IsFirstFault}
 use Rattle.scan_log.specs.Legal.{IsLegalTranscript}
+use Rattle.scan_log.specs.Poses.{plain_script}
 use Rattle.scan_log.specs.Transcript.{text, serial_marks}
 use Rattle.scan_log.specs.Written.{script_text}
 use Rattle.mapper_core.specs.declared.ending.Ending.{Ending}
@@ -60,7 +61,7 @@ legal_lines (Make n) words x lines asked (inr r) h = absurd (cc (asked.1, r.1))
 legal_lines (Drive n) words x lines asked (inl r) h = absurd (cc (asked.1, r.1))
 legal_lines (Drive n) words x lines asked (inr r) h = absurd (cc (asked.1, r.1))
 
-serial_lines : (a : Ask) (words : List (List ℕ)) (x : ScriptAt) (lines : List ℕ) → Asks a words → Asks Serial words → Prints a x lines → lines ≡ text x (serial_marks x)
+serial_lines : (a : Ask) (words : List (List ℕ)) (x : ScriptAt) (lines : List ℕ) → Asks a words → Asks Serial words → Prints a x lines → lines ≡ text x (serial_marks (plain_script x))
 serial_lines Run words x lines asked also h = absurd (cc (asked.1, also.1))
 serial_lines Serial words x lines asked also h = h.1
 serial_lines (Make n) words x lines asked also h = absurd (cc (asked.1, also.1))
@@ -103,7 +104,7 @@ done_legal s e h done asked =
 
 -- and for the words of a serial run it is the text of the marks in the log's order
 pub done_serial : (s : Seen) (e : Ending) → Ended s e → status_of e ≡ status.Done → Asks Serial s.words
-    → (x : ScriptAt) × IfSome s.log.left (λ bytes. Spells bytes x) × Appends s.out.held s.out.held_after (text x (serial_marks x))
+    → (x : ScriptAt) × IfSome s.log.left (λ bytes. Spells bytes x) × Appends s.out.held s.out.held_after (text x (serial_marks (plain_script x)))
 done_serial s e h done asked =
     let p = done_way s e h done in
     let said = said_of p.ask s.words s.log p.script p.asked (inr asked) p.said in

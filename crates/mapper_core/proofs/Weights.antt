@@ -8,7 +8,7 @@ use Rattle.map_fold.proofs.Folds.{step_next}
 use Rattle.rebuild_core.specs.History.{updates}
 use Rattle.published_map.specs.Marks.{Seen, keep_if, updates_of, one_if, times, IsDistinct, AllOf, callers_of, AllMet}
 use Rattle.scan_log.specs.declared.command.Command.{Command}
-use Rattle.scan_log.specs.declared.command.Command.TheVariants.{Change, Near, Nears, Inside, Ball, Lonely, Clusters, Sync}
+use Rattle.scan_log.specs.declared.command.Command.TheVariants.{Change, Near, Nears, Inside, Ball, Lonely, Clusters, Pose, Sync}
 use Rattle.scan_log.specs.Scripts.{points_of}
 use Rattle.scan_log.specs.Transcript.{updates_in}
 use Rattle.mapper_core.specs.Mine.{updates_by}
@@ -100,6 +100,7 @@ weigh_all w (Inside caller k c ∷ ds) = weigh_all w ds
 weigh_all w (Ball caller k r p ∷ ds) = weigh_all w ds
 weigh_all w (Lonely caller k r ∷ ds) = weigh_all w ds
 weigh_all w (Clusters caller k r ∷ ds) = weigh_all w ds
+weigh_all w (Pose caller rules place ∷ ds) = weigh_all w ds
 weigh_all w (Sync ∷ ds) = weigh_all w ds
 
 entries_nil : (w : Update → ℕ) (cs : List ℕ) → entries_of w cs [] ≡ 0
@@ -146,6 +147,7 @@ commands_most w cs (Inside x n b ∷ ds) d = let k = commands_skip w cs (Inside 
 commands_most w cs (Ball x n far p ∷ ds) d = let k = commands_skip w cs (Ball x n far p) ds (λ c. refl) in let r = commands_most w cs ds d in omega arith
 commands_most w cs (Lonely x n far ∷ ds) d = let k = commands_skip w cs (Lonely x n far) ds (λ c. refl) in let r = commands_most w cs ds d in omega arith
 commands_most w cs (Clusters x n far ∷ ds) d = let k = commands_skip w cs (Clusters x n far) ds (λ c. refl) in let r = commands_most w cs ds d in omega arith
+commands_most w cs (Pose x rules place ∷ ds) d = let k = commands_skip w cs (Pose x rules place) ds (λ c. refl) in let r = commands_most w cs ds d in omega arith
 commands_most w cs (Sync ∷ ds) d = let k = commands_skip w cs Sync ds (λ c. refl) in let r = commands_most w cs ds d in omega arith
 
 -- each of the updates is of one of these callers
@@ -158,6 +160,7 @@ AllChangesOf cs (Inside x k b ∷ ds) = AllChangesOf cs ds
 AllChangesOf cs (Ball x k r p ∷ ds) = AllChangesOf cs ds
 AllChangesOf cs (Lonely x k r ∷ ds) = AllChangesOf cs ds
 AllChangesOf cs (Clusters x k r ∷ ds) = AllChangesOf cs ds
+AllChangesOf cs (Pose x rules place ∷ ds) = AllChangesOf cs ds
 AllChangesOf cs (Sync ∷ ds) = AllChangesOf cs ds
 
 pub commands_whole : (w : Update → ℕ) (cs : List ℕ) (ds : List Command) → AllChangesOf cs ds → commands_of w cs ds ≡ weigh_all w ds
@@ -171,6 +174,7 @@ commands_whole w cs (Inside x n b ∷ ds) o = commands_skip w cs (Inside x n b) 
 commands_whole w cs (Ball x n r p ∷ ds) o = commands_skip w cs (Ball x n r p) ds (λ c. refl) ∙ commands_whole w cs ds o
 commands_whole w cs (Lonely x n r ∷ ds) o = commands_skip w cs (Lonely x n r) ds (λ c. refl) ∙ commands_whole w cs ds o
 commands_whole w cs (Clusters x n r ∷ ds) o = commands_skip w cs (Clusters x n r) ds (λ c. refl) ∙ commands_whole w cs ds o
+commands_whole w cs (Pose x rules place ∷ ds) o = commands_skip w cs (Pose x rules place) ds (λ c. refl) ∙ commands_whole w cs ds o
 commands_whole w cs (Sync ∷ ds) o = commands_skip w cs Sync ds (λ c. refl) ∙ commands_whole w cs ds o
 
 pub all_ones : (ds : List Command) → weigh_all (λ u. 1) ds ≡ updates_in ds
@@ -183,6 +187,7 @@ all_ones (Inside x k b ∷ ds) = all_ones ds
 all_ones (Ball x k r p ∷ ds) = all_ones ds
 all_ones (Lonely x k r ∷ ds) = all_ones ds
 all_ones (Clusters x k r ∷ ds) = all_ones ds
+all_ones (Pose x rules place ∷ ds) = all_ones ds
 all_ones (Sync ∷ ds) = all_ones ds
 
 pub all_points : (ds : List Command) → weigh_all points_in ds ≡ points_of ds
@@ -195,6 +200,7 @@ all_points (Inside x k b ∷ ds) = let r = all_points ds in omega arith
 all_points (Ball x k far p ∷ ds) = let r = all_points ds in omega arith
 all_points (Lonely x k far ∷ ds) = let r = all_points ds in omega arith
 all_points (Clusters x k far ∷ ds) = let r = all_points ds in omega arith
+all_points (Pose x rules place ∷ ds) = let r = all_points ds in omega arith
 all_points (Sync ∷ ds) = let r = all_points ds in omega arith
 
 pub updates_few : (ds : List Command) → updates_in ds ≤ length ds
@@ -206,6 +212,7 @@ updates_few (Inside x k b ∷ ds) = let r = updates_few ds in omega arith
 updates_few (Ball x k far p ∷ ds) = let r = updates_few ds in omega arith
 updates_few (Lonely x k far ∷ ds) = let r = updates_few ds in omega arith
 updates_few (Clusters x k far ∷ ds) = let r = updates_few ds in omega arith
+updates_few (Pose x rules place ∷ ds) = let r = updates_few ds in omega arith
 updates_few (Sync ∷ ds) = let r = updates_few ds in omega arith
 
 -- what these passes have made

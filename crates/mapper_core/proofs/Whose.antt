@@ -7,7 +7,7 @@ use Rattle.map_fold.specs.Neighbours.{ball, lonely}
 use Rattle.map_fold.specs.Clusters.{clusters}
 use Rattle.map_fold.specs.Fold.{fold}
 use Rattle.scan_log.specs.declared.command.Command.{Command}
-use Rattle.scan_log.specs.declared.command.Command.TheVariants.{Change, Near, Nears, Inside, Ball, Lonely, Clusters, Sync}
+use Rattle.scan_log.specs.declared.command.Command.TheVariants.{Change, Near, Nears, Inside, Ball, Lonely, Clusters, Pose, Sync}
 use Rattle.scan_log.specs.declared.reply.Reply.TheVariants as reply
 use Rattle.scan_log.specs.Legal.{Concerns, IsLater, MayFollow}
 use Rattle.scan_log.specs.Transcript.{reply_to, found_reply, clusters_reply}
@@ -22,6 +22,7 @@ for_concerns x (Inside caller k c) is = grind (arith, nat_tests)
 for_concerns x (Ball caller k r p) is = grind (arith, nat_tests)
 for_concerns x (Lonely caller k r) is = grind (arith, nat_tests)
 for_concerns x (Clusters caller k r) is = grind (arith, nat_tests)
+for_concerns x (Pose caller rules place) is = grind (arith, nat_tests)
 for_concerns x Sync is = tt
 
 pub concerns_for : (x : ℕ) (c : Command) → Concerns x c → is_for x c ≡ true
@@ -32,6 +33,7 @@ concerns_for x (Inside caller k c) is = let e : caller ≡ x = is in grind (arit
 concerns_for x (Ball caller k r p) is = let e : caller ≡ x = is in grind (arith, nat_tests)
 concerns_for x (Lonely caller k r) is = let e : caller ≡ x = is in grind (arith, nat_tests)
 concerns_for x (Clusters caller k r) is = let e : caller ≡ x = is in grind (arith, nat_tests)
+concerns_for x (Pose caller rules place) is = let e : caller ≡ x = is in grind (arith, nat_tests)
 concerns_for x Sync is = refl
 
 -- somebody is asked by each command
@@ -43,6 +45,7 @@ anyone (Inside caller k c) = caller
 anyone (Ball caller k r p) = caller
 anyone (Lonely caller k r) = caller
 anyone (Clusters caller k r) = caller
+anyone (Pose caller rules place) = caller
 anyone Sync = 0
 
 pub anyone_concerned : (c : Command) → Concerns (anyone c) c
@@ -54,6 +57,7 @@ anyone_concerned (Inside caller k c) = refl
 anyone_concerned (Ball caller k r p) = refl
 anyone_concerned (Lonely caller k r) = refl
 anyone_concerned (Clusters caller k r) = refl
+anyone_concerned (Pose caller rules place) = refl
 anyone_concerned Sync = tt
 
 pub may_follow : (c : Command) (m : ℕ) (d : Command) (n : ℕ) → ((x : ℕ) → Concerns x c → Concerns x d → IsLater m d n) → MayFollow c m d n
@@ -64,6 +68,7 @@ may_follow (Inside caller k c) m d n f = λ is. f caller refl is
 may_follow (Ball caller k r p) m d n f = λ is. f caller refl is
 may_follow (Lonely caller k r) m d n f = λ is. f caller refl is
 may_follow (Clusters caller k r) m d n f = λ is. f caller refl is
+may_follow (Pose caller rules place) m d n f = λ is. f caller refl is
 may_follow Sync m d n f = f (anyone d) tt (anyone_concerned d)
 
 -- a later mark stays one where less is asked
@@ -75,6 +80,7 @@ later_less l m (Inside caller k c) n le a = let j : m ≤ n = a in omega arith
 later_less l m (Ball caller k r p) n le a = let j : m ≤ n = a in omega arith
 later_less l m (Lonely caller k r) n le a = let j : m ≤ n = a in omega arith
 later_less l m (Clusters caller k r) n le a = let j : m ≤ n = a in omega arith
+later_less l m (Pose caller rules place) n le a = let j : m ≤ n = a in omega arith
 later_less l m Sync n le a = let j : m ≤ n = a in omega arith
 
 pub later_le : (m : ℕ) (c : Command) (n : ℕ) → IsLater m c n → m ≤ n
@@ -85,6 +91,7 @@ later_le m (Inside caller k c) n a = a
 later_le m (Ball caller k r p) n a = a
 later_le m (Lonely caller k r) n a = a
 later_le m (Clusters caller k r) n a = a
+later_le m (Pose caller rules place) n a = a
 later_le m Sync n a = a
 
 pub raised_own : (lows : ℕ → ℕ) (c : Command) (m x : ℕ) → is_for x c ≡ true → raised lows c m x ≡ m
@@ -110,6 +117,7 @@ reply_take voxel m us vs (Inside caller k b) e = ap (λ ts. reply.Inside (record
 reply_take voxel m us vs (Ball caller k r p) e = ap (λ ts. reply.Ball (found_reply m (ball (fold voxel ts).items p r) k)) e
 reply_take voxel m us vs (Lonely caller k r) e = ap (λ ts. reply.Lonely (found_reply m (lonely (fold voxel ts).items r) k)) e
 reply_take voxel m us vs (Clusters caller k r) e = ap (λ ts. reply.Clusters (clusters_reply m (clusters (fold voxel ts).items r) k)) e
+reply_take voxel m us vs (Pose caller rules place) e = refl
 reply_take voxel m us vs Sync e = ap (λ ts. reply.Totals m (live_count (fold voxel ts).items) (suspended_count (fold voxel ts).items)) e
 
 pub is_by_own : (c : Command) (x : ℕ) → IsBy c x → is_by x c ≡ true
@@ -120,6 +128,7 @@ is_by_own (Inside caller k c) x is = let e : caller ≡ x = is in grind (arith, 
 is_by_own (Ball caller k r p) x is = let e : caller ≡ x = is in grind (arith, nat_tests)
 is_by_own (Lonely caller k r) x is = let e : caller ≡ x = is in grind (arith, nat_tests)
 is_by_own (Clusters caller k r) x is = let e : caller ≡ x = is in grind (arith, nat_tests)
+is_by_own (Pose caller rules place) x is = let e : caller ≡ x = is in grind (arith, nat_tests)
 is_by_own Sync x is = absurd is
 
 pub is_by_other : (c : Command) (x y : ℕ) → IsBy c x → (y == x) ≡ false → is_by y c ≡ false
@@ -130,6 +139,7 @@ is_by_other (Inside caller k c) x y is ne = let e : caller ≡ x = is in grind (
 is_by_other (Ball caller k r p) x y is ne = let e : caller ≡ x = is in grind (arith, nat_tests)
 is_by_other (Lonely caller k r) x y is ne = let e : caller ≡ x = is in grind (arith, nat_tests)
 is_by_other (Clusters caller k r) x y is ne = let e : caller ≡ x = is in grind (arith, nat_tests)
+is_by_other (Pose caller rules place) x y is ne = let e : caller ≡ x = is in grind (arith, nat_tests)
 is_by_other Sync x y is ne = absurd is
 
 -- a caller's command asks that caller alone
@@ -141,6 +151,7 @@ for_own (Inside caller k c) x is = let e : caller ≡ x = is in grind (arith, na
 for_own (Ball caller k r p) x is = let e : caller ≡ x = is in grind (arith, nat_tests)
 for_own (Lonely caller k r) x is = let e : caller ≡ x = is in grind (arith, nat_tests)
 for_own (Clusters caller k r) x is = let e : caller ≡ x = is in grind (arith, nat_tests)
+for_own (Pose caller rules place) x is = let e : caller ≡ x = is in grind (arith, nat_tests)
 for_own Sync x is = absurd is
 
 pub for_other : (c : Command) (x y : ℕ) → IsBy c x → (y == x) ≡ false → is_for y c ≡ false
@@ -151,6 +162,7 @@ for_other (Inside caller k c) x y is ne = let e : caller ≡ x = is in grind (ar
 for_other (Ball caller k r p) x y is ne = let e : caller ≡ x = is in grind (arith, nat_tests)
 for_other (Lonely caller k r) x y is ne = let e : caller ≡ x = is in grind (arith, nat_tests)
 for_other (Clusters caller k r) x y is ne = let e : caller ≡ x = is in grind (arith, nat_tests)
+for_other (Pose caller rules place) x y is ne = let e : caller ≡ x = is in grind (arith, nat_tests)
 for_other Sync x y is ne = absurd is
 
 pub concerns_by : (c : Command) (x y : ℕ) → IsBy c x → Concerns y c → y ≡ x
@@ -161,4 +173,5 @@ concerns_by (Inside caller k c) x y is e = let a : caller ≡ x = is in let b : 
 concerns_by (Ball caller k r p) x y is e = let a : caller ≡ x = is in let b : caller ≡ y = e in cc (a, b)
 concerns_by (Lonely caller k r) x y is e = let a : caller ≡ x = is in let b : caller ≡ y = e in cc (a, b)
 concerns_by (Clusters caller k r) x y is e = let a : caller ≡ x = is in let b : caller ≡ y = e in cc (a, b)
+concerns_by (Pose caller rules place) x y is e = let a : caller ≡ x = is in let b : caller ≡ y = e in cc (a, b)
 concerns_by Sync x y is e = absurd is

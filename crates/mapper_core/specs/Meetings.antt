@@ -6,7 +6,7 @@ use Rattle.map_fold.specs.declared.memory.NoMemory.{NoMemory}
 use Rattle.rebuild_core.specs.History.{updates}
 use Rattle.published_map.specs.Marks.{Seen, AllMet, AllOf, callers_of, newcomer_of}
 use Rattle.scan_log.specs.declared.command.Command.{Command}
-use Rattle.scan_log.specs.declared.command.Command.TheVariants.{Change, Near, Nears, Inside, Ball, Lonely, Clusters, Sync}
+use Rattle.scan_log.specs.declared.command.Command.TheVariants.{Change, Near, Nears, Inside, Ball, Lonely, Clusters, Pose, Sync}
 use Rattle.scan_log.specs.declared.reply.Reply.{Reply}
 use Rattle.scan_log.specs.Legal.{counted}
 use Rattle.scan_log.specs.Transcript.{totals_reply}
@@ -22,6 +22,7 @@ IsBy (Inside caller k c) x = caller ≡ x
 IsBy (Ball caller k r p) x = caller ≡ x
 IsBy (Lonely caller k r) x = caller ≡ x
 IsBy (Clusters caller k r) x = caller ≡ x
+IsBy (Pose caller rules p) x = caller ≡ x
 IsBy Sync x = ⊥
 
 abbrev pub is_barrier : Command → Bool
@@ -32,6 +33,7 @@ is_barrier (Inside caller k c) = false
 is_barrier (Ball caller k r p) = false
 is_barrier (Lonely caller k r) = false
 is_barrier (Clusters caller k r) = false
+is_barrier (Pose caller rules p) = false
 is_barrier Sync = true
 
 -- the command is one of these callers', who are numbered from 1
@@ -47,6 +49,7 @@ HasCaller n (Inside caller k c) = (1 ≤ caller) × (caller ≤ n)
 HasCaller n (Ball caller k r p) = (1 ≤ caller) × (caller ≤ n)
 HasCaller n (Lonely caller k r) = (1 ≤ caller) × (caller ≤ n)
 HasCaller n (Clusters caller k r) = (1 ≤ caller) × (caller ≤ n)
+HasCaller n (Pose caller rules p) = (1 ≤ caller) × (caller ≤ n)
 HasCaller n Sync = Unit {0}
 
 -- what is left to be told to each caller, the first of whom is 1

@@ -7,7 +7,7 @@ use Rattle.map_fold.specs.Fold.{fold}
 use Rattle.rebuild_core.specs.History.{updates}
 use Rattle.published_map.specs.Marks.{Seen, Grown, keep_if}
 use Rattle.scan_log.specs.declared.command.Command.{Command}
-use Rattle.scan_log.specs.declared.command.Command.TheVariants.{Change, Near, Nears, Inside, Ball, Lonely, Clusters, Sync}
+use Rattle.scan_log.specs.declared.command.Command.TheVariants.{Change, Near, Nears, Inside, Ball, Lonely, Clusters, Pose, Sync}
 use Rattle.scan_log.specs.declared.reply.Reply.{Reply}
 use Rattle.scan_log.specs.Scripts.{submitted}
 use Rattle.scan_log.specs.Transcript.{mark_of}
@@ -23,6 +23,7 @@ updates_by x (Inside caller k c ∷ cs) = updates_by x cs
 updates_by x (Ball caller k r p ∷ cs) = updates_by x cs
 updates_by x (Lonely caller k r ∷ cs) = updates_by x cs
 updates_by x (Clusters caller k r ∷ cs) = updates_by x cs
+updates_by x (Pose caller rules p ∷ cs) = updates_by x cs
 updates_by x (Sync ∷ cs) = updates_by x cs
 
 -- the replies to a caller's commands among these. Before them its last mark was at least low, and after them it is at most high

@@ -4,6 +4,7 @@ use Rattle.std.specs.declared.option.Option.{Option}
 use Rattle.scan_log.specs.declared.reply.Reply.{Reply}
 use Rattle.scan_log.specs.declared.reply.Reply.TheVariants.{Done, Near, Nears, Inside, Ball, Lonely, Clusters, Totals}
 use Rattle.scan_log.specs.Scripts.{ScriptAt, points_of}
+use Rattle.scan_log.specs.Poses.{plain_script}
 use Rattle.scan_log.specs.Transcript.{replies, serial_marks}
 use Rattle.mapper_core.specs.Generated.{generated}
 
@@ -57,7 +58,7 @@ summary_text n s rs =
 
 -- the line of a script of n scans, with the replies of a run in its order
 abbrev pub summary_of : ℕ → ScriptAt → List ℕ
-summary_of n s = summary_text n s (replies s (serial_marks s))
+summary_of n s = summary_text n s (replies (plain_script s) (serial_marks (plain_script s)))
 
 -- the line of the generated script of n scans
 abbrev pub summary : ℕ → List ℕ

@@ -3,7 +3,7 @@ use Rattle.std.specs.Prelude.{◌≡◌, ℕ, ◌+◌, ◌≤◌, ◌==◌, Bool
 use Rattle.map_fold.specs.declared.entry.Entry.{Entry}
 use Rattle.rebuild_core.specs.History.{updates}
 use Rattle.scan_log.specs.declared.command.Command.{Command}
-use Rattle.scan_log.specs.declared.command.Command.TheVariants.{Change, Near, Nears, Inside, Ball, Lonely, Clusters, Sync}
+use Rattle.scan_log.specs.declared.command.Command.TheVariants.{Change, Near, Nears, Inside, Ball, Lonely, Clusters, Pose, Sync}
 use Rattle.scan_log.specs.declared.reply.Reply.{Reply}
 use Rattle.scan_log.specs.Legal.{Concerns, IsLater}
 use Rattle.scan_log.specs.Transcript.{reply_to, mark_of}
@@ -17,6 +17,7 @@ is_by x (Inside caller k c) = caller == x
 is_by x (Ball caller k r p) = caller == x
 is_by x (Lonely caller k r) = caller == x
 is_by x (Clusters caller k r) = caller == x
+is_by x (Pose caller rules p) = caller == x
 is_by x Sync = false
 
 -- the command is this caller's, or a barrier
@@ -28,6 +29,7 @@ is_for x (Inside caller k c) = caller == x
 is_for x (Ball caller k r p) = caller == x
 is_for x (Lonely caller k r) = caller == x
 is_for x (Clusters caller k r) = caller == x
+is_for x (Pose caller rules p) = caller == x
 is_for x Sync = true
 
 -- the mark has a place in the history: an update's is the place of the caller's entry with it, from 1 on
@@ -39,6 +41,7 @@ IsPlaced h (Inside caller k c) m = m ≤ length h
 IsPlaced h (Ball caller k r p) m = m ≤ length h
 IsPlaced h (Lonely caller k r) m = m ≤ length h
 IsPlaced h (Clusters caller k r) m = m ≤ length h
+IsPlaced h (Pose caller rules p) m = m ≤ length h
 IsPlaced h Sync m = m ≤ length h
 
 -- the reply to the command after so many entries of the history as its mark says

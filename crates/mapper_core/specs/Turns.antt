@@ -5,7 +5,7 @@ use Rattle.map_fold.specs.declared.update.Update.{Update}
 use Rattle.rebuild_core.specs.History.{updates}
 use Rattle.rebuild_core.specs.Lawful.{StateAt}
 use Rattle.scan_log.specs.declared.command.Command.{Command}
-use Rattle.scan_log.specs.declared.command.Command.TheVariants.{Change, Near, Nears, Inside, Ball, Lonely, Clusters, Sync}
+use Rattle.scan_log.specs.declared.command.Command.TheVariants.{Change, Near, Nears, Inside, Ball, Lonely, Clusters, Pose, Sync}
 use Rattle.scan_log.specs.declared.reply.Reply.{Reply}
 use Rattle.scan_log.specs.Scripts.{submitted}
 use Rattle.scan_log.specs.Transcript.{reply_to}
@@ -20,6 +20,7 @@ updates_of (Inside caller k c ∷ cs) = updates_of cs
 updates_of (Ball caller k r p ∷ cs) = updates_of cs
 updates_of (Lonely caller k r ∷ cs) = updates_of cs
 updates_of (Clusters caller k r ∷ cs) = updates_of cs
+updates_of (Pose caller rules p ∷ cs) = updates_of cs
 updates_of (Sync ∷ cs) = updates_of cs
 
 -- The second state is the first after the command: its updates are one more, or the same.

@@ -4,8 +4,8 @@ ghost use Rattle.std.specs.Option.{ForSome};
 ghost use Rattle.kd_tree.specs.Contents.{contents};
 ghost use Rattle.map_fold.specs.Answers.{nears};
 ghost use Rattle.rebuild_core.specs.Steps.{HasRoom, IsUpdateStep};
-ghost use Rattle.scan_log.specs.declared.format.Format.TheVariants.{Two};
-ghost use Rattle.scan_log.specs.Scripts.{IsCommand, submitted};
+ghost use Rattle.scan_log.specs.Plain.{IsPlain};
+ghost use Rattle.scan_log.specs.Scripts.{submitted};
 ghost use Rattle.mapper_core.specs.Turns.{Follows, IsTended, reply_of};
 
 use crate::neighbours::{ball_reply, clusters_reply, lonely_reply};
@@ -21,7 +21,7 @@ use std::sync::ledger::{Blank, Ledger};
 
 /// Does what the command asks for, and answers the reply. At a barrier the map is settled.
 pub fn answer(alloc: Global, state: &mut MapState, command: &Command) -> Result<Reply, NoMemory>
-    requires good { IsCommand Two command.now }
+    requires good { IsPlain command.now }
     requires updates { length state.old.state.history < 1048576 }
     requires points { state.old.state.next + submitted command.now ≤ 4194304 }
     ensures follows { OnOk result (Follows command.now state.old.state state.new.state) }
@@ -40,6 +40,7 @@ pub fn answer(alloc: Global, state: &mut MapState, command: &Command) -> Result<
         Command::Ball { k, r, point, .. } => ball(alloc, state, *k, *r, point),
         Command::Lonely { k, r, .. } => lonely(alloc, state, *k, *r),
         Command::Clusters { k, r, .. } => clusters(alloc, state, *k, *r),
+        Command::Pose { .. } => unreachable!(),
         Command::Sync => {
             state.settle(alloc)?;
             Ok(totals(state))

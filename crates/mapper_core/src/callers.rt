@@ -9,4 +9,4 @@ mod queue;
 mod script;
 mod threads;
 
-pub use threads::{run_callers, threaded};
+pub use threads::{run_callers, threaded, threaded_plain};

@@ -6,6 +6,7 @@ ghost use Rattle.scan_log.specs.Scripts.{ScriptAt};
 ghost use Rattle.scan_log.specs.Spelling.{Spells};
 ghost use Rattle.scan_log.specs.Faults.{FaultAt, first_fault, is_limit};
 ghost use Rattle.scan_log.specs.Legal.{IsLegalTranscript};
+ghost use Rattle.scan_log.specs.Poses.{plain_script};
 ghost use Rattle.scan_log.specs.Transcript.{text, serial_marks};
 ghost use Rattle.scan_log.specs.Written.{script_text};
 ghost use Rattle.mapper_core.specs.Asks.{Asks, AskForLog, AskForScans, AskNothing, CanBeDone, IsOfLog};
@@ -15,20 +16,20 @@ ghost use Rattle.mapper_core.specs.Outside.{HasRead, Rose};
 ghost use Rattle.mapper_core.specs.Prints.{Prints};
 ghost use Rattle.mapper_core.specs.Summary.{summary};
 
-use crate::callers::threaded;
+use crate::callers::threaded_plain;
 use crate::ending::Ending;
 use crate::generated::made;
 use crate::notes::tell;
 use crate::outside::{Sink, SinkFault, Source};
 use crate::reading::{ReadStop, read_log};
-use crate::replying::{serial, transcript};
+use crate::replying::{in_order, transcript};
 use crate::status::Status;
 use crate::summing::summary;
 use crate::words::{Ask, asked};
 use crate::writing::write_all;
 use map_fold::NoMemory;
 use rebuild_worker::Gate;
-use scan_log::{ParseFault, Script, parse, write_script};
+use scan_log::{ParseFault, PlainScript, Script, parse, write_script};
 use std::alloc::{AllocError, Global};
 use std::sync::Wait;
 use std::thread::Threads;
@@ -52,7 +53,7 @@ pub fn run<H: Threads + Wait + Sync, R: Source, W: Sink, E: Sink, G: Gate + Sync
 
     // For the words of a serial run it is that of the marks in the log's order.
     ensures serial { result ≡ Status.Done → Asks Ask.Serial (map (λ w. string_bytes w) words.now)
-        → (s : ScriptAt) × IfSome (R.left log.old) (λ bytes. Spells bytes s) × Appends (W.held out.old) (W.held out.new) (text s (serial_marks s)) }
+        → (s : ScriptAt) × IfSome (R.left log.old) (λ bytes. Spells bytes s) × Appends (W.held out.old) (W.held out.new) (text s (serial_marks (plain_script s))) }
 
     // The words `make` and `drive` have the log of the generated script written, and the line of its sums.
     ensures made { (n : ℕ) → result ≡ Status.Done → Asks (Ask.Make n) (map (λ w. string_bytes w) words.now) → Appends (W.held out.old) (W.held out.new) (script_text (generated n)) }
@@ -122,7 +123,7 @@ fn run_quietly<H: Threads + Wait + Sync, R: Source, W: Sink, G: Gate + Sync>(
         Ok(script) => script,
         Err(ending) => return ending,
     };
-    let text = match text_of(rt, alloc, ask, &script, gate) {
+    let text = match text_of(rt, alloc, ask, script, gate) {
         Ok(text) => text,
         Err(NoMemory) => return Ending::NoMemory,
     };
@@ -167,23 +168,21 @@ fn read_script<R: Source>(alloc: Global, log: &mut R) -> Result<Script, Ending>
     }
 }
 
+// The script is run as it is but for its poses, so that its points stand only once beside the map.
 fn text_of<H: Threads + Wait + Sync, G: Gate + Sync>(
     rt: &H,
     alloc: Global,
     ask: Ask,
-    script: &Script,
+    script: Script,
     gate: &G,
 ) -> Result<Vec<u8>, NoMemory>
-    ensures { IfOk result (λ v. Prints ask script.now v.items) }
+    ensures { IfOk result (λ v. Prints ask script v.items) }
 {
     match ask {
         Ask::Run => callers_text(rt, alloc, script, gate),
         Ask::Serial => serial_text(alloc, script),
-        Ask::Make(_) => write_script(alloc, script),
-        Ask::Drive(scans) => {
-            let replies = serial(alloc, script)?;
-            summary(alloc, scans, script, replies.as_slice())
-        }
+        Ask::Make(_) => write_script(alloc, &script),
+        Ask::Drive(scans) => drive_text(alloc, scans, script),
     }
 }
 
@@ -191,19 +190,30 @@ fn text_of<H: Threads + Wait + Sync, G: Gate + Sync>(
 fn callers_text<H: Threads + Wait + Sync, G: Gate + Sync>(
     rt: &H,
     alloc: Global,
-    script: &Script,
+    script: Script,
     gate: &G,
 ) -> Result<Vec<u8>, NoMemory>
-    ensures { IfOk result (λ v. Prints Ask.Run script.now v.items) }
+    ensures { IfOk result (λ v. Prints Ask.Run script v.items) }
 {
-    let replies = threaded(rt, alloc, script, gate)?;
-    transcript(alloc, script, &replies)
+    let plain = PlainScript::of(alloc, script)?;
+    let replies = threaded_plain(rt, alloc, &plain, gate)?;
+    transcript(alloc, &plain, &replies)
 }
 
 // The lines of the replies in the log's order.
-fn serial_text(alloc: Global, script: &Script) -> Result<Vec<u8>, NoMemory>
-    ensures { IfOk result (λ v. Prints Ask.Serial script.now v.items) }
+fn serial_text(alloc: Global, script: Script) -> Result<Vec<u8>, NoMemory>
+    ensures { IfOk result (λ v. Prints Ask.Serial script v.items) }
 {
-    let replies = serial(alloc, script)?;
-    transcript(alloc, script, &replies)
+    let plain = PlainScript::of(alloc, script)?;
+    let replies = in_order(alloc, &plain)?;
+    transcript(alloc, &plain, &replies)
+}
+
+// The line of the sums of these replies.
+fn drive_text(alloc: Global, scans: u32, script: Script) -> Result<Vec<u8>, NoMemory>
+    ensures { IfOk result (λ v. Prints (Ask.Drive scans) script v.items) }
+{
+    let plain = PlainScript::of(alloc, script)?;
+    let replies = in_order(alloc, &plain)?;
+    summary(alloc, scans, &plain, replies.as_slice())
 }

@@ -5,7 +5,7 @@ ghost use Rattle.mapper_core.specs.Summary.{held_at_end, hits_in, hits_of, sum_t
 
 use itoa::Buffer;
 use map_fold::NoMemory;
-use scan_log::{Reply, Script};
+use scan_log::{PlainScript, Reply};
 use std::alloc::Global;
 
 /// The line of a run of so many scans: its commands, the points that it submitted, those that are live and suspended at its end,
@@ -13,7 +13,7 @@ use std::alloc::Global;
 pub fn summary(
     alloc: Global,
     scans: u32,
-    script: &Script,
+    script: &PlainScript,
     replies: &[Reply],
 ) -> Result<Vec<u8>, NoMemory>
     ensures { IfOk result (λ v. v.items ≡ summary_text scans script.now replies.now) }
@@ -39,7 +39,7 @@ fn put_sum(line: &mut Vec<u8>, word: &[u8], sum: u128) -> Result<(), NoMemory>
     Ok(())
 }
 
-fn points_in(script: &Script) -> usize
+fn points_in(script: &PlainScript) -> usize
     ensures { result ≡ points_of script.now.commands }
 {
     let mut points = 0;

@@ -13,6 +13,7 @@ mod generated;
 mod limits;
 mod neighbours;
 mod outside;
+mod poses;
 mod prefixes;
 mod rows;
 mod wrong_words;

@@ -3,8 +3,7 @@ ghost use Rattle.std.specs.Prelude.{◌≡◌, ◌≤◌, ◌+◌, true, length,
 ghost use Rattle.std.specs.List.{AllByRecursion};
 ghost use Rattle.std.specs.Option.{ForSome};
 ghost use Rattle.scan_log.specs.declared.command.Command.TheVariants as command_of;
-ghost use Rattle.scan_log.specs.declared.format.Format.TheVariants.{Two};
-ghost use Rattle.scan_log.specs.Scripts.{IsCommand};
+ghost use Rattle.scan_log.specs.Plain.{IsPlain};
 ghost use Rattle.mapper_core.specs.Told.{is_by};
 ghost use Rattle.mapper_core.specs.Mine.{Tried, Turned};
 
@@ -165,7 +164,7 @@ fn answer<L: MapName, R: Threads + Wait + Sync>(
     command: &Command,
 ) -> Result<Option<Reply>, NoMemory>
     requires own { is_by pass.old.caller command.now ≡ true }
-    requires good { IsCommand Two command.now }
+    requires good { IsPlain command.now }
     ensures { IfOk result (λ r. Tried L.voxel command.now pass.old pass.new r) }
 {
     match command {
@@ -181,7 +180,7 @@ fn answer<L: MapName, R: Threads + Wait + Sync>(
         Command::Ball { k, r, point, .. } => ball(alloc, pass, *k, *r, point),
         Command::Lonely { k, r, .. } => lonely(alloc, pass, *k, *r),
         Command::Clusters { k, r, .. } => clusters(alloc, pass, *k, *r),
-        Command::Sync => unreachable!(),
+        Command::Pose { .. } | Command::Sync => unreachable!(),
     }
 }
 
@@ -195,7 +194,7 @@ pub fn run_own<L: MapName, G: Gate, R: Threads + Wait + Sync>(
     commands: &[Command],
     pass: Pass<L>,
 ) -> Result<(Pass<L>, Queue), NoMemory>
-    requires good { AllByRecursion (IsCommand Two) commands.now }
+    requires good { AllByRecursion IsPlain commands.now }
     requires few { signals.now.from + length commands.now ≤ 65536 }
     ensures { IfOk result (λ r. Turned L.voxel commands.now pass r.0 r.1) }
 {

@@ -1,8 +1,7 @@
 //! Whose commands there are.
 ghost use Rattle.std.specs.Prelude.{◌≡◌, ◌≤◌, ℕ};
 ghost use Rattle.std.specs.List.{AllByRecursion};
-ghost use Rattle.scan_log.specs.declared.format.Format.TheVariants.{Two};
-ghost use Rattle.scan_log.specs.Scripts.{IsCommand};
+ghost use Rattle.scan_log.specs.Plain.{IsPlain};
 ghost use Rattle.mapper_core.specs.Told.{is_by};
 ghost use Rattle.mapper_core.specs.Meetings.{IsBy, HasCaller, is_barrier as is_sync};
 
@@ -20,6 +19,7 @@ pub fn is_own(command: &Command, caller: u8) -> bool
         Command::Ball { caller: own, .. } => *own == caller,
         Command::Lonely { caller: own, .. } => *own == caller,
         Command::Clusters { caller: own, .. } => *own == caller,
+        Command::Pose { caller: own, .. } => *own == caller,
         Command::Sync => false,
     }
 }
@@ -44,13 +44,14 @@ pub fn caller_of(command: &Command) -> u8
         Command::Ball { caller, .. } => *caller,
         Command::Lonely { caller, .. } => *caller,
         Command::Clusters { caller, .. } => *caller,
+        Command::Pose { caller, .. } => *caller,
         Command::Sync => unreachable!(),
     }
 }
 
 // The caller that it names, or the first one where it names none.
 fn named(command: &Command) -> u8
-    requires { IsCommand Two command.now }
+    requires { IsPlain command.now }
     ensures from { 1 ≤ result }
     ensures to { result ≤ 8 }
     ensures own { HasCaller result command.now }
@@ -63,13 +64,14 @@ fn named(command: &Command) -> u8
         Command::Ball { caller, .. } => *caller,
         Command::Lonely { caller, .. } => *caller,
         Command::Clusters { caller, .. } => *caller,
+        Command::Pose { caller, .. } => *caller,
         Command::Sync => 1,
     }
 }
 
 /// How many callers there are: up to the greatest that is named, and at least one.
 pub fn callers_in(commands: &[Command]) -> u8
-    requires { AllByRecursion (IsCommand Two) commands.now }
+    requires { AllByRecursion IsPlain commands.now }
     ensures from { 1 ≤ result }
     ensures to { result ≤ 8 }
     ensures named { AllByRecursion (HasCaller result) commands.now }

@@ -3,8 +3,8 @@ ghost use Rattle.std.specs.Prelude.{◌≡◌, ◌+◌, ◌-◌, ◌<◌, ◌≤
 ghost use Rattle.std.specs.List.{AllByRecursion};
 ghost use Rattle.std.specs.Thread.{IsSync, IsSend};
 ghost use Rattle.scan_log.specs.declared.command.Command.TheVariants as command_of;
-ghost use Rattle.scan_log.specs.declared.format.Format.TheVariants.{Two};
-ghost use Rattle.scan_log.specs.Scripts.{IsCommand, points_of};
+ghost use Rattle.scan_log.specs.Plain.{IsPlain};
+ghost use Rattle.scan_log.specs.Scripts.{points_of};
 ghost use Rattle.published_map.specs.Marks.{callers_of, IsDistinct, AllMetNow};
 ghost use Rattle.mapper_core.specs.Mine.{Turned};
 ghost use Rattle.mapper_core.specs.Meetings.{AllTurned, AllParted, IsOfCallers, Standing, IsTotal};
@@ -35,7 +35,7 @@ fn run_each<L: MapName + Send + Sync, G: Gate + Sync, R: Threads + Wait + Sync>(
     commands: &[Command],
     passes: Vec<Pass<L>>,
 ) -> Result<Vec<Turn<L>>, NoMemory>
-    requires good { AllByRecursion (IsCommand Two) commands.now }
+    requires good { AllByRecursion IsPlain commands.now }
     requires few { signals.now.from + length commands.now ≤ 65536 }
     ensures { IfOk result (λ v. AllTurned L.voxel commands.now passes.items v.items) }
 {
@@ -46,11 +46,11 @@ fn run_each<L: MapName + Send + Sync, G: Gate + Sync, R: Threads + Wait + Sync>(
     let (turn, turns) = join(
         rt,
         move || -> Turn<L>
-            requires { IsSync R.row × AllByRecursion (IsCommand Two) commands.now × (signals.now.from + length commands.now ≤ 65536) }
+            requires { IsSync R.row × AllByRecursion IsPlain commands.now × (signals.now.from + length commands.now ≤ 65536) }
             ensures { IfOk result (λ r. Turned L.voxel commands.entry.now last r.0 r.1) }
         { run_own(rt, alloc, shared, signals, commands, last) },
         move || -> Result<Vec<Turn<L>>, NoMemory>
-            requires { IsSync R.row × IsSync G.row × IsSync L.row × IsSend L.row × AllByRecursion (IsCommand Two) commands.now × (signals.now.from + length commands.now ≤ 65536) }
+            requires { IsSync R.row × IsSync G.row × IsSync L.row × IsSend L.row × AllByRecursion IsPlain commands.now × (signals.now.from + length commands.now ≤ 65536) }
             ensures { IfOk result (λ v. AllTurned L.voxel commands.entry.now passes.items v.items) }
         { run_each(rt, alloc, shared, signals, commands, passes) },
     );
@@ -110,7 +110,7 @@ pub fn phase<L: MapName + Send + Sync, G: Gate + Sync, R: Threads + Wait + Sync>
 ) -> Result<Vec<Pass<L>>, NoMemory>
     requires from_to { from ≤ to }
     requires to_end { to ≤ length commands.now }
-    requires good { AllByRecursion (IsCommand Two) commands.now }
+    requires good { AllByRecursion IsPlain commands.now }
     requires few { length commands.now ≤ 65536 }
     requires room { points_of commands.now ≤ 4194304 }
     requires all { length passes.items ≡ L.callers }

@@ -1,8 +1,8 @@
 //! A script, from barrier to barrier.
 ghost use Rattle.std.specs.Prelude.{◌≡◌, ◌<◌, ◌≤◌, length, IfOk};
 ghost use Rattle.std.specs.List.{AllByRecursion};
-ghost use Rattle.scan_log.specs.declared.format.Format.TheVariants.{Two};
-ghost use Rattle.scan_log.specs.Scripts.{IsCommand, points_of};
+ghost use Rattle.scan_log.specs.Plain.{IsPlain};
+ghost use Rattle.scan_log.specs.Scripts.{points_of};
 ghost use Rattle.mapper_core.specs.Meetings.{AreNewcomers, HasCaller, StandingAtEnd};
 
 use super::alarm::Bells;
@@ -27,7 +27,7 @@ pub fn run_commands<L: MapName + Send + Sync, G: Gate + Sync, R: Threads + Wait 
     commands: &[Command],
     passes: Vec<Pass<L>>,
 ) -> Result<(Vec<Pass<L>>, Replies), NoMemory>
-    requires good { AllByRecursion (IsCommand Two) commands.now }
+    requires good { AllByRecursion IsPlain commands.now }
     requires few { length commands.now ≤ 65536 }
     requires room { points_of commands.now ≤ 4194304 }
     requires named { AllByRecursion (HasCaller L.callers) commands.now }

@@ -2,7 +2,8 @@
 ghost use Rattle.std.specs.Prelude.{◌≡◌, ◌<◌, ◌≤◌, IfOk};
 ghost use Rattle.std.specs.List.{AllByRecursion};
 ghost use Rattle.scan_log.specs.Legal.{AreLegalReplies};
-ghost use Rattle.scan_log.specs.Scripts.{IsScript};
+ghost use Rattle.scan_log.specs.Plain.{IsPlainScript};
+ghost use Rattle.scan_log.specs.Poses.{plain_script};
 ghost use Rattle.mapper_core.specs.Ended.{HaveEnded};
 ghost use Rattle.mapper_core.specs.Meetings.{AreNewcomers, HasCaller, StandingAtEnd};
 
@@ -13,7 +14,7 @@ use crate::replying::Replies;
 use map_fold::NoMemory;
 use published_map::{MapName, Opened, Pass, Shared};
 use rebuild_worker::{Gate, pair, work};
-use scan_log::Script;
+use scan_log::{PlainScript, Script};
 use std::alloc::Global;
 use std::marker::Brand;
 use std::sync::Wait;
@@ -31,10 +32,10 @@ fn beside_second<L: MapName + Send + Sync, G: Gate + Sync, R: Threads + Wait + S
     gate: &G,
     bells: &Bells,
     post: Post,
-    script: &Script,
+    script: &PlainScript,
     passes: Vec<Pass<L>>,
 ) -> Run<L>
-    requires good { IsScript script.now }
+    requires good { IsPlainScript script.now }
     requires large_from { 16 ≤ post.large }
     requires large_to { post.large ≤ 1000000 }
     requires voxel { L.voxel ≡ script.now.sizes.voxel }
@@ -53,7 +54,7 @@ fn beside_second<L: MapName + Send + Sync, G: Gate + Sync, R: Threads + Wait + S
             work(rt, alloc, post.large, 2, shared, gate, &mut post.rest)
         },
         || -> Run<L>
-            requires { IsScript script.now × AllByRecursion (HasCaller L.callers) script.now.commands × AreNewcomers L.callers passes.items × (L.callers ≡ L.parts) × (0 < L.callers) }
+            requires { IsPlainScript script.now × AllByRecursion (HasCaller L.callers) script.now.commands × AreNewcomers L.callers passes.items × (L.callers ≡ L.parts) × (0 < L.callers) }
             ensures { IfOk result (λ r. StandingAtEnd L.voxel script.entry.now.commands r.0.items r.1) }
         {
             let all = run_commands(rt, alloc, shared, gate, bells, script.commands(), passes);
@@ -66,9 +67,10 @@ fn beside_second<L: MapName + Send + Sync, G: Gate + Sync, R: Threads + Wait + S
 
 /// Each caller runs its commands of the script on a thread of its own, in order, beside two workers. At each barrier all meet, and
 /// so they do at the end. The passes are all of this map's, and the map was started with the script's settings. Each caller rings
-/// the workers' bells after each of its changes, and tells the gate of each reply. A query of many places is split among threads of
-/// its own. What no thread can be made for is done by the thread that calls: the commands of a caller, in the callers' order, while
-/// the others run, and a worker once it is stopped.
+/// the workers' bells after each of its changes, of which a pose is one, and tells the gate of each reply. A query of many places
+/// is split among threads of its own. What no thread can be made for is done by the thread that calls: the commands of a caller, in
+/// the callers' order, while the others run, and a worker once it is stopped. Takes about as much memory as the script for a copy
+/// of it.
 pub fn run_callers<L: MapName + Send + Sync, G: Gate + Sync, R: Threads + Wait + Sync>(
     rt: &R,
     alloc: Global,
@@ -84,8 +86,29 @@ pub fn run_callers<L: MapName + Send + Sync, G: Gate + Sync, R: Threads + Wait +
     requires some { 0 < L.callers }
     // All passes have seen one history, each caller's updates are those that the script has of it, and each reply is that after
     // as many entries as its mark says.
-    ensures ended { IfOk result (λ r. HaveEnded script.now r.0.items r.1) }
+    ensures ended { IfOk result (λ r. HaveEnded (plain_script script.now) r.0.items r.1) }
     // The marks are legal, and the replies those of the script under them.
+    ensures legal { IfOk result (λ r. AreLegalReplies (plain_script script.now) r.1) }
+{
+    let plain = PlainScript::copied(alloc, script)?;
+    run_plain(rt, alloc, shared, passes, &plain, gate)
+}
+
+// The same of a script without poses.
+fn run_plain<L: MapName + Send + Sync, G: Gate + Sync, R: Threads + Wait + Sync>(
+    rt: &R,
+    alloc: Global,
+    shared: &Shared<L>,
+    passes: Vec<Pass<L>>,
+    script: &PlainScript,
+    gate: &G,
+) -> Result<(Vec<Pass<L>>, Replies), NoMemory>
+    requires voxel { L.voxel ≡ script.now.sizes.voxel }
+    requires named { AllByRecursion (HasCaller L.callers) script.now.commands }
+    requires new { AreNewcomers L.callers passes.items }
+    requires parts { L.callers ≡ L.parts }
+    requires some { 0 < L.callers }
+    ensures ended { IfOk result (λ r. HaveEnded script.now r.0.items r.1) }
     ensures legal { IfOk result (λ r. AreLegalReplies script.now r.1) }
 {
     let large = script.settings().large();
@@ -104,7 +127,7 @@ pub fn run_callers<L: MapName + Send + Sync, G: Gate + Sync, R: Threads + Wait +
             work(rt, alloc, post.large, 1, shared, gate, &mut post.rest)
         },
         || -> Run<L>
-            requires { IsScript script.now × (16 ≤ other.large) × (other.large ≤ 1000000) × (L.voxel ≡ script.now.sizes.voxel) × AllByRecursion (HasCaller L.callers) script.now.commands × AreNewcomers L.callers passes.items × (L.callers ≡ L.parts) × (0 < L.callers) }
+            requires { IsPlainScript script.now × (16 ≤ other.large) × (other.large ≤ 1000000) × (L.voxel ≡ script.now.sizes.voxel) × AllByRecursion (HasCaller L.callers) script.now.commands × AreNewcomers L.callers passes.items × (L.callers ≡ L.parts) × (0 < L.callers) }
             ensures { IfOk result (λ r. StandingAtEnd L.voxel script.entry.now.commands r.0.items r.1) }
         { beside_second(rt, alloc, shared, gate, &bells, other, script, passes) },
     );
@@ -115,7 +138,7 @@ pub fn run_callers<L: MapName + Send + Sync, G: Gate + Sync, R: Threads + Wait +
 fn run_map<L: MapName + Send + Sync, G: Gate + Sync, R: Threads + Wait + Sync>(
     rt: &R,
     alloc: Global,
-    script: &Script,
+    script: &PlainScript,
     gate: &G,
     blank: Blank,
     opened: Opened,
@@ -132,18 +155,31 @@ fn run_map<L: MapName + Send + Sync, G: Gate + Sync, R: Threads + Wait + Sync>(
     ensures { IfOk result (λ rs. AreLegalReplies script.now rs) }
 {
     let (shared, passes) = Shared::<L>::start(rt, alloc, blank, opened)?;
-    let all = run_callers(rt, alloc, &shared, passes, script, gate);
+    let all = run_plain(rt, alloc, &shared, passes, script, gate);
     shared.close(rt);
     let (_passes, replies) = all?;
     Ok(replies)
 }
 
 /// The replies of all callers to a script that each runs its commands of on a thread of its own, and the reply at the end. They are
-/// those of the marks that they carry, which are legal.
+/// those of the marks that they carry, which are legal. Takes about as much memory as the script for a copy of it.
 pub fn threaded<G: Gate + Sync, R: Threads + Wait + Sync>(
     rt: &R,
     alloc: Global,
     script: &Script,
+    gate: &G,
+) -> Result<Replies, NoMemory>
+    ensures { IfOk result (λ rs. AreLegalReplies (plain_script script.now) rs) }
+{
+    let plain = PlainScript::copied(alloc, script)?;
+    threaded_plain(rt, alloc, &plain, gate)
+}
+
+/// The same of a script without poses, of which no copy is made.
+pub fn threaded_plain<G: Gate + Sync, R: Threads + Wait + Sync>(
+    rt: &R,
+    alloc: Global,
+    script: &PlainScript,
     gate: &G,
 ) -> Result<Replies, NoMemory>
     ensures { IfOk result (λ rs. AreLegalReplies script.now rs) }

@@ -2,7 +2,7 @@
 use super::{HEADER, SMALLEST, SMALLEST_OUT, ran, ran_by_bytes};
 use crate::Status;
 use crate::replying::{serial, transcript};
-use scan_log::parse;
+use scan_log::{PlainScript, parse};
 use std::test::Fail;
 
 #[test]
@@ -257,7 +257,8 @@ fn a_script_is_answered_command_by_command_and_at_its_end(rt: HostRuntime) -> Re
     let script = parse(alloc, SMALLEST)?;
     let replies = serial(alloc, &script)?;
     assert_eq!(rt; replies.len(), 3);
-    let text = transcript(alloc, &script, &replies)?;
+    let plain = PlainScript::of(alloc, script)?;
+    let text = transcript(alloc, &plain, &replies)?;
     assert_eq!(rt; text.as_slice(), SMALLEST_OUT);
     Ok(())
 }

@@ -2,7 +2,7 @@ use Rattle.std.proofs.Common.{◌≡◌, ◌∷◌, ◌+◌, suc, sym, drop, dro
 use Rattle.map_fold.specs.Sizes.{Sizes}
 use Rattle.rebuild_core.specs.Lawful.{new_state}
 use Rattle.mapper_core.proofs.InOrder.{Ran, ran_start, ran_next}
-use Rattle.mapper_core.proofs.replying.serial.Goals as goal
+use Rattle.mapper_core.proofs.replying.in_order.Goals as goal
 
 pub loop-command-init : goal.loop-command-init
 loop-command-init c =

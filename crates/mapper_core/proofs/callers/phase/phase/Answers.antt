@@ -1,8 +1,7 @@
 use Rattle.std.proofs.Common.{◌≡◌, ℕ, ◌++◌, ◌+◌, ◌-◌, take-add, ◌∙◌, ap, length, take, drop, sym, subst, arith}
 use Rattle.std.specs.List.{AllByRecursion}
 use Rattle.published_map.specs.Marks.{IsDistinct}
-use Rattle.scan_log.specs.declared.format.Format.TheVariants.{Two}
-use Rattle.scan_log.specs.Scripts.{IsCommand}
+use Rattle.scan_log.specs.Plain.{IsPlain}
 use Rattle.mapper_core.specs.Mine.{Ran, Turned}
 use Rattle.mapper_core.specs.Meetings.{IsOfCallers, AreReplies, Standing}
 use Rattle.mapper_core.proofs.CameBack.{AllBack, back_callers, turned_back, turned_caller}
@@ -12,7 +11,7 @@ use Rattle.mapper_core.proofs.Slices.{all_take, all_drop, take_length_le, points
 use Rattle.mapper_core.proofs.callers.phase.phase.Goals as goal
 
 pub run_each-requires-clause-good : goal.run_each-requires-clause-good
-run_each-requires-clause-good g c κs within = all_take (IsCommand Two) (c.args.to - c.args.from) _ (all_drop (IsCommand Two) c.args.from c.args.commands.now c.requires.good)
+run_each-requires-clause-good g c κs within = all_take IsPlain (c.args.to - c.args.from) _ (all_drop IsPlain c.args.from c.args.commands.now c.requires.good)
 
 pub all_meet-passes-requires-clause-all : goal.all_meet-passes-requires-clause-all
 all_meet-passes-requires-clause-all g c =

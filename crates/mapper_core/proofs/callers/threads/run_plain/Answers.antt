@@ -6,7 +6,7 @@ use Rattle.mapper_core.specs.Ended.{HaveEnded}
 use Rattle.mapper_core.specs.Meetings.{StandingAtEnd}
 use Rattle.mapper_core.proofs.AtEnd.{ended_is_legal, have_ended}
 use Rattle.mapper_core.proofs.CameBack.{answer_gives}
-use Rattle.mapper_core.proofs.callers.threads.run_callers.Goals as goal
+use Rattle.mapper_core.proofs.callers.threads.run_plain.Goals as goal
 
 pub returns-clause-legal : goal.returns-clause-legal
 returns-clause-legal g c =

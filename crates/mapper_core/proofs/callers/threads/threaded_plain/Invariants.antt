@@ -1,4 +1,4 @@
-use Rattle.mapper_core.proofs.callers.threads.threaded.Given as goal
+use Rattle.mapper_core.proofs.callers.threads.threaded_plain.Given as goal
 
 abbrev pub ghosts-run_map-L-Ledger : goal.ghosts-run_map-L-Ledger
 ghosts-run_map-L-Ledger g a = record { name = a.blank.name; parts = a.blank.parts }
