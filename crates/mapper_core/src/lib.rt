@@ -18,8 +18,6 @@ mod spelling;
 mod status;
 mod summing;
 mod sure;
-#[cfg(test)]
-mod tests;
 mod words;
 mod writing;
 

@@ -1,44 +1,8 @@
 //! Generated scripts. What is wanted was worked out by another program, over lists of points.
-use super::ran;
-use crate::draws::Draws;
-use crate::words::{Ask, asked};
-use crate::{Status, made};
-use point_geom::Point;
+use crate::runs::ran;
+use mapper_core::{Status, made};
 use scan_log::{parse, write_script};
 use std::test::Fail;
-
-#[test]
-fn words_that_ask_for_something_are_heard(rt: HostRuntime) -> Result<(), Fail> {
-    let alloc = rt.alloc();
-    for (line, ask) in [
-        ("run", Ask::Run),
-        ("run --serial", Ask::Serial),
-        ("make 1", Ask::Make(1)),
-        ("make 200", Ask::Make(200)),
-        ("drive 20", Ask::Drive(20)),
-    ] {
-        let words = super::words_of(alloc, line)?;
-        assert_eq!(rt; asked(alloc, words.as_slice())?, Some(ask), "{line}");
-    }
-    Ok(())
-}
-
-#[test]
-fn the_first_draws_are_the_same_everywhere(rt: HostRuntime) -> Result<(), Fail> {
-    let mut draws = Draws::new();
-    for want in [15_496, 24_200, 33_046, 46_195, 3_312, 24_216] {
-        assert_eq!(rt; draws.draw(), want);
-    }
-    Ok(())
-}
-
-#[test]
-fn the_first_points_are_made_of_three_draws_each(rt: HostRuntime) -> Result<(), Fail> {
-    let mut draws = Draws::new();
-    assert_eq!(rt; draws.point(0), Point::new(-14_504, -5_800, 41)?);
-    assert_eq!(rt; draws.point(0), Point::new(16_195, -26_688, -2_788)?);
-    Ok(())
-}
 
 #[test]
 fn one_scan_is_a_log_of_five_lines(rt: HostRuntime) -> Result<(), Fail> {

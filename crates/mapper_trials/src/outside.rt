@@ -1,6 +1,6 @@
 //! What the outside may do.
-use super::{HEADER, SMALLEST, SMALLEST_OUT, words_of};
-use crate::{MemSink, MemSource, Sink, Source, Status, SureSink, SureSource, run};
+use crate::runs::{HEADER, SMALLEST, SMALLEST_OUT, words_of};
+use mapper_core::{MemSink, MemSource, Sink, Source, Status, SureSink, SureSource, run};
 use rebuild_worker::FreeGate;
 use std::test::Fail;
 

@@ -1,30 +1,32 @@
 //! Queries for the neighbours of many places at once, and those of several callers.
-use super::ran;
-use crate::Status;
-use crate::callers::threaded;
+ghost use Rattle.std.specs.Prelude.{pos, ◌≤ℤ◌};
+
 use crate::draws::Draws;
-use crate::replying::{Replies, serial};
+use crate::runs::ran;
+use mapper_core::{Replies, Status, serial, threaded};
 use rebuild_worker::FreeGate;
 use scan_log::{Reply, parse};
 use std::alloc::{AllocError, Global};
 use std::test::Fail;
 
-// The next point of the scan, as it stands in a line.
-fn place(alloc: Global, draws: &mut Draws, scan: u32) -> Result<String, AllocError>
-    requires { scan < 200 }
+// The next point that is seen from so far along x, as it stands in a line.
+fn place(alloc: Global, draws: &mut Draws, at: i64) -> Result<String, AllocError>
+    requires from { pos 0 ≤ℤ at }
+    requires to { at ≤ℤ pos 1000 }
 {
-    let point = draws.point(scan);
-    let (x, y, z) = (point.x(), point.y(), point.z());
-    format!(in alloc; " {x} {y} {z}")
+    let x = at + draws.below(60_001) as i64 - 30_000;
+    let (y, z) = (draws.below(60_001), draws.below(6_001));
+    format!(in alloc; " {x} {} {}", y as i64 - 30_000, z as i64 - 3_000)
 }
 
-// A line that holds the next 2,000 points of the scan.
-fn scan_line(alloc: Global, draws: &mut Draws, scan: u32) -> Result<String, AllocError>
-    requires { scan < 200 }
+// A line that holds the next 2,000 points that are seen from there.
+fn scan_line(alloc: Global, draws: &mut Draws, at: i64) -> Result<String, AllocError>
+    requires from { pos 0 ≤ℤ at }
+    requires to { at ≤ℤ pos 1000 }
 {
     let mut line = String::from_str(alloc, "@1 thin")?;
     for _ in 0..2_000 {
-        line.push_str(place(alloc, draws, scan)?.as_str())?;
+        line.push_str(place(alloc, draws, at)?.as_str())?;
         line.push_str(" 0")?;
     }
     line.push_str("\n")?;
@@ -35,11 +37,11 @@ fn scan_line(alloc: Global, draws: &mut Draws, scan: u32) -> Result<String, Allo
 fn many_and_single(alloc: Global) -> Result<String, AllocError> {
     let mut draws = Draws::new();
     let first = scan_line(alloc, &mut draws, 0)?;
-    let second = scan_line(alloc, &mut draws, 1)?;
+    let second = scan_line(alloc, &mut draws, 1_000)?;
     let mut places = String::new(alloc);
     let mut single = String::new(alloc);
     for _ in 0..4_096 {
-        let place = place(alloc, &mut draws, 1)?;
+        let place = place(alloc, &mut draws, 1_000)?;
         places.push_str(place.as_str())?;
         single.push_str("@1 near 5")?;
         single.push_str(place.as_str())?;

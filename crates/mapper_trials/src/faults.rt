@@ -1,6 +1,6 @@
 //! Faulty logs.
-use super::{HEADER, ran};
-use crate::Status;
+use crate::runs::{HEADER, ran};
+use mapper_core::Status;
 use std::alloc::Global;
 use std::sync::Wait;
 use std::test::Fail;

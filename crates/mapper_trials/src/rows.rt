@@ -1,8 +1,7 @@
 //! Worked logs.
-use super::{HEADER, SMALLEST, SMALLEST_OUT, ran, ran_by_bytes};
-use crate::Status;
-use crate::replying::{serial, transcript};
-use scan_log::{PlainScript, parse};
+use crate::runs::{HEADER, SMALLEST, SMALLEST_OUT, ran, ran_by_bytes, told};
+use mapper_core::{Status, serial};
+use scan_log::parse;
 use std::test::Fail;
 
 #[test]
@@ -257,8 +256,7 @@ fn a_script_is_answered_command_by_command_and_at_its_end(rt: HostRuntime) -> Re
     let script = parse(alloc, SMALLEST)?;
     let replies = serial(alloc, &script)?;
     assert_eq!(rt; replies.len(), 3);
-    let plain = PlainScript::of(alloc, script)?;
-    let text = transcript(alloc, &plain, &replies)?;
+    let text = told(alloc, &script, &replies)?;
     assert_eq!(rt; text.as_slice(), SMALLEST_OUT);
     Ok(())
 }

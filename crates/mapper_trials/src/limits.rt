@@ -1,8 +1,8 @@
 //! The limits of a log.
 ghost use Rattle.std.specs.Prelude.{None, false};
 
-use super::{HEADER, ran, words_of};
-use crate::{Failed, Source, Status, SureSink, run};
+use crate::runs::{HEADER, ran, words_of};
+use mapper_core::{Failed, Source, Status, SureSink, run};
 use rebuild_worker::FreeGate;
 use std::test::Fail;
 

@@ -1,6 +1,6 @@
 //! Runs of several callers, and what gates show of their threads.
-use super::{ran, words_of};
-use crate::{Status, SureSink, SureSource, run};
+use crate::runs::{ran, words_of};
+use mapper_core::{Status, SureSink, SureSource, run};
 use rebuild_worker::{Gate, HoldGate, MeetGate};
 use std::alloc::{AllocError, Global};
 use std::sync::Wait;

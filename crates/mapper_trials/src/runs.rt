@@ -1,39 +1,31 @@
 //! Runs, as their users see them.
-use crate::{MemSink, MemSource, Status, SureSink, SureSource, run};
+use map_fold::NoMemory;
+use mapper_core::{MemSink, MemSource, Replies, Status, SureSink, SureSource, run};
 use rebuild_worker::FreeGate;
+use scan_log::{Script, reply_line};
 use std::alloc::{AllocError, Global};
 use std::sync::Wait;
 use std::test::Fail;
 use std::thread::Threads;
 
-mod callers;
-mod examples;
-mod faults;
-mod generated;
-mod limits;
-mod neighbours;
-mod outside;
-mod poses;
-mod prefixes;
-mod rows;
-mod wrong_words;
+pub const HEADER: &'static str = "ikdmap 1 voxel 200 large 1500\n";
 
-const HEADER: &'static str = "ikdmap 1 voxel 200 large 1500\n";
+pub const SMALLEST: &'static [u8] =
+    b"ikdmap 1 voxel 200 large 1500\n@1 add 1 2 3\n@1 near 1 0 0 0\n";
 
-const SMALLEST: &'static [u8] = b"ikdmap 1 voxel 200 large 1500\n@1 add 1 2 3\n@1 near 1 0 0 0\n";
-
-const SMALLEST_OUT: &'static [u8] = b"@1 ok 1\n@1 near 1 | 0 1 2 3 14\nend 1 live 1 suspended 0\n";
+pub const SMALLEST_OUT: &'static [u8] =
+    b"@1 ok 1\n@1 near 1 | 0 1 2 3 14\nend 1 live 1 suspended 0\n";
 
 // How a run ended, and what it wrote.
 #[derive(Drop)]
-struct Outcome {
-    status: Status,
-    out: SureSink,
-    notes: SureSink,
+pub struct Outcome {
+    pub status: Status,
+    pub out: SureSink,
+    pub notes: SureSink,
 }
 
 // The words of a line.
-fn words_of(alloc: Global, line: &str) -> Result<Vec<String>, AllocError> {
+pub fn words_of(alloc: Global, line: &str) -> Result<Vec<String>, AllocError> {
     let mut words = Vec::new(alloc);
     for word in line.split_whitespace() {
         words.push(String::from_str(alloc, word)?)?;
@@ -42,7 +34,7 @@ fn words_of(alloc: Global, line: &str) -> Result<Vec<String>, AllocError> {
 }
 
 // A run over streams that never fail.
-fn ran<R: Threads + Wait + Sync>(
+pub fn ran<R: Threads + Wait + Sync>(
     rt: &R,
     alloc: Global,
     words: &str,
@@ -65,7 +57,7 @@ fn ran<R: Threads + Wait + Sync>(
 }
 
 // A run over streams that move a byte at a time.
-fn ran_by_bytes<R: Threads + Wait + Sync>(
+pub fn ran_by_bytes<R: Threads + Wait + Sync>(
     rt: &R,
     alloc: Global,
     words: &str,
@@ -85,4 +77,17 @@ fn ran_by_bytes<R: Threads + Wait + Sync>(
         &FreeGate,
     );
     Ok((status, out))
+}
+
+// The lines of the replies to a script.
+pub fn told(alloc: Global, script: &Script, replies: &Replies) -> Result<Vec<u8>, NoMemory> {
+    let mut out = Vec::new(alloc);
+    let format = script.format();
+    for (command, reply) in script.commands().iter().zip(replies.as_slice()) {
+        reply_line(&mut out, format, Some(command), reply)?;
+    }
+    if let Some(end) = replies.as_slice().last() {
+        reply_line(&mut out, format, None, end)?;
+    }
+    Ok(out)
 }

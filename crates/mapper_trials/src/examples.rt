@@ -1,6 +1,6 @@
 //! The examples.
-use super::ran;
-use crate::Status;
+use crate::runs::ran;
+use mapper_core::Status;
 use std::test::Fail;
 
 // Each pair of texts is a log and its transcript in examples/.
@@ -200,6 +200,96 @@ ikdmap 2 voxel 200 large 1500
 @1 ok 3
 @1 near 3 | 3 10000000000 100 100 4200 62500
 end 3 live 4 suspended 0
+",
+        ),
+        (
+            "# A yard with a post, a cart, and two drops of rain. What is one thing has its points at most 400 mm from one another.
+ikdmap 2 voxel 200 large 1500
+
+# The post at three heights; the cart; the rain, which sends back little light.
+@1 add 2000 0 100 900 2010 40 400 850 1990 0 700 880
+@1 add 4000 1000 200 12000 4300 1000 200 12400 4600 1050 200 11800 4600 1350 250 12100
+@1 add 1000 -800 900 40 3000 700 1200 60
+
+# Which points stand alone, and which things are there? And which ones by shorter steps?
+@1 lonely 5 400
+@1 clusters 5 400
+@1 clusters 9 300
+
+# What is round the robot, what is nearest to two places on its way, and what is in the way?
+@1 ball 2 2100 0 0 0
+@1 nears 1 1000 0 500 4000 0 500
+@1 box 5 0 -900 0 3500 900 1500
+
+# The rain is taken out, and two things are left.
+@1 erase 1000 -800 900 3000 700 1200
+@1 clusters 1 400
+@1 nears 1 1000 0 500 4000 0 500
+
+# The middle of the post is hidden: what is suspended joins nothing.
+@1 suspend 2000 0 300 2100 100 500
+@1 lonely 5 400
+",
+            "@1 ok 1
+@1 ok 2
+@1 ok 3
+@1 lonely 3 2 | 7 1000 -800 900 40 | 8 3000 700 1200 60
+@1 clusters 3 4 | 0 3 | 3 4 | 7 1 | 8 1
+@1 clusters 3 8 | 0 1 | 1 1 | 2 1 | 3 2 | 5 1 | 6 1 | 7 1 | 8 1
+@1 ball 3 3 | 0 2000 0 100 900 | 1 2010 40 400 850
+@1 nears 3 / | 7 1000 -800 900 40 800000 / | 3 4000 1000 200 12000 1090000
+@1 box 3 5 | 0 2000 0 100 900 | 1 2010 40 400 850 | 2 1990 0 700 880 | 7 1000 -800 900 40 | 8 3000 700 1200 60
+@1 ok 4
+@1 clusters 4 2 | 0 3
+@1 nears 4 / | 2 1990 0 700 880 1020100 / | 3 4000 1000 200 12000 1090000
+@1 ok 5
+@1 lonely 5 2 | 0 2000 0 100 900 | 2 1990 0 700 880
+end 5 live 6 suspended 1
+",
+        ),
+        (
+            "# A robot drives along a street. A cube of 10 metres goes with it, and what the cube leaves is let go.
+ikdmap 2 voxel 200 large 1500
+
+# It sees a kerb behind it, a bin beside it, and a sign ahead, which the cube hasn't reached.
+@1 pose 10000 3000 4000 0 0 0
+@1 add -4500 1000 0 700 200 -2000 500 1500 8500 1500 2000 30000
+
+# The ball of 3 metres round it touches no face of the cube; one millimetre further it does.
+@1 pose 10000 3000 4000 1999 0 0
+@1 near 3 1999 0 0
+@1 pose 10000 3000 4000 2000 0 0
+@1 near 3 2000 0 0
+
+# It turns to the left before a wall: the cube moves on both axes.
+@1 add 9500 0 300 2000 9500 3000 300 2100
+@1 pose 10000 3000 4000 6000 2500 0
+@1 box 5 -9000 -9000 -9000 20000 9000 9000
+
+# By other numbers another cube begins, and nothing is let go, until this one moves.
+@1 pose 8000 2000 2000 6000 2500 0
+@1 pose 8000 2000 2000 6000 4500 0
+@1 box 5 -9000 -9000 -9000 20000 9000 9000
+
+# However far it has come, a pose is one step at most.
+@1 pose 8000 2000 2000 6000 30000 0
+@1 near 3 6000 30000 0
+",
+            "@1 ok 1
+@1 ok 2
+@1 ok 3
+@1 near 3 | 1 200 -2000 500 1500 7486401 | 0 -4500 1000 0 700 43237001 | 2 8500 1500 2000 30000 48513001
+@1 ok 4
+@1 near 4 | 1 200 -2000 500 1500 7490000 | 2 8500 1500 2000 30000 48500000
+@1 ok 5
+@1 ok 6
+@1 box 6 3 | 2 8500 1500 2000 30000 | 3 9500 0 300 2000 | 4 9500 3000 300 2100
+@1 ok 7
+@1 ok 8
+@1 box 8 2 | 2 8500 1500 2000 30000 | 4 9500 3000 300 2100
+@1 ok 9
+@1 near 9 | 4 9500 3000 300 2100 741340000
+end 9 live 1 suspended 0
 ",
         ),
     ] {

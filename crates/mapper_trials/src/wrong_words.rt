@@ -1,6 +1,6 @@
 //! Words that ask for nothing.
-use super::{SMALLEST, ran};
-use crate::Status;
+use crate::runs::{SMALLEST, ran};
+use mapper_core::Status;
 use std::test::Fail;
 
 const USAGE: &'static str = "usage: mapper run | run --serial | make N | drive N\n";

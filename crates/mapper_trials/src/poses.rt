@@ -1,10 +1,8 @@
 //! Poses.
-use super::ran;
-use crate::Status;
-use crate::callers::threaded;
-use crate::replying::{serial, transcript};
+use crate::runs::{ran, told};
+use mapper_core::{Status, serial, threaded};
 use rebuild_worker::FreeGate;
-use scan_log::{PlainScript, parse};
+use scan_log::parse;
 use std::test::Fail;
 
 const HEADER: &'static str = "ikdmap 2 voxel 200 large 16\n";
@@ -137,13 +135,9 @@ fn a_script_is_run_with_its_poses_and_kept(rt: HostRuntime) -> Result<(), Fail> 
     let script = parse(alloc, log.as_bytes())?;
     let in_turn = serial(alloc, &script)?;
     let side_by_side = threaded(&rt, alloc, &script, &FreeGate)?;
-    let plain = PlainScript::of(alloc, script)?;
+    assert_eq!(rt; told(alloc, &script, &in_turn)?.as_slice(), want.as_bytes());
     assert_eq!(rt;
-        transcript(alloc, &plain, &in_turn)?.as_slice(),
-        want.as_bytes()
-    );
-    assert_eq!(rt;
-        transcript(alloc, &plain, &side_by_side)?.as_slice(),
+        told(alloc, &script, &side_by_side)?.as_slice(),
         want.as_bytes()
     );
     Ok(())

@@ -1,6 +1,6 @@
 //! A log that is cut off.
-use super::{SMALLEST, ran};
-use crate::Status;
+use crate::runs::{SMALLEST, ran};
+use mapper_core::Status;
 use std::test::Fail;
 
 #[test]
