@@ -1,5 +1,5 @@
 //! Trees whose points are numbered in turn.
-ghost use Rattle.std.specs.Prelude.{◌≡◌, ◌<◌, Contains};
+ghost use Rattle.std.specs.Prelude.{◌≡◌, ◌<◌, Contains, ℕ};
 ghost use Rattle.kd_tree.specs.Shape.{numbers};
 
 use kd_tree::{Steps, Tree};
