@@ -2,10 +2,10 @@
 ghost use Rattle.std.specs.Prelude.{pos, ◌≤ℤ◌};
 
 use crate::draws::Draws;
-use crate::runs::ran;
+use crate::runs::{ran, read};
 use mapper_core::{Replies, Status, serial, threaded};
 use rebuild_worker::FreeGate;
-use scan_log::{Reply, parse};
+use scan_log::Reply;
 use std::alloc::{AllocError, Global};
 use std::test::Fail;
 
@@ -69,7 +69,7 @@ fn are_same(replies: &Replies) -> bool {
 fn many_places_are_answered_as_each_by_itself(rt: HostRuntime) -> Result<(), Fail> {
     let alloc = rt.alloc();
     let log = many_and_single(alloc)?;
-    let script = parse(alloc, log.as_bytes())?;
+    let script = read(alloc, log.as_bytes())?;
     assert!(rt; are_same(&serial(alloc, &script)?));
     assert!(rt; are_same(&threaded(&rt, alloc, &script, &FreeGate)?));
     Ok(())

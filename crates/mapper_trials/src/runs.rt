@@ -2,7 +2,7 @@
 use map_fold::NoMemory;
 use mapper_core::{MemSink, MemSource, Replies, Status, SureSink, SureSource, run};
 use rebuild_worker::FreeGate;
-use scan_log::{Script, reply_line};
+use scan_log::{ParseFault, Script, parse, reply_line};
 use std::alloc::{AllocError, Global};
 use std::sync::Wait;
 use std::test::Fail;
@@ -77,6 +77,14 @@ pub fn ran_by_bytes<R: Threads + Wait + Sync>(
         &FreeGate,
     );
     Ok((status, out))
+}
+
+// No log of these tests is longer.
+pub fn read(alloc: Global, log: &[u8]) -> Result<Script, ParseFault> {
+    if log.len() > 100_000_000 {
+        return Err(ParseFault::NoMemory);
+    }
+    parse(alloc, log)
 }
 
 // The lines of the replies to a script.
