@@ -1,14 +1,14 @@
 //! The works that ask for many places at once, beside single searches whose answers are kept as well.
 ghost use Rattle.std.specs.Prelude.{◌≤◌};
 
-use crate::course::{Scan, items, places, scans};
+use crate::course::{Scan, scans};
 use crate::draws::Draws;
 use crate::grown::LARGE;
 use crate::robot::Robot;
 use crate::stop::Stop;
 use crate::sums::{with_items, with_lists};
 use crate::thinned::taken_in;
-use crate::works::{Measured, built};
+use crate::works::{Measured, built_beside_places};
 use batch_near::nearest_each;
 use kd_search::nearest;
 use kd_tree::{Steps, Tree};
@@ -28,9 +28,7 @@ pub fn singly<L: Ledger>(
 ) -> Result<Measured, Stop>
     requires { count ≤ 4194304 }
 {
-    let mut draws = Draws::new();
-    let tree = built(alloc, count, &items(alloc, count, &mut draws)?, steps)?;
-    let places = places(alloc, asked, count, &mut draws)?;
+    let (tree, places) = built_beside_places(alloc, count, asked, steps)?;
     let begun = Instant::now(rt)?;
     let lists = kept(alloc, &tree, &places)?;
     let micros = begun.elapsed(rt)?.as_micros();
@@ -56,9 +54,7 @@ pub fn at_once<L: Ledger, R: Clock + Threads + Sync>(
 ) -> Result<Measured, Stop>
     requires { count ≤ 4194304 }
 {
-    let mut draws = Draws::new();
-    let tree = built(alloc, count, &items(alloc, count, &mut draws)?, steps)?;
-    let places = places(alloc, asked, count, &mut draws)?;
+    let (tree, places) = built_beside_places(alloc, count, asked, steps)?;
     let begun = Instant::now(rt)?;
     let lists = nearest_each(rt, alloc, &tree, 5, &places, None)?;
     let micros = begun.elapsed(rt)?.as_micros();

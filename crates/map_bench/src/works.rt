@@ -52,6 +52,21 @@ pub fn built<L: Ledger>(
     Tree::build(alloc, items.as_slice(), steps)
 }
 
+/// A tree that was built of so many points, and so many places.
+pub fn built_beside_places<L: Ledger>(
+    alloc: Global,
+    count: u32,
+    asked: u32,
+    steps: &mut Steps<L>,
+) -> Result<(Tree, Points), NoMemory>
+    requires { count ≤ 4194304 }
+{
+    let mut draws = Draws::new();
+    let tree = built(alloc, count, &items(alloc, count, &mut draws)?, steps)?;
+    let places = places(alloc, asked, count, &mut draws)?;
+    Ok((tree, places))
+}
+
 /// A tree that was built is asked for the 5 nearest so many times.
 pub fn ask<L: Ledger>(
     rt: &impl Clock,
@@ -62,9 +77,7 @@ pub fn ask<L: Ledger>(
 ) -> Result<Measured, Stop>
     requires { count ≤ 4194304 }
 {
-    let mut draws = Draws::new();
-    let tree = built(alloc, count, &items(alloc, count, &mut draws)?, steps)?;
-    let places = places(alloc, asked, count, &mut draws)?;
+    let (tree, places) = built_beside_places(alloc, count, asked, steps)?;
     asking(rt, alloc, &tree, &places)
 }
 
@@ -189,9 +202,8 @@ pub fn delete<L: Ledger>(
 ) -> Result<Measured, Stop>
     requires { count ≤ 4194304 }
 {
-    let mut draws = Draws::new();
-    let tree = built(alloc, count, &items(alloc, count, &mut draws)?, steps)?;
-    let cubes = cubes(alloc, &places(alloc, asked, count, &mut draws)?)?;
+    let (tree, places) = built_beside_places(alloc, count, asked, steps)?;
+    let cubes = cubes(alloc, &places)?;
     let begun = Instant::now(rt)?;
     let tree = without(alloc, tree, &cubes, steps)?;
     let micros = begun.elapsed(rt)?.as_micros();

@@ -5,8 +5,6 @@
 #[cfg(test)]
 mod callers;
 #[cfg(test)]
-mod draws;
-#[cfg(test)]
 mod examples;
 #[cfg(test)]
 mod faults;

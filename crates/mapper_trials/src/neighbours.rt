@@ -1,58 +1,73 @@
 //! Queries for the neighbours of many places at once, and those of several callers.
-ghost use Rattle.std.specs.Prelude.{pos, ◌≤ℤ◌};
-
-use crate::draws::Draws;
 use crate::runs::{ran, read};
-use mapper_core::{Replies, Status, serial, threaded};
+use map_fold::Update;
+use mapper_core::{Replies, Status, made, serial, threaded};
+use point_geom::Point;
 use rebuild_worker::FreeGate;
-use scan_log::Reply;
+use scan_log::{Command, Reply};
 use std::alloc::{AllocError, Global};
 use std::test::Fail;
 
-// The next point that is seen from so far along x, as it stands in a line.
-fn place(alloc: Global, draws: &mut Draws, at: i64) -> Result<String, AllocError>
-    requires from { pos 0 ≤ℤ at }
-    requires to { at ≤ℤ pos 1000 }
-{
-    let x = at + draws.below(60_001) as i64 - 30_000;
-    let (y, z) = (draws.below(60_001), draws.below(6_001));
-    format!(in alloc; " {x} {} {}", y as i64 - 30_000, z as i64 - 3_000)
-}
-
-// A line that holds the next 2,000 points that are seen from there.
-fn scan_line(alloc: Global, draws: &mut Draws, at: i64) -> Result<String, AllocError>
-    requires from { pos 0 ≤ℤ at }
-    requires to { at ≤ℤ pos 1000 }
-{
-    let mut line = String::from_str(alloc, "@1 thin")?;
-    for _ in 0..2_000 {
-        line.push_str(place(alloc, draws, at)?.as_str())?;
-        line.push_str(" 0")?;
+// The points of three generated scans.
+fn points(alloc: Global) -> Result<Vec<Point>, Fail> {
+    let script = made(alloc, 3)?;
+    let mut points = Vec::new(alloc);
+    for command in script.commands() {
+        if let Command::Change {
+            update: Update::Thin(scan),
+            ..
+        } = command
+        {
+            points.extend_from_slice(scan.as_slice())?;
+        }
     }
-    line.push_str("\n")?;
-    Ok(line)
+    Ok(points)
 }
 
-// Two scans, one query of 4,096 places, and a query of each of them.
-fn many_and_single(alloc: Global) -> Result<String, AllocError> {
-    let mut draws = Draws::new();
-    let first = scan_line(alloc, &mut draws, 0)?;
-    let second = scan_line(alloc, &mut draws, 1_000)?;
+// The place of a point, as it stands in a line.
+fn place(alloc: Global, point: &Point) -> Result<String, AllocError> {
+    let (x, y, z) = (point.x(), point.y(), point.z());
+    format!(in alloc; " {x} {y} {z}")
+}
+
+// The fields of so many of the points, as version 2 has them.
+fn scanned(alloc: Global, points: &[Point], count: usize) -> Result<String, AllocError> {
+    let mut fields = String::new(alloc);
+    for point in points.iter().take(count) {
+        fields.push_str(place(alloc, point)?.as_str())?;
+        fields.push_str(" 0")?;
+    }
+    Ok(fields)
+}
+
+// The places of so many of the points, as one line asks for them, and a line for each.
+fn asked(alloc: Global, points: &[Point], count: usize) -> Result<(String, String), AllocError> {
     let mut places = String::new(alloc);
     let mut single = String::new(alloc);
-    for _ in 0..4_096 {
-        let place = place(alloc, &mut draws, 1_000)?;
+    for point in points.iter().rev().take(count) {
+        let place = place(alloc, point)?;
         places.push_str(place.as_str())?;
         single.push_str("@1 near 5")?;
         single.push_str(place.as_str())?;
         single.push_str("\n")?;
     }
-    format!(in alloc; "ikdmap 2 voxel 500 large 1500\n{first}{second}@1 nears 5{places}\n{single}")
+    Ok((places, single))
 }
 
-// Whether the third reply has the hits of each of those below it but the last.
+// Two scans, one query of 4,096 places, and a query of each of them.
+fn many_and_single(alloc: Global) -> Result<String, Fail> {
+    let points = points(alloc)?;
+    let scans = scanned(alloc, points.as_slice(), 4_000)?;
+    let (places, single) = asked(alloc, points.as_slice(), 4_096)?;
+    let log = format!(in alloc;
+        "ikdmap 2 voxel 500 large 1500\n@1 thin{scans}\n@1 nears 5{places}\n{single}"
+    )?;
+    Ok(log)
+}
+
+// Whether the second reply has the hits of each of those below it but the last.
 fn are_same(replies: &Replies) -> bool {
-    let [_, _, Reply::Nears(many), single @ .., _] = replies.as_slice() else {
+    let [_, Reply::Nears(many), single @ .., _] = replies.as_slice() else {
         return false;
     };
     let pairs = many.lists.as_slice().iter().zip(single);

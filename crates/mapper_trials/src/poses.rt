@@ -1,5 +1,5 @@
 //! Poses.
-use crate::runs::{ran, told};
+use crate::runs::{assert_answered, ran, told};
 use mapper_core::{Status, serial, threaded};
 use rebuild_worker::FreeGate;
 use scan_log::parse;
@@ -43,11 +43,7 @@ fn a_pose_deletes_what_its_region_leaves(rt: HostRuntime) -> Result<(), Fail> {
         ),
     ] {
         let log = format!(in alloc; "{HEADER}{commands}")?;
-        for words in ["run", "run --serial"] {
-            let ran = ran(&rt, alloc, words, log.as_bytes())?;
-            assert_eq!(rt; ran.status, Status::Done, "{words}, {commands}");
-            assert_eq!(rt; ran.out.bytes(), want.as_bytes(), "{words}, {commands}");
-        }
+        assert_answered(&rt, alloc, log.as_str(), want)?;
     }
     Ok(())
 }

@@ -1,5 +1,5 @@
 //! Worked logs.
-use crate::runs::{HEADER, SMALLEST, SMALLEST_OUT, ran, ran_by_bytes, told};
+use crate::runs::{HEADER, SMALLEST, SMALLEST_OUT, assert_answered, ran, ran_by_bytes, told};
 use mapper_core::{Status, serial};
 use scan_log::parse;
 use std::test::Fail;
@@ -71,12 +71,7 @@ fn worked_logs_give_their_transcripts(rt: HostRuntime) -> Result<(), Fail> {
         ),
     ] {
         let log = format!(in alloc; "ikdmap 1 voxel 200 large {large}\n{commands}")?;
-        for words in ["run", "run --serial"] {
-            let ran = ran(&rt, alloc, words, log.as_bytes())?;
-            assert_eq!(rt; ran.status, Status::Done, "{words}, {commands}");
-            assert_eq!(rt; ran.out.bytes(), want.as_bytes(), "{words}, {commands}");
-            assert_eq!(rt; ran.notes.bytes(), b"".as_slice(), "{words}, {commands}");
-        }
+        assert_answered(&rt, alloc, log.as_str(), want)?;
         let (status, out) = ran_by_bytes(&rt, alloc, "run", log.as_bytes())?;
         assert_eq!(rt; status, Status::Done, "{commands}");
         assert_eq!(rt; out.bytes(), want.as_bytes(), "{commands}");
@@ -138,11 +133,7 @@ fn worked_logs_of_version_2_give_their_transcripts(rt: HostRuntime) -> Result<()
         ),
     ] {
         let log = format!(in alloc; "ikdmap 2 voxel 200 large 16\n{commands}")?;
-        for words in ["run", "run --serial"] {
-            let ran = ran(&rt, alloc, words, log.as_bytes())?;
-            assert_eq!(rt; ran.status, Status::Done, "{words}, {commands}");
-            assert_eq!(rt; ran.out.bytes(), want.as_bytes(), "{words}, {commands}");
-        }
+        assert_answered(&rt, alloc, log.as_str(), want)?;
     }
     Ok(())
 }

@@ -4,6 +4,7 @@ use mapper_core::{MemSink, MemSource, Replies, Status, SureSink, SureSource, run
 use rebuild_worker::FreeGate;
 use scan_log::{ParseFault, Script, parse, reply_line};
 use std::alloc::{AllocError, Global};
+use std::process::Abort;
 use std::sync::Wait;
 use std::test::Fail;
 use std::thread::Threads;
@@ -54,6 +55,22 @@ pub fn ran<R: Threads + Wait + Sync>(
         &FreeGate,
     );
     Ok(Outcome { status, out, notes })
+}
+
+// By its callers and in its order a log is answered so, and nothing is noted.
+pub fn assert_answered<R: Threads + Wait + Sync + Abort>(
+    rt: &R,
+    alloc: Global,
+    log: &str,
+    want: &str,
+) -> Result<(), AllocError> {
+    for words in ["run", "run --serial"] {
+        let ran = ran(rt, alloc, words, log.as_bytes())?;
+        assert_eq!(rt; ran.status, Status::Done, "{words}, {log}");
+        assert_eq!(rt; ran.out.bytes(), want.as_bytes(), "{words}, {log}");
+        assert_eq!(rt; ran.notes.bytes(), b"".as_slice(), "{words}, {log}");
+    }
+    Ok(())
 }
 
 // A run over streams that move a byte at a time.
