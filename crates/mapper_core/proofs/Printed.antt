@@ -1,6 +1,6 @@
 -- What is printed of a script, which is run without its poses.
 use Rattle.std.proofs.Common.{◌≡◌, ℕ, List, refl, sym, ap, subst, ◌∙◌}
-use Rattle.scan_log.specs.Legal.{AreLegalReplies}
+use Rattle.scan_log.specs.Legal.{AreLegalLines, AreLegalReplies}
 use Rattle.scan_log.specs.Scripts.{ScriptAt}
 use Rattle.scan_log.specs.Poses.{no_regions, plain_script}
 use Rattle.scan_log.specs.declared.reply.Reply.{Reply}
@@ -8,7 +8,7 @@ use Rattle.scan_log.specs.Transcript.{lines_text, replies, serial_marks, text}
 use Rattle.scan_log.proofs.Plains.{lines_plain, length-plain_from, points-plain_from}
 use Rattle.scan_log.proofs.Serial.{serial_replies_legal}
 use Rattle.mapper_core.specs.declared.words.Ask.TheVariants.{Run, Serial, Drive}
-use Rattle.mapper_core.specs.Prints.{AreLegalLines, Prints}
+use Rattle.mapper_core.specs.Prints.{Prints}
 use Rattle.mapper_core.specs.Summary.{summary_text}
 
 serial_lines : (s : ScriptAt) → AreLegalLines s (text s (serial_marks (plain_script s)))

@@ -8,7 +8,7 @@ use Rattle.scan_log.specs.Spelling.{Spells}
 use Rattle.scan_log.specs.Faults.{FaultAt, first_fault, is_limit}
 use Rattle.scan_log.specs.declared.fault.LogCause.{LogCause}
 use Rattle.scan_log.specs.Refusal.{IsFirstFault}
-use Rattle.scan_log.specs.Legal.{IsLegalTranscript}
+use Rattle.scan_log.specs.Legal.{AreLegalLines, IsLegalTranscript}
 use Rattle.scan_log.specs.Poses.{plain_script}
 use Rattle.scan_log.specs.Transcript.{text, serial_marks}
 use Rattle.scan_log.specs.Written.{script_text}
@@ -22,7 +22,7 @@ use Rattle.mapper_core.specs.Causes.{Seen, LogSeen, Says, IsDoneOn, HasPrinted, 
 use Rattle.mapper_core.specs.Endings.{status_of}
 use Rattle.mapper_core.specs.Generated.{generated}
 use Rattle.mapper_core.specs.Outside.{Rose, HasRead, AppendsFront}
-use Rattle.mapper_core.specs.Prints.{AreLegalLines, Prints}
+use Rattle.mapper_core.specs.Prints.{Prints}
 use Rattle.mapper_core.specs.Summary.{summary, summary_of}
 
 -- a fault's status isn't the one of all done

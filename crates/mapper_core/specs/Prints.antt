@@ -1,20 +1,13 @@
 -- What is printed of a script.
 use Rattle.std.specs.Prelude.{◌≡◌, ℕ, List}
-use Rattle.scan_log.specs.declared.reply.Reply.{Reply}
 use Rattle.scan_log.specs.Scripts.{ScriptAt}
-use Rattle.scan_log.specs.Transcript.{lines_text, text, serial_marks}
-use Rattle.scan_log.specs.Legal.{AreLegalReplies}
+use Rattle.scan_log.specs.Transcript.{text, serial_marks}
+use Rattle.scan_log.specs.Legal.{AreLegalLines}
 use Rattle.scan_log.specs.Poses.{plain_script}
 use Rattle.scan_log.specs.Written.{script_text}
 use Rattle.mapper_core.specs.declared.words.Ask.{Ask}
 use Rattle.mapper_core.specs.declared.words.Ask.TheVariants.{Run, Serial, Make, Drive}
 use Rattle.mapper_core.specs.Summary.{summary_of}
-
--- the lines are those of legal replies to the script
-pub record AreLegalLines (s : ScriptAt) (lines : List ℕ) : Type 0 where
-  pub told : List Reply
-  pub legal : AreLegalReplies (plain_script s) told
-  pub text : lines ≡ lines_text s.format s.commands told
 
 -- A run prints the lines of legal replies, a serial one those of the replies in the log's order. Of a generated script the log
 -- is printed, or the line of its sums.

@@ -78,6 +78,12 @@ pub record AreLegalReplies (s : ScriptAt) (rs : List Reply) : Type 0 where
   pub legal : IsLegal s.commands (map mark_of rs)
   pub replies : rs ≡ replies s (map mark_of rs)
 
+-- the lines are those of legal replies to the script, with each pose as the deletion that it submits
+pub record AreLegalLines (s : ScriptAt) (lines : List ℕ) : Type 0 where
+  pub told : List Reply
+  pub legal : AreLegalReplies (plain_script s) told
+  pub text : lines ≡ lines_text s.format s.commands told
+
 -- the text is a legal transcript of the log, with each pose as the deletion that it submits
 pub record IsLegalTranscript (log out : List ℕ) : Type 0 where
   pub script : ScriptAt

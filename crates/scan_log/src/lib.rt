@@ -27,6 +27,7 @@ mod writing;
 pub use command::Command;
 pub use fault::{LogCause, ParseFault};
 pub use format::Format;
+pub use number::natural_in;
 pub use parsing::parse;
 pub use plain::PlainScript;
 pub use printing::reply_line;

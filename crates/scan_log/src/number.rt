@@ -48,7 +48,8 @@ pub fn distance(format: Format, field: &[u8]) -> Result<u64, LogCause>
     Ok(number as u64)
 }
 
-/// The number that the field spells, if it is from low to high.
+/// The number that the field spells in its one spelling, if it is from low to high: `BadNumber` where it spells none,
+/// `OutOfRange` where it is another. The field may have any length.
 pub fn natural_in(low: u32, high: u32, field: &[u8]) -> Result<u32, LogCause>
     ensures value { result ≡ natural_in low high field.now }
     ensures range { IfOk result (λ n. (low ≤ n) × (n ≤ high)) }
