@@ -10,6 +10,7 @@ from drawing.log import LogFault, Place, Point, read_log
 from drawing.picture import COLOURS, LAST, REGION, draw
 from drawing.searches import Cells, Hit, Row, dist2
 from drawing.transcript import compare, run, serial_marks
+from drawing.verdict import verdict
 
 TOP = Path(__file__).resolve().parent.parent
 HEADER = "ikdmap 1 voxel 200 large 1500\n"
@@ -517,6 +518,36 @@ end 3 live 0 suspended 0
         ]:
             with self.subTest(told=told):
                 self.assertEqual(differences(CALLERS, transcript), [told])
+
+
+class Verdicts(unittest.TestCase):
+    """What is found of a transcript's bytes, in the order in which it is looked for."""
+
+    def test_the_first_thing_that_is_wrong_is_told(self):
+        log = read_log(CALLERS.encode())
+        many = "@1 ok " + "1" * 1_000
+        for old, new, due in [
+            ("", "", "legal"),
+            (IN_ORDER, TURNED, "legal"),
+            (IN_ORDER, "", "illegal line 1"),
+            ("@1 ok 1", "@1 ok 01", "illegal line 1"),
+            ("@1 ok 1", many, "illegal line 1"),
+            ("@2 ok 2", "@2 ok", "illegal line 2"),
+            ("@2 near 2", "@2 near 65537", "illegal line 3"),
+            ("@1 box 2", "\n@1 box 2", "illegal line 5"),
+            ("end 2 live 2 suspended 0\n", "end 2 live 2 suspended 0", "illegal line 6"),
+            ("end 2 live 2 suspended 0\n", "end 2 live 2 suspended 0\nend", "illegal line 7"),
+            ("@2 ok 2", "@2 ok 1", "illegal marks"),
+            ("@2 near 2", "@2 near 1", "illegal marks"),
+            ("@2 near 2", "@2 near 65536", "illegal marks"),
+            ("sync 2", "sync 1", "illegal marks"),
+            ("@1 ok 1", "@1 ok 1 ", "illegal reply 1"),
+            ("| 0 1 0 0 1 |", "| 0 1 0 0 2 |", "illegal reply 3"),
+            ("end 2 live 2", "end 2 live 3", "illegal reply 6"),
+        ]:
+            with self.subTest(old=old, new=new):
+                self.assertEqual(verdict(log, IN_ORDER.replace(old, new, 1).encode()), due)
+        self.assertEqual(verdict(log, b"\xff" + IN_ORDER.encode()), "illegal line 1")
 
 
 class Searches(unittest.TestCase):
