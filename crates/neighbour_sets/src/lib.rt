@@ -8,6 +8,8 @@
 
 mod alone;
 mod ball;
+#[cfg(test)]
+mod crowds;
 mod front;
 mod growing;
 mod noted;

@@ -23,9 +23,9 @@ fn label_of(number: u32) -> Label
     }
 }
 
-// A tree of these points, with this action done to all. Where it is asked for, the left half is dropped after that.
-fn grown(alloc: Global, points: &[Point], tag: Tag, halved: bool) -> Result<Tree, Fail>
-    requires { length points.now ≤ 5000 }
+/// A tree of these points, with this action done to all. Where it is asked for, the left half is dropped after that.
+pub fn grown(alloc: Global, points: &[Point], tag: Tag, halved: bool) -> Result<Tree, Fail>
+    requires { length points.now ≤ 100000 }
 {
     let mut items = Vec::new(alloc);
     let mut number = 0;
@@ -80,7 +80,8 @@ fn numbers(alloc: Global, items: &[Item]) -> Result<Vec<u32>, Fail> {
     Ok(Vec::from_iter(alloc, items.iter().map(|i| i.number))?)
 }
 
-fn pairs(alloc: Global, groups: &[Group]) -> Result<Vec<(u32, u32)>, Fail> {
+/// The least number and the size of each.
+pub fn pairs(alloc: Global, groups: &[Group]) -> Result<Vec<(u32, u32)>, Fail> {
     Ok(Vec::from_iter(alloc, groups.iter().map(|g| (g.least, g.size)))?)
 }
 
