@@ -1,5 +1,5 @@
 //! Runs of several callers, and what gates show of their threads.
-use crate::runs::{ran, words_of};
+use crate::runs::{HEADER, assert_answered, ran, words_of};
 use mapper_core::{Status, SureSink, SureSource, run};
 use rebuild_worker::{Gate, HoldGate, MeetGate};
 use std::alloc::{AllocError, Global};
@@ -11,15 +11,25 @@ use std::thread::{Threads, yield_now};
 // How long a gate waits.
 const TURNS: u64 = 20_000_000;
 
-// It holds the second build up until the third begins, and a caller after each of three commands until its build begins.
+// It holds one build up until the next begins, and a caller after each of three commands until its build begins.
 #[derive(Drop)]
 struct TwoBuilds {
+    // The ticket of the build that is held up.
+    held: u64,
     // The ticket of the last build that began.
     begun: AtomicU64,
     missed: AtomicBool,
 }
 
 impl TwoBuilds {
+    fn new(held: u64) -> TwoBuilds {
+        TwoBuilds {
+            held,
+            begun: AtomicU64::new(0),
+            missed: AtomicBool::new(false),
+        }
+    }
+
     fn wait(&self, ticket: u64) {
         for _ in 0..TURNS {
             if ticket <= self.begun.load(Ordering::SeqCst) {
@@ -34,8 +44,8 @@ impl TwoBuilds {
 impl Gate for TwoBuilds {
     fn before_build(&self, ticket: u64) {
         self.begun.store(ticket, Ordering::SeqCst);
-        if ticket == 2 {
-            self.wait(3);
+        if ticket == self.held {
+            self.wait(ticket.saturating_add(1));
         }
     }
 
@@ -133,15 +143,52 @@ fn two_workers_build_beside_each_other(rt: HostRuntime) -> Result<(), Fail> {
     }
     log.push_str("\nsync\n@1 add 41 0 0 42 0 0 43 0 0 44 0 0\n")?;
     log.push_str("@1 add 0 0 0 -1 0 0 -2 0 0 -3 0 0 -4 0 0\n")?;
-    let gate = TwoBuilds {
-        begun: AtomicU64::new(0),
-        missed: AtomicBool::new(false),
-    };
+    let gate = TwoBuilds::new(2);
     let (status, out) = ran_with(&rt, alloc, log.as_bytes(), &gate)?;
     assert_eq!(rt; status, Status::Done);
     assert!(rt; !gate.missed.load(Ordering::SeqCst));
     assert_eq!(rt; gate.begun.load(Ordering::SeqCst), 3);
     let want = "@1 ok 1\nsync 1 live 40 suspended 0\n@1 ok 2\n@1 ok 3\nend 3 live 49 suspended 0\n";
     assert_eq!(rt; out.bytes(), want.as_bytes());
+    Ok(())
+}
+
+// The first build, of the whole tree, is held until the second begins. Nothing beside the whole tree can be built, so the barrier
+// has built it anew itself.
+#[test]
+fn a_barrier_does_not_wait_for_a_build(rt: HostRuntime) -> Result<(), Fail> {
+    let alloc = rt.alloc();
+    let mut log = String::from_str(alloc, "ikdmap 1 voxel 200 large 16\n@1 add")?;
+    for x in 1..=40 {
+        log.push_str(format!(in alloc; " {x} 0 0")?.as_str())?;
+    }
+    log.push_str("\nsync\n@1 add 41 0 0 42 0 0 43 0 0 44 0 0\n")?;
+    let gate = TwoBuilds::new(1);
+    let (status, out) = ran_with(&rt, alloc, log.as_bytes(), &gate)?;
+    assert_eq!(rt; status, Status::Done);
+    assert!(rt; !gate.missed.load(Ordering::SeqCst));
+    assert_eq!(rt; gate.begun.load(Ordering::SeqCst), 2);
+    let want = "@1 ok 1\nsync 1 live 40 suspended 0\n@1 ok 2\nend 2 live 44 suspended 0\n";
+    assert_eq!(rt; out.bytes(), want.as_bytes());
+    Ok(())
+}
+
+#[test]
+fn eight_callers_see_what_each_of_them_added(rt: HostRuntime) -> Result<(), Fail> {
+    let alloc = rt.alloc();
+    let mut log = String::from_str(alloc, HEADER)?;
+    let mut want = String::new(alloc);
+    for caller in 1..=8 {
+        log.push_str(format!(in alloc; "@{caller} add {caller} 0 0\nsync\n")?.as_str())?;
+        want.push_str(format!(in alloc; "@{caller} ok {caller}\n")?.as_str())?;
+        let held = format!(in alloc; "sync {caller} live {caller} suspended 0\n")?;
+        want.push_str(held.as_str())?;
+    }
+    for caller in 1..=8 {
+        log.push_str(format!(in alloc; "@{caller} near 1 9 0 0\n")?.as_str())?;
+        want.push_str(format!(in alloc; "@{caller} near 8 | 7 8 0 0 1\n")?.as_str())?;
+    }
+    want.push_str("end 8 live 8 suspended 0\n")?;
+    assert_answered(&rt, alloc, log.as_str(), want.as_str())?;
     Ok(())
 }
