@@ -7,6 +7,7 @@ pub mod LegalMarks
 pub mod Sorting
 pub mod Placing
 pub mod Folding
+pub mod Found
 pub mod Replays
 pub mod Plain
 pub mod ReplyLines

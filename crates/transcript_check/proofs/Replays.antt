@@ -276,10 +276,11 @@ first_is s told us places k held level first given so all below = record {
 }
 
 -- from the comparison of the line with the text of its reply
-pub same_by : (s : ScriptAt) (told : List Told) (us : List Marked) (places : List Placed) (new : MapAt) (p : Placed) (t : Told) (same : Bool) → IsGiven s told us places
+pub same_by : (s : ScriptAt) (told : List Told) (us : List Marked) (places : List Placed) (new : MapAt) (p : Placed) (t : Told) (same : Bool) (format : Format) → IsGiven s told us places
     → new ≡ fold s.sizes.voxel (take p.mark (changes_of us)) → p.place < length told → slice_get (marks_of told) p.place ≡ Some p.mark → t ≡ get_or told p.place t
-    → Decides same (t.line.now ≡ reply_text s.format (slice_get s.commands p.place) (reply_at new.items (slice_get s.commands p.place) t.mark)) → Decides same (SameAt s told p.place)
-same_by s told us places new p t same given is below placed here d =
+    → format ≡ s.format → Decides same (t.line.now ≡ reply_text format (slice_get s.commands p.place) (reply_at new.items (slice_get s.commands p.place) t.mark)) → Decides same (SameAt s told p.place)
+same_by s told us places new p t same format given is below placed here version given_d =
+    let d : Decides same (t.line.now ≡ reply_text s.format (slice_get s.commands p.place) (reply_at new.items (slice_get s.commands p.place) t.mark)) = rw version at given_d in
     let at = same_as s told us places new p.place p.mark t given is below placed in
     let mark : t.mark ≡ p.mark =
     ap (λ (u : Told). u.mark) here ∙ sym (get_or-map (λ (u : Told). u.mark) told p.place t 0 below) ∙ get_or_from_slice_get (marks_of told) p.place p.mark 0 placed in

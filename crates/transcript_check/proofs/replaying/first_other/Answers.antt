@@ -200,12 +200,12 @@ loop-at-preserved c =
     elim c.if-at-first.branch [
       | then-at-first+in_ok-is_told+then-not-branch v ↦
           let e = v.command_at-command.ensures ∙ ap (λ (cs : List Command). slice_get cs p.place) c.commands-commands.ensures.all in
-          let d = same_by s told us ats c.in_ok-map.map p t v.in_ok-is_told.field-0 given map w.1 w.2 at (rw (e, v.format-format.ensures) at v.in_ok-is_told.ensures) in
+          let d = same_by s told us ats c.in_ok-map.map p t v.in_ok-is_told.field-0 c.format-format.result given map w.1 w.2 at c.format-format.ensures (rw e at v.in_ok-is_told.ensures) in
           rw v.first-is (so_far_other s told us ats k c.loop-at.map c.in_ok-map.map c.loop-at.level c.loop-at.first p given so below here map v.if-at-first.true
           (λ same. let yes = d.1 same in let never = v.if-not-branch.true in cc))
       | then-at-first+in_ok-is_told+else-not-branch v ↦
           let e = v.command_at-command.ensures ∙ ap (λ (cs : List Command). slice_get cs p.place) c.commands-commands.ensures.all in
-          let d = same_by s told us ats c.in_ok-map.map p t v.in_ok-is_told.field-0 given map w.1 w.2 at (rw (e, v.format-format.ensures) at v.in_ok-is_told.ensures) in
+          let d = same_by s told us ats c.in_ok-map.map p t v.in_ok-is_told.field-0 c.format-format.result given map w.1 w.2 at c.format-format.ensures (rw e at v.in_ok-is_told.ensures) in
           rw v.first-is (so_far_same s told us ats k c.loop-at.map c.in_ok-map.map c.loop-at.level c.loop-at.first p given so below here map (λ low. d.0 v.if-not-branch.false))
       | else-at-first v ↦
           rw v.first-is (so_far_same s told us ats k c.loop-at.map c.in_ok-map.map c.loop-at.level c.loop-at.first p given so below here map
