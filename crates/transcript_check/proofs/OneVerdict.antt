@@ -19,7 +19,7 @@ use Rattle.transcript_check.specs.Verdicts.{joined, reply_lines, script_lines, S
 use Rattle.transcript_check.specs.declared.verdict.Verdict.{Verdict}
 use Rattle.transcript_check.specs.declared.verdict.Verdict.TheVariants.{Legal, Unspelled, Marks, Differs}
 use Rattle.transcript_check.proofs.ReadLines.{length-heads, spell_long}
-use Rattle.transcript_check.specs.Told.{lines_of, marks_of}
+use Rattle.transcript_check.specs.Told.{lines_of, lines_under, marks_of}
 use Rattle.transcript_check.specs.declared.lines.Told.{Told}
 use Rattle.transcript_check.proofs.Replays.{updates_few, length-reply_lines}
 use Rattle.std.proofs.lemmas.Bool.{cases_order}
@@ -116,7 +116,7 @@ plain_long : (s : ScriptAt) → length (plain s.commands) ≡ length s.commands
 plain_long s = length-plain_from no_regions s.commands
 
 -- the lines of a script are those without its poses
-pub plain_lines : (s : ScriptAt) (marks : List ℕ) → reply_lines s.format (plain s.commands) (replies (plain_script s) marks) ≡ script_lines s marks
+pub plain_lines : (s : ScriptAt) (marks : List ℕ) → lines_under (plain_script s) marks ≡ script_lines s marks
 plain_lines s marks = reply_lines-plain_from s.format no_regions s.commands (replies (plain_script s) marks)
 
 made_of : (s : ScriptAt) (out marks : List ℕ) → IsScript s → IsLegal (plain s.commands) marks → out ≡ joined (script_lines s marks) → IsMade s out marks
@@ -167,12 +167,12 @@ other_within right lines j long o = elim (cases_order o.before (length lines)) [
     past h = o.other (slice_get_past lines o.before h ∙ sym (slice_get_past right o.before (omega arith)))
 
 pub other_few : (s : ScriptAt) (told : List Told) (j : ℕ) → IsPlainScript s → length told ≡ length s.commands + 1
-    → IsFirstOther (reply_lines s.format s.commands (replies s (marks_of told))) (lines_of told) j → j ≤ 65537
+    → IsFirstOther (lines_under s (marks_of told)) (lines_of told) j → j ≤ 65537
 other_few s told j script many o =
     let lines = length-map told (λ (t : Told). t.line.now) in
     let marks = length-map told (λ (t : Told). t.mark) in
     let right = length-reply_lines s.format s.sizes.voxel (history s.commands (marks_of told)) s.commands (marks_of told) (marks ∙ many) in
-    omega (arith, other_within (reply_lines s.format s.commands (replies s (marks_of told))) (lines_of told) j (right ∙ sym (lines ∙ many)) o, lines, many, script.few)
+    omega (arith, other_within (lines_under s (marks_of told)) (lines_of told) j (right ∙ sym (lines ∙ many)) o, lines, many, script.few)
 
 -- a transcript with a line that isn't its reply's isn't legal
 legal_no_other : (s : ScriptAt) (out : List ℕ) (lines : List (List ℕ)) (marks : List ℕ) (j : ℕ) → IsScript s → AreLegalLines s out → out ≡ joined lines → SpellMarks (heads s.commands) lines marks
@@ -273,12 +273,12 @@ pub illegal_verdict : (s : ScriptAt) (told : List Told) → SpellMarks (heads s.
 illegal_verdict s told spelled never = record { lines = lines_of told; marks = marks_of told; cut = refl; spelled = spelled; holds = never }
 
 pub other_verdict : (s : ScriptAt) (told : List Told) (j : ℕ) → SpellMarks (heads s.commands) (lines_of told) (marks_of told) → IsLegal (plain s.commands) (marks_of told)
-    → IsFirstOther (reply_lines s.format (plain s.commands) (replies (plain_script s) (marks_of told))) (lines_of told) j → IsVerdict s (joined (lines_of told)) (Differs j)
+    → IsFirstOther (lines_under (plain_script s) (marks_of told)) (lines_of told) j → IsVerdict s (joined (lines_of told)) (Differs j)
 other_verdict s told j spelled legal other =
     record { lines = lines_of told; marks = marks_of told; cut = refl; spelled = spelled; holds = (legal, rw (plain_lines s (marks_of told)) at other) }
 
 pub whole_verdict : (s : ScriptAt) (told : List Told) → SpellMarks (heads s.commands) (lines_of told) (marks_of told) → IsLegal (plain s.commands) (marks_of told)
-    → lines_of told ≡ reply_lines s.format (plain s.commands) (replies (plain_script s) (marks_of told)) → IsVerdict s (joined (lines_of told)) Legal
+    → lines_of told ≡ lines_under (plain_script s) (marks_of told) → IsVerdict s (joined (lines_of told)) Legal
 whole_verdict s told spelled legal same = record {
   lines = lines_of told;
   marks = marks_of told;

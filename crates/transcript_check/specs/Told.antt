@@ -12,14 +12,15 @@ use Rattle.scan_log.specs.declared.command.Command.{Command}
 use Rattle.scan_log.specs.declared.command.Command.TheVariants.{Change, Near, Nears, Inside, Ball, Lonely, Clusters, Pose, Sync}
 use Rattle.scan_log.specs.declared.reply.Reply.{Reply}
 use Rattle.scan_log.specs.declared.reply.Reply.TheVariants as reply
-use Rattle.scan_log.specs.Transcript.{found_reply, clusters_reply}
+use Rattle.scan_log.specs.Scripts.{ScriptAt}
+use Rattle.scan_log.specs.Transcript.{replies, found_reply, clusters_reply}
 use Rattle.transcript_check.specs.declared.lines.Told.{Told}
 use Rattle.transcript_check.specs.declared.lines.Stop.{Stop}
 use Rattle.transcript_check.specs.declared.lines.Stop.TheVariants.{Unspelled, NoMemory}
 use Rattle.transcript_check.specs.declared.order.Marked.{Marked}
 use Rattle.transcript_check.specs.declared.order.Placed.{Placed}
 use Rattle.transcript_check.specs.Heads.{heads}
-use Rattle.transcript_check.specs.Verdicts.{IsUnspelled}
+use Rattle.transcript_check.specs.Verdicts.{IsUnspelled, reply_lines}
 
 abbrev pub marks_of : List Told → List ℕ
 marks_of told = map (λ t. t.mark) told
@@ -81,6 +82,10 @@ AreCallersInOrder x cs marks = InOrderBehind x None cs marks
 abbrev pub points_in_all : List Update → ℕ
 points_in_all [] = 0
 points_in_all (u ∷ us) = points_in u + points_in_all us
+
+-- the lines of the replies to a script without poses, under these marks
+abbrev pub lines_under : ScriptAt → List ℕ → List (List ℕ)
+lines_under s marks = reply_lines s.format s.commands (replies s marks)
 
 -- the reply where these items are held
 abbrev pub reply_at : List Item → Option Command → ℕ → Reply

@@ -1,9 +1,8 @@
 //! The lines of a transcript, and their marks.
-ghost use Rattle.std.specs.Prelude.{◌≡◌, ◌≤◌, ◌+◌, ℕ, List, ◌++◌, drop, length, map, slice_get, IfOk, IfErr, IfSome, IfNone};
-ghost use Rattle.std.specs.List.{flat_map};
+ghost use Rattle.std.specs.Prelude.{◌≡◌, ◌≤◌, ℕ, List, ◌++◌, drop, length, slice_get, IfOk, IfErr, IfSome, IfNone};
 ghost use Rattle.std.specs.Option.{option_copied};
 ghost use Rattle.transcript_check.specs.Heads.{head, heads, SpellMarks, IsMarked};
-ghost use Rattle.transcript_check.specs.Verdicts.{Stops};
+ghost use Rattle.transcript_check.specs.Verdicts.{joined};
 ghost use Rattle.transcript_check.specs.Told.{lines_of, marks_of, WasUnspelled};
 
 use crate::heads::mark_in;
@@ -48,7 +47,8 @@ pub fn told_lines<'a>(
     commands: &[Command],
     transcript: &'a [u8],
 ) -> Result<Vec<Told<'a>>, Stop>
-    ensures told { IfOk result (λ told. (transcript.now ≡ flat_map (λ l. l) (lines_of told.items)) × SpellMarks (heads commands.now) (lines_of told.items) (marks_of told.items)) }
+    ensures all { IfOk result (λ told. transcript.now ≡ joined (lines_of told.items)) }
+    ensures marks { IfOk result (λ told. SpellMarks (heads commands.now) (lines_of told.items) (marks_of told.items)) }
     ensures stopped { IfErr result (WasUnspelled commands.now transcript.now) }
 {
     let mut told = Vec::new(alloc);

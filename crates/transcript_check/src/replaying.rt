@@ -5,9 +5,9 @@ ghost use Rattle.std.specs.Option.{ForSome, option_copied};
 ghost use Rattle.map_fold.specs.Fold.{fold_from};
 ghost use Rattle.scan_log.specs.Legal.{IsLegal};
 ghost use Rattle.scan_log.specs.Plain.{IsPlain};
-ghost use Rattle.scan_log.specs.Transcript.{replies, reply_text, marked_updates};
-ghost use Rattle.transcript_check.specs.Told.{changes_of, lines_of, marks_of, points_in_all, reply_at, updates_of};
-ghost use Rattle.transcript_check.specs.Verdicts.{IsFirstOther, reply_lines};
+ghost use Rattle.scan_log.specs.Transcript.{reply_text, marked_updates};
+ghost use Rattle.transcript_check.specs.Told.{changes_of, lines_of, lines_under, marks_of, points_in_all, reply_at, updates_of};
+ghost use Rattle.transcript_check.specs.Verdicts.{IsFirstOther};
 
 use crate::answers::reply_to;
 use crate::lines::{Told, command_at};
@@ -26,8 +26,8 @@ pub fn first_other(
     requires legal { IsLegal script.now.commands (marks_of told.now) }
     requires many { length told.now ≡ length script.now.commands + 1 }
     requires updates { updates_of updates.now ≡ marked_updates script.now.commands (marks_of told.now) }
-    ensures { IfOk result (λ r. MatchOption r (lines_of told.now ≡ reply_lines script.now.format script.now.commands (replies script.now (marks_of told.now)))
-        (λ place. IsFirstOther (reply_lines script.now.format script.now.commands (replies script.now (marks_of told.now))) (lines_of told.now) (place + 1))) }
+    ensures { IfOk result (λ r. MatchOption r (lines_of told.now ≡ lines_under script.now (marks_of told.now))
+        (λ place. IsFirstOther (lines_under script.now (marks_of told.now)) (lines_of told.now) (place + 1))) }
 {
     let commands = script.commands();
     let settings = script.settings();

@@ -15,10 +15,15 @@ loop-place-preserved c =
     (c.in-Some.ensures.front ∙ ap (λ (ys : List ℕ). c.in-Some.next.line.now ++ ys) (sym c.behind-rest.ensures))
     (rw c.command_at.ensures at c.in-Some.ensures.told)
 
-pub returns-then-is_empty-clause-told : goal.returns-then-is_empty-clause-told
-returns-then-is_empty-clause-told c =
-    all_read c.args.commands.now c.args.transcript.now c.loop-place.place c.loop-place.told.items c.loop-place.rest.now c.loop-place.invariant (omega arith)
-    (grind (arith, nat_tests, c.is_empty.ensures, c.if-is_empty.true))
+pub returns-then-is_empty-clause-all : goal.returns-then-is_empty-clause-all
+returns-then-is_empty-clause-all c =
+    (all_read c.args.commands.now c.args.transcript.now c.loop-place.place c.loop-place.told.items c.loop-place.rest.now c.loop-place.invariant (omega arith)
+    (grind (arith, nat_tests, c.is_empty.ensures, c.if-is_empty.true))).0
+
+pub returns-then-is_empty-clause-marks : goal.returns-then-is_empty-clause-marks
+returns-then-is_empty-clause-marks c =
+    (all_read c.args.commands.now c.args.transcript.now c.loop-place.place c.loop-place.told.items c.loop-place.rest.now c.loop-place.invariant (omega arith)
+    (grind (arith, nat_tests, c.is_empty.ensures, c.if-is_empty.true))).1
 
 pub returns-clause-stopped : goal.returns-clause-stopped
 returns-clause-stopped c =
