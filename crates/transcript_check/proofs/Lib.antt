@@ -1,0 +1,14 @@
+pub mod FirstLines
+pub mod ReadLines
+pub mod Places
+pub mod Counted
+pub mod CallerOrder
+pub mod LegalMarks
+pub mod Sorting
+pub mod Placing
+pub mod Folding
+pub mod Found
+pub mod Replays
+pub mod Plain
+pub mod ReplyLines
+pub mod OneVerdict

@@ -1,0 +1,114 @@
+-- Lines as they are read, place by place.
+use Rattle.std.proofs.Common.{◌≡◌, ℕ, zero, suc, ◌+◌, ◌<◌, ◌≤◌, List, [], ◌∷◌, ◌++◌, length, take, drop, slice_get, length-append, refl, sym, ap, ◌∙◌, arith, Option, Some}
+use Rattle.std.proofs.lemmas.List.{append-nil, append_assoc, length-map, map_push, take_all, drop_all}
+use Rattle.std.proofs.lemmas.List.Concat.{flat_map-append}
+use Rattle.scan_log.specs.declared.command.Command.{Command}
+use Rattle.transcript_check.specs.Heads.{head, heads, IsMarked, SpellMarks}
+use Rattle.transcript_check.specs.Verdicts.{joined, IsUnspelled}
+use Rattle.transcript_check.specs.Told.{lines_of, marks_of}
+use Rattle.transcript_check.specs.declared.lines.Told.{Told}
+
+pub length-heads : (cs : List Command) → length (heads cs) ≡ length cs + 1
+length-heads [] = refl
+length-heads (c ∷ cs) = let r = length-heads cs in omega arith
+
+drop_suc : (cs : List Command) (i : ℕ) → i ≤ length cs → drop i (heads cs) ≡ head (slice_get cs i) ∷ drop (suc i) (heads cs)
+drop_suc [] zero h = refl
+drop_suc [] (suc i) h = absurd (omega arith)
+drop_suc (c ∷ cs) zero h = refl
+drop_suc (c ∷ cs) (suc i) h = drop_suc cs i (omega arith)
+
+take_suc : (cs : List Command) (i : ℕ) → i ≤ length cs → take (suc i) (heads cs) ≡ take i (heads cs) ++ head (slice_get cs i) ∷ []
+take_suc [] zero h = refl
+take_suc [] (suc i) h = absurd (omega arith)
+take_suc (c ∷ cs) zero h = refl
+take_suc (c ∷ cs) (suc i) h = ap (λ xs. head (Some c) ∷ xs) (take_suc cs i (omega arith))
+
+-- the line at i answers the command at i, or the end
+pub heads_drop : (cs : List Command) (i : ℕ) → i ≤ length cs → drop i (heads cs) ≡ head (slice_get cs i) ∷ drop (i + 1) (heads cs)
+heads_drop cs i h = let e : i + 1 ≡ suc i = omega arith in rw e (drop_suc cs i h)
+
+pub heads_take : (cs : List Command) (i : ℕ) → i ≤ length cs → take (i + 1) (heads cs) ≡ take i (heads cs) ++ head (slice_get cs i) ∷ []
+heads_take cs i h = let e : i + 1 ≡ suc i = omega arith in rw e (take_suc cs i h)
+
+-- one more line
+pub spell_more : (cs : List (List ℕ)) (lines : List (List ℕ)) (marks : List ℕ) (c : List ℕ) (line : List ℕ) (m : ℕ)
+    → SpellMarks cs lines marks → IsMarked c line m → SpellMarks (cs ++ c ∷ []) (lines ++ line ∷ []) (marks ++ m ∷ [])
+spell_more [] [] [] c line m s is = (is, tt)
+spell_more [] [] (n ∷ marks) c line m s is = absurd s
+spell_more [] (l ∷ lines) marks c line m s is = absurd s
+spell_more (d ∷ cs) [] marks c line m s is = absurd s
+spell_more (d ∷ cs) (l ∷ lines) [] c line m s is = absurd s
+spell_more (d ∷ cs) (l ∷ lines) (n ∷ marks) c line m s is = (s.0, spell_more cs lines marks c line m s.1 is)
+
+-- as many lines and marks as are asked for
+pub spell_long : (cs : List (List ℕ)) (lines : List (List ℕ)) (marks : List ℕ) → SpellMarks cs lines marks
+    → (length lines ≡ length cs) × (length marks ≡ length cs)
+spell_long [] [] [] s = (refl, refl)
+spell_long [] [] (n ∷ marks) s = absurd s
+spell_long [] (l ∷ lines) marks s = absurd s
+spell_long (d ∷ cs) [] marks s = absurd s
+spell_long (d ∷ cs) (l ∷ lines) [] s = absurd s
+spell_long (d ∷ cs) (l ∷ lines) (n ∷ marks) s = let r = spell_long cs lines marks s.1 in (ap suc r.0, ap suc r.1)
+
+-- how far the lines were read
+pub record AreRead (cs : List Command) (out : List ℕ) (k : ℕ) (told : List Told) (rest : List ℕ) : Type 0 where
+  pub within : k ≤ length cs + 1
+  pub long : length told ≡ k
+  pub cut : out ≡ joined (lines_of told) ++ rest
+  pub before : SpellMarks (take k (heads cs)) (lines_of told) (marks_of told)
+
+-- the next line isn't there or spells no mark
+pub unspelled_at : (cs : List Command) (out : List ℕ) (k : ℕ) (told : List Told) (rest : List ℕ) → AreRead cs out k told rest → k ≤ length cs
+    → ((line behind : List ℕ) (m : ℕ) → rest ≡ line ++ behind → IsMarked (head (slice_get cs k)) line m → ⊥) → IsUnspelled (heads cs) out (k + 1)
+unspelled_at cs out k told rest read low never =
+    let long : length (lines_of told) ≡ k = length-map told (λ (t : Told). t.line.now) ∙ read.long in
+    record {
+      lines = lines_of told;
+      marks = marks_of told;
+      rest = rest;
+      place = ap (λ n. n + 1) (sym long);
+      cut = read.cut;
+      before = rw long read.before;
+      stops = rw (long, heads_drop cs k low) never;
+    }
+
+-- behind all lines bytes are left
+pub unspelled_past : (cs : List Command) (out : List ℕ) (k : ℕ) (told : List Told) (rest : List ℕ) → AreRead cs out k told rest → length cs + 1 ≤ k
+    → 0 < length rest → IsUnspelled (heads cs) out (k + 1)
+unspelled_past cs out k told rest read high some =
+    let long : length (lines_of told) ≡ k = length-map told (λ (t : Told). t.line.now) ∙ read.long in
+    let none : drop k (heads cs) ≡ [] = drop_all k (heads cs) (omega (arith, length-heads cs)) in
+    record {
+      lines = lines_of told;
+      marks = marks_of told;
+      rest = rest;
+      place = ap (λ n. n + 1) (sym long);
+      cut = read.cut;
+      before = rw long read.before;
+      stops = rw (long, none) some;
+    }
+
+-- all lines were read
+pub all_read : (cs : List Command) (out : List ℕ) (k : ℕ) (told : List Told) (rest : List ℕ) → AreRead cs out k told rest → length cs + 1 ≤ k → length rest ≡ 0
+    → (out ≡ joined (lines_of told)) × SpellMarks (heads cs) (lines_of told) (marks_of told)
+all_read cs out k told [] read high none =
+    let all : take k (heads cs) ≡ heads cs = take_all k (heads cs) (omega (arith, length-heads cs)) in
+    (read.cut ∙ append-nil (joined (lines_of told)), rw all at read.before)
+all_read cs out k told (b ∷ rest) read high none = absurd (omega arith)
+
+-- one more line was read
+pub read_more : (cs : List Command) (out : List ℕ) (k : ℕ) (told all : List Told) (next : Told) (rest left : List ℕ) → AreRead cs out k told rest → k ≤ length cs
+    → all ≡ told ++ next ∷ [] → rest ≡ next.line.now ++ left → IsMarked (head (slice_get cs k)) next.line.now next.mark → AreRead cs out (k + 1) all left
+read_more cs out k told all next rest left read low grown front is =
+    let lines : lines_of all ≡ lines_of told ++ next.line.now ∷ [] = ap lines_of grown ∙ map_push (λ (t : Told). t.line.now) told next in
+    let marks : marks_of all ≡ marks_of told ++ next.mark ∷ [] = ap marks_of grown ∙ map_push (λ (t : Told). t.mark) told next in
+    let joins : joined (lines_of told ++ next.line.now ∷ []) ≡ joined (lines_of told) ++ next.line.now =
+    flat_map-append (λ (l : List ℕ). l) (lines_of told) (next.line.now ∷ []) ∙ ap (λ ys. joined (lines_of told) ++ ys) (append-nil next.line.now) in
+    record {
+      within = omega arith;
+      long = ap length grown ∙ omega (arith, length-append told (next ∷ []), read.long);
+      cut = read.cut ∙ ap (λ ys. joined (lines_of told) ++ ys) front ∙ sym (append_assoc (joined (lines_of told)) next.line.now left)
+          ∙ ap (λ ys. ys ++ left) (sym joins) ∙ ap (λ (ls : List (List ℕ)). joined ls ++ left) (sym lines);
+      before = rw (heads_take cs k low, lines, marks) (spell_more (take k (heads cs)) (lines_of told) (marks_of told) (head (slice_get cs k)) next.line.now next.mark read.before is);
+    }

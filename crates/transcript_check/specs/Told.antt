@@ -1,0 +1,101 @@
+-- Lines with their marks, as they are read, ordered and replayed.
+use Rattle.std.specs.Prelude.{◌≡◌, ℕ, ◌+◌, Bool, true, nat_lt, nat_le, ◌==◌, List, [], ◌∷◌, map, slice_get, if◌then◌else◌}
+use Rattle.std.specs.declared.option.Option.{Option}
+use Rattle.std.specs.declared.option.Option.TheVariants.{None, Some}
+use Rattle.map_fold.specs.declared.item.Item.{Item}
+use Rattle.map_fold.specs.declared.update.Update.{Update}
+use Rattle.map_fold.specs.Answers.{nearest, nears, inside, count, live_count, suspended_count}
+use Rattle.map_fold.specs.Neighbours.{ball, lonely}
+use Rattle.map_fold.specs.Clusters.{clusters}
+use Rattle.map_fold.specs.Fold.{points_in}
+use Rattle.scan_log.specs.declared.command.Command.{Command}
+use Rattle.scan_log.specs.declared.command.Command.TheVariants.{Change, Near, Nears, Inside, Ball, Lonely, Clusters, Pose, Sync}
+use Rattle.scan_log.specs.declared.reply.Reply.{Reply}
+use Rattle.scan_log.specs.declared.reply.Reply.TheVariants as reply
+use Rattle.scan_log.specs.Scripts.{ScriptAt}
+use Rattle.scan_log.specs.Transcript.{replies, found_reply, clusters_reply}
+use Rattle.transcript_check.specs.declared.lines.Told.{Told}
+use Rattle.transcript_check.specs.declared.lines.Stop.{Stop}
+use Rattle.transcript_check.specs.declared.lines.Stop.TheVariants.{Unspelled, NoMemory}
+use Rattle.transcript_check.specs.declared.order.Marked.{Marked}
+use Rattle.transcript_check.specs.declared.order.Placed.{Placed}
+use Rattle.transcript_check.specs.Heads.{heads}
+use Rattle.transcript_check.specs.Verdicts.{IsUnspelled, reply_lines}
+
+abbrev pub marks_of : List Told → List ℕ
+marks_of told = map (λ t. t.mark) told
+
+abbrev pub lines_of : List Told → List (List ℕ)
+lines_of told = map (λ t. t.line.now) told
+
+abbrev pub updates_of : List Marked → List (ℕ × Update)
+updates_of updates = map (λ u. (u.mark, u.update.now)) updates
+
+abbrev pub changes_of : List Marked → List Update
+changes_of updates = map (λ u. u.update.now) updates
+
+-- the place is that of a line with this mark
+abbrev pub IsPlaced : List ℕ → Placed → Type 0
+IsPlaced marks p = slice_get marks p.place ≡ Some p.mark
+
+-- why not all lines were read
+abbrev pub WasUnspelled : List Command → List ℕ → Stop → Type 0
+WasUnspelled cs out (Unspelled before) = IsUnspelled (heads cs) out (before + 1)
+WasUnspelled cs out NoMemory = Unit {0}
+
+-- the command is this caller's, or a barrier
+abbrev pub concerns : ℕ → Command → Bool
+concerns x (Change caller u) = caller == x
+concerns x (Near caller k p within) = caller == x
+concerns x (Nears caller k ps) = caller == x
+concerns x (Inside caller k c) = caller == x
+concerns x (Ball caller k r p) = caller == x
+concerns x (Lonely caller k r) = caller == x
+concerns x (Clusters caller k r) = caller == x
+concerns x (Pose caller rules p) = caller == x
+concerns x Sync = true
+
+-- the mark may come behind the last one, if there is one
+abbrev pub is_late : Option ℕ → Command → ℕ → Bool
+is_late None c m = true
+is_late (Some low) (Change caller u) m = nat_lt low m
+is_late (Some low) (Near caller k p within) m = nat_le low m
+is_late (Some low) (Nears caller k ps) m = nat_le low m
+is_late (Some low) (Inside caller k c) m = nat_le low m
+is_late (Some low) (Ball caller k r p) m = nat_le low m
+is_late (Some low) (Lonely caller k r) m = nat_le low m
+is_late (Some low) (Clusters caller k r) m = nat_le low m
+is_late (Some low) (Pose caller rules p) m = nat_le low m
+is_late (Some low) Sync m = nat_le low m
+
+-- the marks of this caller's commands and of the barriers are in order, behind a last one
+abbrev pub InOrderBehind : ℕ → Option ℕ → List Command → List ℕ → Type 0
+InOrderBehind x low [] marks = Unit {0}
+InOrderBehind x low (c ∷ cs) [] = Unit {0}
+InOrderBehind x low (c ∷ cs) (m ∷ marks) =
+    (concerns x c ≡ true → is_late low c m ≡ true) × InOrderBehind x (if concerns x c then Some m else low) cs marks
+
+abbrev pub AreCallersInOrder : ℕ → List Command → List ℕ → Type 0
+AreCallersInOrder x cs marks = InOrderBehind x None cs marks
+
+-- how many points they submit
+abbrev pub points_in_all : List Update → ℕ
+points_in_all [] = 0
+points_in_all (u ∷ us) = points_in u + points_in_all us
+
+-- the lines of the replies to a script without poses, under these marks
+abbrev pub lines_under : ScriptAt → List ℕ → List (List ℕ)
+lines_under s marks = reply_lines s.format s.commands (replies s marks)
+
+-- the reply where these items are held
+abbrev pub reply_at : List Item → Option Command → ℕ → Reply
+reply_at items (Some (Change caller u)) m = reply.Done m
+reply_at items (Some (Near caller k p within)) m = reply.Near (record { mark = m; hits = nearest items k p within })
+reply_at items (Some (Nears caller k ps)) m = reply.Nears (record { mark = m; lists = nears items k ps })
+reply_at items (Some (Inside caller k c)) m = reply.Inside (record { mark = m; count = count items c; items = inside items c k })
+reply_at items (Some (Ball caller k r p)) m = reply.Ball (found_reply m (ball items p r) k)
+reply_at items (Some (Lonely caller k r)) m = reply.Lonely (found_reply m (lonely items r) k)
+reply_at items (Some (Clusters caller k r)) m = reply.Clusters (clusters_reply m (clusters items r) k)
+reply_at items (Some (Pose caller rules p)) m = reply.Done m
+reply_at items (Some Sync) m = reply.Totals m (live_count items) (suspended_count items)
+reply_at items None m = reply.Totals m (live_count items) (suspended_count items)

@@ -1,0 +1,94 @@
+//! Replies on the plain map.
+ghost use Rattle.std.specs.Prelude.{◌≡◌, ◌≤◌, IfOk, Some, None};
+ghost use Rattle.std.specs.Option.{ForSome, option_copied};
+ghost use Rattle.map_fold.specs.Answers.{nears};
+ghost use Rattle.scan_log.specs.Plain.{IsPlain};
+ghost use Rattle.transcript_check.specs.Told.{reply_at};
+
+use crate::neighbours::{ball_reply, clusters_reply, lonely_reply};
+use map_fold::{BoxReply, HitLists, NearReply, NearsReply, NoMemory, PlainMap};
+use point_geom::Point;
+use scan_log::{Command, Reply};
+use std::alloc::Global;
+
+/// The reply to a command, or to the end, on this map and with this mark.
+pub fn reply_to(
+    alloc: Global,
+    map: &PlainMap,
+    command: Option<&Command>,
+    mark: u64,
+) -> Result<Reply, NoMemory>
+    requires good { ForSome (option_copied command) IsPlain }
+    requires few { map.now.next ≤ 4194304 }
+    ensures { IfOk result (λ r. r ≡ reply_at map.now.items (option_copied command.entry) mark) }
+{
+    match command {
+        Some(command) => answer_to(alloc, map, command, mark),
+        None => Ok(totals(map, mark)),
+    }
+}
+
+fn answer_to(alloc: Global, map: &PlainMap, command: &Command, mark: u64) -> Result<Reply, NoMemory>
+    requires good { IsPlain command.now }
+    requires few { map.now.next ≤ 4194304 }
+    ensures { IfOk result (λ r. r ≡ reply_at map.now.items (Some command.now) mark) }
+{
+    Ok(match command {
+        Command::Change { .. } | Command::Pose { .. } => Reply::Done { mark },
+        Command::Near {
+            k,
+            point,
+            within,
+            ..
+        } => {
+            let hits = map.nearest(alloc, *k, point, *within)?;
+            Reply::Near(NearReply { mark, hits })
+        }
+        Command::Nears { k, points, .. } => {
+            let lists = nearest_in_turn(alloc, map, *k, points.as_slice())?;
+            Reply::Nears(NearsReply { mark, lists })
+        }
+        Command::Inside { k, cuboid, .. } => {
+            let count = map.count_in(cuboid);
+            let items = map.in_cuboid(alloc, cuboid, *k)?;
+            Reply::Inside(BoxReply { mark, count, items })
+        }
+        Command::Ball { k, r, point, .. } => {
+            Reply::Ball(ball_reply(alloc, map, mark, *k, *r, point)?)
+        }
+        Command::Lonely { k, r, .. } => Reply::Lonely(lonely_reply(alloc, map, mark, *k, *r)?),
+        Command::Clusters { k, r, .. } => {
+            Reply::Clusters(clusters_reply(alloc, map, mark, *k, *r)?)
+        }
+        Command::Sync => totals(map, mark),
+    })
+}
+
+// One search after another.
+fn nearest_in_turn(
+    alloc: Global,
+    map: &PlainMap,
+    k: u32,
+    points: &[Point],
+) -> Result<HitLists, NoMemory>
+    requires k_from { 1 ≤ k }
+    requires k_to { k ≤ 256 }
+    ensures { IfOk result (λ lists. lists ≡ nears map.now.items k points.now) }
+{
+    let mut lists = HitLists::new(alloc);
+    for point in points {
+        lists.push(map.nearest(alloc, k, point, None)?)?;
+    }
+    Ok(lists)
+}
+
+fn totals(map: &PlainMap, mark: u64) -> Reply
+    ensures { result ≡ reply_at map.now.items None mark }
+{
+    let counts = map.counts();
+    Reply::Totals {
+        mark,
+        live: counts.live,
+        suspended: counts.suspended,
+    }
+}

@@ -1,0 +1,62 @@
+//! The verdict on a transcript.
+ghost use Rattle.std.specs.Prelude.{◌≡◌, ◌+◌, ◌≤◌, ◌↔◌, IfOk};
+ghost use Rattle.scan_log.specs.Legal.{AreLegalLines};
+ghost use Rattle.transcript_check.specs.declared.verdict.Verdict.{Verdict};
+ghost use Rattle.transcript_check.specs.Heads.{SpellMarks, heads};
+ghost use Rattle.transcript_check.specs.Told.{lines_of, marks_of};
+ghost use Rattle.transcript_check.specs.Verdicts.{IsVerdict, joined};
+
+use crate::legality::are_legal;
+use crate::lines::{Stop, Told, told_lines};
+use crate::order::updates_by_mark;
+use crate::replaying::first_other;
+use crate::verdict::Verdict;
+use map_fold::NoMemory;
+use scan_log::{PlainScript, Script};
+use std::alloc::Global;
+
+/// What is found of a transcript of the script. Costs the script's updates on the plain map, and for each line a scan of it.
+pub fn check(alloc: Global, script: &Script, transcript: &[u8]) -> Result<Verdict, NoMemory>
+    ensures verdict { IfOk result (IsVerdict script.now transcript.now) }
+
+    // No other verdict is true of it.
+    ensures only { IfOk result (λ v. (w : Verdict) → IsVerdict script.now transcript.now w → w ≡ v) }
+
+    // So it is legal exactly where its lines are those of legal replies.
+    ensures legal { IfOk result (λ v. (v ≡ Verdict.Legal) ↔ AreLegalLines script.now transcript.now) }
+{
+    match told_lines(alloc, script.commands(), transcript) {
+        Ok(told) => verdict_on(alloc, script, told.as_slice()),
+        Err(Stop::Unspelled { before }) => Ok(Verdict::Unspelled {
+            line: number_of(before),
+        }),
+        Err(Stop::NoMemory) => Err(NoMemory),
+    }
+}
+
+// What is found of lines that spell marks.
+fn verdict_on(alloc: Global, script: &Script, told: &[Told]) -> Result<Verdict, NoMemory>
+    requires { SpellMarks (heads script.now.commands) (lines_of told.now) (marks_of told.now) }
+    ensures { IfOk result (IsVerdict script.now (joined (lines_of told.now))) }
+{
+    let plain = PlainScript::copied(alloc, script)?;
+    let commands = plain.commands();
+    let updates = updates_by_mark(alloc, commands, told)?;
+    if !are_legal(commands, told, updates.as_slice()) {
+        return Ok(Verdict::Marks);
+    }
+    match first_other(alloc, &plain, told, updates.as_slice())? {
+        Some(place) => Ok(Verdict::Differs {
+            line: number_of(place),
+        }),
+        None => Ok(Verdict::Legal),
+    }
+}
+
+// The number of the line at this place.
+fn number_of(place: usize) -> u32
+    requires { place ≤ 65537 }
+    ensures { result ≡ place + 1 }
+{
+    place as u32 + 1
+}

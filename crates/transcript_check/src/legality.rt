@@ -1,0 +1,115 @@
+//! Whether marks are legal.
+ghost use Rattle.std.specs.Prelude.{◌≡◌, ◌+◌, ◌≤◌, length, map};
+ghost use Rattle.std.specs.Bool.{Decides};
+ghost use Rattle.std.specs.List.{AllByRecursion};
+ghost use Rattle.scan_log.specs.Legal.{AreInOrder, IsLegal, counted};
+ghost use Rattle.scan_log.specs.Plain.{IsPlain};
+ghost use Rattle.scan_log.specs.Transcript.{marked_updates};
+ghost use Rattle.transcript_check.specs.Told.{AreCallersInOrder, concerns, is_late, marks_of, updates_of};
+
+use crate::lines::Told;
+use crate::order::Marked;
+use scan_log::Command;
+
+/// Whether the marks of the lines are legal for these commands, whose updates come in the order of their marks.
+pub fn are_legal(commands: &[Command], told: &[Told], updates: &[Marked]) -> bool
+    requires good { AllByRecursion IsPlain commands.now }
+    requires many { length told.now ≡ length commands.now + 1 }
+    requires updates { updates_of updates.now ≡ marked_updates commands.now (marks_of told.now) }
+    ensures { Decides result (IsLegal commands.now (marks_of told.now)) }
+{
+    let last = updates.len();
+    if !are_counted(updates) {
+        return false;
+    }
+    if !are_in_order(commands, told) {
+        return false;
+    }
+    if !none_above(told, last) {
+        return false;
+    }
+    told[commands.len()].mark as usize == last
+}
+
+fn none_above(told: &[Told], last: usize) -> bool
+    ensures { Decides result (AllByRecursion (λ m. m ≤ last) (marks_of told.now)) }
+{
+    for line in told {
+        if line.mark as usize > last {
+            return false;
+        }
+    }
+    true
+}
+
+// Whether the marks are 1, 2 and so on.
+fn are_counted(updates: &[Marked]) -> bool
+    ensures { Decides result (map (λ u. u.mark) updates.now ≡ counted 1 (length updates.now)) }
+{
+    for (place, update) in updates.iter().enumerate() {
+        if update.mark as usize != place + 1 {
+            return false;
+        }
+    }
+    true
+}
+
+fn are_in_order(commands: &[Command], told: &[Told]) -> bool
+    requires good { AllByRecursion IsPlain commands.now }
+    requires many { length told.now ≡ length commands.now + 1 }
+    ensures { Decides result (AreInOrder commands.now (marks_of told.now)) }
+{
+    for caller in 1..9 {
+        if !is_in_order(caller, commands, told) {
+            return false;
+        }
+    }
+    true
+}
+
+// Whether the marks of this caller's commands and of the barriers are in order.
+fn is_in_order(caller: u8, commands: &[Command], told: &[Told]) -> bool
+    requires { length told.now ≡ length commands.now + 1 }
+    ensures { Decides result (AreCallersInOrder caller commands.now (marks_of told.now)) }
+{
+    let mut floor = None;
+    for place in 0..commands.len() {
+        let command = &commands[place];
+        let mark = told[place].mark;
+        if concerns(caller, command) {
+            if !is_late(floor, command, mark) {
+                return false;
+            }
+            floor = Some(mark);
+        }
+    }
+    true
+}
+
+// Whether the command is this caller's, or a barrier.
+fn concerns(x: u8, command: &Command) -> bool
+    ensures { result ≡ concerns x command.now }
+{
+    match command {
+        Command::Change { caller, .. }
+        | Command::Near { caller, .. }
+        | Command::Nears { caller, .. }
+        | Command::Inside { caller, .. }
+        | Command::Ball { caller, .. }
+        | Command::Lonely { caller, .. }
+        | Command::Clusters { caller, .. }
+        | Command::Pose { caller, .. } => *caller == x,
+        Command::Sync => true,
+    }
+}
+
+// Whether the mark may come behind the last one, if there is one.
+fn is_late(floor: Option<u32>, command: &Command, mark: u32) -> bool
+    ensures { result ≡ is_late floor command.now mark }
+{
+    match (floor, command) {
+        (None, _) => true,
+        (Some(low), Command::Change { .. }) => low < mark,
+        (Some(low), _) => low <= mark,
+    }
+}

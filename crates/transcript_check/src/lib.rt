@@ -1,0 +1,17 @@
+//! Whether a text is a legal transcript of a script.
+#![tactic(auto)]
+
+mod answers;
+mod checking;
+mod heads;
+mod legality;
+mod lines;
+mod neighbours;
+mod order;
+mod replaying;
+#[cfg(test)]
+mod tests;
+mod verdict;
+
+pub use checking::check;
+pub use verdict::Verdict;

@@ -1,0 +1,97 @@
+//! The lines of a transcript, and their marks.
+ghost use Rattle.std.specs.Prelude.{◌≡◌, ◌≤◌, ℕ, List, ◌++◌, drop, length, slice_get, IfOk, IfErr, IfSome, IfNone};
+ghost use Rattle.std.specs.Option.{option_copied};
+ghost use Rattle.transcript_check.specs.Heads.{head, heads, SpellMarks, IsMarked};
+ghost use Rattle.transcript_check.specs.Verdicts.{joined};
+ghost use Rattle.transcript_check.specs.Told.{lines_of, marks_of, WasUnspelled};
+
+use crate::heads::mark_in;
+use map_fold::NoMemory;
+use memchr::memchr;
+use scan_log::Command;
+use std::alloc::{AllocFailed, Global};
+
+/// A line of a transcript, with its mark.
+#[derive(Clone, Copy)]
+pub struct Told<'a> {
+    pub mark: u32,
+    /// With its line feed.
+    pub line: &'a [u8],
+}
+
+/// Why not all lines were read.
+#[derive(Clone, Copy, Debug, PartialEq, Eq)]
+pub enum Stop {
+    /// A line is wanting or spells no mark, or there is one line too many.
+    Unspelled {
+        /// How many lines stand before it.
+        before: usize,
+    },
+    NoMemory,
+}
+
+impl<T: Drop> From<AllocFailed<T>> for Stop {
+    ghost use Rattle.std.specs.Prelude.{◌≡◌};
+    ghost use Rattle.transcript_check.specs.declared.lines.Stop.TheVariants.{NoMemory as want};
+
+    ghost from_gives = { λ _ e. e ≡ want };
+
+    fn from(_failed: AllocFailed<T>) -> Stop {
+        Stop::NoMemory
+    }
+}
+
+/// The lines of a transcript of these commands, each with its mark.
+pub fn told_lines<'a>(
+    alloc: Global,
+    commands: &[Command],
+    transcript: &'a [u8],
+) -> Result<Vec<Told<'a>>, Stop>
+    ensures all { IfOk result (λ told. transcript.now ≡ joined (lines_of told.items)) }
+    ensures marks { IfOk result (λ told. SpellMarks (heads commands.now) (lines_of told.items) (marks_of told.items)) }
+    ensures stopped { IfErr result (WasUnspelled commands.now transcript.now) }
+{
+    let mut told = Vec::new(alloc);
+    let mut rest = transcript;
+    for place in 0..commands.len() + 1 {
+        let Some(next) = first_told(command_at(commands, place), rest) else {
+            return Err(Stop::Unspelled { before: place });
+        };
+        told.push(next)?;
+        rest = behind(rest, next.line.len());
+    }
+    if rest.is_empty() {
+        Ok(told)
+    } else {
+        Err(Stop::Unspelled { before: told.len() })
+    }
+}
+
+/// The command whose reply stands at this place, or none for the end.
+pub fn command_at(commands: &[Command], place: usize) -> Option<&Command>
+    ensures { option_copied result ≡ slice_get commands.now place }
+{
+    commands.get(place)
+}
+
+/// The first line, if it is there and spells a mark.
+fn first_told<'a>(command: Option<&Command>, bytes: &'a [u8]) -> Option<Told<'a>>
+    ensures told { IfSome result (λ t. IsMarked (head (option_copied command.entry)) t.line.now t.mark) }
+    ensures front { IfSome result (λ t. bytes.now ≡ t.line.now ++ drop (length t.line.now) bytes.now) }
+    ensures within { IfSome result (λ t. length t.line.now ≤ length bytes.now) }
+    ensures none { IfNone result ((line behind : List ℕ) (m : ℕ) → bytes.now ≡ line ++ behind → IsMarked (head (option_copied command.entry)) line m → ⊥) }
+{
+    let end = memchr(b'\n', bytes)?;
+    let mark = mark_in(command, &bytes[..end])?;
+    Some(Told {
+        mark,
+        line: &bytes[..end + 1],
+    })
+}
+
+fn behind(bytes: &[u8], len: usize) -> &[u8]
+    requires { len ≤ length bytes.now }
+    ensures { result.now ≡ drop len bytes.now }
+{
+    &bytes[len..]
+}

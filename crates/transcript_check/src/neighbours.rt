@@ -1,0 +1,142 @@
+//! Replies to the queries for neighbours. A ball is a walk over all items. For lonely points and clusters that would be one for
+//! each item, so the items are put into a tree first.
+ghost use Rattle.std.specs.Prelude.{◌≡◌, ◌≤◌, ◌<◌, ◌*◌, ◌&&◌, filter, length, take, IfOk};
+ghost use Rattle.kd_tree.specs.Contents.{contents};
+ghost use Rattle.map_fold.specs.Clusters.{clusters};
+ghost use Rattle.map_fold.specs.Contents.{AreContents};
+ghost use Rattle.map_fold.specs.Neighbours.{ball, is_near, lonely};
+ghost use Rattle.node_labels.specs.Labels.{is_live};
+ghost use Rattle.scan_log.specs.Transcript.{clusters_reply, found_reply};
+
+use kd_tree::{Steps, Tree};
+use map_fold::{BoxReply, ClusterReply, Item, Items, Label, NoMemory, PlainMap};
+use neighbour_sets::{clusters, lonely};
+use point_geom::{Point, dist2};
+use std::alloc::Global;
+use std::marker::Brand;
+use std::sync::ledger::{Blank, Ledger};
+
+/// The points of a ball.
+pub fn ball_reply(
+    alloc: Global,
+    map: &PlainMap,
+    mark: u64,
+    k: u32,
+    r: u64,
+    point: &Point,
+) -> Result<BoxReply, NoMemory>
+    requires r_to { r ≤ 4398046511104 }
+    requires k_to { k ≤ 256 }
+    ensures { IfOk result (λ found. found ≡ found_reply mark (ball map.now.items point.now r) k) }
+{
+    let next = map.next();
+    let items = map.items(alloc)?;
+    let limit = r as u128 * r as u128;
+    let count = near_count(items.as_slice(), next, point, limit);
+    let items = first_near(alloc, items.as_slice(), point, limit, k as usize)?;
+    Ok(BoxReply { mark, count, items })
+}
+
+/// The points that have no other near them.
+pub fn lonely_reply(
+    alloc: Global,
+    map: &PlainMap,
+    mark: u64,
+    k: u32,
+    r: u64,
+) -> Result<BoxReply, NoMemory>
+    requires k_from { 1 ≤ k }
+    requires k_to { k ≤ 256 }
+    requires r_to { r ≤ 4398046511104 }
+    requires few { map.now.next ≤ 4194304 }
+    ensures { IfOk result (λ found. found ≡ found_reply mark (lonely map.now.items r) k) }
+{
+    let tree = tree_of(alloc, map)?;
+    let found = lonely(alloc, &tree, r, k)?;
+    Ok(BoxReply {
+        mark,
+        count: found.count,
+        items: found.items,
+    })
+}
+
+/// The clusters.
+pub fn clusters_reply(
+    alloc: Global,
+    map: &PlainMap,
+    mark: u64,
+    k: u32,
+    r: u64,
+) -> Result<ClusterReply, NoMemory>
+    requires k_from { 1 ≤ k }
+    requires k_to { k ≤ 256 }
+    requires r_to { r ≤ 4398046511104 }
+    requires few { map.now.next ≤ 4194304 }
+    ensures { IfOk result (λ found. found ≡ clusters_reply mark (clusters map.now.items r) k) }
+{
+    let tree = tree_of(alloc, map)?;
+    let found = clusters(alloc, &tree, r, k)?;
+    Ok(ClusterReply {
+        mark,
+        count: found.count,
+        groups: found.groups,
+    })
+}
+
+fn tree_of(alloc: Global, map: &PlainMap) -> Result<Tree, NoMemory>
+    requires { map.now.next ≤ 4194304 }
+    ensures { IfOk result (λ t. contents t ≡ map.now.items) }
+{
+    tree_by::<Brand>(alloc, map, Blank::new(1))
+}
+
+// Nobody asks how many nodes are made.
+fn tree_by<L: Ledger>(alloc: Global, map: &PlainMap, blank: Blank) -> Result<Tree, NoMemory>
+    requires few { map.now.next ≤ 4194304 }
+    requires name { blank.name ≡ L.name }
+    requires parts { blank.parts ≡ L.parts }
+    requires some { blank.parts ≡ 1 }
+    ensures { IfOk result (λ t. contents t ≡ map.now.items) }
+{
+    // Says that the items are contents.
+    let _ = map.next();
+    let items = map.items(alloc)?;
+    let mut steps: Steps<L> = Steps::new(blank);
+    Tree::build(alloc, items.as_slice(), &mut steps)
+}
+
+// How many live items are so near.
+fn near_count(items: &[Item], next: u32, point: &Point, limit: u128) -> u32
+    requires { AreContents 0 next items.now }
+    ensures { result ≡ length (filter (λ i. is_live i.label && is_near point.now limit i) items.now) }
+{
+    items.iter().filter(|i| finds(point, limit, i)).count() as u32
+}
+
+// The first of them, as many as are asked for.
+fn first_near(
+    alloc: Global,
+    items: &[Item],
+    point: &Point,
+    limit: u128,
+    most: usize,
+) -> Result<Items, NoMemory>
+    ensures { IfOk result (λ found. found ≡ take most (filter (λ i. is_live i.label && is_near point.now limit i) items.now)) }
+{
+    let mut found = Items::new(alloc);
+    for item in items {
+        if found.len() == most {
+            return Ok(found);
+        }
+        if finds(point, limit, item) {
+            found.push(*item)?;
+        }
+    }
+    Ok(found)
+}
+
+fn finds(point: &Point, limit: u128, item: &Item) -> bool
+    ensures { result ≡ (is_live item.now.label && is_near point.now limit item.now) }
+{
+    item.label == Label::Live && dist2(point, &item.point) <= limit
+}

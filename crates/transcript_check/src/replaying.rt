@@ -1,0 +1,85 @@
+//! Replaying a history on the plain map, and comparing each line with its reply.
+ghost use Rattle.std.specs.Prelude.{◌≡◌, ◌+◌, ◌≤◌, length, IfOk, MatchOption};
+ghost use Rattle.std.specs.Bool.{Decides};
+ghost use Rattle.std.specs.Option.{ForSome, option_copied};
+ghost use Rattle.map_fold.specs.Fold.{fold_from};
+ghost use Rattle.scan_log.specs.Legal.{IsLegal};
+ghost use Rattle.scan_log.specs.Plain.{IsPlain};
+ghost use Rattle.scan_log.specs.Transcript.{reply_text, marked_updates};
+ghost use Rattle.transcript_check.specs.Told.{changes_of, lines_of, lines_under, marks_of, points_in_all, reply_at, updates_of};
+ghost use Rattle.transcript_check.specs.Verdicts.{IsFirstOther};
+
+use crate::answers::reply_to;
+use crate::lines::{Told, command_at};
+use crate::order::{Marked, places_by_mark};
+use map_fold::{NoMemory, PlainMap, Settings};
+use scan_log::{Command, Format, PlainScript, reply_line};
+use std::alloc::Global;
+
+/// The place of the first line that isn't its reply's, from 0.
+pub fn first_other(
+    alloc: Global,
+    script: &PlainScript,
+    told: &[Told],
+    updates: &[Marked],
+) -> Result<Option<usize>, NoMemory>
+    requires legal { IsLegal script.now.commands (marks_of told.now) }
+    requires many { length told.now ≡ length script.now.commands + 1 }
+    requires updates { updates_of updates.now ≡ marked_updates script.now.commands (marks_of told.now) }
+    ensures { IfOk result (λ r. MatchOption r (lines_of told.now ≡ lines_under script.now (marks_of told.now))
+        (λ place. IsFirstOther (lines_under script.now (marks_of told.now)) (lines_of told.now) (place + 1))) }
+{
+    let commands = script.commands();
+    let settings = script.settings();
+    let format = script.format();
+    let places = places_by_mark(alloc, told)?;
+    let mut map = PlainMap::new(alloc);
+    let mut level = 0;
+    let mut first = told.len();
+    for at in places.as_slice() {
+        let mark = at.mark as usize;
+        map = advanced(map, settings, &updates[level..mark])?;
+        level = mark;
+        if at.place < first {
+            let command = command_at(commands, at.place);
+            if !is_told(alloc, &map, format, command, &told[at.place])? {
+                first = at.place;
+            }
+        }
+    }
+    if first < told.len() {
+        Ok(Some(first))
+    } else {
+        Ok(None)
+    }
+}
+
+// The map after these updates.
+fn advanced(map: PlainMap, settings: &Settings, updates: &[Marked]) -> Result<PlainMap, NoMemory>
+    requires { map.next + points_in_all (changes_of updates.now) ≤ 4194304 }
+    ensures { IfOk result (λ m. m ≡ fold_from settings.now.voxel (changes_of updates.now) map) }
+{
+    let mut map = map;
+    for marked in updates {
+        map = map.apply(settings, marked.update)?;
+    }
+    Ok(map)
+}
+
+// Whether the line is that of its reply on this map.
+fn is_told(
+    alloc: Global,
+    map: &PlainMap,
+    format: Format,
+    command: Option<&Command>,
+    told: &Told,
+) -> Result<bool, NoMemory>
+    requires good { ForSome (option_copied command) IsPlain }
+    requires few { map.now.next ≤ 4194304 }
+    ensures { IfOk result (λ same. Decides same (told.now.line.now ≡ reply_text format (option_copied command.entry) (reply_at map.now.items (option_copied command.entry) told.now.mark))) }
+{
+    let reply = reply_to(alloc, map, command, told.mark as u64)?;
+    let mut line = Vec::new(alloc);
+    reply_line(&mut line, format, command, &reply)?;
+    Ok(told.line == line.as_slice())
+}
