@@ -40,9 +40,11 @@ use transcript_check::check;
 
 /// Reads a log to its end, runs it, and writes its transcript to out, or to notes a line of why not; or does the same of a
 /// generated script, for which no log is read. Nothing is written to out before the whole text stands, and a fault of notes
-/// doesn't change the answer. Takes memory of a small multiple of the log's length and of the hits that it asks for. The words `run` have each caller's commands run
-/// on a thread of its own; the gate is told of each build and each reply, and may hold them up. The words `check` with a number have so many bytes taken for the log, or all
-/// where there are fewer, and those behind for a transcript of it: what is written is the line of the verdict, which costs the log's updates on the plain map.
+/// doesn't change the answer. Takes memory of a small multiple of the log's length and of the hits that it asks for. The words
+/// `run` have each caller's commands run on a thread of its own; the gate is told of each build and each reply, and may hold
+/// them up. The words `check` have so many bytes taken for the log as they say, or all where fewer come, and those behind for a
+/// transcript of it: what is written is the line of the verdict. That costs the log's updates on the plain map, and for each
+/// query a scan of it.
 pub fn run<H: Threads + Wait + Sync, R: Source, W: Sink, E: Sink, G: Gate + Sync>(
     rt: &H,
     alloc: Global,
