@@ -101,7 +101,10 @@ fn each_legal_order_of_two_callers_is_legal(rt: HostRuntime) -> Result<(), Fail>
             "@1 ok 1\n@2 ok 2\n@2 near 1 | 0 100 0 0 10000\n",
             "illegal marks\n",
         ),
-        ("@1 ok 1\n@2 ok 1\n@2 near 2 | 1 1 0 0 1\n", "illegal marks\n"),
+        (
+            "@1 ok 1\n@2 ok 1\n@2 near 2 | 1 1 0 0 1\n",
+            "illegal marks\n",
+        ),
     ] {
         let input = format!(in alloc; "{TWO_CALLERS}{lines}{end}")?;
         assert_found(&rt, alloc, "check 74", input.as_bytes(), want)?;
@@ -140,7 +143,11 @@ fn a_faulty_log_gets_no_verdict(rt: HostRuntime) -> Result<(), Fail> {
     for (words, input, note) in [
         ("check 0", "", "line 1: no header\n"),
         ("check 9", "", "line 1: no header\n"),
-        ("check 0", "end 0 live 0 suspended 0\n", "line 1: no header\n"),
+        (
+            "check 0",
+            "end 0 live 0 suspended 0\n",
+            "line 1: no header\n",
+        ),
         (
             "check 40",
             "ikdmap 1 voxel 200 large 1500\n@1 add 1 2 3\n@1 ok 1\nend 1 live 1 suspended 0\n",

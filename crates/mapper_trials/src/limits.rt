@@ -37,7 +37,13 @@ fn a_log_has_at_most_so_many_bytes(rt: HostRuntime) -> Result<(), Fail> {
         // No more is read than the byte that is one too many.
         ("run", 268_435_467, Status::OverLimit, "log too long\n", 10),
         // Behind the first bytes there may be as many as a log may have.
-        ("check 8", 268_435_467, Status::OverLimit, "log too long\n", 2),
+        (
+            "check 8",
+            268_435_467,
+            Status::OverLimit,
+            "log too long\n",
+            2,
+        ),
     ] {
         let words = words_of(alloc, words)?;
         let mut log = Comment {

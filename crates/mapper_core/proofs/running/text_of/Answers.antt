@@ -14,15 +14,13 @@ found_in : (input : Option (List ℕ)) (bytes : List ℕ) (n : ℕ) (x : ScriptA
 found_in None bytes n x v all found = tt
 found_in (Some b) bytes n x v all found = subst (λ z. IsVerdict x (drop n z) v) (sym all) found
 
-check_made : (a : Ask) (n : ℕ) (log : LogSeen) (x : ScriptAt) (bytes lines : List ℕ) → a ≡ Check n → Says a log x → IfSome log.left (λ b. b ≡ bytes)
+check_made : (a : Ask) (n : ℕ) (log : LogSeen) (x : ScriptAt) (bytes lines : List ℕ) → a ≡ Check n → Says (Check n) log x → IfSome log.left (λ b. b ≡ bytes)
     → IsVerdictLine x n (Some bytes) lines → IsTextOf a log lines
-check_made a n log x bytes lines is said all line =
-    subst (λ b. Says b log x → IsTextOf b log lines) (sym is)
-    (λ says. record {
-      script = x;
-      said = says;
-      printed = record { verdict = line.verdict; found = found_in log.left bytes n x line.verdict all line.found; told = line.told };
-    }) said
+check_made a n log x bytes lines is said all line = subst (λ b. IsTextOf b log lines) (sym is) (record {
+  script = x;
+  said = said;
+  printed = record { verdict = line.verdict; found = found_in log.left bytes n x line.verdict all line.found; told = line.told };
+})
 
 pub returns-in_ok-check_text-in-Check-clause-text : goal.returns-in_ok-check_text-in-Check-clause-text
 returns-in_ok-check_text-in-Check-clause-text g c =

@@ -1,5 +1,6 @@
-use Rattle.std.proofs.Common.{◌≡◌, ℕ, ◌≤◌, List, decimal, Option, Result, Ok, Err, IfSome, IfNone, sym, ap, ◌∙◌, arith}
-use Rattle.std.specs.Prelude.{result_ok, ◌≢◌}
+use Rattle.std.proofs.Common.{◌≡◌, ℕ, ◌≤◌, List, decimal, Result, Ok, Err, IfSome, IfNone, sym, ap, ◌∙◌, arith}
+use Rattle.std.specs.Prelude.{◌≢◌}
+use Rattle.std.specs.Result.{result_ok}
 use Rattle.scan_log.specs.declared.fault.LogCause.{LogCause}
 use Rattle.scan_log.specs.Numbers.{natural_in}
 use Rattle.scan_log.proofs.NumbersAgain.{natural_in-decimal}
@@ -18,7 +19,7 @@ length_none text (Err e) read = λ n few is.
     cc
 
 pub returns-clause-some : goal.returns-clause-some
-returns-clause-some c = rw c.ok.ensures (length_some c.args.text.now c.natural_in.result (c.natural_in.ensures.value ∙ ap (natural_in 0 268435456) c.as_bytes.ensures.value))
+returns-clause-some c = rw c.ok.ensures.value (length_some c.args.text.now c.natural_in.result (c.natural_in.ensures.value ∙ ap (natural_in 0 268435456) c.as_bytes.ensures.value))
 
 pub returns-clause-none : goal.returns-clause-none
-returns-clause-none c = rw c.ok.ensures (length_none c.args.text.now c.natural_in.result (c.natural_in.ensures.value ∙ ap (natural_in 0 268435456) c.as_bytes.ensures.value))
+returns-clause-none c = rw c.ok.ensures.value (length_none c.args.text.now c.natural_in.result (c.natural_in.ensures.value ∙ ap (natural_in 0 268435456) c.as_bytes.ensures.value))
