@@ -11,7 +11,7 @@ use Rattle.scan_log.specs.declared.command.Command.{Command}
 use Rattle.scan_log.specs.declared.command.Command.TheVariants.{Change, Near, Nears, Inside, Ball, Lonely, Clusters, Pose, Sync}
 use Rattle.scan_log.specs.declared.reply.Reply.{Reply}
 use Rattle.scan_log.specs.Scripts.{ScriptAt, submitted, points_of}
-use Rattle.scan_log.specs.Legal.{AreLegalReplies}
+use Rattle.scan_log.specs.Legal.{counted, AreLegalReplies}
 use Rattle.scan_log.specs.Transcript.{totals_reply, mark_of}
 use Rattle.mapper_core.specs.Told.{is_by, raised, Told}
 use Rattle.mapper_core.specs.Mine.{updates_by, Ran, Stopped, Turned}
@@ -196,8 +196,8 @@ standing_end s ps rs ending standing total =
     let g = all_ones cs in
     told_is_legal s h (λ x. 0) rs standing.lasts ending standing.told (omega arith) total
 
-pub ended_is_legal : (s : ScriptAt) (ps : List Seen) (rs : List Reply) → StandingAtEnd s.sizes.voxel s.commands ps rs → AreLegalReplies s rs
-ended_is_legal s ps rs e =
+pub ended_is_legal : (n : ℕ) (s : ScriptAt) (ps : List Seen) (rs : List Reply) → StandingAtEnd s.sizes.voxel n s.commands ps rs → AreLegalReplies s rs
+ended_is_legal n s ps rs e =
     subst (λ z. AreLegalReplies s z) (sym e.replies) (standing_end s ps e.front e.ending e.standing (e.total.1 e.standing.history e.standing.met))
 
 all_replied : (voxel : ℕ) (h : List Entry) (lows : ℕ → ℕ) (cs : List Command) (rs : List Reply) (highs : ℕ → ℕ) (ending : Reply)
@@ -208,11 +208,12 @@ all_replied voxel h lows (c ∷ cs) [] highs ending t total = absurd t
 all_replied voxel h lows (c ∷ cs) (r ∷ rs) highs ending t total =
     ((t.0 (anyone c) (anyone_concerned c)).reply, all_replied voxel h (raised lows c (mark_of r)) cs rs highs ending t.1 total)
 
-pub have_ended : (s : ScriptAt) (ps : List Seen) (rs : List Reply) → StandingAtEnd s.sizes.voxel s.commands ps rs → HaveEnded s ps rs
-have_ended s ps rs e =
+pub have_ended : (n : ℕ) (s : ScriptAt) (ps : List Seen) (rs : List Reply) → StandingAtEnd s.sizes.voxel n s.commands ps rs → HaveEnded n s ps rs
+have_ended n s ps rs e =
     let t : Standing s.sizes.voxel s.commands ps e.front = e.standing in
     record {
       history = t.history;
+      callers = t.order ∙ ap (counted 1) e.all;
       seen = t.met;
       only = t.only;
       done = t.done;

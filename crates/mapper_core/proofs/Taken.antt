@@ -4,14 +4,16 @@ use Rattle.std.specs.Bool.{Decides}
 use Rattle.std.proofs.lemmas.Bool.Decides.{nat_tests}
 use Rattle.std.proofs.lemmas.Slice.Eq.{bytes_eq-Decides}
 use Rattle.std.specs.Fmt.{digits}
+use Rattle.std.specs.Prelude.{option_and_then}
 use Rattle.clap.specs.Words.{Text, Row, takes, first_of, one_of, subcommand_of, is_simple, rows_of}
 use Rattle.clap.specs.declared.parser.matches.Found.{Found}
 use Rattle.clap.proofs.OnLiterals.{clap_on_literals}
 use Rattle.clap.proofs.WalkLemmas.{first_value-rows, one_text-rows}
 use Rattle.mapper_core.specs.declared.words.Ask.{Ask}
-use Rattle.mapper_core.specs.declared.words.Ask.TheVariants.{Run, Serial, Make, Drive}
+use Rattle.mapper_core.specs.declared.words.Ask.TheVariants.{Run, Serial, Make, Drive, Check}
 use Rattle.mapper_core.specs.Asks.{CanBeDone, spelled}
 use Rattle.mapper_core.specs.CommandLine.{IsSaid, mapper}
+use Rattle.mapper_core.proofs.Digits.{taken_number}
 
 abbrev pub is_text : Text → Option Text → Bool
 is_text t None = false
@@ -30,6 +32,7 @@ is_good Run = takes mapper (argv Run) && is_met (codes "run") (codes "false") (o
 is_good Serial = takes mapper (argv Serial) && is_met (codes "run") (codes "true") (one_of (codes "serial")) (subcommand_of mapper (argv Serial))
 is_good (Make n) = takes mapper (argv (Make n)) && is_met (codes "make") (decimal n) (first_of (codes "n")) (subcommand_of mapper (argv (Make n)))
 is_good (Drive n) = takes mapper (argv (Drive n)) && is_met (codes "drive") (decimal n) (first_of (codes "n")) (subcommand_of mapper (argv (Drive n)))
+is_good (Check n) = takes mapper (argv (Check n)) && is_met (codes "check") (decimal n) (first_of (codes "n")) (subcommand_of mapper (argv (Check n)))
 
 abbrev pub all_make : ℕ → Bool
 all_make zero = true
@@ -58,6 +61,27 @@ make_good = refl
 drive_good : all_drive 200 ≡ true
 unfolding clap_on_literals digits
 drive_good = refl
+
+same_text : (t : Text) → bytes_eq t t ≡ true
+same_text t = held (bytes_eq t t) (bytes_eq-Decides t t)
+  where
+    held : (b : Bool) → Decides b (t ≡ t) → b ≡ true
+    held true d = refl
+    held false d = d.1 refl
+
+both_hold : (a b : Bool) → a ≡ true → b ≡ true → (a && b) ≡ true
+both_hold true b s t = t
+both_hold false b s t = s
+
+is_met_by : (word t : Text) (read : List Row → Option Text) (q : Option (Text × List Row)) → option_map (λ p. p.0) q ≡ Some word
+    → option_and_then (λ p. read p.1) q ≡ Some t → is_met word t read q ≡ true
+is_met_by word t read None a b = absurd (cc a)
+is_met_by word t read (Some p) a b = let named : p.0 ≡ word = cc (a) in rw (named, b) (both_hold _ _ (same_text word) (same_text t))
+
+check_good : (n : ℕ) → n ≤ 268435456 → is_good (Check n) ≡ true
+check_good n few =
+    let taken = taken_number n few in
+    both_hold _ _ taken.0 (is_met_by (codes "check") (decimal n) (first_of (codes "n")) _ taken.1 taken.2)
 
 first_of_two : (a b : Bool) → (a && b) ≡ true → a ≡ true
 first_of_two true b h = refl
@@ -88,6 +112,7 @@ good Run ask = run_good
 good Serial ask = serial_good
 good (Make n) ask = make_each n 200 make_good ask.0 ask.1
 good (Drive n) ask = drive_each n 200 drive_good ask.0 ask.1
+good (Check n) ask = check_good n ask
 
 -- the words that ask for something are taken
 pub taken : (a : Ask) → CanBeDone a → takes mapper (argv a) ≡ true
@@ -95,6 +120,7 @@ taken Run ask = first_of_two _ _ (good Run ask)
 taken Serial ask = first_of_two _ _ (good Serial ask)
 taken (Make n) ask = first_of_two _ _ (good (Make n) ask)
 taken (Drive n) ask = first_of_two _ _ (good (Drive n) ask)
+taken (Check n) ask = first_of_two _ _ (good (Check n) ask)
 
 holds_at : (b : Bool) (xs ys : List ℕ) → Decides b (xs ≡ ys) → b ≡ true → xs ≡ ys
 holds_at true xs ys d t = d.0 refl
@@ -129,6 +155,9 @@ heard (Make n) t f ask a b =
 heard (Drive n) t f ask a b =
     let m = met_is (codes "drive") (decimal n) (first_of (codes "n")) _ t (rows_of f) (second_of_two _ _ (good (Drive n) ask)) a b in
     (m.0, first_value-rows f (codes "n") ∙ m.1)
+heard (Check n) t f ask a b =
+    let m = met_is (codes "check") (decimal n) (first_of (codes "n")) _ t (rows_of f) (second_of_two _ _ (good (Check n) ask)) a b in
+    (m.0, first_value-rows f (codes "n") ∙ m.1)
 
 pub name_rows : {B : Type 0} (g : B → Text) (h : B → List Row) (o : Option B) → option_map g o ≡ option_map (λ (p : Text × List Row). p.0) (option_map (λ b. (g b, h b)) o)
 name_rows g h None = refl
@@ -144,3 +173,4 @@ met Run ask e = met_some (codes "run") (codes "false") (one_of (codes "serial"))
 met Serial ask e = met_some (codes "run") (codes "true") (one_of (codes "serial")) _ (second_of_two _ _ (good Serial ask)) e
 met (Make n) ask e = met_some (codes "make") (decimal n) (first_of (codes "n")) _ (second_of_two _ _ (good (Make n) ask)) e
 met (Drive n) ask e = met_some (codes "drive") (decimal n) (first_of (codes "n")) _ (second_of_two _ _ (good (Drive n) ask)) e
+met (Check n) ask e = met_some (codes "check") (decimal n) (first_of (codes "n")) _ (second_of_two _ _ (good (Check n) ask)) e

@@ -1,5 +1,5 @@
 -- Why a run ends, and what it has read and written by then.
-use Rattle.std.specs.Prelude.{◌≡◌, ◌≤◌, ◌⊎◌, ℕ, Bool, false, true, None, List, length, IfSome}
+use Rattle.std.specs.Prelude.{◌≡◌, ◌≤◌, ◌+◌, ◌⊎◌, ℕ, Bool, false, true, None, List, length, IfSome}
 use Rattle.std.specs.declared.option.Option.{Option}
 use Rattle.std.specs.Io.KnownBytes.{Appends, Keeps}
 use Rattle.scan_log.specs.Scripts.{ScriptAt}
@@ -11,7 +11,7 @@ use Rattle.mapper_core.specs.declared.ending.Ending.TheVariants.{Done, Usage, Re
 use Rattle.mapper_core.specs.declared.status.Status.{Status}
 use Rattle.mapper_core.specs.declared.words.Ask.{Ask}
 use Rattle.mapper_core.specs.declared.words.Ask.TheVariants as ask
-use Rattle.mapper_core.specs.Asks.{Asks, AskForLog, AskNothing}
+use Rattle.mapper_core.specs.Asks.{Asks, AskOfLog, AskNothing, log_of, most_of}
 use Rattle.mapper_core.specs.Endings.{status_of, note_of}
 use Rattle.mapper_core.specs.Generated.{generated}
 use Rattle.mapper_core.specs.Outside.{Rose, HasRead, AppendsFront}
@@ -37,60 +37,67 @@ pub record Seen : Type 0 where
   pub log : LogSeen
   pub out : OutSeen
 
--- a byte more than a log may have was read
-abbrev pub IsTooLong : LogSeen → Type 0
-IsTooLong log = HasRead log.left log.left_after (λ n. n ≡ 268435457)
+-- a byte more than the input may have was read
+abbrev pub IsTooLong : Ask → LogSeen → Type 0
+IsTooLong a log = HasRead log.left log.left_after (λ n. n ≡ most_of a + 1)
 
--- the log was read to its end and isn't too long, and this holds of its bytes, where they are told
-abbrev pub WasRead : LogSeen → (List ℕ → Type 0) → Type 0
-WasRead log P = (log.ended ≡ true) × IfSome log.left (λ bytes. (length bytes ≤ 268435456) × P bytes)
+-- the input was read to its end and isn't too long, and this holds of the log in it, where its bytes are told
+abbrev pub WasRead : Ask → LogSeen → (List ℕ → Type 0) → Type 0
+WasRead a log P = (log.ended ≡ true) × IfSome log.left (λ bytes. (length bytes ≤ most_of a) × P (log_of a bytes))
 
 -- the log spells the script, and has no fault
-abbrev pub Says : LogSeen → ScriptAt → Type 0
-Says log s = WasRead log (λ bytes. Spells bytes s × (first_fault bytes ≡ None))
+abbrev pub Says : Ask → LogSeen → ScriptAt → Type 0
+Says a log s = WasRead a log (λ bytes. Spells bytes s × (first_fault bytes ≡ None))
 
 -- it is the log's first fault, and no script is spelled
-abbrev pub HasFault : LogSeen → FaultAt → Type 0
-HasFault log f = WasRead log (λ bytes. IsFirstFault bytes f.line f.cause)
+abbrev pub HasFault : Ask → LogSeen → FaultAt → Type 0
+HasFault a log f = WasRead a log (λ bytes. IsFirstFault bytes f.line f.cause)
 
 -- why no script was read from the log
-abbrev pub NotRead : LogSeen → Ending → Type 0
-NotRead log TooLong = IsTooLong log
-NotRead log (Bad line cause) = HasFault log (record { line = line; cause = cause })
-NotRead log ReadFault = (log.ended ≡ false) × Rose log.faults log.faults_after × HasRead log.left log.left_after (λ n. n ≤ 268435456)
-NotRead log NoMemory = Unit {0}
-NotRead log Done = ⊥
-NotRead log Usage = ⊥
-NotRead log WriteFault = ⊥
+abbrev pub NotRead : Ask → LogSeen → Ending → Type 0
+NotRead a log TooLong = IsTooLong a log
+NotRead a log (Bad line cause) = HasFault a log (record { line = line; cause = cause })
+NotRead a log ReadFault = (log.ended ≡ false) × Rose log.faults log.faults_after × HasRead log.left log.left_after (λ n. n ≤ most_of a)
+NotRead a log NoMemory = Unit {0}
+NotRead a log Done = ⊥
+NotRead a log Usage = ⊥
+NotRead a log WriteFault = ⊥
 
 -- what is asked for is done on this script: on the log's, or on the one that is generated
 abbrev pub IsDoneOn : Ask → LogSeen → ScriptAt → Type 0
-IsDoneOn ask.Run log s = Says log s
-IsDoneOn ask.Serial log s = Says log s
+IsDoneOn ask.Run log s = Says ask.Run log s
+IsDoneOn ask.Serial log s = Says ask.Serial log s
 IsDoneOn (ask.Make n) log s = s ≡ generated n
 IsDoneOn (ask.Drive n) log s = s ≡ generated n
+IsDoneOn (ask.Check n) log s = Says (ask.Check n) log s
 
--- why there is no script to do it on: the log's cause, or want of memory
-abbrev pub IsUndone : Ask → LogSeen → Ending → Type 0
-IsUndone ask.Run log e = NotRead log e
-IsUndone ask.Serial log e = NotRead log e
-IsUndone (ask.Make n) log e = e ≡ NoMemory
-IsUndone (ask.Drive n) log e = e ≡ NoMemory
+-- The text is what is printed of such a script.
+pub record IsTextOf (a : Ask) (log : LogSeen) (lines : List ℕ) : Type 0 where
+  pub script : ScriptAt
+  pub said : IsDoneOn a log script
+  pub printed : Prints a log.left script lines
 
--- There is a script, and what the words make of it has been written so far.
+-- why there is no such text: the log's cause, or want of memory
+abbrev pub HasNoText : Ask → LogSeen → Ending → Type 0
+HasNoText ask.Run log e = NotRead ask.Run log e
+HasNoText ask.Serial log e = NotRead ask.Serial log e
+HasNoText (ask.Make n) log e = e ≡ NoMemory
+HasNoText (ask.Drive n) log e = e ≡ NoMemory
+HasNoText (ask.Check n) log e = NotRead (ask.Check n) log e
+
+-- What the words ask for has been written so far.
 pub record HasPrinted (s : Seen) (so_far : List ℕ → Type 0) : Type 0 where
   pub ask : Ask
   pub asked : Asks ask s.words
-  pub script : ScriptAt
-  pub said : IsDoneOn ask s.log script
   pub lines : List ℕ
-  pub printed : Prints ask script lines
+  pub text : IsTextOf ask s.log lines
   pub written : so_far lines
 
 -- no script was read, and out got nothing
 pub record HasRefused (s : Seen) (e : Ending) : Type 0 where
-  pub asked : AskForLog s.words
-  pub unread : NotRead s.log e
+  pub ask : Ask
+  pub asked : AskOfLog ask s.words
+  pub unread : NotRead ask s.log e
   pub kept : Keeps s.out.held s.out.held_after
 
 -- why a run ended so

@@ -4,7 +4,7 @@ use Rattle.clap.specs.Words.{App, Rule, Text, first_value, one_text, new_app, ne
 use Rattle.clap.specs.declared.parser.matches.Found.{Found}
 use Rattle.clap.specs.declared.builder.ArgAction.TheVariants.{SetTrue, Set}
 use Rattle.mapper_core.specs.declared.words.Ask.{Ask}
-use Rattle.mapper_core.specs.declared.words.Ask.TheVariants.{Run, Serial, Make, Drive}
+use Rattle.mapper_core.specs.declared.words.Ask.TheVariants.{Run, Serial, Make, Drive, Check}
 use Rattle.mapper_core.specs.Asks.{spelled}
 
 -- the flag --serial
@@ -18,15 +18,14 @@ number = record (new_rule (codes "n")) { action = Some Set }
 abbrev pub run : App
 run = with_rule (new_app (codes "run")) serial
 
-abbrev pub make : App
-make = with_rule (new_app (codes "make")) number
+-- a command that takes such a value
+abbrev pub numbered : Text → App
+numbered name = with_rule (new_app name) number
 
-abbrev pub drive : App
-drive = with_rule (new_app (codes "drive")) number
-
--- the program: run, make and drive
+-- the program: run, make, drive and check
 abbrev pub mapper : App
-mapper = with_subcommand (with_subcommand (with_subcommand (new_app (codes "mapper")) run.top) make.top) drive.top
+mapper = with_subcommand (with_subcommand (with_subcommand (with_subcommand (new_app (codes "mapper")) run.top)
+    (numbered (codes "make")).top) (numbered (codes "drive")).top) (numbered (codes "check")).top
 
 -- a subcommand of this name, with what was found in it, asks for it
 abbrev pub IsSaid : Ask → Text → Found → Type 0
@@ -34,6 +33,7 @@ IsSaid Run t f = (t ≡ codes "run") × (one_text f (codes "serial") ≡ Some (c
 IsSaid Serial t f = (t ≡ codes "run") × (one_text f (codes "serial") ≡ Some (codes "true"))
 IsSaid (Make n) t f = (t ≡ codes "make") × (first_value f (codes "n") ≡ Some (decimal n))
 IsSaid (Drive n) t f = (t ≡ codes "drive") × (first_value f (codes "n") ≡ Some (decimal n))
+IsSaid (Check n) t f = (t ≡ codes "check") × (first_value f (codes "n") ≡ Some (decimal n))
 
 -- something was heard that is spelled so
 abbrev pub IsHeard : Option Ask → List Text → Type 0

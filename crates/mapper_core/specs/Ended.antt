@@ -7,6 +7,7 @@ use Rattle.scan_log.specs.declared.command.Command.{Command}
 use Rattle.scan_log.specs.declared.reply.Reply.{Reply}
 use Rattle.scan_log.specs.Scripts.{ScriptAt}
 use Rattle.scan_log.specs.Transcript.{totals_reply}
+use Rattle.scan_log.specs.Legal.{counted}
 use Rattle.mapper_core.specs.Told.{IsReply}
 use Rattle.mapper_core.specs.Meetings.{AllDone}
 
@@ -19,8 +20,10 @@ AllReplied voxel h [] (r ∷ s ∷ rs) = ⊥
 AllReplied voxel h (c ∷ cs) [] = ⊥
 
 -- All passes have seen one history, in which each caller's updates are those that the script has of it, and the replies are those of this history.
-pub record HaveEnded (s : ScriptAt) (ps : List Seen) (rs : List Reply) : Type 0 where
+pub record HaveEnded (n : ℕ) (s : ScriptAt) (ps : List Seen) (rs : List Reply) : Type 0 where
   pub history : List Entry
+  -- those of the callers from 1 to n
+  pub callers : callers_of ps ≡ counted 1 n
   pub seen : AllMet history ps
   pub only : AllOf (callers_of ps) history
   pub done : AllDone s.commands ps

@@ -19,7 +19,7 @@ status_of NoMemory = status.NoMemory
 -- its line in notes
 abbrev pub note_of : Ending → List ℕ
 note_of Done = []
-note_of Usage = codes "usage: mapper run | run --serial | make N | drive N\n"
+note_of Usage = codes "usage: mapper run | run --serial | make N | drive N | check N\n"
 note_of ReadFault = codes "read fault\n"
 note_of TooLong = codes "log too long\n"
 note_of (Bad line cause) = fault_text (record { line = line; cause = cause }) ++ 10 ∷ []

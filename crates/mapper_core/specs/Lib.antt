@@ -5,6 +5,7 @@ pub mod CommandLine
 pub mod Generated
 pub mod Summary
 pub mod Endings
+pub mod Verdicts
 pub mod Prints
 pub mod Causes
 pub mod Turns

@@ -138,9 +138,11 @@ abbrev pub IsTotal : ℕ → List Seen → Reply → Type 0
 IsTotal voxel ps r = (0 < length ps) × ((h : List Entry) → AllMet h ps → r ≡ totals_reply voxel (updates h) (length h))
 
 -- all callers have met after all commands, and the last reply tells what is held
-pub record StandingAtEnd (voxel : ℕ) (cs : List Command) (ps : List Seen) (rs : List Reply) : Type 0 where
+pub record StandingAtEnd (voxel n : ℕ) (cs : List Command) (ps : List Seen) (rs : List Reply) : Type 0 where
   pub front : List Reply
   pub ending : Reply
   pub replies : rs ≡ front ++ ending ∷ []
   pub standing : Standing voxel cs ps front
   pub total : IsTotal voxel ps ending
+  -- all have come back
+  pub all : length ps ≡ n

@@ -15,7 +15,7 @@ pub enum Ending {
     Usage,
     /// The log failed while it was read.
     ReadFault,
-    /// The log has more bytes than a log may have.
+    /// The log, or what stands behind it, has more bytes than it may have.
     TooLong,
     /// The log has a fault.
     Bad {

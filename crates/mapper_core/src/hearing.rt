@@ -1,12 +1,13 @@
 //! What `clap` reads from the words.
-ghost use Rattle.std.specs.Prelude.{◌≡◌, ◌≤◌, ℕ, codes, decimal, Some, IfSome, IfOk, MatchOption, ◌∷◌, map};
-ghost use Rattle.clap.specs.Words.{app_of, first_value, found_of, one_text};
+ghost use Rattle.std.specs.Prelude.{◌≡◌, false, codes, Some, IfSome, IfOk, ◌∷◌, map};
+ghost use Rattle.clap.specs.Words.{app_of, found_of, one_text};
+ghost use Rattle.clap.specs.declared.builder.command.Command.TheViews.{out-Command as fields_of};
 ghost use Rattle.mapper_core.specs.declared.words.Ask.{Ask};
 ghost use Rattle.mapper_core.specs.declared.words.Ask.TheVariants as asks;
 ghost use Rattle.mapper_core.specs.Asks.{CanBeDone, spelled};
-ghost use Rattle.mapper_core.specs.CommandLine.{IsHeard, IsSaid, mapper};
+ghost use Rattle.mapper_core.specs.CommandLine.{IsHeard, IsSaid, mapper, numbered, run};
 
-use crate::spelling::scans_of;
+use crate::spelling::{length_of, scans_of};
 use crate::words::Ask;
 use clap::error::ErrorKind;
 use clap::{Arg, ArgAction, ArgMatches, Command};
@@ -34,22 +35,38 @@ pub fn heard(alloc: Global, argv: &[&str]) -> Result<Option<Ask>, AllocError>
     }
 }
 
-// `run`, `run --serial`, `make n` and `drive n`.
+// `run`, `run --serial`, `make n`, `drive n` and `check n`.
 fn command_line<'a>(alloc: Global) -> Result<Command<'a>, AllocError>
     ensures { IfOk result (λ c. app_of c ≡ mapper) }
+{
+    let run = run_command(alloc)?;
+    let make = numbered(alloc, "make")?;
+    let drive = numbered(alloc, "drive")?;
+    let check = numbered(alloc, "check")?;
+    Command::new(alloc, "mapper")
+        .subcommand(run)?
+        .subcommand(make)?
+        .subcommand(drive)?
+        .subcommand(check)
+}
+
+fn run_command<'a>(alloc: Global) -> Result<Command<'a>, AllocError>
+    ensures app { IfOk result (λ c. app_of c ≡ run) }
+    ensures local { IfOk result (λ c. (fields_of c).has_globals ≡ false) }
 {
     let serial = Arg::new(alloc, "serial")
         .long("serial")
         .action(ArgAction::SetTrue);
-    let run = Command::new(alloc, "run").arg(serial)?;
-    let made = Arg::new(alloc, "n").action(ArgAction::Set);
-    let make = Command::new(alloc, "make").arg(made)?;
-    let driven = Arg::new(alloc, "n").action(ArgAction::Set);
-    let drive = Command::new(alloc, "drive").arg(driven)?;
-    Command::new(alloc, "mapper")
-        .subcommand(run)?
-        .subcommand(make)?
-        .subcommand(drive)
+    Command::new(alloc, "run").arg(serial)
+}
+
+// The command of this name that takes a number.
+fn numbered<'a>(alloc: Global, name: &'a str) -> Result<Command<'a>, AllocError>
+    ensures app { IfOk result (λ c. app_of c ≡ numbered name.now) }
+    ensures local { IfOk result (λ c. (fields_of c).has_globals ≡ false) }
+{
+    let number = Arg::new(alloc, "n").action(ArgAction::Set);
+    Command::new(alloc, name).arg(number)
 }
 
 // What the subcommand of this name asks for.
@@ -60,14 +77,17 @@ fn said(name: &str, inner: &ArgMatches<'_>) -> Option<Ask>
     if name == "run" {
         return Some(run_of(inner));
     }
-    let Some(scans) = count_of(inner) else {
+    let Some(number) = inner.get_str("n") else {
         return None;
     };
     if name == "make" {
-        return Some(Ask::Make(scans));
+        return Some(Ask::Make(scans_of(number)?));
     }
     if name == "drive" {
-        return Some(Ask::Drive(scans));
+        return Some(Ask::Drive(scans_of(number)?));
+    }
+    if name == "check" {
+        return Some(Ask::Check(length_of(number)?));
     }
     None
 }
@@ -82,14 +102,4 @@ fn run_of(inner: &ArgMatches<'_>) -> Ask
     } else {
         Ask::Run
     }
-}
-
-fn count_of(inner: &ArgMatches<'_>) -> Option<u32>
-    ensures from_to { IfSome result (λ n. (1 ≤ n) × (n ≤ 200)) }
-    ensures heard { (n : ℕ) → 1 ≤ n → n ≤ 200 → first_value (found_of inner.now) (codes "n") ≡ Some (decimal n) → MatchOption result ⊥ (λ m. decimal m ≡ decimal n) }
-{
-    let Some(text) = inner.get_str("n") else {
-        return None;
-    };
-    scans_of(text)
 }

@@ -7,6 +7,7 @@ mod draws;
 mod ending;
 mod generated;
 mod hearing;
+mod input;
 mod mem;
 mod neighbours;
 mod notes;
@@ -18,6 +19,7 @@ mod spelling;
 mod status;
 mod summing;
 mod sure;
+mod verdicts;
 mod words;
 mod writing;
 

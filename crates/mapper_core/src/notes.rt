@@ -20,7 +20,7 @@ pub fn tell<E: Sink>(alloc: Global, notes: &mut E, ending: Ending)
         Ending::Done => tell_line(notes, b""),
         Ending::Usage => tell_line(
             notes,
-            b"usage: mapper run | run --serial | make N | drive N\n",
+            b"usage: mapper run | run --serial | make N | drive N | check N\n",
         ),
         Ending::ReadFault => tell_line(notes, b"read fault\n"),
         Ending::TooLong => tell_line(notes, b"log too long\n"),

@@ -1,13 +1,10 @@
 //! Reading a log to its end.
-ghost use Rattle.std.specs.Prelude.{◌≡◌, ◌≤◌, false, true, vec_len, IfOk, OnOk, IsErrOf};
+ghost use Rattle.std.specs.Prelude.{◌≡◌, ◌≤◌, ◌+◌, false, true, vec_len, IfOk, OnOk, IsErrOf};
 ghost use Rattle.std.specs.Io.KnownBytes.{Consumes, IsAtEnd};
 ghost use Rattle.mapper_core.specs.Outside.{HasCause, HasRead};
 
 use crate::outside::{Failed, Source};
 use std::alloc::{AllocError, Global};
-
-/// The most bytes that a log may have.
-const MAX_BYTES: usize = 268_435_456;
 
 /// The bytes that are asked for at a time.
 const PIECE: usize = 65_536;
@@ -42,22 +39,23 @@ impl From<AllocError> for ReadStop {
     }
 }
 
-/// All the bytes of the log. Reading stops at the first byte past the limit.
-pub fn read_log<R: Source>(alloc: Global, log: &mut R) -> Result<Vec<u8>, ReadStop>
-    ensures all { IfOk result (λ v. Consumes (R.left log.old) (R.left log.new) v.items) }
-    ensures end { OnOk result (IsAtEnd (R.left log.new)) }
-    ensures ended { OnOk result (R.ended log.new ≡ true) }
-    ensures few { IfOk result (λ v. vec_len v ≤ 268435456) }
-    ensures reads { HasRead (R.left log.old) (R.left log.new) (λ n. n ≤ 268435457) }
-    ensures too_long { IsErrOf result ReadStop.TooLong → HasRead (R.left log.old) (R.left log.new) (λ n. n ≡ 268435457) }
-    ensures failed { IsErrOf result ReadStop.Failed → (R.ended log.new ≡ false) × HasRead (R.left log.old) (R.left log.new) (λ n. n ≤ 268435456) }
-    ensures cause { HasCause ReadStop.Failed (R.faults log.old) (R.faults log.new) result }
+/// All the bytes of the input. Reading stops at the first byte past so many.
+pub fn read_all<R: Source>(alloc: Global, most: u32, input: &mut R) -> Result<Vec<u8>, ReadStop>
+    ensures all { IfOk result (λ v. Consumes (R.left input.old) (R.left input.new) v.items) }
+    ensures end { OnOk result (IsAtEnd (R.left input.new)) }
+    ensures ended { OnOk result (R.ended input.new ≡ true) }
+    ensures few { IfOk result (λ v. vec_len v ≤ most) }
+    ensures reads { HasRead (R.left input.old) (R.left input.new) (λ n. n ≤ most + 1) }
+    ensures too_long { IsErrOf result ReadStop.TooLong → HasRead (R.left input.old) (R.left input.new) (λ n. n ≡ most + 1) }
+    ensures failed { IsErrOf result ReadStop.Failed → (R.ended input.new ≡ false) × HasRead (R.left input.old) (R.left input.new) (λ n. n ≤ most) }
+    ensures cause { HasCause ReadStop.Failed (R.faults input.old) (R.faults input.new) result }
 {
+    let most = most as usize;
     let mut bytes = Vec::new(alloc);
     let mut piece = [0; PIECE];
-    while bytes.len() <= MAX_BYTES {
-        let room = PIECE.min(MAX_BYTES + 1 - bytes.len());
-        let count = log.read(&mut piece[..room])?;
+    while bytes.len() <= most {
+        let room = PIECE.min(most + 1 - bytes.len());
+        let count = input.read(&mut piece[..room])?;
         if count == 0 {
             return Ok(bytes);
         }

@@ -5,9 +5,13 @@ ghost use Rattle.mapper_core.specs.Asks.{spelled};
 
 use crate::words::Ask;
 use itoa::Buffer;
+use scan_log::natural_in;
 
 /// The most scans that may be asked for.
 const MAX_SCANS: u32 = 200;
+
+/// The most bytes that a log may have.
+pub const MAX_LOG: u32 = 268_435_456;
 
 /// Whether the words are the one spelling of it.
 pub fn is_spelled(words: &[String], ask: Ask) -> bool
@@ -19,6 +23,7 @@ pub fn is_spelled(words: &[String], ask: Ask) -> bool
         Ask::Serial => are_two(words, "run", "--serial"),
         Ask::Make(n) => are_two(words, "make", number.format(n)),
         Ask::Drive(n) => are_two(words, "drive", number.format(n)),
+        Ask::Check(n) => are_two(words, "check", number.format(n)),
     }
 }
 
@@ -34,6 +39,14 @@ pub fn scans_of(text: &str) -> Option<u32>
         }
     }
     None
+}
+
+/// The number of bytes whose one spelling this is, if a log may have so many.
+pub fn length_of(text: &str) -> Option<u32>
+    ensures some { IfSome result (λ n. (n ≤ 268435456) × (decimal n ≡ text.now)) }
+    ensures none { IfNone result ((n : ℕ) → n ≤ 268435456 → decimal n ≢ text.now) }
+{
+    natural_in(0, MAX_LOG, text.as_bytes()).ok()
 }
 
 fn is_one(words: &[String], first: &str) -> bool

@@ -3,7 +3,7 @@
 /// How a run ended.
 #[derive(Clone, Copy, Debug, PartialEq, Eq)]
 pub enum Status {
-    /// The whole transcript was written.
+    /// The whole text was written.
     Done,
     /// The log has a fault.
     BadLog,

@@ -18,6 +18,8 @@ pub enum Ask {
     Make(u32),
     /// A run of a generated script in its order, and one line of sums.
     Drive(u32),
+    /// The verdict on what stands behind so many bytes, which are a log, as a transcript of it.
+    Check(u32),
 }
 
 /// What the words ask for, if it is something that can be done. `clap`'s reading counts only where the words are the one

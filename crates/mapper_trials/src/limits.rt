@@ -32,12 +32,20 @@ impl Source for Comment {
 #[test]
 fn a_log_has_at_most_so_many_bytes(rt: HostRuntime) -> Result<(), Fail> {
     let alloc = rt.alloc();
-    let words = words_of(alloc, "run")?;
-    for (length, want, note, left) in [
-        (268_435_456, Status::BadLog, "line 1: no header\n", 0),
+    for (words, length, want, note, left) in [
+        ("run", 268_435_456, Status::BadLog, "line 1: no header\n", 0),
         // No more is read than the byte that is one too many.
-        (268_435_467, Status::OverLimit, "log too long\n", 10),
+        ("run", 268_435_467, Status::OverLimit, "log too long\n", 10),
+        // Behind the first bytes there may be as many as a log may have.
+        (
+            "check 8",
+            268_435_467,
+            Status::OverLimit,
+            "log too long\n",
+            2,
+        ),
     ] {
+        let words = words_of(alloc, words)?;
         let mut log = Comment {
             left: length,
             ended: false,

@@ -3,7 +3,7 @@ use crate::runs::{SMALLEST, ran};
 use mapper_core::Status;
 use std::test::Fail;
 
-const USAGE: &'static str = "usage: mapper run | run --serial | make N | drive N\n";
+const USAGE: &'static str = "usage: mapper run | run --serial | make N | drive N | check N\n";
 
 #[test]
 fn words_that_ask_for_nothing_are_refused(rt: HostRuntime) -> Result<(), Fail> {
@@ -29,6 +29,15 @@ fn words_that_ask_for_nothing_are_refused(rt: HostRuntime) -> Result<(), Fail> {
         "drive",
         "drive 201",
         "drive 4294967297",
+        "check",
+        "check 007",
+        "check -1",
+        "check -- 1",
+        "check 1 1",
+        "check 268435457",
+        "check 4294967296",
+        "check 18446744073709551616",
+        "check transcript",
         "help",
         "--help",
     ] {

@@ -34,7 +34,7 @@ pub fn run_commands<L: MapName + Send + Sync, G: Gate + Sync, R: Threads + Wait 
     requires new { AreNewcomers L.callers passes.items }
     requires parts { L.callers ≡ L.parts }
     requires some { 0 < L.callers }
-    ensures { IfOk result (λ r. StandingAtEnd L.voxel commands.now r.0.items r.1) }
+    ensures { IfOk result (λ r. StandingAtEnd L.voxel L.callers commands.now r.0.items r.1) }
 {
     let mut passes = passes;
     let mut replies = Replies::new(alloc);

@@ -43,7 +43,7 @@ fn beside_second<L: MapName + Send + Sync, G: Gate + Sync, R: Threads + Wait + S
     requires new { AreNewcomers L.callers passes.items }
     requires parts { L.callers ≡ L.parts }
     requires some { 0 < L.callers }
-    ensures { IfOk result (λ r. StandingAtEnd L.voxel script.now.commands r.0.items r.1) }
+    ensures { IfOk result (λ r. StandingAtEnd L.voxel L.callers script.now.commands r.0.items r.1) }
 {
     let (_, all) = join(
         rt,
@@ -55,7 +55,7 @@ fn beside_second<L: MapName + Send + Sync, G: Gate + Sync, R: Threads + Wait + S
         },
         || -> Run<L>
             requires { IsPlainScript script.now × AllByRecursion (HasCaller L.callers) script.now.commands × AreNewcomers L.callers passes.items × (L.callers ≡ L.parts) × (0 < L.callers) }
-            ensures { IfOk result (λ r. StandingAtEnd L.voxel script.entry.now.commands r.0.items r.1) }
+            ensures { IfOk result (λ r. StandingAtEnd L.voxel L.callers script.entry.now.commands r.0.items r.1) }
         {
             let all = run_commands(rt, alloc, shared, gate, bells, script.commands(), passes);
             bells.stop();
@@ -84,9 +84,9 @@ pub fn run_callers<L: MapName + Send + Sync, G: Gate + Sync, R: Threads + Wait +
     requires new { AreNewcomers L.callers passes.items }
     requires parts { L.callers ≡ L.parts }
     requires some { 0 < L.callers }
-    // All passes have seen one history, each caller's updates are those that the script has of it, and each reply is that after
-    // as many entries as its mark says.
-    ensures ended { IfOk result (λ r. HaveEnded (plain_script script.now) r.0.items r.1) }
+    // All passes come back and have seen one history, each caller's updates are those that the script has of it, and each reply is
+    // that after as many entries as its mark says.
+    ensures ended { IfOk result (λ r. HaveEnded L.callers (plain_script script.now) r.0.items r.1) }
     // The marks are legal, and the replies those of the script under them.
     ensures legal { IfOk result (λ r. AreLegalReplies (plain_script script.now) r.1) }
 {
@@ -108,7 +108,7 @@ fn run_plain<L: MapName + Send + Sync, G: Gate + Sync, R: Threads + Wait + Sync>
     requires new { AreNewcomers L.callers passes.items }
     requires parts { L.callers ≡ L.parts }
     requires some { 0 < L.callers }
-    ensures ended { IfOk result (λ r. HaveEnded script.now r.0.items r.1) }
+    ensures ended { IfOk result (λ r. HaveEnded L.callers script.now r.0.items r.1) }
     ensures legal { IfOk result (λ r. AreLegalReplies script.now r.1) }
 {
     let large = script.settings().large();
@@ -128,7 +128,7 @@ fn run_plain<L: MapName + Send + Sync, G: Gate + Sync, R: Threads + Wait + Sync>
         },
         || -> Run<L>
             requires { IsPlainScript script.now × (16 ≤ other.large) × (other.large ≤ 1000000) × (L.voxel ≡ script.now.sizes.voxel) × AllByRecursion (HasCaller L.callers) script.now.commands × AreNewcomers L.callers passes.items × (L.callers ≡ L.parts) × (0 < L.callers) }
-            ensures { IfOk result (λ r. StandingAtEnd L.voxel script.entry.now.commands r.0.items r.1) }
+            ensures { IfOk result (λ r. StandingAtEnd L.voxel L.callers script.entry.now.commands r.0.items r.1) }
         { beside_second(rt, alloc, shared, gate, &bells, other, script, passes) },
     );
     all

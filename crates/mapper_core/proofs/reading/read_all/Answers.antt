@@ -1,7 +1,7 @@
 use Rattle.std.proofs.Common.{◌++◌, take, arith, length-append}
 use Rattle.std.proofs.lemmas.List.{length-take}
 use Rattle.std.proofs.KnownBytes.{Consumes-trans}
-use Rattle.mapper_core.proofs.reading.read_log.Goals as goal
+use Rattle.mapper_core.proofs.reading.read_all.Goals as goal
 
 pub returns-in_err-extend_from_slice-clause-reads : goal.returns-in_err-extend_from_slice-clause-reads
 returns-in_err-extend_from_slice-clause-reads g c =
