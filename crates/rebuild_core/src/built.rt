@@ -109,6 +109,7 @@ impl Built {
     pub fn replay(self, alloc: Global, large: u32, ops: &[Op]) -> Result<Built, BuiltLeft>
         requires { Fit (contents self.tree) ops.now }
         ensures replayed { IfOk result (IsReplayOf self ops.now) }
+        ensures balance { IfOk result (λ b. IsEven large b.tree) }
         ensures left { IfErr result (λ l. l.built ≡ self) }
     {
         match self.replayed_by::<Brand>(alloc, large, ops, Blank::new(1)) {
@@ -192,6 +193,7 @@ impl Built {
         requires numbers { AreAmong (numbers tree) (numbers_put ops.now ++ numbers self.tree) }
         requires even { IsEven large tree }
         ensures replayed { IfOk result (IsReplayOf self ops.now) }
+        ensures balance { IfOk result (λ b. IsEven large b.tree) }
         ensures left { IfErr result (λ l. l.built ≡ self) }
     {
         let mut built = self;
