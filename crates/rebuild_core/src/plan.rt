@@ -195,6 +195,7 @@ impl MapState {
     pub fn settle(&mut self, alloc: Global) -> Result<(), NoMemory>
         ensures settled { OnOk result (IsSettleStep self.old.state self.new.state) }
         ensures same { OnErr result (self.new.state ≡ self.old.state) }
+        ensures spare { self.new.spare ≡ self.old.spare }
     {
         let planned = self.plan_settle(alloc)?;
         self.enter_step(planned);
@@ -204,6 +205,7 @@ impl MapState {
     /// Works that out. The state stays as it was.
     pub fn plan_settle(&mut self, alloc: Global) -> Result<Planned, NoMemory>
         ensures same { self.new.state ≡ self.old.state }
+        ensures spare { self.new.spare ≡ self.old.spare }
         ensures planned { IfOk result (IsSettlePlan self.old.state) }
     {
         self.settled_by::<Brand>(alloc, Blank::new(1))

@@ -45,6 +45,7 @@ impl MapState {
 
         ensures refused { IfErr result (λ l. IsSwapFault built force self.old.state l.fault) }
         ensures same { OnErr result (self.new.state ≡ self.old.state) }
+        ensures spare { self.new.spare ≡ self.old.spare }
         ensures left { IfErr result (λ l. l.built ≡ built) }
 
         // A swap that builds nothing anew makes at most a node for each side of the path, whatever the call answers.
@@ -70,6 +71,7 @@ impl MapState {
         steps: &mut Steps<L>,
     ) -> Result<Planned, SwapFault>
         ensures same { self.new.state ≡ self.old.state }
+        ensures spare { self.new.spare ≡ self.old.spare }
         ensures planned { IfOk result (IsSwapPlan built.now self.old.state) }
         ensures may { OnOk result (MaySwap built.now force self.old.state) }
 
