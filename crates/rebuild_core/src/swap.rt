@@ -29,7 +29,8 @@ pub struct SwapLeft {
 impl MapState {
     /// Puts the built value's tree in the place of its detached subtree, after the operations that the value hasn't done, and
     /// forgets that subtree. What the map holds stays. The time is that of these operations, of comparing the items, and of the
-    /// nodes above the subtree: it is not built anew, unless the value was made with another `large` and is out of balance.
+    /// nodes above the subtree: it is not built anew, unless the value was made with another `large` and is out of balance. Where
+    /// operations are left, or a node above is to be built anew, no clause says so: that is what the code does.
     ///
     /// Without force it is refused where more than 64 operations are left. Where the tree would have more than 512 levels or
     /// 4,194,304 nodes, the whole tree is built anew and all detached subtrees are forgotten.
