@@ -1,5 +1,5 @@
--- The numbers of a tree after operations.
-use Rattle.std.proofs.Common.{ℕ, List, [], ◌∷◌, ◌++◌, inl, inr, subst}
+-- The numbers of a tree after operations, and how many points they put.
+use Rattle.std.proofs.Common.{◌≡◌, ℕ, ◌+◌, List, [], ◌∷◌, ◌++◌, length, length-append, ap, ◌∙◌, inl, inr, subst}
 use Rattle.std.proofs.lemmas.List.Elements.{Contains-append_left, Contains-append_right, Contains-append_cases}
 use Rattle.map_fold.specs.declared.op.Op.{Op}
 use Rattle.map_fold.specs.Ops.{numbers_put}
@@ -19,3 +19,6 @@ among_step op ops new old all f g n k =
         | inr u ↦ whole n (Contains-append_right (first ++ rest) old n u)
       ]
     ]
+
+pub puts_step : (op : Op) (ops : List Op) → length (numbers_put (op ∷ ops)) ≡ length (numbers_put (op ∷ [])) + length (numbers_put ops)
+puts_step op ops = ap length (numbers_put-append (op ∷ []) ops) ∙ length-append (numbers_put (op ∷ [])) (numbers_put ops)

@@ -59,7 +59,7 @@ nodes-marked c a p (fork h l r) =
     (λ _. omega (arith, nodes-marked c a (composed h.pending p) l, nodes-marked c a (composed h.pending p) r)))
     (λ _. refl)
 
-levels-marked : (c : Choice) (a p : Tag) (t : Shape) → levels (marked_under c a p t) ≡ levels t
+pub levels-marked : (c : Choice) (a p : Tag) (t : Shape) → levels (marked_under c a p t) ≡ levels t
 unfolding marked_under
 levels-marked c a p leaf = refl
 levels-marked c a p (fork h l r) =

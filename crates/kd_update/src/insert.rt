@@ -21,8 +21,9 @@ use std::sync::ledger::Ledger;
 ///
 /// The point goes left where its coordinate on a node's axis is smaller than the node's, and else right. The new leaf's
 /// axis is the next one after its father's, and X in the empty tree. On the way out each node of the route that has from 10
-/// nodes on, and fewer than `large`, is built anew where it breaches a criterion. Only nodes on the route and their sons
-/// are made. Where memory is wanting, the tree is let go.
+/// nodes on, and fewer than `large`, is built anew where it breaches a criterion; but for that only nodes on the route and
+/// their sons are made. Where one is built anew, no clause says which: that is what the code does. Where memory is wanting,
+/// the tree is let go.
 pub fn put<L: Ledger>(
     alloc: Global,
     tree: Tree,

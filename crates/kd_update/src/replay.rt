@@ -1,7 +1,7 @@
 //! Operations done one after the other. Nothing here knows where they were logged.
-ghost use Rattle.std.specs.Prelude.{◌≡◌, [], ◌∷◌, ◌++◌, IfOk};
+ghost use Rattle.std.specs.Prelude.{◌≡◌, ◌+◌, ◌≤◌, [], ◌∷◌, ◌++◌, length, IfOk};
 ghost use Rattle.map_fold.specs.Ops.{Fit, numbers_put, perform, replay};
-ghost use Rattle.kd_tree.specs.Shape.{numbers};
+ghost use Rattle.kd_tree.specs.Shape.{levels, nodes, numbers};
 ghost use Rattle.kd_tree.specs.Contents.{contents};
 ghost use Rattle.kd_update.specs.Refresh.{AreAmong};
 ghost use Rattle.kd_update.specs.Update.{IsEven};
@@ -20,6 +20,9 @@ pub fn replayed(alloc: Global, tree: Tree, large: u32, ops: &[Op]) -> Result<Tre
     ensures contents { IfOk result (λ t. contents t ≡ replay (contents tree) ops.now) }
     ensures numbers { IfOk result (λ t. AreAmong (numbers t) (numbers_put ops.now ++ numbers tree)) }
     ensures balance { IsEven large tree → IfOk result (λ t. IsEven large t) }
+    // Each point that is put adds a level and a node at most.
+    ensures low { IfOk result (λ t. levels t ≤ levels tree + length (numbers_put ops.now)) }
+    ensures few { IfOk result (λ t. nodes t ≤ nodes tree + length (numbers_put ops.now)) }
 {
     replayed_by::<Brand>(alloc, tree, large, ops, Blank::new(1))
 }
@@ -39,6 +42,8 @@ fn replayed_by<L: Ledger>(
     ensures contents { IfOk result (λ t. contents t ≡ replay (contents tree) ops.now) }
     ensures numbers { IfOk result (λ t. AreAmong (numbers t) (numbers_put ops.now ++ numbers tree)) }
     ensures balance { IsEven large tree → IfOk result (λ t. IsEven large t) }
+    ensures low { IfOk result (λ t. levels t ≤ levels tree + length (numbers_put ops.now)) }
+    ensures few { IfOk result (λ t. nodes t ≤ nodes tree + length (numbers_put ops.now)) }
 {
     let mut steps: Steps<L> = Steps::new(blank);
     let mut tree = tree;
@@ -60,6 +65,8 @@ fn performed<L: Ledger>(
     ensures contents { IfOk result (λ t. contents t ≡ perform (contents tree) op.now) }
     ensures numbers { IfOk result (λ t. AreAmong (numbers t) (numbers_put (op.now ∷ []) ++ numbers tree)) }
     ensures balance { IsEven large tree → IfOk result (λ t. IsEven large t) }
+    ensures low { IfOk result (λ t. levels t ≤ levels tree + length (numbers_put (op.now ∷ []))) }
+    ensures few { IfOk result (λ t. nodes t ≤ nodes tree + length (numbers_put (op.now ∷ []))) }
 {
     match op {
         Op::Mark { choice, tag } => marked(alloc, tree, large, choice, *tag, steps),

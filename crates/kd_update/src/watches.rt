@@ -35,11 +35,11 @@ impl Watches {
     }
 
     /// How many there are.
-    pub fn len(&self) -> u32
+    pub fn len(&self) -> usize
         ensures value { result ≡ length self.now }
         ensures few { result ≤ 4 }
     {
-        self.items.len() as u32
+        self.items.len()
     }
 
     /// All of them, in order.

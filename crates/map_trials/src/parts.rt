@@ -117,7 +117,9 @@ fn an_action_that_is_pushed_into_a_detached_subtree_is_logged(rt: HostRuntime) -
     updated(alloc, &mut state, 1, Update::Restore(three))?;
     assert_eq!(rt; logged(&state), Some(2));
     let built = built(alloc, job)?;
+    assert!(rt; state.version().tree().first_breach(16).is_some());
     assert_eq!(rt; refused(alloc, &mut state, built, true), None);
+    assert!(rt; state.version().tree().first_breach(16).is_none());
     assert_eq!(rt; state.version().counts().live, 3);
     assert_eq!(rt; state.version().counts().suspended, 41);
     assert!(rt; state.detach(alloc, 1)?.is_none());

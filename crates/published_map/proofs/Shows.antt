@@ -1,11 +1,12 @@
 -- A lawful state's version shows its history.
 use Rattle.std.proofs.Common.{◌≡◌, ℕ, List, sym, ◌∙◌, subst}
 use Rattle.map_fold.specs.declared.entry.Entry.{Entry}
+use Rattle.kd_tree.specs.Contents.{contents}
 use Rattle.rebuild_core.specs.Lawful.{IsLawful, StateAt, VersionAt}
 use Rattle.published_map.specs.Versions.{IsVersionOf}
 
 pub shows : (s : StateAt) → IsLawful s → IsVersionOf s.settings.voxel s.history s.version
-shows s l = record { folded = (λ i. record { items = l.shown i; next = l.shown_next i }) ∙ l.folded; len = l.shown_len }
+shows s l = record { folded = (λ i. record { items = contents (l.shown i); next = l.shown_next i }) ∙ l.folded; len = l.shown_len }
 
 -- also where the edge, the history and the version are known by other names
 pub shows_as : (s : StateAt) (voxel : ℕ) (h : List Entry) (v : VersionAt) → IsLawful s → s.settings.voxel ≡ voxel → h ≡ s.history → v ≡ s.version → IsVersionOf voxel h v

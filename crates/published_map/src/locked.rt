@@ -1,5 +1,5 @@
 //! What lies under the lock.
-ghost use Rattle.std.specs.Prelude.{◌≡◌, ◌≤◌, IfErr, IfOk, OnErr};
+ghost use Rattle.std.specs.Prelude.{◌≡◌, ◌≤◌, IfErr, IfOk, IfSome, OnErr};
 ghost use mathlib.Core.List.{IsPrefix};
 ghost use Rattle.map_fold.specs.Ops.{Fit};
 ghost use Rattle.kd_tree.specs.Contents.{contents};
@@ -187,7 +187,8 @@ impl<L: MapName> Locked<L> {
     pub fn detach(&mut self, alloc: Global, slot: u8) -> Result<Option<Job>, NoMemory>
         requires slot_from { 1 ≤ slot }
         requires slot_to { slot ≤ 4 }
-        ensures { self.new.state.history ≡ self.old.state.history }
+        ensures history { self.new.state.history ≡ self.old.state.history }
+        ensures ticket { IfOk result (λ o. IfSome o (λ job. 1 ≤ job.ticket)) }
     {
         self.state.detach(alloc, slot)
     }

@@ -21,7 +21,7 @@ use Rattle.rebuild_core.specs.Lawful.{IsLawful, StateAt, VersionAt}
 use Rattle.rebuild_core.specs.Logs.{LogPlan, planned_parts}
 use Rattle.rebuild_core.specs.Parts.{AreEachLawful, AreLawfulParts, AreLeft, PartAt, paths, without}
 use Rattle.rebuild_core.specs.Steps.{PlannedAt}
-use Rattle.rebuild_core.specs.Swap.{IsLeftBySwap, IsSwapPlan}
+use Rattle.rebuild_core.specs.Swap.{IsCaughtUp, IsLeftBySwap, IsSwapPlan}
 use Rattle.rebuild_core.proofs.ApartPaths.{clear_of_others, even_more, ones_moved}
 use Rattle.rebuild_core.proofs.Detached.{each_large, each_same, each_without, left_lawful, left_none, left_without}
 use Rattle.rebuild_core.proofs.OtherParts.{IsAmongOthers, part_among}
@@ -106,12 +106,12 @@ left_by_swap s b p t false ps k o calm same even none one =
     subst (λ (qs : List PartAt). AreLawfulParts s.settings.large s.next s.last t qs × IsEvenClear s.settings.large (paths qs) t) (sym (one refl))
     (left_lawful s.settings.large s.next s.next s.last s.last s.tree t s.parts (without b.ticket s.parts) left k.parts each, even)
 
-which_left : (s : StateAt) (b : BuiltAt) (p : PartAt) (with : Shape) (anew : Bool) (ps : List PartAt) → IsPartOf b s.parts p → contents with ≡ replay (contents b.tree) (undone b p) → ((anew ≡ false) ↔ HasRoomAt p.path with s.tree)
+which_left : (s : StateAt) (b : BuiltAt) (p : PartAt) (with : Shape) (anew : Bool) (ps : List PartAt) → IsPartOf b s.parts p → IsCaughtUp s.settings.large b (undone b p) with → ((anew ≡ false) ↔ HasRoomAt p.path with s.tree)
     → (anew ≡ true → ps ≡ []) → (anew ≡ false → ps ≡ without b.ticket s.parts) → IsLeftBySwap b s ps
 which_left s b p with true ps o held room none one = record { part = p; of = o; with = with; caught = held; left = inr ((λ r. let e = room.1 r in absurd cc), none refl) }
 which_left s b p with false ps o held room none one = record { part = p; of = o; with = with; caught = held; left = inl (room.0 refl, one refl) }
 
-pub swaps : (s : StateAt) (b : BuiltAt) (p : PartAt) (with t : Shape) (anew : Bool) (next : ℕ) (ver : VersionAt) (logs : List LogPlan) → IsLawful s → IsPartOf b s.parts p → IsSound t → contents with ≡ replay (contents b.tree) (undone b p)
+pub swaps : (s : StateAt) (b : BuiltAt) (p : PartAt) (with t : Shape) (anew : Bool) (next : ℕ) (ver : VersionAt) (logs : List LogPlan) → IsLawful s → IsPartOf b s.parts p → IsSound t → IsCaughtUp s.settings.large b (undone b p) with
     → contents t ≡ contents s.tree → All (λ n. n < s.next) (numbers t) → ((anew ≡ false) ↔ HasRoomAt p.path with s.tree) → (anew ≡ true → IsCalm 10 t) → (anew ≡ false → AreSameAt (paths (without b.ticket s.parts)) t s.tree)
     → IsEvenClear s.settings.large (paths (without b.ticket s.parts)) t → (anew ≡ true → planned_parts logs s.parts ≡ []) → (anew ≡ false → planned_parts logs s.parts ≡ without b.ticket s.parts)
     → ver ≡ record { tree = t; next = s.next; len = length s.history } → next ≡ s.next → IsSwapPlan b s (record { tree = t; next = next; version = ver; entry = None; logs = logs })

@@ -50,11 +50,11 @@ pub watched_room : (ps : List PartAt) → HaveLogRoom ps → HaveRoom (watches_o
 watched_room [] k = tt
 watched_room (p ∷ ps) k = (k.0, watched_room ps k.1)
 
-marks-watched : (c : Choice) (a : Tag) (t : Shape) (ps : List PartAt) → with_marks c a t (watches_of ps) ≡ watches_of (logged (λ q. logged_mark c a q t) ps)
+pub marks-watched : (c : Choice) (a : Tag) (t : Shape) (ps : List PartAt) → with_marks c a t (watches_of ps) ≡ watches_of (logged (λ q. logged_mark c a q t) ps)
 marks-watched c a t [] = refl
 marks-watched c a t (p ∷ ps) = ap (λ (ws : List Watch). watch_of (record p { log = p.log ++ logged_mark c a p.path t }) ∷ ws) (marks-watched c a t ps)
 
-puts-watched : (n : ℕ) (p : Place) (t : Shape) (ps : List PartAt) → with_puts n p t (watches_of ps) ≡ watches_of (logged (λ q. logged_put n p q t) ps)
+pub puts-watched : (n : ℕ) (p : Place) (t : Shape) (ps : List PartAt) → with_puts n p t (watches_of ps) ≡ watches_of (logged (λ q. logged_put n p q t) ps)
 puts-watched n p t [] = refl
 puts-watched n p t (x ∷ ps) = ap (λ (ws : List Watch). watch_of (record x { log = x.log ++ logged_put n p x.path t }) ∷ ws) (puts-watched n p t ps)
 

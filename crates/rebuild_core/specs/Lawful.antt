@@ -47,7 +47,8 @@ pub record IsLawful (s : StateAt) : Type 0 where
   pub parts : AreLawfulParts s.settings.large s.next s.last s.tree s.parts
   -- outside the parts
   pub even : IsEvenClear s.settings.large (paths s.parts) s.tree
-  pub shown : contents s.version.tree ≡ contents s.tree
+  -- the version is of the very tree, by its shape, and not only of what that holds
+  pub shown : s.version.tree ≡ s.tree
   pub shown_next : s.version.next ≡ s.next
   pub shown_len : s.version.len ≡ length s.history
 

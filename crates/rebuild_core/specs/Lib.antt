@@ -6,6 +6,7 @@ pub mod Single
 pub mod OnePoint
 pub mod Built
 pub mod Steps
+pub mod Stays
 pub mod Desk
 pub mod Detach
 pub mod Draft

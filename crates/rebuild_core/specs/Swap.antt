@@ -1,7 +1,8 @@
 -- What swapping a built subtree in does to a state.
-use Rattle.std.specs.Prelude.{◌≡◌, ◌<◌, ◌≤◌, ◌⊎◌, Bool, false, List, [], length, None}
-use Rattle.map_fold.specs.Ops.{replay}
-use Rattle.kd_tree.specs.Shape.{Shape}
+use Rattle.std.specs.Prelude.{◌≡◌, ℕ, ◌+◌, ◌<◌, ◌≤◌, ◌⊎◌, Bool, false, List, [], length, None}
+use Rattle.map_fold.specs.declared.op.Op.{Op}
+use Rattle.map_fold.specs.Ops.{numbers_put, replay}
+use Rattle.kd_tree.specs.Shape.{Shape, levels, nodes}
 use Rattle.kd_tree.specs.Contents.{contents}
 use Rattle.kd_tree.specs.Parts.{replaced_at}
 use Rattle.kd_update.specs.Replace.{HasRoomAt, IsCalmAbove}
@@ -24,13 +25,21 @@ IsSwapFault b force s (Stale ticket) = (ticket ≡ b.ticket) × IsStale b s.part
 IsSwapFault b force s (Behind n) = (force ≡ false) × (p : PartAt) × IsPartOf b s.parts p × (n ≡ length (undone b p)) × (64 < n)
 IsSwapFault b force s NoMemory = MaySwap b force s
 
--- What is left of the parts. A tree that holds what the undone operations make of the value was put in the place of its part's
+-- The tree is the value's after these operations: each point that they put adds a level and a node at most. It is the value's own
+-- where there is none, and that is even.
+pub record IsCaughtUp (large : ℕ) (b : BuiltAt) (ops : List Op) (with : Shape) : Type 0 where
+  pub held : contents with ≡ replay (contents b.tree) ops
+  pub low : levels with ≤ levels b.tree + length (numbers_put ops)
+  pub few : nodes with ≤ nodes b.tree + length (numbers_put ops)
+  pub same : ops ≡ [] → IsEven large b.tree → with ≡ b.tree
+
+-- What is left of the parts. The value's tree after the operations that it hasn't done was put in the place of its part's
 -- subtree: then the others stay. Where there was no room for it, none is left.
 pub record IsLeftBySwap (b : BuiltAt) (s : StateAt) (ps : List PartAt) : Type 0 where
   pub part : PartAt
   pub of : IsPartOf b s.parts part
   pub with : Shape
-  pub caught : contents with ≡ replay (contents b.tree) (undone b part)
+  pub caught : IsCaughtUp s.settings.large b (undone b part) with
   pub left : (HasRoomAt part.path with s.tree × (ps ≡ without b.ticket s.parts)) ⊎ ((HasRoomAt part.path with s.tree → ⊥) × (ps ≡ []))
 
 -- The plan swaps the value in: what the map holds stays.

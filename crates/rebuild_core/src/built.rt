@@ -1,7 +1,7 @@
 //! Detached subtrees that were built anew, and are brought up to date. Nothing here knows the state that they come from.
-ghost use Rattle.std.specs.Prelude.{◌≡◌, [], ◌++◌, IfErr, IfOk};
+ghost use Rattle.std.specs.Prelude.{◌≡◌, ◌+◌, ◌≤◌, [], ◌++◌, length, IfErr, IfOk};
 ghost use Rattle.map_fold.specs.Ops.{Fit, numbers_put, replay};
-ghost use Rattle.kd_tree.specs.Shape.{numbers};
+ghost use Rattle.kd_tree.specs.Shape.{levels, nodes, numbers};
 ghost use Rattle.kd_tree.specs.Contents.{contents};
 ghost use Rattle.kd_tree.specs.Criteria.{IsCalm};
 ghost use Rattle.kd_update.specs.Refresh.{AreAmong};
@@ -109,6 +109,7 @@ impl Built {
     pub fn replay(self, alloc: Global, large: u32, ops: &[Op]) -> Result<Built, BuiltLeft>
         requires { Fit (contents self.tree) ops.now }
         ensures replayed { IfOk result (IsReplayOf self ops.now) }
+        ensures balance { IfOk result (λ b. IsEven large b.tree) }
         ensures left { IfErr result (λ l. l.built ≡ self) }
     {
         match self.replayed_by::<Brand>(alloc, large, ops, Blank::new(1)) {
@@ -150,6 +151,8 @@ impl Built {
         ensures contents { IfOk result (λ t. contents t ≡ replay (contents self.now.tree) ops.now) }
         ensures numbers { IfOk result (λ t. AreAmong (numbers t) (numbers_put ops.now ++ numbers self.now.tree)) }
         ensures balance { IfOk result (λ t. IsEven large t) }
+        ensures low { IfOk result (λ t. levels t ≤ levels self.now.tree + length (numbers_put ops.now)) }
+        ensures few { IfOk result (λ t. nodes t ≤ nodes self.now.tree + length (numbers_put ops.now)) }
         // An even tree stays where nothing is to be done, and no node is made.
         ensures same { ops.now ≡ [] → IsEven large self.now.tree → IfOk result (λ t. t ≡ self.now.tree) }
         ensures still { ops.now ≡ [] → IsEven large self.now.tree → steps.new ≡ steps.old }
@@ -172,6 +175,8 @@ impl Built {
         ensures contents { IfOk result (λ t. contents t ≡ contents self.now.tree) }
         ensures numbers { IfOk result (λ t. AreAmong (numbers t) (numbers self.now.tree)) }
         ensures balance { IfOk result (λ t. IsEven large t) }
+        ensures low { IfOk result (λ t. levels t ≤ levels self.now.tree) }
+        ensures few { IfOk result (λ t. nodes t ≤ nodes self.now.tree) }
         ensures same { IsEven large self.now.tree → IfOk result (λ t. t ≡ self.now.tree) }
         ensures still { IsEven large self.now.tree → steps.new ≡ steps.old }
     {
@@ -192,6 +197,7 @@ impl Built {
         requires numbers { AreAmong (numbers tree) (numbers_put ops.now ++ numbers self.tree) }
         requires even { IsEven large tree }
         ensures replayed { IfOk result (IsReplayOf self ops.now) }
+        ensures balance { IfOk result (λ b. IsEven large b.tree) }
         ensures left { IfErr result (λ l. l.built ≡ self) }
     {
         let mut built = self;

@@ -1,5 +1,5 @@
 //! What a worker asks of a map that others use too.
-ghost use Rattle.std.specs.Prelude.{◌≡◌, ◌≤◌, IfErr, IfOk};
+ghost use Rattle.std.specs.Prelude.{◌≡◌, ◌≤◌, IfErr, IfOk, IfSome};
 ghost use Rattle.map_fold.specs.Ops.{Fit};
 ghost use Rattle.kd_tree.specs.Contents.{contents};
 ghost use Rattle.rebuild_core.specs.Desk.{IsAskCause, IsSwapCause};
@@ -12,10 +12,11 @@ use std::sync::Wait;
 /// A map that several threads use, as a worker sees it: each call is one step of its state, and may wait for those of others.
 /// Since the state isn't lent, no clause ties an answer to what a call found there; those of `MapState` do.
 pub trait Desk {
-    /// Detaches a subtree into the slot, from 1 to 4, as `MapState::detach` does.
+    /// Detaches a subtree into the slot, from 1 to 4, as `MapState::detach` does. Tickets are given from 1 on.
     fn detach<R: Wait>(&self, rt: &R, alloc: Global, slot: u8) -> Result<Option<Job>, NoMemory>
         requires slot_from { 1 ≤ slot }
-        requires slot_to { slot ≤ 4 };
+        requires slot_to { slot ≤ 4 }
+        ensures ticket { IfOk result (λ o. IfSome o (λ job. 1 ≤ job.ticket)) };
 
     /// The operations that a built value hasn't done, as `MapState::log_after` answers them. A stale value's ticket is told.
     fn log_after<R: Wait>(&self, rt: &R, alloc: Global, built: &Built) -> Result<Ops, LogAsk>

@@ -28,6 +28,7 @@ impl MapState {
         ensures stays { IfOk result (λ o. IsNone o → self.new.state ≡ self.old.state) }
 
         ensures same { OnErr result (self.new.state ≡ self.old.state) }
+        ensures spare { self.new.spare ≡ self.old.spare }
     {
         let last = self.last;
         if last == u64::MAX {

@@ -8,12 +8,13 @@ ghost use Rattle.map_fold.specs.Contents.{below_number, chosen_by, mark, put};
 ghost use Rattle.node_labels.specs.Labels.{delete_tag};
 ghost use Rattle.map_fold.specs.Fold.{add_points, mark_boxes, points_in, step};
 ghost use Rattle.kd_tree.specs.Contents.{contents};
-ghost use Rattle.kd_update.specs.Watches.{HaveRoom};
+ghost use Rattle.kd_update.specs.Watches.{HaveRoom, paths_in};
 ghost use Rattle.rebuild_core.specs.Lawful.{map_of};
-ghost use Rattle.rebuild_core.specs.Draft.{IsDraft, IsDraftLeft, IsWork};
+ghost use Rattle.rebuild_core.specs.Draft.{HasRoomFor, IsDraft, IsDraftLeft, IsWork, IsWorked, plain_work};
 ghost use Rattle.rebuild_core.specs.OnePoint.{IsTurnedAway};
 ghost use Rattle.rebuild_core.specs.Parts.{PartAt};
-ghost use Rattle.rebuild_core.specs.Single.{IsQuiet, entered_nodes, only_mark, only_op, unrebuilt};
+ghost use Rattle.rebuild_core.specs.Single.{IsQuiet, entered_nodes, only_mark, only_op};
+ghost use Rattle.rebuild_core.specs.Stays.{most_ops};
 
 use crate::scan::SCAN;
 use crate::thin::thinned;
@@ -39,8 +40,9 @@ pub(crate) fn changed<L: Ledger>(
     ensures stepped { IfOk result (λ w. map_of w.tree (next + points_in update.now) ≡ step settings.now.voxel update.now (map_of work.tree next)) }
     ensures draft { (last : ℕ) (ps : List PartAt) → IsDraft settings.now.large next last ps work
         → IfOk result (IsDraftLeft settings.now.large (next + points_in update.now) last ps) }
+    ensures kept { HasRoomFor (points_in update.now) (most_ops update.now) work → IfOk result (λ w. paths_in w.watches ≡ paths_in work.watches) }
     ensures unrebuilt { (op : Op) → only_op next update.now ≡ Some op → HaveRoom work.watches → IsQuiet settings.now.large op work.tree
-        → IfOk result (λ w. w.tree ≡ unrebuilt op work.tree) }
+        → IfOk result (λ w. w ≡ plain_work op work) }
     ensures ticks { (op : Op) → only_op next update.now ≡ Some op → HaveRoom work.watches → IsQuiet settings.now.large op work.tree
         → steps.new ≤ steps.old + (5 * entered_nodes op work.tree + 1) }
     ensures turned_away { (p : Place) → update.now ≡ Update.Thin (p ∷ []) → IsTurnedAway settings.now.voxel (map_of work.tree next) p
@@ -73,8 +75,9 @@ fn added<L: Ledger>(
     ensures stepped { IfOk result (λ w. map_of w.tree (next + length points.now) ≡ add_points points.now (map_of work.tree next)) }
     ensures draft { (last : ℕ) (ps : List PartAt) → IsDraft large next last ps work
         → IfOk result (IsDraftLeft large (next + length points.now) last ps) }
+    ensures kept { HasRoomFor (length points.now) (length points.now) work → IfOk result (λ w. paths_in w.watches ≡ paths_in work.watches) }
     ensures unrebuilt { (op : Op) → only_op next (Update.Add points.now) ≡ Some op → HaveRoom work.watches → IsQuiet large op work.tree
-        → IfOk result (λ w. w.tree ≡ unrebuilt op work.tree) }
+        → IfOk result (λ w. w ≡ plain_work op work) }
     ensures ticks { (op : Op) → only_op next (Update.Add points.now) ≡ Some op → HaveRoom work.watches → IsQuiet large op work.tree
         → steps.new ≤ steps.old + (5 * entered_nodes op work.tree + 1) }
 {
@@ -105,8 +108,9 @@ pub(crate) fn added_one<L: Ledger>(
     ensures contents { IfOk result (λ w. contents w.tree ≡ put (contents work.tree) next point) }
     ensures draft { (last : ℕ) (ps : List PartAt) → IsDraft large next last ps work
         → IfOk result (IsDraftLeft large (next + 1) last ps) }
+    ensures worked { IfOk result (IsWorked 1 1 work) }
     ensures unrebuilt { HaveRoom work.watches → IsQuiet large (Put next point) work.tree
-        → IfOk result (λ w. w.tree ≡ unrebuilt (Put next point) work.tree) }
+        → IfOk result (λ w. w ≡ plain_work (Put next point) work) }
     ensures ticks { HaveRoom work.watches → IsQuiet large (Put next point) work.tree
         → steps.new ≤ steps.old + (5 * entered_nodes (Put next point) work.tree + 1) }
 {
@@ -127,8 +131,9 @@ fn marked_each<L: Ledger>(
     ensures stepped { IfOk result (λ w. map_of w.tree next ≡ mark_boxes tag boxes.now (map_of work.tree next)) }
     ensures draft { (last : ℕ) (ps : List PartAt) → IsDraft large next last ps work
         → IfOk result (IsDraftLeft large next last ps) }
+    ensures kept { HasRoomFor 0 (length boxes.now) work → IfOk result (λ w. paths_in w.watches ≡ paths_in work.watches) }
     ensures unrebuilt { (op : Op) → only_mark tag boxes.now ≡ Some op → HaveRoom work.watches → IsQuiet large op work.tree
-        → IfOk result (λ w. w.tree ≡ unrebuilt op work.tree) }
+        → IfOk result (λ w. w ≡ plain_work op work) }
     ensures ticks { (op : Op) → only_mark tag boxes.now ≡ Some op → HaveRoom work.watches → IsQuiet large op work.tree
         → steps.new ≤ steps.old + (5 * entered_nodes op work.tree + 1) }
 {
@@ -152,8 +157,9 @@ fn expired<L: Ledger>(
     ensures contents { IfOk result (λ w. contents w.tree ≡ mark (contents work.tree) (chosen_by (below_number number)) delete_tag) }
     ensures draft { (last : ℕ) (ps : List PartAt) → IsDraft large next last ps work
         → IfOk result (IsDraftLeft large next last ps) }
+    ensures kept { HasRoomFor 0 1 work → IfOk result (λ w. paths_in w.watches ≡ paths_in work.watches) }
     ensures unrebuilt { HaveRoom work.watches → IsQuiet large (Mark (below_number number) delete_tag) work.tree
-        → IfOk result (λ w. w.tree ≡ unrebuilt (Mark (below_number number) delete_tag) work.tree) }
+        → IfOk result (λ w. w ≡ plain_work (Mark (below_number number) delete_tag) work) }
     ensures ticks { HaveRoom work.watches → IsQuiet large (Mark (below_number number) delete_tag) work.tree
         → steps.new ≤ steps.old + (5 * entered_nodes (Mark (below_number number) delete_tag) work.tree + 1) }
 {

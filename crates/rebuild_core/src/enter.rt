@@ -1,5 +1,5 @@
 //! Planned steps, entered. Nothing here takes memory.
-ghost use Rattle.std.specs.Prelude.{◌≡◌, ◌<◌, ◌≤◌, true, ◌++◌, length, is_some};
+ghost use Rattle.std.specs.Prelude.{◌≡◌, ◌-◌, ◌<◌, ◌≤◌, true, ◌++◌, length, is_some};
 ghost use Rattle.rebuild_core.specs.Lawful.{IsLawful};
 ghost use Rattle.rebuild_core.specs.StateView.{AreMade, IsNextOf};
 ghost use Rattle.rebuild_core.specs.Steps.{entered, listed};
@@ -16,6 +16,7 @@ impl MapState {
         requires room { is_some planned.entry ≡ true → 1 ≤ self.old.spare }
         ensures state { self.new.state ≡ entered planned self.old.state }
         ensures len { result ≡ length self.new.state.history }
+        ensures spare { self.new.spare ≡ self.old.spare - length (listed planned.entry) }
     {
         let Planned {
             tree,
@@ -41,6 +42,7 @@ fn list(history: &mut Vec<Entry>, made: &mut [u32; 8], entry: Option<Entry>)
     requires room { is_some entry ≡ true → length history.old.items < history.old.cap }
     ensures items { history.new.items ≡ history.old.items ++ listed entry }
     ensures made { AreMade made.new history.new.items }
+    ensures cap { history.new.cap ≡ history.old.cap }
 {
     let Some(entry) = entry else {
         return;

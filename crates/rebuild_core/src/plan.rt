@@ -4,7 +4,10 @@ ghost use Rattle.point_geom.specs.Place.{Place};
 ghost use Rattle.map_fold.specs.declared.op.Op.{Op};
 ghost use Rattle.map_fold.specs.Fold.{points_in};
 ghost use Rattle.rebuild_core.specs.OnePoint.{IsThinnedFrom, IsTurnedAwayFrom};
+ghost use Rattle.rebuild_core.specs.Logs.{planned_parts};
+ghost use Rattle.rebuild_core.specs.Parts.{paths};
 ghost use Rattle.rebuild_core.specs.Single.{entered_nodes, unrebuilt};
+ghost use Rattle.rebuild_core.specs.Stays.{HasRoomBeside, logged_by};
 ghost use Rattle.rebuild_core.specs.Steps.{HasRoom, IsDrafted, IsFault, IsQuietUpdate, IsSettlePlan, IsSettleStep, IsUpdatePlan, IsUpdateStep};
 
 use crate::draft::changed;
@@ -54,6 +57,12 @@ impl MapState {
         ensures refused { IfErr result (IsFault update self.old.state) }
         ensures same { OnErr result (self.new.state ≡ self.old.state) }
 
+        // No part is forgotten where neither the tree nor a log can be full before an operation. Of one operation that builds
+        // nothing anew each part logs exactly what that is to it.
+        ensures kept { HasRoomBeside update self.old.state → OnOk result (paths self.new.state.parts ≡ paths self.old.state.parts) }
+        ensures logged { (op : Op) → IsQuietUpdate update op self.old.state
+            → OnOk result (self.new.state.parts ≡ logged_by op self.old.state.tree self.old.state.parts) }
+
         // An update of one operation that builds nothing anew makes at most so many nodes, whatever the call answers.
         ensures unrebuilt { (op : Op) → IsQuietUpdate update op self.old.state
             → OnOk result (self.new.state.tree ≡ unrebuilt op self.old.state.tree) }
@@ -89,6 +98,10 @@ impl MapState {
         ensures refused { IfErr result (IsFault update self.old.state) }
 
         // As of `update`.
+        ensures kept { HasRoomBeside update self.old.state
+            → IfOk result (λ p. paths (planned_parts p.logs self.old.state.parts) ≡ paths self.old.state.parts) }
+        ensures logged { (op : Op) → IsQuietUpdate update op self.old.state
+            → IfOk result (λ p. planned_parts p.logs self.old.state.parts ≡ logged_by op self.old.state.tree self.old.state.parts) }
         ensures unrebuilt { (op : Op) → IsQuietUpdate update op self.old.state
             → IfOk result (λ p. p.tree ≡ unrebuilt op self.old.state.tree) }
         ensures ticks { (op : Op) → IsQuietUpdate update op self.old.state
@@ -123,6 +136,10 @@ impl MapState {
         ensures refused { IfErr result (IsFault update self.old.state) }
 
         // As of `update`.
+        ensures kept { HasRoomBeside update self.old.state
+            → IfOk result (λ p. paths (planned_parts p.logs self.old.state.parts) ≡ paths self.old.state.parts) }
+        ensures logged { (op : Op) → IsQuietUpdate update op self.old.state
+            → IfOk result (λ p. planned_parts p.logs self.old.state.parts ≡ logged_by op self.old.state.tree self.old.state.parts) }
         ensures unrebuilt { (op : Op) → IsQuietUpdate update op self.old.state
             → IfOk result (λ p. p.tree ≡ unrebuilt op self.old.state.tree) }
         ensures ticks { (op : Op) → IsQuietUpdate update op self.old.state
@@ -171,6 +188,10 @@ impl MapState {
     ) -> Result<Drafted, NoMemory>
         requires few { self.now.state.next + points_in update.now ≤ 4194304 }
         ensures drafted { IfOk result (IsDrafted update.now self.now.state) }
+        ensures kept { HasRoomBeside update.now self.now.state
+            → IfOk result (λ d. paths (planned_parts d.logs.items self.now.state.parts) ≡ paths self.now.state.parts) }
+        ensures logged { (op : Op) → IsQuietUpdate update.now op self.now.state
+            → IfOk result (λ d. planned_parts d.logs.items self.now.state.parts ≡ logged_by op self.now.state.tree self.now.state.parts) }
         ensures unrebuilt { (op : Op) → IsQuietUpdate update.now op self.now.state
             → IfOk result (λ d. d.tree ≡ unrebuilt op self.now.state.tree) }
         ensures ticks { (op : Op) → IsQuietUpdate update.now op self.now.state
@@ -195,6 +216,7 @@ impl MapState {
     pub fn settle(&mut self, alloc: Global) -> Result<(), NoMemory>
         ensures settled { OnOk result (IsSettleStep self.old.state self.new.state) }
         ensures same { OnErr result (self.new.state ≡ self.old.state) }
+        ensures spare { self.new.spare ≡ self.old.spare }
     {
         let planned = self.plan_settle(alloc)?;
         self.enter_step(planned);
@@ -204,6 +226,7 @@ impl MapState {
     /// Works that out. The state stays as it was.
     pub fn plan_settle(&mut self, alloc: Global) -> Result<Planned, NoMemory>
         ensures same { self.new.state ≡ self.old.state }
+        ensures spare { self.new.spare ≡ self.old.spare }
         ensures planned { IfOk result (IsSettlePlan self.old.state) }
     {
         self.settled_by::<Brand>(alloc, Blank::new(1))

@@ -35,6 +35,7 @@ impl Work {
         ensures stepped { IfOk result (λ w. map_of w.tree (next + length points.now) ≡ add_points points.now (map_of self.tree next)) }
         ensures draft { (last : ℕ) (ps : List PartAt) → IsDraft large next last ps self
             → IfOk result (IsDraftLeft large (next + length points.now) last ps) }
+        ensures watches { IfOk result (λ w. w.watches ≡ self.watches) }
     {
         let Work { tree, watches } = self;
         let _size = tree.size();
@@ -58,6 +59,7 @@ impl Work {
         ensures stepped { IfOk result (λ w. map_of w.tree (next + length points.now) ≡ thin_points settings.now.voxel points.now (map_of self.tree next)) }
         ensures draft { (last : ℕ) (ps : List PartAt) → IsDraft settings.now.large next last ps self
             → IfOk result (IsDraftLeft settings.now.large (next + length points.now) last ps) }
+        ensures watches { IfOk result (λ w. w.watches ≡ self.watches) }
     {
         let Work { tree, watches } = self;
         let tree = thinned_at_once(alloc, tree, settings, next, points, scratch, steps)?;

@@ -29,7 +29,8 @@ pub struct SwapLeft {
 impl MapState {
     /// Puts the built value's tree in the place of its detached subtree, after the operations that the value hasn't done, and
     /// forgets that subtree. What the map holds stays. The time is that of these operations, of comparing the items, and of the
-    /// nodes above the subtree: it is not built anew, unless the value was made with another `large` and is out of balance.
+    /// nodes above the subtree: it is not built anew, unless the value was made with another `large` and is out of balance. Where
+    /// operations are left, or a node above is to be built anew, no clause says so: that is what the code does.
     ///
     /// Without force it is refused where more than 64 operations are left. Where the tree would have more than 512 levels or
     /// 4,194,304 nodes, the whole tree is built anew and all detached subtrees are forgotten.
@@ -45,6 +46,7 @@ impl MapState {
 
         ensures refused { IfErr result (λ l. IsSwapFault built force self.old.state l.fault) }
         ensures same { OnErr result (self.new.state ≡ self.old.state) }
+        ensures spare { self.new.spare ≡ self.old.spare }
         ensures left { IfErr result (λ l. l.built ≡ built) }
 
         // A swap that builds nothing anew makes at most a node for each side of the path, whatever the call answers.
@@ -70,6 +72,7 @@ impl MapState {
         steps: &mut Steps<L>,
     ) -> Result<Planned, SwapFault>
         ensures same { self.new.state ≡ self.old.state }
+        ensures spare { self.new.spare ≡ self.old.spare }
         ensures planned { IfOk result (IsSwapPlan built.now self.old.state) }
         ensures may { OnOk result (MaySwap built.now force self.old.state) }
 

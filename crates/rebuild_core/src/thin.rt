@@ -1,13 +1,14 @@
 //! Points that thin their voxels in a tree, beside what is watched in it. Nothing here knows the state that both are copied
 //! from.
-ghost use Rattle.std.specs.Prelude.{◌≡◌, ℕ, ◌+◌, ◌≤◌, ◌<◌, List, [], ◌∷◌, length, IfOk};
+ghost use Rattle.std.specs.Prelude.{◌≡◌, ℕ, ◌+◌, ◌*◌, ◌≤◌, ◌<◌, List, [], ◌∷◌, length, IfOk};
 ghost use Rattle.point_geom.specs.Place.{Place};
 ghost use Rattle.node_labels.specs.Labels.{thin_tag};
 ghost use Rattle.map_fold.specs.Contents.{in_box, mark, put, thin};
 ghost use Rattle.map_fold.specs.Fold.{thin_points};
 ghost use Rattle.map_fold.specs.Ops.{IsUnheld};
 ghost use Rattle.kd_tree.specs.Contents.{contents};
-ghost use Rattle.rebuild_core.specs.Draft.{IsDraft, IsDraftLeft, IsWork};
+ghost use Rattle.kd_update.specs.Watches.{paths_in};
+ghost use Rattle.rebuild_core.specs.Draft.{HasRoomFor, IsDraft, IsDraftLeft, IsWork, IsWorked};
 ghost use Rattle.rebuild_core.specs.Lawful.{map_of};
 ghost use Rattle.rebuild_core.specs.OnePoint.{IsTurnedAway};
 ghost use Rattle.rebuild_core.specs.Parts.{PartAt};
@@ -37,6 +38,7 @@ pub(crate) fn thinned<L: Ledger>(
     ensures stepped { IfOk result (λ w. map_of w.tree (next + length points.now) ≡ thin_points settings.now.voxel points.now (map_of work.tree next)) }
     ensures draft { (last : ℕ) (ps : List PartAt) → IsDraft settings.now.large next last ps work
         → IfOk result (IsDraftLeft settings.now.large (next + length points.now) last ps) }
+    ensures kept { HasRoomFor (length points.now) (2 * length points.now) work → IfOk result (λ w. paths_in w.watches ≡ paths_in work.watches) }
     ensures turned_away { (p : Place) → points.now ≡ p ∷ [] → IsTurnedAway settings.now.voxel (map_of work.tree next) p
         → IfOk result (λ w. w.tree ≡ work.tree) }
     ensures still { (p : Place) → points.now ≡ p ∷ [] → IsTurnedAway settings.now.voxel (map_of work.tree next) p
@@ -70,6 +72,7 @@ fn thinned_one<L: Ledger>(
     ensures contents { IfOk result (λ w. contents w.tree ≡ thin settings.now.voxel (contents work.tree) next point) }
     ensures draft { (last : ℕ) (ps : List PartAt) → IsDraft settings.now.large next last ps work
         → IfOk result (IsDraftLeft settings.now.large (next + 1) last ps) }
+    ensures worked { IfOk result (IsWorked 1 2 work) }
     ensures turned_away { IsTurnedAway settings.now.voxel (map_of work.tree next) point → IfOk result (λ w. w.tree ≡ work.tree) }
     ensures still { IsTurnedAway settings.now.voxel (map_of work.tree next) point → steps.new ≡ steps.old }
 {
@@ -111,6 +114,7 @@ fn left_alone<L: Ledger>(
     ensures contents { IfOk result (λ w. contents w.tree ≡ put (mark (contents work.tree) (in_box cuboid.now) thin_tag) item.number item.point) }
     ensures draft { (last : ℕ) (ps : List PartAt) → IsDraft large next last ps work
         → IfOk result (IsDraftLeft large (next + 1) last ps) }
+    ensures worked { IfOk result (IsWorked 1 2 work) }
 {
     let work = work.marked(alloc, large, &Choice::within(cuboid), Tag::THIN, steps)?;
     let _size = work.tree.size();

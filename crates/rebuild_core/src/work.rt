@@ -7,9 +7,9 @@ ghost use Rattle.kd_tree.specs.Shape.{levels, nodes};
 ghost use Rattle.kd_tree.specs.Walk.{times};
 ghost use Rattle.kd_tree.specs.Contents.{contents};
 ghost use Rattle.kd_update.specs.Watches.{HaveRoom, paths_in};
-ghost use Rattle.rebuild_core.specs.Draft.{IsDraft, IsDraftLeft, IsWork};
+ghost use Rattle.rebuild_core.specs.Draft.{IsDraft, IsDraftLeft, IsWork, IsWorked, plain_work};
 ghost use Rattle.rebuild_core.specs.Parts.{PartAt};
-ghost use Rattle.rebuild_core.specs.Single.{IsQuiet, entered_nodes, unrebuilt};
+ghost use Rattle.rebuild_core.specs.Single.{IsQuiet, entered_nodes};
 
 use kd_tree::{Path, Steps, Tree};
 use kd_update::{Replaced, Watch, Watches, marked_watched, put_watched, rebuilt, replaced};
@@ -39,8 +39,9 @@ impl Work {
         ensures contents { IfOk result (λ w. contents w.tree ≡ mark (contents self.tree) (chosen_by choice.now) tag) }
         ensures draft { (next last : ℕ) (ps : List PartAt) → IsDraft large next last ps self
             → IfOk result (IsDraftLeft large next last ps) }
+        ensures worked { IfOk result (IsWorked 0 1 self) }
         ensures unrebuilt { HaveRoom self.watches → IsQuiet large (Mark choice.now tag) self.tree
-            → IfOk result (λ w. w.tree ≡ unrebuilt (Mark choice.now tag) self.tree) }
+            → IfOk result (λ w. w ≡ plain_work (Mark choice.now tag) self) }
         ensures ticks { HaveRoom self.watches → IsQuiet large (Mark choice.now tag) self.tree
             → steps.new ≤ steps.old + (5 * entered_nodes (Mark choice.now tag) self.tree + 1) }
     {
@@ -65,8 +66,9 @@ impl Work {
         ensures contents { IfOk result (λ w. contents w.tree ≡ put (contents self.tree) number point) }
         ensures draft { (next last : ℕ) (ps : List PartAt) → number < next → IsDraft large next last ps self
             → IfOk result (IsDraftLeft large next last ps) }
+        ensures worked { IfOk result (IsWorked 1 1 self) }
         ensures unrebuilt { HaveRoom self.watches → IsQuiet large (Put number point) self.tree
-            → IfOk result (λ w. w.tree ≡ unrebuilt (Put number point) self.tree) }
+            → IfOk result (λ w. w ≡ plain_work (Put number point) self) }
         ensures ticks { HaveRoom self.watches → IsQuiet large (Put number point) self.tree
             → steps.new ≤ steps.old + (5 * entered_nodes (Put number point) self.tree + 1) }
     {
@@ -90,6 +92,8 @@ impl Work {
             → IfOk result (IsDraftLeft large next last ps) }
         ensures low { IfOk result (λ w. levels w.tree < 512) }
         ensures few { IfOk result (λ w. nodes w.tree < 4194304) }
+        ensures lower { IfOk result (λ w. levels w.tree ≤ levels self.tree) }
+        ensures fewer { IfOk result (λ w. nodes w.tree ≤ nodes self.tree) }
         ensures room { IfOk result (λ w. HaveRoom w.watches) }
         ensures same { levels self.tree < 512 → nodes self.tree < 4194304 → HaveRoom self.watches
             → IfOk result (λ w. w ≡ self) }

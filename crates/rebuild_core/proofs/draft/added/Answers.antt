@@ -4,7 +4,8 @@ use Rattle.map_fold.specs.declared.op.Op.TheVariants.{Put}
 use Rattle.kd_update.specs.Watches.{HaveRoom}
 use Rattle.rebuild_core.specs.declared.work.Work.{Work}
 use Rattle.rebuild_core.proofs.Detached.{left_itself, left_trans}
-use Rattle.rebuild_core.proofs.Drafts.{first_point, only_point, quiet_shape, quiet_ticks}
+use Rattle.rebuild_core.proofs.Drafts.{first_point, only_point, quiet_ticks}
+use Rattle.rebuild_core.proofs.Worked.{plain_same, worked_itself, worked_kept, worked_then}
 use Rattle.rebuild_core.proofs.draft.added.Goals as goal
 
 pub loop-point-init : goal.loop-point-init
@@ -12,6 +13,7 @@ loop-point-init g c = record {
   draft = λ last ps d. (ps, left_itself ps, d);
   room = refl;
   rest = refl;
+  worked = worked_itself 0 0 c.args.work;
   first = λ e. (refl, refl, refl);
   second = λ e. absurd (omega (arith, e));
 }
@@ -38,6 +40,7 @@ loop-point-preserved g c =
           (l.0, left_trans ps k.0 l.0 k.1 l.1, l.2);
       room = omega (arith, c.loop-point.invariant.room);
       rest = rw c.in_ok-work.ensures.contents (rw cut at c.loop-point.invariant.rest);
+      worked = worked_then i i 1 1 (i + 1) (i + 1) c.args.work c.loop-point.work c.in_ok-work.work (omega arith) (omega arith) c.loop-point.invariant.worked c.in_ok-work.ensures.worked;
       first = λ e. absurd (omega arith);
       second = λ e op only room quiet.
           let none : i ≡ 0 = omega arith in
@@ -45,7 +48,7 @@ loop-point-preserved g c =
           let same = ap (λ (w : Work). w.tree) start.0 in
           let roomy = subst (λ (w : Work). HaveRoom w.watches) (sym start.0) room in
           let is = first_point c.args.next c.loop-point.next i ps p op cut none start.1 only in (
-            quiet_shape c.args.large (Put c.loop-point.next p) op c.loop-point.work.tree c.args.work.tree c.in_ok-work.work.tree is same (c.in_ok-work.ensures.unrebuilt roomy) quiet,
+            plain_same c.args.large (Put c.loop-point.next p) op c.loop-point.work c.args.work c.in_ok-work.work is start.0 (c.in_ok-work.ensures.unrebuilt roomy) quiet,
             quiet_ticks c.args.large (Put c.loop-point.next p) op c.loop-point.work.tree c.args.work.tree c.loop-point.steps c.args.steps.now c.added_one.new.steps is same start.2 (c.in_ok-work.ensures.ticks roomy) quiet,
           );
     }
@@ -76,3 +79,10 @@ returns-clause-ticks g c = λ op only room quiet.
     let all = rw c.as_slice-point-items.ensures at c.loop-point-test.false in
     let most = rw c.as_slice-point-items.ensures at c.loop-point.auto.point-index-end in
     (c.loop-point.invariant.second (omega (arith, one, all, most)) op only room quiet).1
+
+pub returns-clause-kept : goal.returns-clause-kept
+returns-clause-kept g c = λ room.
+    let i = c.loop-point.point-index in
+    let n = length c.args.points.now in
+    let most = rw c.as_slice-point-items.ensures at c.loop-point.auto.point-index-end in
+    worked_kept i i n n c.args.work c.loop-point.work (omega (arith, most)) (omega (arith, most)) c.loop-point.invariant.worked room

@@ -3,10 +3,10 @@ use Rattle.map_fold.specs.declared.op.Op.{Op}
 use Rattle.map_fold.specs.declared.update.Update.TheVariants.{Add}
 use Rattle.map_fold.specs.Fold.{add_points}
 use Rattle.kd_update.specs.Watches.{HaveRoom}
-use Rattle.rebuild_core.specs.Draft.{IsDraft, IsDraftLeft}
+use Rattle.rebuild_core.specs.Draft.{IsDraft, IsDraftLeft, IsWorked, plain_work}
 use Rattle.rebuild_core.specs.Lawful.{map_of}
 use Rattle.rebuild_core.specs.Parts.{PartAt}
-use Rattle.rebuild_core.specs.Single.{IsQuiet, entered_nodes, only_op, unrebuilt}
+use Rattle.rebuild_core.specs.Single.{IsQuiet, entered_nodes, only_op}
 use Rattle.rebuild_core.proofs.draft.added.Given as goal
 
 abbrev pub invariant-loop-point : goal.invariant-loop-point
@@ -14,7 +14,8 @@ invariant-loop-point g l = record {
   draft : (last : ℕ) (ps : List PartAt) → IsDraft l.large l.fn.next last ps l.fn.work → IsDraftLeft l.large l.next last ps l.work;
   room : l.next + length (drop l.point-index l.points) ≡ l.fn.next + length l.points;
   rest : add_points (drop l.point-index l.points) (map_of l.work.tree l.next) ≡ add_points l.points (map_of l.fn.work.tree l.fn.next);
+  worked : IsWorked l.point-index l.point-index l.fn.work l.work;
   first : l.point-index ≡ 0 → (l.work ≡ l.fn.work) × (l.next ≡ l.fn.next) × (l.steps ≡ l.fn.steps);
   second : l.point-index ≡ 1 → (op : Op) → only_op l.fn.next (Add l.points) ≡ Some op → HaveRoom l.fn.work.watches → IsQuiet l.large op l.fn.work.tree
-      → (l.work.tree ≡ unrebuilt op l.fn.work.tree) × (l.steps ≤ l.fn.steps + (5 * entered_nodes op l.fn.work.tree + 1));
+      → (l.work ≡ plain_work op l.fn.work) × (l.steps ≤ l.fn.steps + (5 * entered_nodes op l.fn.work.tree + 1));
 }

@@ -1,6 +1,7 @@
-use Rattle.std.proofs.Common.{◌≡◌, ◌∷◌, ◌+◌, ◌<◌, ◌∙◌, ap, arith, drop, length, refl}
+use Rattle.std.proofs.Common.{◌≡◌, ◌∷◌, ◌+◌, ◌*◌, ◌<◌, ◌∙◌, ap, arith, drop, length, refl}
 use Rattle.map_fold.proofs.Numbered.{drop-at}
 use Rattle.rebuild_core.proofs.Detached.{left_itself, left_trans}
+use Rattle.rebuild_core.proofs.Worked.{worked_itself, worked_kept, worked_then}
 use Rattle.rebuild_core.proofs.Winners.{only_first, turned_same}
 use Rattle.rebuild_core.proofs.thin.thinned.Goals as goal
 
@@ -9,6 +10,7 @@ loop-point-init g c = record {
   draft = λ last ps d. (ps, left_itself ps, d);
   room = refl;
   rest = refl;
+  worked = worked_itself 0 0 c.args.work;
   same = λ p one turned. (refl, refl);
 }
 
@@ -48,6 +50,7 @@ loop-point-preserved g c =
           (l.0, left_trans ps k.0 l.0 k.1 l.1, l.2);
       room = omega (arith, c.loop-point.invariant.room);
       rest = rw c.in_ok-work.ensures.contents (rw cut at c.loop-point.invariant.rest);
+      worked = worked_then i (2 * i) 1 2 (i + 1) (2 * (i + 1)) c.args.work c.loop-point.work c.in_ok-work.work (omega arith) (omega arith) c.loop-point.invariant.worked c.in_ok-work.ensures.worked;
       same = λ p one turned.
           let first = only_first i ps p q cut below one in
           let start = c.loop-point.invariant.same p one turned in
@@ -61,3 +64,10 @@ returns-clause-turned_away g c = λ p one turned. (c.loop-point.invariant.same p
 
 pub returns-clause-still : goal.returns-clause-still
 returns-clause-still g c = λ p one turned. (c.loop-point.invariant.same p one turned).1
+
+pub returns-clause-kept : goal.returns-clause-kept
+returns-clause-kept g c = λ room.
+    let i = c.loop-point.point-index in
+    let n = length c.args.points.now in
+    let most = rw c.as_slice-point-items.ensures at c.loop-point.auto.point-index-end in
+    worked_kept i (2 * i) n (2 * n) c.args.work c.loop-point.work (omega (arith, most)) (omega (arith, most)) c.loop-point.invariant.worked room

@@ -12,6 +12,9 @@ use Rattle.kd_search.specs.Best.{IsBest}
 use Rattle.rebuild_core.proofs.Detached.{left_itself}
 use Rattle.rebuild_core.proofs.Working.{draft_more}
 use Rattle.map_fold.proofs.Numbered.{contents_rise, unheld_above}
+use Rattle.std.proofs.lemmas.Result.{IfOk-weaker}
+use Rattle.rebuild_core.specs.Draft.{IsWorked}
+use Rattle.rebuild_core.proofs.Worked.{worked_itself, worked_more}
 use Rattle.rebuild_core.proofs.Winners.{alone_inside, becomes, draft_contents, held_wins, new_wins}
 use Rattle.rebuild_core.proofs.thin.thinned_one.Goals as goal
 
@@ -109,3 +112,9 @@ returns-clause-contents g c =
 
 pub returns-clause-draft : goal.returns-clause-draft
 returns-clause-draft g c = rw c.large-large.ensures.value at c.left_alone-2.ensures.draft
+
+pub returns-in_default-clause-worked : goal.returns-in_default-clause-worked
+returns-in_default-clause-worked g c = IfOk-weaker c.added_one.result _ (IsWorked 1 2 c.args.work) (λ w k. worked_more 1 1 1 2 c.args.work w (omega arith) (omega arith) k) c.added_one.ensures.worked
+
+pub returns-then-count-eq1-clause-worked : goal.returns-then-count-eq1-clause-worked
+returns-then-count-eq1-clause-worked g c = worked_itself 1 2 c.args.work

@@ -9,6 +9,8 @@ use Rattle.kd_tree.specs.declared.path.Side.{Side}
 use Rattle.kd_update.specs.Refresh.{AreAmong}
 use Rattle.kd_update.specs.Replace.{HasRoomAt, StandsFor}
 use Rattle.kd_update.specs.Several.{AreLargeAt, AreSameAt, IsEvenClear}
+use Rattle.rebuild_core.specs.Built.{undone}
+use Rattle.rebuild_core.specs.Swap.{IsCaughtUp}
 use Rattle.rebuild_core.specs.Lawful.{IsLawful, Stored, VersionAt}
 use Rattle.rebuild_core.specs.Logs.{planned_parts}
 use Rattle.rebuild_core.specs.Parts.{PartAt, paths, without}
@@ -74,7 +76,9 @@ returns-clause-planned g c =
     let with = c.in_ok-with.with in
     let t = c.in_ok-tree-2.field-0.tree in
     let anew = c.in_ok-tree-2.field-0.anew in
-    let caught = c.in_ok-with.ensures.contents ∙ ap (replay (contents b.tree)) c.requires.undone in
+    let e = c.in_ok-with.ensures in
+    let caught : IsCaughtUp s.settings.large b (undone b p) with = subst (λ n. IsCaughtUp n b (undone b p) with) large
+    (subst (λ (ops : List Op). IsCaughtUp c.large-large.result b ops with) c.requires.undone (record { held = e.contents; low = e.low; few = e.few; same = e.same })) in
     let among = subst (λ (ops : List Op). AreAmong (numbers with) (numbers_put ops ++ numbers b.tree)) c.requires.undone c.in_ok-with.ensures.numbers in
     let below : All (λ n. n < s.next) (numbers with) = swap_below s b p with lawful c.in_ok-with.ensures.lawful c.requires.of among in
     let from : AreAmong (numbers t) (numbers with ++ numbers s.tree) = subst (λ (x : Shape). AreAmong (numbers t) (numbers with ++ numbers x)) tree c.in_ok-tree-2.ensures.numbers in

@@ -1,4 +1,5 @@
 use Rattle.rebuild_core.proofs.Working.{draft_large, draft_marked, draft_on}
+use Rattle.rebuild_core.proofs.Worked.{plain_mark, worked_mark}
 use Rattle.rebuild_core.proofs.work.Work.marked.Goals as goal
 
 pub marked_watched-requires-clause-there : goal.marked_watched-requires-clause-there
@@ -14,3 +15,12 @@ returns-clause-draft g c = λ next last ps d.
     let vs = c.marked_watched.new.watches in
     draft_on c.args.large next last ps k.0 _ k.1
     (draft_marked c.args.large next last c.args.choice.now c.args.tag c.in_ok-work.work u vs k.0 k.2 c.in_ok-work.ensures.room c.in_ok-tree.ensures.logged c.in_ok-tree.ensures.numbers c.in_ok-tree.ensures.balance c.in_ok-tree.ensures.watched)
+
+pub returns-clause-worked : goal.returns-clause-worked
+returns-clause-worked g c =
+    let e = c.in_ok-work.ensures in
+    worked_mark c.args.choice.now c.args.tag c.args.self c.in_ok-work.work c.in_ok-tree.tree c.marked_watched.new.watches e.same e.low e.few c.in_ok-tree.ensures.refresh c.marked_watched.ensures.begins c.marked_watched.ensures.few
+
+pub returns-clause-unrebuilt : goal.returns-clause-unrebuilt
+returns-clause-unrebuilt g c = λ room quiet.
+    plain_mark c.args.large c.args.choice.now c.args.tag c.args.self c.in_ok-work.work c.in_ok-tree.tree c.marked_watched.new.watches (c.in_ok-work.ensures.same room) c.in_ok-tree.ensures.unrebuilt c.in_ok-tree.ensures.logged quiet

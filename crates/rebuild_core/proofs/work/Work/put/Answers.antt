@@ -2,6 +2,7 @@ use Rattle.std.proofs.Common.{sym, ◌∙◌}
 use Rattle.node_labels.specs.Labels.{keep_tag}
 use Rattle.kd_update.proofs.StandsFor.{same_times}
 use Rattle.rebuild_core.proofs.Working.{draft_large, draft_on, draft_put}
+use Rattle.rebuild_core.proofs.Worked.{plain_put, worked_put}
 use Rattle.rebuild_core.proofs.work.Work.put.Goals as goal
 
 pub put_watched-requires-clause-new : goal.put_watched-requires-clause-new
@@ -20,3 +21,12 @@ returns-clause-draft g c = λ next last ps less d.
     let vs = c.put_watched.new.watches in
     draft_on c.args.large next last ps k.0 _ k.1
     (draft_put c.args.large next last c.args.number c.args.point c.in_ok-work.work u vs k.0 less k.2 c.in_ok-work.ensures.room c.in_ok-tree.ensures.logged c.in_ok-tree.ensures.numbers c.in_ok-tree.ensures.balance c.in_ok-tree.ensures.watched)
+
+pub returns-clause-worked : goal.returns-clause-worked
+returns-clause-worked g c =
+    let e = c.in_ok-work.ensures in
+    worked_put c.args.number c.args.point c.args.self c.in_ok-work.work c.in_ok-tree.tree c.put_watched.new.watches e.same e.lower e.fewer c.in_ok-tree.ensures.refresh c.put_watched.ensures.begins c.put_watched.ensures.few
+
+pub returns-clause-unrebuilt : goal.returns-clause-unrebuilt
+returns-clause-unrebuilt g c = λ room quiet.
+    plain_put c.args.large c.args.number c.args.point c.args.self c.in_ok-work.work c.in_ok-tree.tree c.put_watched.new.watches (c.in_ok-work.ensures.same quiet.low quiet.few room) c.in_ok-tree.ensures.unrebuilt c.in_ok-tree.ensures.logged quiet

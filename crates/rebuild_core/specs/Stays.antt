@@ -1,0 +1,36 @@
+-- Parts that an update leaves where they are, and what it logs for them.
+use Rattle.std.specs.Prelude.{ℕ, ◌+◌, ◌*◌, ◌≤◌, List, [], ◌∷◌, ◌++◌, length, map}
+use Rattle.map_fold.specs.Fold.{points_in}
+use Rattle.map_fold.specs.declared.op.Op.{Op}
+use Rattle.map_fold.specs.declared.op.Op.TheVariants.{Mark, Put}
+use Rattle.map_fold.specs.declared.update.Update.{Update}
+use Rattle.map_fold.specs.declared.update.Update.TheVariants.{Add, Thin, Delete, Suspend, Restore, Expire}
+use Rattle.kd_tree.specs.Shape.{Shape, levels, nodes}
+use Rattle.kd_update.specs.Watch.{logged_mark, logged_put}
+use Rattle.rebuild_core.specs.Lawful.{StateAt}
+use Rattle.rebuild_core.specs.Parts.{PartAt}
+
+-- how many operations the update is at most: a point that thins its voxel may be an action and a point that is put
+abbrev pub most_ops : Update → ℕ
+most_ops (Add ps) = length ps
+most_ops (Thin ps) = 2 * length ps
+most_ops (Delete cs) = length cs
+most_ops (Suspend cs) = length cs
+most_ops (Restore cs) = length cs
+most_ops (Expire n) = 1
+
+-- each log has room for two operations for each of so many
+abbrev pub HaveLogRoomFor : ℕ → List PartAt → Type 0
+HaveLogRoomFor n [] = Unit {0}
+HaveLogRoomFor n (p ∷ ps) = (length p.log + 2 * n ≤ 65536) × HaveLogRoomFor n ps
+
+-- The update finds no full tree before a point that it puts, and before no operation a log without room for two.
+pub record HasRoomBeside (u : Update) (s : StateAt) : Type 0 where
+  pub low : levels s.tree + points_in u ≤ 512
+  pub few : nodes s.tree + points_in u ≤ 4194304
+  pub logs : HaveLogRoomFor (most_ops u) s.parts
+
+-- the parts, each with what the operation is to it at the end of its log
+abbrev pub logged_by : Op → Shape → List PartAt → List PartAt
+logged_by (Mark c a) t ps = map (λ (p : PartAt). record p { log = p.log ++ logged_mark c a p.path t }) ps
+logged_by (Put n x) t ps = map (λ (p : PartAt). record p { log = p.log ++ logged_put n x p.path t }) ps
