@@ -20,7 +20,7 @@ use Rattle.scan_log.specs.Legal.{IsLegal}
 use Rattle.scan_log.specs.declared.format.Format.{Format}
 use Rattle.scan_log.specs.Plain.{IsPlain, IsPlainScript}
 use Rattle.scan_log.specs.Scripts.{ScriptAt}
-use Rattle.scan_log.specs.Transcript.{held_at, history, reply_to, replies_from, replies, reply_text, marked_updates, updates_in}
+use Rattle.scan_log.specs.Transcript.{held_at, history, reply_to, replies_from, reply_text, marked_updates, updates_in}
 use Rattle.transcript_check.specs.Told.{changes_of, lines_of, lines_under, marks_of, points_in_all, reply_at, updates_of, IsPlaced}
 use Rattle.transcript_check.specs.Verdicts.{reply_lines, IsFirstOther}
 use Rattle.transcript_check.specs.declared.lines.Told.{Told}
