@@ -1,5 +1,5 @@
 -- The first of the items that are near.
-use Rattle.std.proofs.Common.{◌≡◌, ℕ, suc, ◌-◌, ◌<◌, true, false, List, [], ◌∷◌, ◌++◌, length, length-append, take, refl, ap, append_assoc, arith}
+use Rattle.std.proofs.Common.{◌≡◌, ℕ, suc, ◌-◌, ◌<◌, true, false, List, [], ◌∷◌, ◌++◌, length, length-append, take, refl, append_assoc, arith}
 use Rattle.std.specs.Prelude.{filter, ◌&&◌}
 use Rattle.point_geom.specs.Place.{Place}
 use Rattle.node_labels.specs.Labels.{is_live}

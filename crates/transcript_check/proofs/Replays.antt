@@ -12,6 +12,7 @@ use Rattle.std.proofs.lemmas.Option.{slice_get_within, slice_get-get_or, slice_g
 use Rattle.map_fold.specs.declared.item.Item.{Item}
 use Rattle.map_fold.specs.declared.update.Update.{Update}
 use Rattle.map_fold.specs.Fold.{MapAt, fold, fold_from, no_points}
+use Rattle.map_fold.specs.Sizes.{Sizes}
 use Rattle.scan_log.specs.declared.command.Command.{Command}
 use Rattle.scan_log.specs.declared.command.Command.TheVariants.{Change, Near, Nears, Inside, Ball, Lonely, Clusters, Pose, Sync}
 use Rattle.scan_log.specs.declared.reply.Reply.{Reply}
@@ -19,7 +20,7 @@ use Rattle.scan_log.specs.Legal.{IsLegal}
 use Rattle.scan_log.specs.declared.format.Format.{Format}
 use Rattle.scan_log.specs.Plain.{IsPlain, IsPlainScript}
 use Rattle.scan_log.specs.Scripts.{ScriptAt}
-use Rattle.scan_log.specs.Transcript.{held_at, history, reply_to, replies_from, replies, reply_text, marked_updates, updates_in}
+use Rattle.scan_log.specs.Transcript.{held_at, history, reply_to, replies_from, reply_text, marked_updates, updates_in}
 use Rattle.transcript_check.specs.Told.{changes_of, lines_of, lines_under, marks_of, points_in_all, reply_at, updates_of, IsPlaced}
 use Rattle.transcript_check.specs.Verdicts.{reply_lines, IsFirstOther}
 use Rattle.transcript_check.specs.declared.lines.Told.{Told}
@@ -96,7 +97,7 @@ so_far_start s told us places held level first is zero_is all = rw (zero_is, all
 })
 
 -- the mark at a place is no more than there are updates
-pub mark_within : (s : ScriptAt) (told : List Told) (us : List Marked) (places : List Placed) (k : ℕ) (p : Placed) → IsGiven s told us places → k < length places → p ≡ get_or places k p
+mark_within : (s : ScriptAt) (told : List Told) (us : List Marked) (places : List Placed) (k : ℕ) (p : Placed) → IsGiven s told us places → k < length places → p ≡ get_or places k p
     → (p.mark ≤ length us) × (p.place < length told) × (slice_get (marks_of told) p.place ≡ Some p.mark)
 mark_within s told us places k p given below is =
     let marks = marks_of told in
@@ -108,7 +109,7 @@ mark_within s told us places k p given below is =
     (omega (arith, all, read, long), omega (arith, within, length-map told (λ (t : Told). t.mark)), placed)
 
 -- the level is no more than the mark at the place
-pub level_low : (s : ScriptAt) (told : List Told) (us : List Marked) (places : List Placed) (k : ℕ) (held : MapAt) (level first : ℕ) (p : Placed) → SoFar s told us places k held level first
+level_low : (s : ScriptAt) (told : List Told) (us : List Marked) (places : List Placed) (k : ℕ) (held : MapAt) (level first : ℕ) (p : Placed) → SoFar s told us places k held level first
     → k < length places → p ≡ get_or places k p → level ≤ p.mark
 level_low s told us places k held level first p so below is = subst (λ (q : Placed). level ≤ q.mark) (sym is) (so.later k p (omega arith) below)
 
@@ -116,7 +117,7 @@ part_changes : (i n : ℕ) (us : List Marked) → changes_of (take n (drop i us)
 part_changes i n us = sym (ap (take n) (drop-map (λ (u : Marked). u.update.now) i us) ∙ take-map (λ (u : Marked). u.update.now) n (drop i us))
 
 -- there is room for the updates up to the mark
-pub room_to : (s : ScriptAt) (told : List Told) (us : List Marked) (places : List Placed) (k : ℕ) (held : MapAt) (level first mark : ℕ) → IsGiven s told us places
+room_to : (s : ScriptAt) (told : List Told) (us : List Marked) (places : List Placed) (k : ℕ) (held : MapAt) (level first mark : ℕ) → IsGiven s told us places
     → SoFar s told us places k held level first → level ≤ mark → held.next + points_in_all (changes_of (take (mark - level) (drop level us))) ≤ 4194304
 room_to s told us places k held level first mark given so up =
     rw (part_changes level (mark - level) us) (room_on s.sizes.voxel level mark (changes_of us) held 4194304 up so.map
@@ -124,9 +125,11 @@ room_to s told us places k held level first mark given so up =
 
 -- the map at the mark
 pub held_to : (s : ScriptAt) (told : List Told) (us : List Marked) (places : List Placed) (k : ℕ) (held new : MapAt) (level first mark : ℕ) → SoFar s told us places k held level first
-    → level ≤ mark → new ≡ fold_from s.sizes.voxel (changes_of (take (mark - level) (drop level us))) held → new ≡ fold s.sizes.voxel (take mark (changes_of us))
-held_to s told us places k held new level first mark so up is =
-    is ∙ ap (λ (vs : List Update). fold_from s.sizes.voxel vs held) (part_changes level (mark - level) us) ∙ fold_on s.sizes.voxel level mark (changes_of us) held up so.map
+    → level ≤ mark → (z : Sizes) → z ≡ s.sizes → new ≡ fold_from z.voxel (changes_of (take (mark - level) (drop level us))) held
+    → new ≡ fold s.sizes.voxel (take mark (changes_of us))
+held_to s told us places k held new level first mark so up z sizes is =
+    is ∙ ap (λ (y : Sizes). fold_from y.voxel (changes_of (take (mark - level) (drop level us))) held) sizes
+    ∙ ap (λ (vs : List Update). fold_from s.sizes.voxel vs held) (part_changes level (mark - level) us) ∙ fold_on s.sizes.voxel level mark (changes_of us) held up so.map
 
 -- few points were submitted up to a mark
 pub few_points : (s : ScriptAt) (told : List Told) (us : List Marked) (places : List Placed) (mark : ℕ) (new : MapAt) → IsGiven s told us places
@@ -187,9 +190,29 @@ updates_few (Pose caller rules q ∷ cs) = let r = updates_few cs in omega arith
 updates_few (Sync ∷ cs) = let r = updates_few cs in omega arith
 
 -- there are few enough lines and updates
-pub few_given : (s : ScriptAt) (told : List Told) (us : List Marked) (places : List Placed) → IsGiven s told us places → (length us ≤ 65536) × (length told ≤ 65537)
+few_given : (s : ScriptAt) (told : List Told) (us : List Marked) (places : List Placed) → IsGiven s told us places → (length us ≤ 65536) × (length told ≤ 65537)
 few_given s told us places given =
     (omega (arith, updates_long s.commands (marks_of told) us given.updates given.legal.many, updates_few s.commands, given.script.few), omega (arith, given.many, given.script.few))
+
+-- What is so at the place that comes next.
+pub record IsHere (s : ScriptAt) (told : List Told) (us : List Marked) (held : MapAt) (level : ℕ) (p : Placed) : Type 0 where
+  pub up : level ≤ p.mark
+  pub mark : p.mark ≤ length us
+  pub place : p.place < length told
+  pub placed : slice_get (marks_of told) p.place ≡ Some p.mark
+  pub updates : length us ≤ 65536
+  pub lines : length told ≤ 65537
+  pub room : held.next + points_in_all (changes_of (take (p.mark - level) (drop level us))) ≤ 4194304
+
+pub here_at : (s : ScriptAt) (told : List Told) (us : List Marked) (places : List Placed) (k : ℕ) (held : MapAt) (level first : ℕ) → IsGiven s told us places
+    → SoFar s told us places k held level first → k < length places → IsHere s told us held level (get_or places k blank_place)
+here_at s told us places k held level first given so below =
+    let p = get_or places k blank_place in
+    let here : p ≡ get_or places k p = get_or_default places k blank_place p below in
+    let w = mark_within s told us places k p given below here in
+    let up = level_low s told us places k held level first p so below here in
+    let few = few_given s told us places given in
+    record { up = up; mark = w.0; place = w.1; placed = w.2; updates = few.0; lines = few.1; room = room_to s told us places k held level first p.mark given so up }
 
 up_to : (k j : ℕ) (P : ℕ → Type 0) → j < k + 1 → (j < k → P j) → (j ≡ k → P j) → P j
 up_to k j P h below here = elim (cases_order j k) [

@@ -1,7 +1,6 @@
 -- What is found of a transcript.
 use Rattle.std.specs.Prelude.{◌≡◌, ℕ, ◌+◌, ◌<◌, List, [], ◌∷◌, ◌++◌, length, take, drop, slice_get}
 use Rattle.std.specs.List.{flat_map}
-use Rattle.std.specs.declared.option.Option.{Option}
 use Rattle.std.specs.declared.option.Option.TheVariants.{None, Some}
 use Rattle.scan_log.specs.declared.format.Format.{Format}
 use Rattle.scan_log.specs.declared.command.Command.{Command}

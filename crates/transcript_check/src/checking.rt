@@ -15,7 +15,9 @@ use map_fold::NoMemory;
 use scan_log::{PlainScript, Script};
 use std::alloc::Global;
 
-/// What is found of a transcript of the script. Costs the script's updates on the plain map, and for each line a scan of it.
+/// What is found of a transcript of the script. The text is read once. Then the updates are made on the plain map in the order of
+/// their marks, and each query is answered by a walk over all items, or by one for each place that it names; for lonely points and
+/// clusters the items are put into a tree. Takes memory for the script's copy, the plain map, the marks, and one reply at a time.
 pub fn check(alloc: Global, script: &Script, transcript: &[u8]) -> Result<Verdict, NoMemory>
     ensures verdict { IfOk result (IsVerdict script.now transcript.now) }
 

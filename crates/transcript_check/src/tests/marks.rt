@@ -86,10 +86,9 @@ fn no_mark_passes_a_barrier(rt: HostRuntime) -> Result<(), Fail> {
     let alloc = rt.alloc();
     let log =
         "ikdmap 1 voxel 200 large 1500\n@1 add 1 0 0\n@2 near 1 0 0 0\nsync\n@3 add 9 0 0\n@4 near 1 0 0 0\n";
-    let point = " | 0 1 0 0 1";
     for (first, early, sync, second, late, found) in [
-        (1, "0", 1, 2, "1", Verdict::Legal),
-        (1, "1", 1, 2, "2", Verdict::Legal),
+        (1, "0", 1, 2, "1 | 0 1 0 0 1", Verdict::Legal),
+        (1, "1 | 0 1 0 0 1", 1, 2, "2 | 0 1 0 0 1", Verdict::Legal),
         (1, "2", 1, 2, "2", Verdict::Marks),
         (1, "1", 1, 2, "0", Verdict::Marks),
         (1, "1", 0, 2, "2", Verdict::Marks),
@@ -97,9 +96,8 @@ fn no_mark_passes_a_barrier(rt: HostRuntime) -> Result<(), Fail> {
         (2, "1", 1, 1, "2", Verdict::Marks),
         (2, "1", 2, 1, "2", Verdict::Marks),
     ] {
-        let seen = if early == "0" { "" } else { point };
         let transcript = format!(in alloc;
-            "@1 ok {first}\n@2 near {early}{seen}\nsync {sync} live 1 suspended 0\n@3 ok {second}\n@4 near {late}{point}\nend 2 live 2 suspended 0\n"
+            "@1 ok {first}\n@2 near {early}\nsync {sync} live 1 suspended 0\n@3 ok {second}\n@4 near {late}\nend 2 live 2 suspended 0\n"
         )?;
         assert_eq!(rt;
             verdict(alloc, log, transcript.as_str())?,

@@ -1,6 +1,5 @@
-use Rattle.std.proofs.Common.{◌≡◌, List, ap, ◌∙◌, arith, length}
+use Rattle.std.proofs.Common.{◌≡◌, ap, ◌∙◌, arith, length}
 use Rattle.std.proofs.lemmas.Result.{IfOk-weaker}
-use Rattle.map_fold.specs.declared.item.Item.{Item}
 use Rattle.map_fold.proofs.Numbered.{contents_length}
 use Rattle.kd_tree.specs.Contents.{by_number, contents}
 use Rattle.kd_tree.proofs.Held.{are_distinct, are_kept, by_number-are}
