@@ -54,7 +54,6 @@ pub fn run<H: Threads + Wait + Sync, R: Source, W: Sink, E: Sink, G: Gate + Sync
     notes: &mut E,
     gate: &G,
 ) -> Status
-    // After Done of the words that read a log it was read to its end, and a legal transcript of it was written.
     // After Done of the words that have a log run it was read to its end, and a legal transcript of it was written.
     ensures done { result ≡ Status.Done → AskForRun (map (λ w. string_bytes w) words.now) → (R.ended log.new ≡ true)
         × ((lines : List ℕ) × IfSome (R.left log.old) (λ bytes. IsLegalTranscript bytes lines) × Appends (W.held out.old) (W.held out.new) lines) }
