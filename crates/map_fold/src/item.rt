@@ -1,5 +1,7 @@
 //! What a map holds.
-ghost use Rattle.std.specs.Prelude.{◌≡◌, ◌&&◌};
+ghost use Rattle.std.specs.Prelude.{◌≡◌, ◌&&◌, true};
+ghost use Rattle.point_geom.specs.Place.{IsCoordinate, IsCornerNumber};
+ghost use Rattle.point_geom.specs.Boxes.{holds, is_between};
 ghost use Rattle.node_labels.specs.Labels.{is_live};
 ghost use Rattle.map_fold.specs.Contents.{comes_before, in_box};
 
@@ -20,7 +22,7 @@ impl Item {
     pub fn is_live_in(&self, cuboid: &Cuboid) -> bool
         ensures { result ≡ (is_live self.now.label && in_box cuboid.now self.now) }
     {
-        self.label == Label::Live && cuboid.holds(&self.point)
+        may_hold(cuboid, &self.point) && self.label == Label::Live && cuboid.holds(&self.point)
     }
 
     /// Whether it comes before another towards the centre of the cuboid: it is nearer to the centre, or as near and less by
@@ -35,6 +37,23 @@ impl Item {
             .then(place.then(self.number.cmp(&other.number)))
             .is_lt()
     }
+}
+
+// True of each point that is in the cuboid, and seldom of another.
+fn may_hold(cuboid: &Cuboid, p: &Point) -> bool
+    ensures { holds cuboid.now p.now ≡ true → result ≡ true }
+{
+    may_be_between(cuboid.lo().x, p.x(), cuboid.hi().x)
+}
+
+// One test, where a walk over many items guesses right, and not two of which each is right for half of them.
+fn may_be_between(lo: i64, c: i64, hi: i64) -> bool
+    requires lo_range { IsCornerNumber lo }
+    requires range { IsCoordinate c }
+    requires hi_range { IsCornerNumber hi }
+    ensures { is_between lo c hi ≡ true → result ≡ true }
+{
+    c.abs_diff(lo) < hi.abs_diff(lo)
 }
 
 /// A list of items.
