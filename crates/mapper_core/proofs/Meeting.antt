@@ -27,7 +27,7 @@ none_below x n (suc k) lt =
     let test : (x == n) ≡ false = grind (arith, nat_tests) in
     let rest = none_below x (n + 1) k (omega arith) in rw test (omega (arith, rest))
 
-distinct_counted : (n k : ℕ) → IsDistinct (counted n k)
+pub distinct_counted : (n k : ℕ) → IsDistinct (counted n k)
 distinct_counted n zero = tt
 distinct_counted n (suc k) = (none_below n (n + 1) k (omega arith), distinct_counted (n + 1) k)
 
