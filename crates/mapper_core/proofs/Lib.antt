@@ -20,3 +20,4 @@ pub mod Meeting
 pub mod AtEnd
 pub mod Slices
 pub mod Sent
+pub mod Barriers

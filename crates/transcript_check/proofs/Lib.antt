@@ -12,4 +12,3 @@ pub mod Replays
 pub mod Plain
 pub mod ReplyLines
 pub mod OneVerdict
-pub mod Barriers
