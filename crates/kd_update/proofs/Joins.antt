@@ -40,7 +40,7 @@ first_other i j xs d m e =
     omega (arith, d.once i.number, sum_by-cons g i xs)
 
 -- a new item comes to its place
-put_new : (i : Item) (xs : List Item) → i.label ≡ Live → AreDistinct (i ∷ xs) → insert_item i (by_number xs) ≡ put (by_number xs) i.number i.point
+pub put_new : (i : Item) (xs : List Item) → i.label ≡ Live → AreDistinct (i ∷ xs) → insert_item i (by_number xs) ≡ put (by_number xs) i.number i.point
 put_new i xs live d =
     ap (λ j. insert_item j (by_number xs)) (live_of i live)
     ∙ insert-put (by_number xs) i.number i.point (λ j m e. first_other i j xs d (numbered_from j xs m) e)

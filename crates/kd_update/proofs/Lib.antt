@@ -1,5 +1,6 @@
 pub mod AfterOps
 pub mod Calm
+pub mod Crossing
 pub mod Grown
 pub mod InBox
 pub mod Joins

@@ -61,7 +61,7 @@ logged_put_few n p (side ∷ path) (fork h l r) =
 
 -- no number is put by what is handed down, or by a mark
 
-handed_puts : (path : List Side) (q : Tag) (ops : List Op) → numbers_put (handed path q ++ ops) ≡ numbers_put ops
+pub handed_puts : (path : List Side) (q : Tag) (ops : List Op) → numbers_put (handed path q ++ ops) ≡ numbers_put ops
 handed_puts [] q ops = cond_both (is_keep q) [] (Mark all_items q ∷ []) (λ os. numbers_put (os ++ ops) ≡ numbers_put ops) (λ _. refl) (λ _. refl)
 handed_puts (side ∷ path) q ops = refl
 

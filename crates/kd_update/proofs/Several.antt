@@ -165,7 +165,7 @@ clear_missed large c a ps s C e x m = subst (λ t. IsUpdatedClear large ps s t C
 pub clear_covered : (large : ℕ) (c : Choice) (a : Tag) (ps : List (List Side)) (s : Shape) (C : Type 0) (e : Reach) → Some e ≡ reach s → meets c e ≡ true → covers c e ≡ true → IsUpdatedClear large ps s (marked_shape c a s) C (tagged a s)
 clear_covered large c a ps s C e x m k = subst (λ t. IsUpdatedClear large ps s t C (tagged a s)) (marked_covered c a s e x m k) (clear_plain large ps s (tagged a s) C (even_clear_tagged large ps a s))
 
-some_of : (large : ℕ) (ps : List (List Side)) (t : Shape) → (ps ≡ [] → ⊥) → AreLargeAt large ps t → large ≤ nodes t
+pub some_of : (large : ℕ) (ps : List (List Side)) (t : Shape) → (ps ≡ [] → ⊥) → AreLargeAt large ps t → large ≤ nodes t
 some_of large [] t n k = absurd (n refl)
 some_of large (p ∷ ps) t n k = some_large large p ps t k
 

@@ -75,14 +75,14 @@ watched_handed (Left ∷ path) q (fork h l r) u s ops e w = record { before = w.
 watched_handed (Right ∷ path) q (fork h l r) u s ops e w = record { before = w.before; after = w.after; was = w.was; is = w.is; size = w.size; fit = w.fit; replayed = w.replayed }
 
 -- what is watched in a son is watched in the tree
-watched_left : (path : List Side) (h g : Head) (l r l' r' : Shape) (ops : List Op) → IsWatched path l l' ops → IsWatched (Left ∷ path) (fork h l r) (fork g l' r') ops
+pub watched_left : (path : List Side) (h g : Head) (l r l' r' : Shape) (ops : List Op) → IsWatched path l l' ops → IsWatched (Left ∷ path) (fork h l r) (fork g l' r') ops
 watched_left path h g l r l' r' ops w = record { before = w.before; after = w.after; was = w.was; is = w.is; size = w.size; fit = w.fit; replayed = w.replayed }
 
-watched_right : (path : List Side) (h g : Head) (l r l' r' : Shape) (ops : List Op) → IsWatched path r r' ops → IsWatched (Right ∷ path) (fork h l r) (fork g l' r') ops
+pub watched_right : (path : List Side) (h g : Head) (l r l' r' : Shape) (ops : List Op) → IsWatched path r r' ops → IsWatched (Right ∷ path) (fork h l r) (fork g l' r') ops
 watched_right path h g l r l' r' ops w = record { before = w.before; after = w.after; was = w.was; is = w.is; size = w.size; fit = w.fit; replayed = w.replayed }
 
 -- there is a subtree at the path of a tree that had an action done to it
-at-tagged : (path : List Side) (q : Tag) (t s : Shape) → at path t ≡ Some s → (u : Shape) × (at path (tagged q t) ≡ Some u)
+pub at-tagged : (path : List Side) (q : Tag) (t s : Shape) → at path t ≡ Some s → (u : Shape) × (at path (tagged q t) ≡ Some u)
 at-tagged [] q t s e = (tagged q t, refl)
 at-tagged (side ∷ path) q leaf s e = absurd (cc)
 at-tagged (Left ∷ path) q (fork h l r) s e = (s, e)

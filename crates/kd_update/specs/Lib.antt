@@ -10,3 +10,4 @@ pub mod Several
 pub mod Watches
 pub mod Ways
 pub mod Replace
+pub mod Crossing

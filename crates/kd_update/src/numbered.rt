@@ -33,13 +33,14 @@ pub fn put_points<L: Ledger>(
     ensures balance { IsEven large tree → IfOk result (λ t. IsEven large t) }
     ensures nodes { IfOk result (λ t. nodes t ≤ nodes tree + length points.now) }
 {
-    let items = numbered(alloc, first, points)?;
+    let items = live_items(alloc, first, points)?;
     put_all(alloc, tree, large, items.as_slice(), scratch, steps)
 }
 
-fn numbered(alloc: Global, first: u32, points: &[Point]) -> Result<Vec<Item>, NoMemory>
-    requires { first + length points.now ≤ 4194304 }
-    ensures { IfOk result (λ v. v.items ≡ live_from first points.now) }
+/// These points as live items, under the numbers from `first` on.
+pub fn live_items(alloc: Global, first: u32, points: &[Point]) -> Result<Vec<Item>, NoMemory>
+    requires few { first + length points.now ≤ 4194304 }
+    ensures items { IfOk result (λ v. v.items ≡ live_from first points.now) }
 {
     let mut items = Vec::with_capacity(alloc, points.len())?;
     let mut number = first;

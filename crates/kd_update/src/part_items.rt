@@ -47,7 +47,7 @@ fn is_due(tree: &Tree, large: u32, left: u32, right: u32) -> bool
 }
 
 // Moves the items that go left of the point to the front, and answers how many there are.
-fn moved_left(items: &mut [Item], axis: Axis, point: &Point) -> usize
+pub(crate) fn moved_left(items: &mut [Item], axis: Axis, point: &Point) -> usize
     ensures moved { IsPermutation items.old items.new }
     ensures count { result ≤ length items.new }
     ensures left { All (λ i. goes_left axis i.point point.now ≡ true) (take result items.new) }

@@ -79,12 +79,21 @@ pub paths-logged : (F : List Side → List Op) (ps : List PartAt) → paths (log
 paths-logged F [] = refl
 paths-logged F (p ∷ ps) = ap (λ (qs : List (List Side)). p.path ∷ qs) (paths-logged F ps)
 
-pub each_logged : (large next more last : ℕ) (F : List Side → List Op) (t u : Shape) (ps : List PartAt) → AreEachLawful large next last t ps → AreWatched (λ q. IsWatched q t u (F q)) (paths ps) → HaveLogRoom ps
-    → ((q : List Side) → length (F q) ≤ 2) → next ≤ more → ((q : List Side) → All (λ n. n < more) (numbers_put (F q))) → AreEachLawful large more last u (logged F ps)
-each_logged large next more last F t u [] k w room few le below = tt
-each_logged large next more last F t u (p ∷ ps) k w room few le below = (
+-- each log has room for so many operations more
+abbrev pub HaveLogRoomOf : ℕ → List PartAt → Type 0
+HaveLogRoomOf n [] = Unit {0}
+HaveLogRoomOf n (p ∷ ps) = (length p.log + n ≤ 65536) × HaveLogRoomOf n ps
+
+pub room_of_two : (ps : List PartAt) → HaveLogRoom ps → HaveLogRoomOf 2 ps
+room_of_two [] k = tt
+room_of_two (p ∷ ps) k = (k.0, room_of_two ps k.1)
+
+pub each_logged : (large next more last n : ℕ) (F : List Side → List Op) (t u : Shape) (ps : List PartAt) → AreEachLawful large next last t ps → AreWatched (λ q. IsWatched q t u (F q)) (paths ps) → HaveLogRoomOf n ps
+    → ((q : List Side) → length (F q) ≤ n) → next ≤ more → ((q : List Side) → All (λ n. n < more) (numbers_put (F q))) → AreEachLawful large more last u (logged F ps)
+each_logged large next more last n F t u [] k w room few le below = tt
+each_logged large next more last n F t u (p ∷ ps) k w room few le below = (
   part_watched large next more last t u p (F p.path) k.0 w.0 (omega (arith, room.0, few p.path, length-append p.log (F p.path))) le (below p.path),
-  each_logged large next more last F t u ps k.1 w.1 room.1 few le below,
+  each_logged large next more last n F t u ps k.1 w.1 room.1 few le below,
 )
 
 -- what is left of parts

@@ -23,3 +23,4 @@ pub mod Ranks
 pub mod Entrances
 pub mod Worked
 pub mod Staying
+pub mod Passes

@@ -33,7 +33,7 @@ use Rattle.rebuild_core.specs.Draft.{IsDraft, IsDraftLeft, watch_of, watches_of}
 use Rattle.rebuild_core.specs.Parts.{AreLawfulParts, AreLeft, HaveLogRoom, PartAt, paths}
 use Rattle.rebuild_core.specs.declared.work.Work.{Work}
 use Rattle.rebuild_core.proofs.ApartPaths.{clear_of_others, even_more, ones_moved}
-use Rattle.rebuild_core.proofs.Detached.{each_at, each_large, each_logged, each_more, each_same, each_without, left_itself, left_lawful, left_logged, left_none, left_trans, left_without, logged, paths-logged}
+use Rattle.rebuild_core.proofs.Detached.{HaveLogRoomOf, each_at, each_large, each_logged, each_more, each_same, each_without, left_itself, left_lawful, left_logged, left_none, left_trans, left_without, logged, paths-logged, room_of_two}
 use Rattle.rebuild_core.proofs.Drafts.{among_below}
 
 -- parts as they are watched
@@ -84,13 +84,13 @@ draft_more large next more last ps w le d = record {
 
 -- operations that are logged
 
-draft_logged : (large next last : ℕ) (F : List Side → List Op) (w : Work) (u : Shape) (vs : List Watch) (ps : List PartAt) → IsDraft large next last ps w → HaveRoom w.watches → vs ≡ watches_of (logged F ps)
+pub draft_logged : (large next last n : ℕ) (F : List Side → List Op) (w : Work) (u : Shape) (vs : List Watch) (ps : List PartAt) → IsDraft large next last ps w → HaveLogRoomOf n ps → vs ≡ watches_of (logged F ps)
     → All (λ n. n < next) (numbers u) → (IsEvenClear large (paths_in w.watches) w.tree → IsEvenClear large (paths_in w.watches) u) → AreWatched (λ q. IsWatched q w.tree u (F q)) (paths_in w.watches)
-    → ((q : List Side) → length (F q) ≤ 2) → ((q : List Side) → All (λ n. n < next) (numbers_put (F q))) → IsDraftLeft large next last ps (record { tree = u; watches = vs })
-draft_logged large next last F w u vs ps d room is below even watched few puts =
+    → ((q : List Side) → length (F q) ≤ n) → ((q : List Side) → All (λ m. m < next) (numbers_put (F q))) → IsDraftLeft large next last ps (record { tree = u; watches = vs })
+draft_logged large next last n F w u vs ps d room is below even watched few puts =
     let named : paths_in w.watches ≡ paths ps = ap paths_in d.watched ∙ paths-watched ps in
     let seen : AreWatched (λ q. IsWatched q w.tree u (F q)) (paths ps) = subst (AreWatched (λ q. IsWatched q w.tree u (F q))) named watched in
-    let each = each_logged large next next last F w.tree u ps d.parts.each seen (room_watched ps (subst HaveRoom d.watched room)) few (omega arith) puts in
+    let each = each_logged large next next last n F w.tree u ps d.parts.each seen room few (omega arith) puts in
     let outside : IsEvenClear large (paths ps) u = subst (λ (qs : List (List Side)). IsEvenClear large qs u) named (even (subst (λ (qs : List (List Side)). IsEvenClear large qs w.tree) (sym named) d.even)) in (
       logged F ps,
       left_logged F ps,
@@ -107,7 +107,7 @@ pub draft_marked : (large next last : ℕ) (c : Choice) (a : Tag) (w : Work) (u 
     → AreAmong (numbers u) (numbers w.tree) → (IsEvenClear large (paths_in w.watches) w.tree → IsEvenClear large (paths_in w.watches) u)
     → AreWatched (λ q. IsWatched q w.tree u (logged_mark c a q w.tree)) (paths_in w.watches) → IsDraftLeft large next last ps (record { tree = u; watches = vs })
 draft_marked large next last c a w u vs ps d room is among even watched =
-    draft_logged large next last (λ q. logged_mark c a q w.tree) w u vs ps d room (is ∙ ap (with_marks c a w.tree) d.watched ∙ marks-watched c a w.tree ps) (among_below next (numbers u) (numbers w.tree) among d.below) even watched
+    draft_logged large next last 2 (λ q. logged_mark c a q w.tree) w u vs ps d (room_of_two ps (room_watched ps (subst HaveRoom d.watched room))) (is ∙ ap (with_marks c a w.tree) d.watched ∙ marks-watched c a w.tree ps) (among_below next (numbers u) (numbers w.tree) among d.below) even watched
     (λ q. logged_mark_few c a q w.tree) (λ q. subst (All (λ n. n < next)) (sym (mark_puts c a q w.tree)) (All-nil (λ n. n < next)))
 
 below_put : (next n : ℕ) (ns ms : List ℕ) → n < next → AreAmong ns (n ∷ ms) → All (λ m. m < next) ms → All (λ m. m < next) ns
@@ -118,7 +118,7 @@ pub draft_put : (large next last n : ℕ) (p : Place) (w : Work) (u : Shape) (vs
     → AreAmong (numbers u) (n ∷ numbers w.tree) → (IsEvenClear large (paths_in w.watches) w.tree → IsEvenClear large (paths_in w.watches) u)
     → AreWatched (λ q. IsWatched q w.tree u (logged_put n p q w.tree)) (paths_in w.watches) → IsDraftLeft large next last ps (record { tree = u; watches = vs })
 draft_put large next last n p w u vs ps less d room is among even watched =
-    draft_logged large next last (λ q. logged_put n p q w.tree) w u vs ps d room (is ∙ ap (with_puts n p w.tree) d.watched ∙ puts-watched n p w.tree ps) (below_put next n (numbers u) (numbers w.tree) less among d.below) even watched
+    draft_logged large next last 2 (λ q. logged_put n p q w.tree) w u vs ps d (room_of_two ps (room_watched ps (subst HaveRoom d.watched room))) (is ∙ ap (with_puts n p w.tree) d.watched ∙ puts-watched n p w.tree ps) (below_put next n (numbers u) (numbers w.tree) less among d.below) even watched
     (λ q. logged_put_few n p q w.tree) (λ q. put_puts (λ m. m < next) n p q w.tree less)
 
 -- what is left of what is left

@@ -15,3 +15,4 @@ pub mod Swap
 pub mod Entrants
 pub mod Ranks
 pub mod Waiting
+pub mod Pieces

@@ -81,7 +81,7 @@ fn added<L: Ledger>(
     ensures ticks { (op : Op) → only_op next (Update.Add points.now) ≡ Some op → HaveRoom work.watches → IsQuiet large op work.tree
         → steps.new ≤ steps.old + (5 * entered_nodes op work.tree + 1) }
 {
-    if points.len() >= SCAN && work.watches.len() == 0 {
+    if points.len() >= SCAN {
         let points = points.as_slice();
         return work.put_scan(alloc, large, next, points, scratch, steps);
     }

@@ -12,6 +12,7 @@ mod fault;
 mod job;
 mod logs;
 mod part;
+mod pieces;
 mod plan;
 mod planned;
 mod recycle;

@@ -41,6 +41,8 @@ impl MapState {
     /// What crosses a detached subtree is logged for it, and no node above it, at its top or in it is built anew. Before a
     /// point is put into a full tree, the whole tree is built anew and all detached subtrees are forgotten; otherwise, before
     /// each operation, those whose logs have no room for two operations are built anew where they stand, and forgotten.
+    /// Points of one update may be put at once: then both rules apply before them all, with their number in place of one where
+    /// room in logs and nodes is asked for, and with the tree's levels as they are before.
     pub fn update<L: Ledger>(
         &mut self,
         alloc: Global,

@@ -1,14 +1,15 @@
-//! Scans that an update puts or thins by, where no subtree is watched.
+//! Scans that an update puts or thins by at once.
 ghost use Rattle.std.specs.Prelude.{◌≡◌, ℕ, ◌+◌, ◌≤◌, List, [], length, IfOk};
 ghost use Rattle.map_fold.specs.Fold.{add_points, thin_points};
+ghost use Rattle.kd_update.specs.Watches.{paths_in};
 ghost use Rattle.rebuild_core.specs.Lawful.{map_of};
-ghost use Rattle.rebuild_core.specs.Draft.{IsDraft, IsDraftLeft, IsWork};
+ghost use Rattle.rebuild_core.specs.Draft.{HasRoomFor, IsDraft, IsDraftLeft, IsWork};
 ghost use Rattle.rebuild_core.specs.Parts.{PartAt};
 
 use crate::waiting::thinned_at_once;
 use crate::work::Work;
 use kd_tree::{Scratch, Steps};
-use kd_update::put_points;
+use kd_update::live_items;
 use map_fold::{NoMemory, Settings};
 use point_geom::Point;
 use std::alloc::Global;
@@ -19,7 +20,7 @@ use std::sync::ledger::Ledger;
 pub(crate) const SCAN: usize = 64;
 
 impl Work {
-    // The work with these points put under the numbers from `next` on.
+    // The work with these points put under the numbers from `next` on, in as few passes as may be.
     pub(crate) fn put_scan<L: Ledger>(
         self,
         alloc: Global,
@@ -31,16 +32,14 @@ impl Work {
     ) -> Result<Work, NoMemory>
         requires draft { IsWork large next self }
         requires few { next + length points.now ≤ 4194304 }
-        requires free { self.watches ≡ [] }
         ensures stepped { IfOk result (λ w. map_of w.tree (next + length points.now) ≡ add_points points.now (map_of self.tree next)) }
         ensures draft { (last : ℕ) (ps : List PartAt) → IsDraft large next last ps self
             → IfOk result (IsDraftLeft large (next + length points.now) last ps) }
-        ensures watches { IfOk result (λ w. w.watches ≡ self.watches) }
+        ensures kept { HasRoomFor (length points.now) (length points.now) self → IfOk result (λ w. paths_in w.watches ≡ paths_in self.watches) }
     {
-        let Work { tree, watches } = self;
-        let _size = tree.size();
-        let tree = put_points(alloc, tree, large, next, points, scratch, steps)?;
-        Ok(Work { tree, watches })
+        let _size = self.tree.size();
+        let items = live_items(alloc, next, points)?;
+        self.put_items(alloc, large, items.as_slice(), scratch, steps)
     }
 
     // The work after each of these points in turn has taken the next number and thinned its voxel.

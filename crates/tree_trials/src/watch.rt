@@ -66,7 +66,7 @@ fn mark_beside<L: Ledger>(
     })
 }
 
-fn is_large(tree: &Tree, large: u32, path: &Path) -> bool
+pub fn is_large(tree: &Tree, large: u32, path: &Path) -> bool
     ensures { result ≡ true → IsLargeAt large path.now tree.now }
 {
     match tree.subtree_at(path) {
@@ -75,7 +75,7 @@ fn is_large(tree: &Tree, large: u32, path: &Path) -> bool
     }
 }
 
-fn are_large(tree: &Tree, large: u32, watches: &[Watch]) -> bool
+pub fn are_large(tree: &Tree, large: u32, watches: &[Watch]) -> bool
     ensures { result ≡ true → AreLargeAt large (paths_in watches.now) tree.now }
 {
     match watches.split_first() {
@@ -94,7 +94,7 @@ fn have_room(watches: &[Watch]) -> bool
 }
 
 impl Numbered {
-    fn put_watching(
+    pub fn put_watching(
         self,
         rt: &impl Abort,
         alloc: Global,
@@ -110,7 +110,7 @@ impl Numbered {
         put_beside::<Brand>(alloc, self, large, point, watches, Blank::new(1))
     }
 
-    fn mark_watching(
+    pub fn mark_watching(
         self,
         rt: &impl Abort,
         alloc: Global,
@@ -126,7 +126,7 @@ impl Numbered {
 }
 
 // Watches at these paths, with nothing logged.
-fn watching(rt: &impl Abort, alloc: Global, paths: &[Path]) -> Result<Watches, Fail> {
+pub fn watching(rt: &impl Abort, alloc: Global, paths: &[Path]) -> Result<Watches, Fail> {
     let mut watches = Watches::new(alloc);
     for path in paths {
         assert!(rt; watches.len() < 4);
@@ -139,7 +139,7 @@ fn watching(rt: &impl Abort, alloc: Global, paths: &[Path]) -> Result<Watches, F
 }
 
 // What the subtree at the path holds by itself.
-fn own(alloc: Global, tree: &Tree, path: &Path) -> Result<Vec<Item>, Fail> {
+pub fn own(alloc: Global, tree: &Tree, path: &Path) -> Result<Vec<Item>, Fail> {
     match tree.subtree_at(path) {
         None => Err(Fail::new("no subtree")),
         Some(son) => Ok(Vec::from_slice(alloc, son.flatten(alloc)?.as_slice())?),
@@ -147,7 +147,7 @@ fn own(alloc: Global, tree: &Tree, path: &Path) -> Result<Vec<Item>, Fail> {
 }
 
 // Does what was logged to the items of the list. The points that are put have rising numbers.
-fn replay_plainly(items: &mut Vec<Item>, log: &OpLog) -> Result<(), Fail> {
+pub fn replay_plainly(items: &mut Vec<Item>, log: &OpLog) -> Result<(), Fail> {
     for op in log.after(0) {
         match op {
             Op::Mark { choice, tag } => mark_plainly(items, choice, *tag),
@@ -162,7 +162,7 @@ fn replay_plainly(items: &mut Vec<Item>, log: &OpLog) -> Result<(), Fail> {
 }
 
 // Four places, two levels down.
-fn grandsons() -> [Path; 4] {
+pub fn grandsons() -> [Path; 4] {
     let left = Path::root().down(Side::Left);
     let right = Path::root().down(Side::Right);
     [

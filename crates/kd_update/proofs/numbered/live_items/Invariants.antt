@@ -1,6 +1,6 @@
 use Rattle.std.proofs.Common.{◌≡◌, ◌+◌, ◌++◌, drop}
 use Rattle.kd_update.specs.Scan.{live_from}
-use Rattle.kd_update.proofs.numbered.numbered.Given as goal
+use Rattle.kd_update.proofs.numbered.live_items.Given as goal
 
 abbrev pub invariant-loop-point : goal.invariant-loop-point
 invariant-loop-point l = record {

@@ -1,0 +1,122 @@
+//! What the points of a scan do to watched subtrees, logged in their order before they are put. Nothing here takes a node apart.
+ghost use Rattle.std.specs.Prelude.{◌≡◌, ◌+◌, ◌≤◌, true, false, [], ◌++◌, length, OnOk};
+ghost use Rattle.map_fold.specs.Ops.{Extends};
+ghost use Rattle.kd_tree.specs.Walk.{tagged};
+ghost use Rattle.kd_update.specs.Watch.{goes_to};
+ghost use Rattle.kd_update.specs.Watches.{AreExtended};
+ghost use Rattle.kd_update.specs.Crossing.{AreMore, HaveRoomAtOnce, going, logged_scan, puts_of, with_scan};
+
+use crate::insert::goes_left;
+use crate::log_mark::note_owed;
+use crate::watch::note_put;
+use crate::{Watch, Watches};
+use kd_tree::{Side, Tree};
+use map_fold::{Item, NoMemory, Tag};
+use op_logger::OpLog;
+use point_geom::{Axis, Point};
+use std::alloc::Global;
+
+pub(crate) fn log_scans(
+    alloc: Global,
+    tree: &Tree,
+    watches: &mut Watches,
+    items: &[Item],
+) -> Result<(), NoMemory>
+    requires { HaveRoomAtOnce (length items.now) watches.old }
+    ensures logged { OnOk result (watches.new ≡ with_scan items.now tree.now watches.old) }
+    ensures begins { AreExtended watches.old watches.new }
+    ensures few { AreMore (length items.now + 1) watches.old watches.new }
+{
+    log_each_scan(alloc, tree, watches.items.as_mut_slice(), items)
+}
+
+fn log_each_scan(
+    alloc: Global,
+    tree: &Tree,
+    watches: &mut [Watch],
+    items: &[Item],
+) -> Result<(), NoMemory>
+    requires { HaveRoomAtOnce (length items.now) watches.old }
+    ensures logged { OnOk result (watches.new ≡ with_scan items.now tree.now watches.old) }
+    ensures begins { AreExtended watches.old watches.new }
+    ensures few { AreMore (length items.now + 1) watches.old watches.new }
+{
+    let Some((watch, rest)) = watches.split_first_mut() else {
+        return Ok(());
+    };
+    let mut items_there = Vec::from_slice(alloc, items)?;
+    log_scan(
+        tree,
+        Tag::KEEP,
+        watch.path.as_slice(),
+        &mut items_there,
+        &mut watch.log,
+    )?;
+    log_each_scan(alloc, tree, rest, items)
+}
+
+// For the subtree at the sides. The tree owes the action `owed` before. Of the items those that come there are left.
+fn log_scan(
+    tree: &Tree,
+    owed: Tag,
+    sides: &[Side],
+    items: &mut Vec<Item>,
+    log: &mut OpLog,
+) -> Result<(), NoMemory>
+    requires { length log.old + length (logged_scan sides.now items.old.items (tagged owed tree.now)) ≤ 65536 }
+    ensures logged { OnOk result (log.new ≡ log.old ++ logged_scan sides.now items.old.items (tagged owed tree.now)) }
+    ensures begins { Extends log.old log.new }
+    ensures few { length log.new ≤ length log.old + length (logged_scan sides.now items.old.items (tagged owed tree.now)) }
+{
+    let Some((side, rest)) = sides.split_first() else {
+        return note_puts(log, items.as_slice());
+    };
+    if is_none(items.as_slice()) {
+        return Ok(());
+    }
+    let Some(top) = tree.top() else {
+        return Ok(());
+    };
+    let owed = top.pending.then(owed);
+    note_owed(owed, rest, log)?;
+    keep_going(items, *side, top.axis, &top.item.point);
+    match side {
+        Side::Left => log_scan(top.left, owed, rest, items, log),
+        Side::Right => log_scan(top.right, owed, rest, items, log),
+    }
+}
+
+fn is_none(items: &[Item]) -> bool
+    ensures none { result ≡ true → items.now ≡ [] }
+    ensures some { result ≡ false → items.now ≡ [] → ⊥ }
+{
+    items.is_empty()
+}
+
+// Leaves those that go to this side.
+fn keep_going(items: &mut Vec<Item>, side: Side, axis: Axis, point: &Point)
+    ensures { items.new.items ≡ going side axis point.now items.old.items }
+{
+    items.retain(|i| goes_to(side, goes_left(&i.point, axis, point)));
+}
+
+fn goes_to(side: Side, on_left: bool) -> bool
+    ensures { result ≡ goes_to side on_left }
+{
+    match side {
+        Side::Left => on_left,
+        Side::Right => !on_left,
+    }
+}
+
+fn note_puts(log: &mut OpLog, items: &[Item]) -> Result<(), NoMemory>
+    requires { length log.old + length (puts_of items.now) ≤ 65536 }
+    ensures logged { OnOk result (log.new ≡ log.old ++ puts_of items.now) }
+    ensures begins { Extends log.old log.new }
+    ensures few { length log.new ≤ length log.old + length (puts_of items.now) }
+{
+    for item in items {
+        note_put(log, item.number, item.point)?;
+    }
+    Ok(())
+}

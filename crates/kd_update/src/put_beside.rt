@@ -1,0 +1,108 @@
+//! Many points put into a tree in one pass, with watched subtrees left as they stand. Nothing here knows what is logged of them,
+//! or whether the bounds of a tree allow it.
+ghost use Rattle.std.specs.Prelude.{ℕ, IfOk};
+ghost use Rattle.kd_tree.specs.Apart.{AreAllApart};
+ghost use Rattle.kd_update.specs.Scan.{IsPiece};
+ghost use Rattle.kd_update.specs.Several.{AreLargeAt};
+ghost use Rattle.kd_update.specs.Crossing.{IsCrossed, IsWholeGrown};
+ghost use Rattle.kd_update.specs.Ways.{paths_of};
+
+use crate::insert::put_below;
+use crate::one_pass::put_at_once;
+use crate::part_items::moved_left;
+use crate::rebuild::{NEVER, joined};
+use crate::ways::Ways;
+use kd_tree::{OpenNode, Scratch, Side, Steps, Tree};
+use map_fold::{Item, NoMemory};
+use point_geom::Axis;
+use std::alloc::Global;
+use std::sync::ledger::Ledger;
+
+// `put_at_once`, where nothing is built anew above the ends of the ways, at them or below them.
+pub(crate) fn put_beside<L: Ledger>(
+    alloc: Global,
+    tree: Tree,
+    large: u32,
+    items: &mut [Item],
+    axis: Axis,
+    ways: &Ways<'_>,
+    scratch: &mut Scratch,
+    steps: &mut Steps<L>,
+) -> Result<Tree, NoMemory>
+    requires piece { IsPiece large tree items.old }
+    requires there { AreLargeAt large (paths_of ways.now) tree }
+    requires apart { AreAllApart (paths_of ways.now) }
+    ensures { IfOk result (λ t. IsCrossed large (paths_of ways.now) tree items.old t) }
+{
+    let _size = tree.size();
+    if ways.is_empty() {
+        return put_at_once(alloc, tree, large, items, axis, scratch, steps);
+    }
+    if ways.is_here() {
+        return put_within(alloc, tree, items, axis, scratch, steps);
+    }
+    if items.is_empty() {
+        return Ok(tree);
+    }
+    let Some(node) = tree.take_apart(alloc, steps)? else {
+        return Ok(Tree::empty());
+    };
+    let count = moved_left(items, node.axis, &node.item.point);
+    let next = node.axis.next();
+    let (lefts, rights) = items.split_at_mut(count);
+    let on_left = ways.onward(Side::Left);
+    let left = put_beside(
+        alloc, node.left, large, lefts, next, &on_left, scratch, steps,
+    )?;
+    let on_right = ways.onward(Side::Right);
+    let right = put_beside(
+        alloc, node.right, large, rights, next, &on_right, scratch, steps,
+    )?;
+    let node = OpenNode {
+        left,
+        right,
+        block: node.block.or_of(scratch),
+        ..node
+    };
+    joined(alloc, node, steps)
+}
+
+// The tree with the items put, and none of its nodes built anew: only where it has no node are they built by medians.
+fn put_within<L: Ledger>(
+    alloc: Global,
+    tree: Tree,
+    items: &mut [Item],
+    axis: Axis,
+    scratch: &mut Scratch,
+    steps: &mut Steps<L>,
+) -> Result<Tree, NoMemory>
+    requires { (large : ℕ) × IsPiece large tree items.old }
+    ensures { IfOk result (λ t. IsWholeGrown tree items.old t) }
+{
+    let size = tree.size();
+    let Some((first, rest)) = items.split_first() else {
+        return Ok(tree);
+    };
+    if size == 0 {
+        if rest.is_empty() {
+            let block = scratch.block();
+            return put_below(alloc, tree, NEVER, *first, axis, block, steps);
+        }
+        return tree.built_anew(alloc, items, scratch, steps);
+    }
+    let Some(node) = tree.take_apart(alloc, steps)? else {
+        return Ok(Tree::empty());
+    };
+    let count = moved_left(items, node.axis, &node.item.point);
+    let next = node.axis.next();
+    let (lefts, rights) = items.split_at_mut(count);
+    let left = put_within(alloc, node.left, lefts, next, scratch, steps)?;
+    let right = put_within(alloc, node.right, rights, next, scratch, steps)?;
+    let node = OpenNode {
+        left,
+        right,
+        block: node.block.or_of(scratch),
+        ..node
+    };
+    joined(alloc, node, steps)
+}

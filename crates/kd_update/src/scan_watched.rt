@@ -1,0 +1,75 @@
+//! Scans of points put into a tree in one pass, while subtrees are watched: what each meets is logged first, and then the tree is
+//! changed.
+ghost use Rattle.std.specs.Prelude.{◌≡◌, ◌+◌, ◌<◌, ◌≤◌, max, ◌++◌, length, IfOk, OnOk};
+ghost use Rattle.kd_tree.specs.Shape.{levels, nodes, numbers};
+ghost use Rattle.kd_tree.specs.Contents.{contents};
+ghost use Rattle.kd_tree.specs.Apart.{AreAllApart};
+ghost use Rattle.kd_update.specs.Refresh.{AreAmong};
+ghost use Rattle.kd_update.specs.Scan.{MayJoin, numbers_in, put_each};
+ghost use Rattle.kd_update.specs.Several.{AreLargeAt, AreWatched, IsEvenClear};
+ghost use Rattle.kd_update.specs.Watch.{IsWatched};
+ghost use Rattle.kd_update.specs.Watches.{AreExtended, paths_in};
+ghost use Rattle.kd_update.specs.Crossing.{AreMore, HaveRoomAtOnce, logged_scan, with_scan};
+
+use crate::Watches;
+use crate::log_scan::log_scans;
+use crate::put_beside::put_beside;
+use crate::ways::Ways;
+use kd_tree::{Scratch, Steps, Tree};
+use map_fold::{Item, NoMemory};
+use point_geom::Axis;
+use std::alloc::Global;
+use std::sync::ledger::Ledger;
+
+/// The tree with these items put in one pass, while the subtrees at the watches' paths are watched.
+///
+/// No node above a watched subtree, at its top or in it is built anew. At the end of its log comes what the last node above it owes,
+/// where one item comes there at least, and then each item that comes to it, in the order of the list. Elsewhere it is a pass of
+/// `put_all`. Where memory is wanting, the tree is let go, and logs may have grown.
+pub fn put_all_watched<L: Ledger>(
+    alloc: Global,
+    tree: Tree,
+    large: u32,
+    items: &[Item],
+    watches: &mut Watches,
+    scratch: &mut Scratch,
+    steps: &mut Steps<L>,
+) -> Result<Tree, NoMemory>
+    requires fit { MayJoin (contents tree) items.now }
+    requires small { length items.now < max 2 large }
+    requires short { length items.now < 4194304 }
+    requires low { levels tree ≤ 490 }
+    requires few { nodes tree + length items.now ≤ 4194304 }
+    requires there { AreLargeAt large (paths_in watches.old) tree }
+    requires apart { AreAllApart (paths_in watches.old) }
+    requires room { HaveRoomAtOnce (length items.now) watches.old }
+    ensures contents { IfOk result (λ t. contents t ≡ put_each (contents tree) items.now) }
+    ensures numbers { IfOk result (λ t. AreAmong (numbers t) (numbers_in items.now ++ numbers tree)) }
+    ensures nodes { IfOk result (λ t. nodes t ≤ nodes tree + length items.now) }
+    ensures levels { IfOk result (λ t. levels t ≤ levels tree + 22) }
+    // Outside the watched subtrees.
+    ensures balance { IsEvenClear large (paths_in watches.old) tree
+        → IfOk result (λ t. IsEvenClear large (paths_in watches.old) t) }
+    ensures there { IfOk result (λ t. AreLargeAt large (paths_in watches.old) t) }
+    // Whatever the call answers.
+    ensures begins { AreExtended watches.old watches.new }
+    ensures few { AreMore (length items.now + 1) watches.old watches.new }
+    ensures logged { OnOk result (watches.new ≡ with_scan items.now tree watches.old) }
+    // Of each watched subtree the new tree has what these operations make of the old one's own contents.
+    ensures watched { IfOk result (λ t. AreWatched (λ p. IsWatched p tree t (logged_scan p items.now tree)) (paths_in watches.old)) }
+{
+    let _size = tree.size();
+    log_scans(alloc, &tree, watches, items)?;
+    let ways = Ways::of(watches.as_slice());
+    let mut items = Vec::from_slice(alloc, items)?;
+    put_beside(
+        alloc,
+        tree,
+        large,
+        items.as_mut_slice(),
+        Axis::X,
+        &ways,
+        scratch,
+        steps,
+    )
+}

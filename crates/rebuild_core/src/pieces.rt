@@ -1,0 +1,152 @@
+//! Items that are put into a tree in as few passes as may be, beside what is watched in it. Nothing here knows where they come from.
+ghost use Rattle.std.specs.Prelude.{◌≡◌, ℕ, ◌<◌, ◌≤◌, List, [], length, All, IfOk};
+ghost use Rattle.kd_tree.specs.Contents.{contents};
+ghost use Rattle.kd_update.specs.Crossing.{HaveRoomAtOnce};
+ghost use Rattle.kd_update.specs.Scan.{MayJoin, put_each};
+ghost use Rattle.kd_update.specs.Watches.{paths_in};
+ghost use Rattle.rebuild_core.specs.Draft.{HasRoomFor, IsDraft, IsDraftLeft, IsWork, IsWorked};
+ghost use Rattle.rebuild_core.specs.Parts.{PartAt};
+ghost use Rattle.rebuild_core.specs.Pieces.{MayPass};
+
+use crate::scan::SCAN;
+use crate::work::Work;
+use kd_tree::{Scratch, Steps};
+use kd_update::{Watch, put_all, put_all_watched};
+use map_fold::{Item, NoMemory};
+use std::alloc::Global;
+use std::sync::ledger::Ledger;
+
+// A pass adds at most 22 levels, so it begins with no more than these.
+const LOW: u32 = 490;
+
+const MOST: u32 = 4_194_304;
+
+impl Work {
+    // The work with these items put, in as few passes as may be.
+    pub(crate) fn put_items<L: Ledger>(
+        self,
+        alloc: Global,
+        large: u32,
+        items: &[Item],
+        scratch: &mut Scratch,
+        steps: &mut Steps<L>,
+    ) -> Result<Work, NoMemory>
+        requires draft { (next : ℕ) × IsWork large next self × All (λ i. i.number < next) items.now }
+        requires fit { MayJoin (contents self.tree) items.now }
+        ensures contents { IfOk result (λ w. contents w.tree ≡ put_each (contents self.tree) items.now) }
+        ensures draft { (next last : ℕ) (ps : List PartAt) → All (λ i. i.number < next) items.now → IsDraft large next last ps self
+            → IfOk result (IsDraftLeft large next last ps) }
+        ensures kept { HasRoomFor (length items.now) (length items.now) self → IfOk result (λ w. paths_in w.watches ≡ paths_in self.watches) }
+    {
+        if self.watches.len() == 0 {
+            return self.put_free(alloc, large, items, scratch, steps);
+        }
+        self.put_in_pieces(alloc, large, items, scratch, steps)
+    }
+
+    // The same where nothing is watched: a full tree is built anew with all that is left.
+    fn put_free<L: Ledger>(
+        self,
+        alloc: Global,
+        large: u32,
+        items: &[Item],
+        scratch: &mut Scratch,
+        steps: &mut Steps<L>,
+    ) -> Result<Work, NoMemory>
+        requires fit { MayJoin (contents self.tree) items.now }
+        requires free { self.watches ≡ [] }
+        ensures contents { IfOk result (λ w. contents w.tree ≡ put_each (contents self.tree) items.now) }
+        ensures draft { (next last : ℕ) (ps : List PartAt) → All (λ i. i.number < next) items.now → IsDraft large next last ps self
+            → IfOk result (IsDraftLeft large next last ps) }
+        ensures watches { IfOk result (λ w. w.watches ≡ self.watches) }
+    {
+        let Work { tree, watches } = self;
+        let tree = put_all(alloc, tree, large, items, scratch, steps)?;
+        Ok(Work { tree, watches })
+    }
+
+    // The same beside what is watched. Before each pass, as before each item that is put alone, a full log is asked for.
+    fn put_in_pieces<L: Ledger>(
+        self,
+        alloc: Global,
+        large: u32,
+        items: &[Item],
+        scratch: &mut Scratch,
+        steps: &mut Steps<L>,
+    ) -> Result<Work, NoMemory>
+        requires draft { (next : ℕ) × IsWork large next self × All (λ i. i.number < next) items.now }
+        requires fit { MayJoin (contents self.tree) items.now }
+        ensures contents { IfOk result (λ w. contents w.tree ≡ put_each (contents self.tree) items.now) }
+        ensures draft { (next last : ℕ) (ps : List PartAt) → All (λ i. i.number < next) items.now → IsDraft large next last ps self
+            → IfOk result (IsDraftLeft large next last ps) }
+        ensures worked { IfOk result (IsWorked (length items.now) (length items.now) self) }
+    {
+        let mut work = self;
+        let mut rest = items;
+        while !rest.is_empty() {
+            let count = work.most_at_once(large, rest.len());
+            let (piece, more) = rest.split_at(count);
+            work = work.put_piece(alloc, large, piece, scratch, steps)?;
+            rest = more;
+        }
+        Ok(work)
+    }
+
+    // How many of so many items are put next: as many as one pass may take, and one alone where these would be few.
+    fn most_at_once(&self, large: u32, wanted: usize) -> usize
+        requires { 1 ≤ wanted }
+        ensures some { 1 ≤ result }
+        ensures within { result ≤ wanted }
+        ensures pass { 1 < result → MayPass large result self.now }
+    {
+        let size = self.tree.size();
+        if self.tree.levels() > LOW || size >= MOST {
+            return 1;
+        }
+        let room = least_room(self.watches.as_slice());
+        let most = (large.clamp(2, MOST) - 1).min(MOST - size).min(room) as usize;
+        let count = most.min(wanted);
+        if count < SCAN {
+            return 1;
+        }
+        count
+    }
+
+    // The work with these put: all in one pass, and one alone by itself.
+    fn put_piece<L: Ledger>(
+        self,
+        alloc: Global,
+        large: u32,
+        piece: &[Item],
+        scratch: &mut Scratch,
+        steps: &mut Steps<L>,
+    ) -> Result<Work, NoMemory>
+        requires draft { (next : ℕ) × IsWork large next self }
+        requires fit { MayJoin (contents self.tree) piece.now }
+        requires pass { 1 < length piece.now → MayPass large (length piece.now) self }
+        ensures contents { IfOk result (λ w. contents w.tree ≡ put_each (contents self.tree) piece.now) }
+        ensures draft { (next last : ℕ) (ps : List PartAt) → All (λ i. i.number < next) piece.now → IsDraft large next last ps self
+            → IfOk result (IsDraftLeft large next last ps) }
+        ensures worked { IfOk result (IsWorked (length piece.now) (length piece.now) self) }
+    {
+        let Some((item, others)) = piece.split_first() else {
+            return Ok(self);
+        };
+        if others.is_empty() {
+            return self.put(alloc, large, item.number, item.point, steps);
+        }
+        let Work { tree, mut watches } = self;
+        let tree = put_all_watched(alloc, tree, large, piece, &mut watches, scratch, steps)?;
+        Ok(Work { tree, watches })
+    }
+}
+
+// How many operations each log has room for, beside two more.
+fn least_room(watches: &[Watch]) -> u32
+    ensures { (n : ℕ) → 1 ≤ n → n ≤ result → HaveRoomAtOnce n watches.now }
+{
+    let Some((watch, rest)) = watches.split_first() else {
+        return MOST;
+    };
+    watch.log.room().saturating_sub(2).min(least_room(rest))
+}

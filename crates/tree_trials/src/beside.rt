@@ -1,0 +1,228 @@
+//! Scans put at once beside watched subtrees, and the same points one by one.
+ghost use Rattle.std.specs.Prelude.{◌≡◌, ◌+◌, ◌<◌, ◌≤◌, max, true, length};
+ghost use Rattle.kd_tree.specs.Apart.{AreAllApart, AreApart, IsClear};
+ghost use Rattle.kd_tree.specs.Shape.{levels, nodes};
+ghost use Rattle.kd_update.specs.Crossing.{HaveRoomAtOnce};
+ghost use Rattle.kd_update.specs.Several.{AreLargeAt};
+ghost use Rattle.kd_update.specs.Watches.{paths_in};
+
+use crate::draw::Draw;
+use crate::numbered::{Numbered, row};
+use crate::watch::{are_large, grandsons, own, replay_plainly, watching};
+use kd_tree::{Path, Scratch, Side, Steps};
+use kd_update::{Watch, Watches, live_items, put_all_watched};
+use map_fold::{Item, NoMemory};
+use point_geom::Point;
+use std::alloc::Global;
+use std::marker::Brand;
+use std::process::Abort;
+use std::sync::ledger::{Blank, Ledger};
+use std::test::Fail;
+
+fn put_scan_beside<L: Ledger>(
+    alloc: Global,
+    map: Numbered,
+    large: u32,
+    points: &[Point],
+    watches: &mut Watches,
+    blank: Blank,
+) -> Result<Numbered, NoMemory>
+    requires name { blank.name ≡ L.name }
+    requires parts { blank.parts ≡ L.parts }
+    requires some { blank.parts ≡ 1 }
+    requires next { map.next + length points.now ≤ 4194304 }
+    requires small { length points.now < max 2 large }
+    requires short { length points.now < 4194304 }
+    requires low { levels map.tree ≤ 490 }
+    requires few { nodes map.tree + length points.now ≤ 4194304 }
+    requires there { AreLargeAt large (paths_in watches.old) map.tree }
+    requires apart { AreAllApart (paths_in watches.old) }
+    requires room { HaveRoomAtOnce (length points.now) watches.old }
+{
+    let mut steps: Steps<L> = Steps::new(blank);
+    let mut scratch = Scratch::new(alloc);
+    let _size = map.tree.size();
+    let items = live_items(alloc, map.next, points)?;
+    let tree = put_all_watched(
+        alloc,
+        map.tree,
+        large,
+        items.as_slice(),
+        watches,
+        &mut scratch,
+        &mut steps,
+    )?;
+    Ok(Numbered {
+        tree,
+        next: map.next + points.len() as u32,
+    })
+}
+
+// Whether neither begins with the other.
+fn are_apart(one: &[Side], other: &[Side]) -> bool
+    ensures { result ≡ true → AreApart one.now other.now }
+{
+    let Some((side, one)) = one.split_first() else {
+        return false;
+    };
+    let Some((beside, other)) = other.split_first() else {
+        return false;
+    };
+    match side {
+        Side::Left => match beside {
+            Side::Left => are_apart(one, other),
+            Side::Right => true,
+        },
+        Side::Right => match beside {
+            Side::Left => true,
+            Side::Right => are_apart(one, other),
+        },
+    }
+}
+
+fn is_clear(path: &Path, watches: &[Watch]) -> bool
+    ensures { result ≡ true → IsClear path.now (paths_in watches.now) }
+{
+    match watches.split_first() {
+        None => true,
+        Some((watch, rest)) => {
+            are_apart(path.as_slice(), watch.path.as_slice()) && is_clear(path, rest)
+        }
+    }
+}
+
+fn are_all_apart(watches: &[Watch]) -> bool
+    ensures { result ≡ true → AreAllApart (paths_in watches.now) }
+{
+    match watches.split_first() {
+        None => true,
+        Some((watch, rest)) => is_clear(&watch.path, rest) && are_all_apart(rest),
+    }
+}
+
+fn have_room_at_once(count: usize, watches: &[Watch]) -> bool
+    requires { count ≤ 4194304 }
+    ensures { result ≡ true → HaveRoomAtOnce count watches.now }
+{
+    match watches.split_first() {
+        None => true,
+        Some((watch, rest)) => {
+            watch.log.room() >= count as u32 + 2 && have_room_at_once(count, rest)
+        }
+    }
+}
+
+impl Numbered {
+    fn put_scan_watching(
+        self,
+        rt: &impl Abort,
+        alloc: Global,
+        large: u32,
+        points: &[Point],
+        watches: &mut Watches,
+    ) -> Result<Numbered, NoMemory> {
+        let many = points.len();
+        assert!(rt; many < large.max(2) as usize);
+        assert!(rt; many < 4_194_304);
+        assert!(rt; self.next < 4_194_304);
+        assert!(rt; many <= (4_194_304 - self.next) as usize);
+        assert!(rt; self.tree.levels() <= 490);
+        assert!(rt; self.tree.size() < 4_194_304);
+        assert!(rt; many <= (4_194_304 - self.tree.size()) as usize);
+        assert!(rt; are_large(&self.tree, large, watches.as_slice()));
+        assert!(rt; are_all_apart(watches.as_slice()));
+        assert!(rt; have_room_at_once(many, watches.as_slice()));
+        put_scan_beside::<Brand>(alloc, self, large, points, watches, Blank::new(1))
+    }
+}
+
+// A map and what is watched in it.
+#[derive(Drop)]
+struct Watching {
+    map: Numbered,
+    watches: Watches,
+}
+
+impl Watching {
+    fn started(rt: &impl Abort, alloc: Global, paths: &[Path]) -> Result<Watching, Fail> {
+        let mut draw = Draw { state: 7 };
+        let mut map = row(rt, alloc, 16, 16)?;
+        for _ in 0..200 {
+            map = map.put(rt, alloc, 16, draw.point()?)?;
+        }
+        let map = map.settled(alloc)?;
+        let watches = watching(rt, alloc, paths)?;
+        Ok(Watching { map, watches })
+    }
+
+    fn held_at(&self, alloc: Global) -> Result<Vec<Vec<Item>>, Fail> {
+        let mut lists = Vec::new(alloc);
+        for watch in self.watches.as_slice() {
+            lists.push(own(alloc, &self.map.tree, &watch.path)?)?;
+        }
+        Ok(lists)
+    }
+}
+
+// The same scans beside the same subtrees, at once and point by point, with an action before each.
+fn scans_beside(
+    rt: &impl Abort,
+    alloc: Global,
+    paths: &[Path],
+    large: u32,
+    count: u32,
+) -> Result<(), Fail> {
+    let Watching {
+        map: mut singly,
+        watches: mut one_by_one,
+    } = Watching::started(rt, alloc, paths)?;
+    let start = Watching::started(rt, alloc, paths)?;
+    let olds = start.held_at(alloc)?;
+    let Watching {
+        map: mut scanned,
+        watches: mut at_once,
+    } = start;
+    let mut draw = Draw { state: 11 };
+    for _ in 0..5 {
+        let cuboid = draw.cuboid()?;
+        let choice = draw.choice(&cuboid);
+        let tag = draw.tag();
+        singly = singly.mark_watching(rt, alloc, large, &choice, tag, &mut one_by_one)?;
+        scanned = scanned.mark_watching(rt, alloc, large, &choice, tag, &mut at_once)?;
+        let mut points = Vec::new(alloc);
+        for _ in 0..count {
+            let point = draw.point()?;
+            points.push(point)?;
+            singly = singly.put_watching(rt, alloc, large, point, &mut one_by_one)?;
+        }
+        scanned = scanned.put_scan_watching(rt, alloc, large, points.as_slice(), &mut at_once)?;
+        let held = scanned.tree.flatten(alloc)?;
+        assert!(rt; held.as_slice() == singly.tree.flatten(alloc)?.as_slice());
+    }
+    let mut olds = olds.into_iter();
+    let mut others = one_by_one.as_slice().iter();
+    for watch in at_once.as_slice() {
+        let (Some(mut items), Some(other)) = (olds.next(), others.next()) else {
+            return Err(Fail::new("fewer watches"));
+        };
+        assert_eq!(rt; watch.log.len(), other.log.len());
+        replay_plainly(&mut items, &watch.log)?;
+        let held = own(alloc, &scanned.tree, &watch.path)?;
+        assert!(rt; held.as_slice() == items.as_slice());
+    }
+    Ok(())
+}
+
+#[test]
+fn a_scan_beside_watched_subtrees_does_what_its_points_do(rt: HostRuntime) -> Result<(), Fail> {
+    let alloc = rt.alloc();
+    let places = grandsons();
+    let [first, second, ..] = places;
+    let left = Path::root().down(Side::Left);
+    for (large, count) in [(16, 12), (40, 39)] {
+        for paths in [&[left][..], &[second, first][..], &places[..]] {
+            scans_beside(&rt, alloc, paths, large, count)?;
+        }
+    }
+    Ok(())
+}
