@@ -10,7 +10,7 @@ ghost use Rattle.rebuild_core.specs.Parts.{PartAt, part_in};
 use crate::part::{Part, part_in, part_of, paths_of};
 use crate::{Built, Job, LogAsk, MapState};
 use kd_tree::{Path, Tree};
-use map_fold::{Item, Items, NoMemory, Op, Ops};
+use map_fold::{Item, Items, NoMemory, Ops};
 use op_logger::OpLog;
 use std::alloc::Global;
 use std::sync::Arc;
@@ -79,29 +79,31 @@ impl MapState {
 
         ensures refused { IfErr result (IsLogFault built.now self.now.state) }
     {
-        let Some((_part, ops)) = self.part_built(built) else {
+        let Some(part) = self.part_built(built) else {
             return Err(LogAsk::Stale {
                 ticket: built.ticket,
             });
         };
-        let ops = Vec::from_slice(alloc, ops)?;
+        let done = built.done.len() as u32;
+        let Ok(ops) = part.log.after(alloc, done) else {
+            return Err(LogAsk::NoMemory);
+        };
         Ok(Ops::from(ops))
     }
 
-    // The part that the value is of, and the operations that the value hasn't done.
-    pub(crate) fn part_built(&self, built: &Built) -> Option<(&Part, &[Op])>
+    // The part that the value is of, whose log begins with the operations that the value has done.
+    pub(crate) fn part_built(&self, built: &Built) -> Option<&Part>
         ensures none { IsNone result → IsStale built.now self.now.state.parts }
-        ensures some { IfSome result (λ r. IsPartOf built.now self.now.state.parts r.0.now) }
-        ensures undone { IfSome result (λ r. r.1.now ≡ undone built.now r.0.now) }
-        ensures fit { IfSome result (λ r. Fit (contents built.now.tree) r.1.now) }
-        ensures few { IfSome result (λ r. length r.1.now ≤ 65536) }
+        ensures some { IfSome result (λ p. IsPartOf built.now self.now.state.parts p.now) }
+        ensures done { IfSome result (λ p. length built.now.done ≤ length p.now.log) }
+        ensures few { IfSome result (λ p. length p.now.log ≤ 65536) }
+        ensures fit { IfSome result (λ p. Fit (contents built.now.tree) (undone built.now p.now)) }
     {
         let part = self.part_like(built)?;
         let _history = self.history();
         let _done = built.done();
         let _few = part.log.len();
-        let done = built.done.len() as u32;
-        Some((part, part.log.after(done)))
+        Some(part)
     }
 
     // The part that the value is of. It costs a step for each item and for each operation that is done.

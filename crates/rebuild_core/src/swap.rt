@@ -83,16 +83,18 @@ impl MapState {
             → IfOk result (λ x. x.tree ≡ replaced_at p.path built.now.tree self.old.state.tree) }
         ensures ticks { (p : PartAt) → IsQuietSwap built.now p self.old.state → steps.new ≤ steps.old + length p.path }
     {
-        let Some((part, ops)) = self.part_built(built) else {
+        let Some(part) = self.part_built(built) else {
             return Err(SwapFault::Stale {
                 ticket: built.ticket,
             });
         };
-        let left = ops.len() as u32;
+        let done = built.done.len() as u32;
+        let left = part.log.len() - done;
         if !force && MOST_LEFT < left {
             return Err(SwapFault::Behind { left });
         }
-        let planned = self.swapped(alloc, built, part, ops, steps)?;
+        let ops = part.log.after(alloc, done)?;
+        let planned = self.swapped(alloc, built, part, ops.as_slice(), steps)?;
         Ok(planned)
     }
 
