@@ -206,7 +206,7 @@ fn scans_beside(
             return Err(Fail::new("fewer watches"));
         };
         assert_eq!(rt; watch.log.len(), other.log.len());
-        replay_plainly(&mut items, &watch.log)?;
+        replay_plainly(alloc, &mut items, &watch.log)?;
         let held = own(alloc, &scanned.tree, &watch.path)?;
         assert!(rt; held.as_slice() == items.as_slice());
     }
