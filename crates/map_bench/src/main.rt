@@ -56,9 +56,9 @@ use crate::forgotten::{Forgotten, Way, forget};
 use crate::longest::{Longest, longest_steps};
 use crate::readers::{Beside, readers};
 use crate::steady::builders::Builders;
-use crate::steady::steady;
+use crate::steady::steadiness;
 use crate::stop::Stop;
-use crate::waiting::{Waiting, waiting};
+use crate::waiting::{Waiting, update_waiting};
 use crate::works::Measured;
 use kd_tree::Steps;
 use std::env;
@@ -178,7 +178,7 @@ fn tell_steady<R: AllocGlobal + Print + Eprint + Clock + Threads + Wait + Sync>(
         "unhelped" => Builders::Nobody,
         _ => Builders::workers(asked)?,
     };
-    let steady = steady(rt, rt.alloc(), count, builders, work == "thinning")?;
+    let steady = steadiness(rt, rt.alloc(), count, builders, work == "thinning")?;
     let sum = steady.sum;
     eprintln!(rt; "{steady}")?;
     println!(rt; "{work} {count} {asked} sum {sum}")?;
@@ -254,7 +254,7 @@ fn waited<L: Ledger, R: AllocGlobal + Clock>(
     requires some { 0 < blank.parts }
 {
     let steps: &mut Steps<L> = &mut Steps::new(blank);
-    waiting(rt, rt.alloc(), count, logged, steps)
+    update_waiting(rt, rt.alloc(), count, logged, steps)
 }
 
 fn half_forgotten<L: Ledger, R: AllocGlobal + Clock>(

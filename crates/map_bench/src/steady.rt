@@ -70,7 +70,7 @@ impl Display for Steady {
 
 /// A map grows by scans to so many points. Then three hundred scans more are added or thinned, one every ten milliseconds or
 /// once the one before is done, while a reader asks for the 5 nearest again and again.
-pub fn steady<R: Threads + Wait + Clock + Sync>(
+pub fn steadiness<R: Threads + Wait + Clock + Sync>(
     rt: &R,
     alloc: Global,
     count: u32,

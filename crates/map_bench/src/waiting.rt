@@ -44,7 +44,7 @@ impl Display for Waiting {
 
 /// A map grows by scans to so many points, and a subtree is detached. Once it has met so many operations, a thousand updates of
 /// one point follow.
-pub fn waiting<L: Ledger>(
+pub fn update_waiting<L: Ledger>(
     rt: &impl Clock,
     alloc: Global,
     count: u32,

@@ -22,7 +22,7 @@ pub struct Run {
 }
 
 /// The map grows, and then takes the plan's scans beside the reader. The workers are told to end when that is done.
-pub fn run<L: MapName + Send + Sync, R: Threads + Wait + Clock + Sync>(
+pub fn run_plan<L: MapName + Send + Sync, R: Threads + Wait + Clock + Sync>(
     rt: &R,
     alloc: Global,
     shared: &Shared<L>,

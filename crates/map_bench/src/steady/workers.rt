@@ -1,7 +1,7 @@
 //! The workers, each on a thread of its own.
 use super::builders::Builders;
 use super::plan::Plan;
-use super::running::{Run, run};
+use super::running::{Run, run_plan};
 use super::timed_desk::{TimedDesk, Turns};
 use crate::robot::LARGE;
 use crate::stop::Stop;
@@ -46,7 +46,7 @@ pub fn beside_workers<L: MapName + Send + Sync, R: Threads + Wait + Clock + Sync
     let bells = Bells { first, second };
     match plan.builders {
         Builders::Updates | Builders::Nobody => {
-            let run = run(rt, alloc, shared, plan, &bells, passes)?;
+            let run = run_plan(rt, alloc, shared, plan, &bells, passes)?;
             Ok((run, Turns::new(alloc)))
         }
         Builders::OneWorker => beside_second(rt, alloc, shared, plan, &bells, two, passes),
@@ -95,7 +95,7 @@ fn beside_second<L: MapName + Send + Sync, R: Threads + Wait + Clock + Sync>(
             work(rt, alloc, LARGE, 2, &desk, &FreeGate, &mut rest);
             desk.finish()
         },
-        || run(rt, alloc, shared, plan, bells, passes),
+        || run_plan(rt, alloc, shared, plan, bells, passes),
     );
     Ok((done?, turns))
 }

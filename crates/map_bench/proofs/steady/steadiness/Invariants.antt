@@ -1,4 +1,4 @@
-use Rattle.map_bench.proofs.steady.steady.Given as goal
+use Rattle.map_bench.proofs.steady.steadiness.Given as goal
 
 abbrev pub ghosts-on_map-L-Ledger : goal.ghosts-on_map-L-Ledger
 ghosts-on_map-L-Ledger g a = record { name = a.blank.name; parts = a.blank.parts }
