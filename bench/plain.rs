@@ -13,6 +13,7 @@ mod crowds;
 mod drive;
 mod pointers;
 mod readers;
+mod steady;
 use pointers::{Pointer, held, owned, taken};
 
 const KEEP: [u8; 2] = [0, 1];
@@ -194,12 +195,8 @@ fn put(tree: Tree, large: u32, item: Item, axis: usize) -> Tree {
     refreshed(Some(node), large)
 }
 
-// Puts the items in one pass: they are parted at each node that they meet, and what would breach is built anew with them.
-fn put_all(tree: Tree, large: u32, items: &mut [Item], axis: usize) -> Tree {
-    if let [] | [_] = items {
-        return items.iter().fold(tree, |tree, item| put(tree, large, *item, axis));
-    }
-    let Some(mut node) = tree else { return build(items) };
+// Brings the items to the front that belong on the node's left. How many they are.
+fn parted(node: &Node, items: &mut [Item]) -> usize {
     let at = node.item.point[node.axis];
     let mut count = 0;
     for i in 0..items.len() {
@@ -208,6 +205,16 @@ fn put_all(tree: Tree, large: u32, items: &mut [Item], axis: usize) -> Tree {
             count += 1;
         }
     }
+    count
+}
+
+// Puts the items in one pass: they are parted at each node that they meet, and what would breach is built anew with them.
+fn put_all(tree: Tree, large: u32, items: &mut [Item], axis: usize) -> Tree {
+    if let [] | [_] = items {
+        return items.iter().fold(tree, |tree, item| put(tree, large, *item, axis));
+    }
+    let Some(mut node) = tree else { return build(items) };
+    let count = parted(&node, items);
     let (left, right) = items.split_at_mut(count);
     if node.is_due(large, left.len() as u32, right.len() as u32) {
         let mut all = Vec::with_capacity(node.size as usize + items.len());
@@ -483,6 +490,7 @@ fn main() {
     }
     match words[0].as_str() {
         "readers" => return readers::run(&words[0], count, asked, Duration::ZERO),
+        "steady" | "inline" => return steady::run(&words[0], count, asked),
         "paced" => return readers::run(&words[0], count, asked, Duration::from_millis(50)),
         _ => (),
     }

@@ -33,7 +33,8 @@ pub fn scans(alloc: Global, count: u32, draws: &mut Draws) -> Result<Vec<Scan>, 
     Ok(scans)
 }
 
-fn seen(alloc: Global, count: u32, scan: u32, draws: &mut Draws) -> Result<Points, NoMemory> {
+/// So many points that are seen from the robot's place at this scan.
+pub fn seen(alloc: Global, count: u32, scan: u32, draws: &mut Draws) -> Result<Points, NoMemory> {
     let mut points = Points::new(alloc);
     for _ in 0..count {
         points.push(draws.point(scan))?;

@@ -1,18 +1,13 @@
 //! How long one step holds a map up: a map grows by scans, and then of more scans the longest of each step is told.
-use crate::course::{Scan, scans};
+use crate::course::{POINTS_OF_SCAN, Scan, scans};
 use crate::draws::Draws;
-use crate::robot::Robot;
+use crate::robot::{LARGE, Robot};
 use crate::stop::Stop;
 use kd_tree::Steps;
 use std::alloc::Global;
 use std::fmt::{Display, Error, Formatter, Write};
 use std::sync::ledger::Ledger;
 use std::time::{Clock, Instant};
-
-const POINTS_OF_SCAN: u32 = 2_000;
-
-// Subtrees from so many nodes on are left to be detached.
-const LARGE: u32 = 1_500;
 
 /// Microseconds: of the longest update, detachment, build and swap, and of the longest of all four for one scan, as they are
 /// where nothing works beside the callers.

@@ -19,10 +19,17 @@
 //!   their numbers where these stand all over the road; Q has no meaning, and how long it took and how many nodes it touched is told;
 //! - `longest`: a state grows by scans to N points and then by Q more, of which the longest steps are told;
 //! - `readers`: a shared map grows so to N points, and then Q readers, from 1 to 7, ask it beside a writer that adds a hundred scans more;
-//! - `paced`: the same, but the writer sleeps for 50 milliseconds before each scan.
+//! - `paced`: the same, but the writer sleeps for 50 milliseconds before each scan;
+//! - `steady`: a shared map grows so to N points, and then takes 300 scans more, one every 10 milliseconds, beside a reader that asks
+//!   without a pause, while Q workers, 1 or 2, build large subtrees anew; `thinning` is the same, but scans are thinned;
+//! - `inline`, `unhelped`: as `steady`, but the updates build everything anew, or nobody builds large subtrees anew; Q has no meaning;
+//! - `waiting`: a state has a detached subtree that has met Q operations, and takes a thousand updates of one point, which are told.
 //!
 //! The work's checksum goes to standard output, the microseconds that it took to standard error; of readers the queries a second,
-//! the microseconds of the longest query and the writer's for each scan.
+//! the microseconds of the longest query and the writer's for each scan. Of a steady map a line for each kind of step: how many there
+//! were, and microseconds of the median, the 99th percentile, the 99.9th and the longest. The kinds are updates by a scan, deletions
+//! of what is left, queries, and what workers ask of the map: to detach a subtree, to swap it in, to tell what it has met. These have
+//! the waiting for the lock with them.
 #![tactic(auto)]
 
 ghost use Rattle.std.specs.Prelude.{◌≡◌, ◌<◌, ◌≤◌, IfOk};
@@ -36,9 +43,11 @@ mod grown;
 mod longest;
 mod readers;
 mod robot;
+mod steady;
 mod stop;
 mod sums;
 mod thinned;
+mod waiting;
 mod works;
 mod worst;
 
@@ -46,7 +55,10 @@ use crate::course::Lie;
 use crate::forgotten::{Forgotten, Way, forget};
 use crate::longest::{Longest, longest_steps};
 use crate::readers::{Beside, readers};
+use crate::steady::builders::Builders;
+use crate::steady::steadiness;
 use crate::stop::Stop;
+use crate::waiting::{Waiting, update_waiting};
 use crate::works::Measured;
 use kd_tree::Steps;
 use std::env;
@@ -90,6 +102,13 @@ fn measure<R: AllocGlobal + Env + Print + Eprint + Clock + Threads + Wait + Sync
             number(asked, 7)?,
             Duration::from_millis(50),
         ),
+        "steady" | "thinning" | "inline" | "unhelped" => tell_steady(
+            rt,
+            work,
+            count,
+            number(asked, 2)?,
+        ),
+        "waiting" => tell_waiting(rt, count, number(asked, MOST_ASKED)?),
         work => tell(rt, work, count, number(asked, MOST_ASKED)?),
     }
 }
@@ -148,6 +167,34 @@ fn tell_readers<R: AllocGlobal + Print + Eprint + Clock + Threads + Wait + Sync>
     Ok(())
 }
 
+fn tell_steady<R: AllocGlobal + Print + Eprint + Clock + Threads + Wait + Sync>(
+    rt: &R,
+    work: &str,
+    count: u32,
+    asked: u32,
+) -> Result<(), Stop> {
+    let builders = match work {
+        "inline" => Builders::Updates,
+        "unhelped" => Builders::Nobody,
+        _ => Builders::workers(asked)?,
+    };
+    let steady = steadiness(rt, rt.alloc(), count, builders, work == "thinning")?;
+    let sum = steady.sum;
+    eprintln!(rt; "{steady}")?;
+    println!(rt; "{work} {count} {asked} sum {sum}")?;
+    Ok(())
+}
+
+fn tell_waiting<R: AllocGlobal + Print + Clock>(
+    rt: &R,
+    count: u32,
+    logged: u32,
+) -> Result<(), Stop> {
+    let waited = waited::<Brand, R>(rt, count, logged, Blank::new(1))?;
+    println!(rt; "{waited}")?;
+    Ok(())
+}
+
 // The nodes that are made are counted by a counter that nothing looks at.
 fn measured<L: Ledger, R: AllocGlobal + Clock + Threads + Sync>(
     rt: &R,
@@ -194,6 +241,20 @@ fn looked_at<L: Ledger, R: AllocGlobal + Clock>(
 {
     let steps: &mut Steps<L> = &mut Steps::new(blank);
     longest_steps(rt, rt.alloc(), count, more, steps)
+}
+
+fn waited<L: Ledger, R: AllocGlobal + Clock>(
+    rt: &R,
+    count: u32,
+    logged: u32,
+    blank: Blank,
+) -> Result<Waiting, Stop>
+    requires name { blank.name ≡ L.name }
+    requires parts { blank.parts ≡ L.parts }
+    requires some { 0 < blank.parts }
+{
+    let steps: &mut Steps<L> = &mut Steps::new(blank);
+    update_waiting(rt, rt.alloc(), count, logged, steps)
 }
 
 fn half_forgotten<L: Ledger, R: AllocGlobal + Clock>(

@@ -8,6 +8,9 @@ use rebuild_core::{Built, Job, MapState};
 use std::alloc::Global;
 use std::sync::ledger::Ledger;
 
+/// Where subtrees are detached, those from so many nodes on are left for that.
+pub const LARGE: u32 = 1_500;
+
 // Half a metre.
 const VOXEL: u32 = 500;
 
@@ -79,6 +82,11 @@ impl Robot {
     /// Detaches a subtree that is to be built anew, if there is one.
     pub fn detach(&mut self, alloc: Global) -> Result<Option<Job>, Stop> {
         Ok(self.state.detach(alloc, 1)?)
+    }
+
+    /// How many operations the detached subtree has met since, if there is one.
+    pub fn logged(&self) -> u32 {
+        self.state.part(1).map_or(0, |part| part.logged)
     }
 
     /// Builds a detached subtree anew.
