@@ -26,16 +26,16 @@ class Column(NamedTuple):
 
 
 class Columns:
-    """The columns of a table. Those of x, y and z have to be there; that of the intensity may be."""
+    """The columns of a table, as a line of a header tells them. Those of x, y and z have to be there; that of the intensity may be."""
 
-    def __init__(self, columns, intensity):
+    def __init__(self, columns, intensity, line):
         self.all = columns
         self.single = [column for column in columns if not column.length]
         names = [column.name for column in columns]
         self.wanted = ["x", "y", "z"] + [intensity] * (intensity in names)
         for name in self.wanted:
             if names.count(name) != 1 or not columns[names.index(name)].is_one():
-                raise CloudFault(f"there has to be one number {name} for each point")
+                raise CloudFault(f"line {line}: there has to be one number {name} for each point")
 
     def in_lines(self, lines):
         """The points of these lines of text, each of which comes with its number."""

@@ -7,6 +7,8 @@ from .header import read_header
 CODES = {("F", 4): "f", ("F", 8): "d"}
 CODES |= {("I", size): code for size, code in zip((1, 2, 4, 8), "bhiq")}
 CODES |= {("U", size): code for size, code in zip((1, 2, 4, 8), "BHIQ")}
+# So many numbers of a field may belong to one point: more than any descriptor has.
+MOST_COUNT = 65_536
 ONCE = {"VERSION", "FIELDS", "SIZE", "TYPE", "COUNT", "WIDTH", "HEIGHT", "VIEWPOINT", "POINTS", "DATA"}
 
 
@@ -19,7 +21,7 @@ def read_pcd(content, intensity):
             raise CloudFault(f"line {number}: {word} is no word of the header, or stands there twice")
         said[word] = Said(number, fields)
     count = point_count(said)
-    columns = Columns(columns_of(said), intensity)
+    columns = Columns(columns_of(said), intensity, said["FIELDS"].number)
     data = said["DATA"]
     if data.fields == ["ascii"]:
         return columns.in_lines(kept_lines(content[start:], data.number, count))
@@ -50,11 +52,18 @@ class Said:
             raise self.fault("something is no number")
         return list(map(int, self.fields))
 
+    def number_alone(self):
+        """The one field as a number."""
+        numbers = self.numbers()
+        if len(numbers) != 1:
+            raise self.fault(f"{len(numbers)} numbers where one is due")
+        return numbers[0]
+
 
 def said_of(said, word):
-    """What the header says by a word that has to be there."""
+    """What the header says by a word that has to be there; DATA is."""
     if word not in said:
-        raise CloudFault(f"the header has no {word}")
+        raise said["DATA"].fault(f"the header has no {word}")
     return said[word]
 
 
@@ -70,20 +79,18 @@ def columns_of(said):
     for name, kind, count in zip(names, zip(types.fields, sizes.numbers()), counts.numbers()):
         if kind not in CODES:
             raise types.fault(f"no type {kind[0]} has {kind[1]} bytes")
+        if not 1 <= count <= MOST_COUNT:
+            raise counts.fault(f"a field has 1 to {MOST_COUNT} numbers")
         columns.append(Column(name, CODES[kind], count))
     return columns
 
 
 def point_count(said):
     """How many points the header tells."""
-    told = [said[word].numbers() for word in ("WIDTH", "HEIGHT", "POINTS") if word in said]
-    if not all(len(numbers) == 1 for numbers in told):
-        raise CloudFault("WIDTH, HEIGHT and POINTS are one number each")
-    if "POINTS" not in said:
-        return said_of(said, "WIDTH").numbers()[0] * said_of(said, "HEIGHT").numbers()[0]
-    [count] = said["POINTS"].numbers()
-    if len(told) == 3 and told[0][0] * told[1][0] != count:
-        raise said["POINTS"].fault(f"{count} points where WIDTH and HEIGHT make {told[0][0] * told[1][0]}")
+    area = said_of(said, "WIDTH").number_alone() * said_of(said, "HEIGHT").number_alone()
+    count = said["POINTS"].number_alone() if "POINTS" in said else area
+    if count != area:
+        raise said["POINTS"].fault(f"{count} points where WIDTH and HEIGHT make {area}")
     return count
 
 

@@ -9,9 +9,10 @@ ORDERS = {"ascii": "", "binary_little_endian": "<", "binary_big_endian": ">"}
 
 
 class Element:
-    """One kind of thing that a file lists: how many there are, and the columns of their table."""
+    """One kind of thing that a file lists: the header's line, how many there are, and the columns of their table."""
 
-    def __init__(self, name, count):
+    def __init__(self, line, name, count):
+        self.line = line
         self.name = name
         self.count = count
         self.columns = []
@@ -26,7 +27,7 @@ def read_ply(content, intensity):
     before = []
     for element in elements:
         if element.name == "vertex":
-            columns = Columns(element.columns, intensity)
+            columns = Columns(element.columns, intensity, element.line)
             if order:
                 for skipped in before:
                     start = end_of_rows(skipped.columns, order, content, start, skipped.count)
@@ -34,7 +35,7 @@ def read_ply(content, intensity):
             above = sum(skipped.count for skipped in before)
             return columns.in_lines(lines_of(content[start:], lines[-1][0], above, element.count))
         before.append(element)
-    raise CloudFault("the header has no element vertex")
+    raise CloudFault(f"line {lines[-1][0]}: the header has no element vertex")
 
 
 def read_elements(lines):
@@ -47,7 +48,7 @@ def read_elements(lines):
             case ["format", name, "1.0"] if name in ORDERS and order is None:
                 order = ORDERS[name]
             case ["element", name, count] if is_count(count):
-                elements.append(Element(name, int(count)))
+                elements.append(Element(number, name, int(count)))
             case ["property", code, name] if code in CODES and elements:
                 elements[-1].columns.append(Column(name, CODES[code]))
             case ["property", "list", length, code, name] if length in CODES and code in CODES and elements:
@@ -57,7 +58,7 @@ def read_elements(lines):
             case _:
                 raise CloudFault(f"line {number}: no line of such a header")
     if order is None:
-        raise CloudFault("the header has no line format")
+        raise CloudFault(f"line {lines[-1][0]}: the header has no line format")
     return order, elements
 
 
