@@ -97,7 +97,7 @@ fn a_scan_thins_as_its_points_do_in_turn(rt: HostRuntime) -> Result<(), Fail> {
             twins.seed(&rt, alloc)?;
             twins.thin(&rt, alloc, count)?;
             twins.restore(&rt, alloc)?;
-            // What is detached is watched from here on, and points are put one by one.
+            // What is detached is watched from here on.
             let job = twins.at_once.detach(alloc, 1)?;
             twins.thin(&rt, alloc, count)?;
             assert!(rt; job.is_some() || count < 400);

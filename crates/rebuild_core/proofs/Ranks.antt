@@ -1,5 +1,5 @@
 -- Entrants in the order of their ranks, of which each voxel keeps the first.
-use Rattle.std.proofs.Common.{◌≡◌, ℕ, inl, inr, Bool, true, false, cond, ℤ, List, [], ◌∷◌, map, length, refl, sym, ap, ◌∙◌, subst, arith, zero, suc, get_or}
+use Rattle.std.proofs.Common.{◌≡◌, ◌+◌, ℕ, inl, inr, Bool, true, false, cond, ℤ, List, [], ◌∷◌, map, length, refl, sym, ap, ◌∙◌, subst, arith, zero, suc, get_or}
 use Rattle.std.specs.Prelude.{All, ◌≤◌, ◌<◌}
 use Rattle.std.specs.Cmp.{IsTotalOrder, IsStrictWeakOrder}
 use Rattle.std.specs.FinMap.{int_cmp-IsAntisymmetric}
@@ -285,3 +285,17 @@ sorted_firsts edge next ps es from same up = by_list es refl
           },
           All-dedup is_same_voxel P (k ∷ xs) voxels,
         )
+
+-- no more are left than there were
+
+kept_few : (k : Entrant) (es : List Entrant) → length (dedup_from is_same_voxel k es) ≤ length es + 1
+kept_few k [] = omega arith
+kept_few k (x ∷ xs) =
+    elim (cases_Bool (is_same_voxel x k)) [
+      | inl e ↦ rw e (omega (arith, kept_few k xs))
+      | inr e ↦ rw e (omega (arith, kept_few x xs))
+    ]
+
+pub dedup_few : (es : List Entrant) → length (dedup is_same_voxel es) ≤ length es
+dedup_few [] = omega arith
+dedup_few (x ∷ xs) = omega (arith, kept_few x xs)

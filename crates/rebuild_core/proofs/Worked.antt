@@ -87,6 +87,12 @@ worked_then a b c d e f u v w le le' k l = record {
       still_then b d f u.watches v.watches w.watches le' first (l.still then);
 }
 
+-- the room that is left after them
+pub room_left : (a b c d e f : ℕ) (v w : Work) → a + c ≤ e → b + d ≤ f → IsWorked a b v w → HasRoomFor e f v → HasRoomFor c d w
+room_left a b c d e f v w le le' k r =
+    let first = k.still (room_some a b e f v (omega (arith, le)) (omega (arith, le')) r) in
+    record { low = omega (arith, r.low, k.low, le); few = omega (arith, r.few, k.few, le); logs = room_then b d f v.watches w.watches le' r.logs first }
+
 -- nothing was forgotten
 pub worked_kept : (a b e f : ℕ) (v w : Work) → a ≤ e → b ≤ f → IsWorked a b v w → HasRoomFor e f v → paths_in w.watches ≡ paths_in v.watches
 worked_kept a b e f v w le le' k r = still_paths b v.watches w.watches (k.still (room_some a b e f v le le' r))

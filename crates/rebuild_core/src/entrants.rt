@@ -28,6 +28,7 @@ pub(crate) fn firsts(
     requires few { next + length points.now ≤ 4194304 }
     ensures firsts { IfOk result (λ v. AreFirsts settings.now.voxel next points.now (items_in v.items)) }
     ensures cubes { IfOk result (λ v. HaveVoxels settings.now.voxel v.items) }
+    ensures few { IfOk result (λ v. length v.items ≤ length points.now) }
 {
     let edge = settings.voxel();
     let mut entrants = entrants(alloc, edge, next, points)?;

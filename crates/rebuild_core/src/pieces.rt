@@ -92,6 +92,12 @@ impl Work {
         Ok(work)
     }
 
+    // Whether each log has room for all that thinning by so many points at once may add, and two operations more. To each voxel
+    // belong a mark, which may be two operations, and a point; and the points may add an action that is handed down to them.
+    pub(crate) fn may_thin_at_once(&self, points: usize) -> bool {
+        self.watches.len() == 0 || points < least_room(self.watches.as_slice()) as usize / 3
+    }
+
     // How many of so many items are put next: as many as one pass may take, and one alone where these would be few.
     fn most_at_once(&self, large: u32, wanted: usize) -> usize
         requires { 1 ≤ wanted }

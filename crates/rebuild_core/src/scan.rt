@@ -1,16 +1,15 @@
-//! Scans that an update puts or thins by at once.
-ghost use Rattle.std.specs.Prelude.{◌≡◌, ℕ, ◌+◌, ◌≤◌, List, [], length, IfOk};
-ghost use Rattle.map_fold.specs.Fold.{add_points, thin_points};
+//! Scans that an update puts at once.
+ghost use Rattle.std.specs.Prelude.{◌≡◌, ℕ, ◌+◌, ◌≤◌, List, length, IfOk};
+ghost use Rattle.map_fold.specs.Fold.{add_points};
 ghost use Rattle.kd_update.specs.Watches.{paths_in};
 ghost use Rattle.rebuild_core.specs.Lawful.{map_of};
 ghost use Rattle.rebuild_core.specs.Draft.{HasRoomFor, IsDraft, IsDraftLeft, IsWork};
 ghost use Rattle.rebuild_core.specs.Parts.{PartAt};
 
-use crate::waiting::thinned_at_once;
 use crate::work::Work;
 use kd_tree::{Scratch, Steps};
 use kd_update::live_items;
-use map_fold::{NoMemory, Settings};
+use map_fold::NoMemory;
 use point_geom::Point;
 use std::alloc::Global;
 use std::sync::ledger::Ledger;
@@ -40,28 +39,5 @@ impl Work {
         let _size = self.tree.size();
         let items = live_items(alloc, next, points)?;
         self.put_items(alloc, large, items.as_slice(), scratch, steps)
-    }
-
-    // The work after each of these points in turn has taken the next number and thinned its voxel.
-    pub(crate) fn thin_scan<L: Ledger>(
-        self,
-        alloc: Global,
-        settings: &Settings,
-        next: u32,
-        points: &[Point],
-        scratch: &mut Scratch,
-        steps: &mut Steps<L>,
-    ) -> Result<Work, NoMemory>
-        requires draft { IsWork settings.now.large next self }
-        requires few { next + length points.now ≤ 4194304 }
-        requires free { self.watches ≡ [] }
-        ensures stepped { IfOk result (λ w. map_of w.tree (next + length points.now) ≡ thin_points settings.now.voxel points.now (map_of self.tree next)) }
-        ensures draft { (last : ℕ) (ps : List PartAt) → IsDraft settings.now.large next last ps self
-            → IfOk result (IsDraftLeft settings.now.large (next + length points.now) last ps) }
-        ensures watches { IfOk result (λ w. w.watches ≡ self.watches) }
-    {
-        let Work { tree, watches } = self;
-        let tree = thinned_at_once(alloc, tree, settings, next, points, scratch, steps)?;
-        Ok(Work { tree, watches })
     }
 }

@@ -15,6 +15,7 @@ ghost use Rattle.rebuild_core.specs.Parts.{PartAt};
 
 use crate::draft::added_one;
 use crate::scan::SCAN;
+use crate::waiting::thinned_at_once;
 use crate::work::Work;
 use kd_search::{Rivals, rivals_in};
 use kd_tree::{Scratch, Steps};
@@ -44,9 +45,9 @@ pub(crate) fn thinned<L: Ledger>(
     ensures still { (p : Place) → points.now ≡ p ∷ [] → IsTurnedAway settings.now.voxel (map_of work.tree next) p
         → steps.new ≡ steps.old }
 {
-    if points.len() >= SCAN && work.watches.len() == 0 {
+    if points.len() >= SCAN && work.may_thin_at_once(points.len()) {
         let points = points.as_slice();
-        return work.thin_scan(alloc, settings, next, points, scratch, steps);
+        return thinned_at_once(alloc, work, settings, next, points, scratch, steps);
     }
     let mut work = work;
     let mut next = next;

@@ -1,6 +1,6 @@
-//! Points of a scan that have won their voxels, and wait to be put into the tree at once. Nothing here knows the state or what
-//! is watched.
-ghost use Rattle.std.specs.Prelude.{◌≡◌, ℕ, ◌+◌, ◌≤◌, ◌<◌, [], ◌∷◌, ◌++◌, ◌↔◌, All, length, IfOk, IfSome, IsNone};
+//! Points of a scan that have won their voxels, and wait to be put into the tree at once. Nothing here knows the state that the
+//! tree is copied from.
+ghost use Rattle.std.specs.Prelude.{◌≡◌, ℕ, ◌+◌, ◌*◌, ◌≤◌, ◌<◌, List, [], ◌∷◌, ◌++◌, ◌↔◌, All, length, IfOk, IfSome, IsNone};
 ghost use Rattle.point_geom.specs.Boxes.{voxel};
 ghost use Rattle.node_labels.specs.Labels.{thin_tag};
 ghost use Rattle.node_labels.specs.declared.label.Label.TheVariants.{Live};
@@ -8,53 +8,54 @@ ghost use Rattle.map_fold.specs.Answers.{count, inside_all};
 ghost use Rattle.map_fold.specs.Contents.{in_box, mark, put, thin};
 ghost use Rattle.map_fold.specs.Fold.{thin_points};
 ghost use Rattle.map_fold.specs.Ops.{IsUnheld};
-ghost use Rattle.kd_tree.specs.Shape.{numbers};
 ghost use Rattle.kd_tree.specs.Contents.{AreDistinct, contents};
 ghost use Rattle.kd_search.specs.Best.{IsBest};
-ghost use Rattle.kd_update.specs.Update.{IsEven};
+ghost use Rattle.kd_update.specs.Watches.{paths_in};
+ghost use Rattle.rebuild_core.specs.Draft.{HasRoomFor, IsDraft, IsDraftLeft, IsWork, IsWorked};
 ghost use Rattle.rebuild_core.specs.Lawful.{map_of};
+ghost use Rattle.rebuild_core.specs.Parts.{PartAt};
 ghost use Rattle.rebuild_core.specs.Waiting.{IsClear, IsJoined, IsWaiting, held_by};
 
 use crate::entrants::{Entrant, firsts};
+use crate::work::Work;
 use kd_search::{Rivals, rivals_in};
-use kd_tree::{Scratch, Steps, Tree};
-use kd_update::{marked, put_all};
+use kd_tree::{Scratch, Steps};
 use map_fold::{Choice, Item, NoMemory, Settings, Tag};
 use point_geom::{Cuboid, Point};
 use std::alloc::Global;
 use std::sync::ledger::Ledger;
 
-// A tree, and live items that it doesn't hold yet. A point that is turned away makes no node.
+// A tree that is at work, and live items that it doesn't hold yet. A point that is turned away makes no node.
 #[derive(Drop)]
 pub(crate) struct Waiting {
-    pub(crate) tree: Tree,
+    pub(crate) work: Work,
     pub(crate) items: Vec<Item>,
 }
 
-// The tree after each point in turn has taken the next number and thinned its voxel. What that leaves doesn't depend on the
+// The work after each point in turn has taken the next number and thinned its voxel. What that leaves doesn't depend on the
 // order of the voxels, and in a voxel only the first of the points counts: so the tree is searched once a voxel, and all that win
-// are put in one pass.
+// are put at once, after all voxels were cleared.
 pub(crate) fn thinned_at_once<L: Ledger>(
     alloc: Global,
-    tree: Tree,
+    work: Work,
     settings: &Settings,
     next: u32,
     points: &[Point],
     scratch: &mut Scratch,
     steps: &mut Steps<L>,
-) -> Result<Tree, NoMemory>
+) -> Result<Work, NoMemory>
+    requires draft { IsWork settings.now.large next work }
     requires few { next + length points.now ≤ 4194304 }
-    requires below { All (λ n. n < next) (numbers tree) }
-    requires even { IsEven settings.now.large tree }
-    ensures stepped { IfOk result (λ t. map_of t (next + length points.now) ≡ thin_points settings.now.voxel points.now (map_of tree next)) }
-    ensures below { IfOk result (λ t. All (λ n. n < next + length points.now) (numbers t)) }
-    ensures even { IfOk result (λ t. IsEven settings.now.large t) }
+    ensures stepped { IfOk result (λ w. map_of w.tree (next + length points.now) ≡ thin_points settings.now.voxel points.now (map_of work.tree next)) }
+    ensures draft { (last : ℕ) (ps : List PartAt) → IsDraft settings.now.large next last ps work
+        → IfOk result (IsDraftLeft settings.now.large (next + length points.now) last ps) }
+    ensures kept { HasRoomFor (length points.now) (2 * length points.now) work → IfOk result (λ w. paths_in w.watches ≡ paths_in work.watches) }
 {
     let large = settings.large();
     let high = next + points.len() as u32;
     let entrants = firsts(alloc, settings, next, points)?;
-    let _size = tree.size();
-    let mut waiting = Waiting::none(alloc, tree);
+    let _size = work.tree.size();
+    let mut waiting = Waiting::none(alloc, work);
     for entrant in entrants.as_slice() {
         waiting = waiting.thinned(alloc, settings, high, entrant, steps)?;
     }
@@ -62,19 +63,20 @@ pub(crate) fn thinned_at_once<L: Ledger>(
 }
 
 impl Waiting {
-    fn none(alloc: Global, tree: Tree) -> Waiting
-        ensures held { held_by result ≡ contents tree }
-        ensures waiting { (large high : ℕ) → All (λ n. n < high) (numbers tree) → IsEven large tree → IsWaiting large high result }
+    fn none(alloc: Global, work: Work) -> Waiting
+        ensures held { held_by result ≡ contents work.tree }
+        ensures waiting { (large high : ℕ) → IsWork large high work → IsWaiting large high result }
+        ensures same { result.work ≡ work }
         ensures none { result.items.items ≡ [] }
     {
-        let _size = tree.size();
+        let _size = work.tree.size();
         Waiting {
-            tree,
+            work,
             items: Vec::new(alloc),
         }
     }
 
-    // The tree with all that wait.
+    // The work with all that wait.
     fn put<L: Ledger>(
         self,
         alloc: Global,
@@ -82,16 +84,18 @@ impl Waiting {
         high: u32,
         scratch: &mut Scratch,
         steps: &mut Steps<L>,
-    ) -> Result<Tree, NoMemory>
+    ) -> Result<Work, NoMemory>
         requires waiting { IsWaiting large high self }
         requires few { high ≤ 4194304 }
-        ensures held { IfOk result (λ t. contents t ≡ held_by self) }
-        ensures below { IfOk result (λ t. All (λ n. n < high) (numbers t)) }
-        ensures even { IfOk result (λ t. IsEven large t) }
+        ensures held { IfOk result (λ w. contents w.tree ≡ held_by self) }
+        ensures draft { (last : ℕ) (ps : List PartAt) → IsDraft large high last ps self.work
+            → IfOk result (IsDraftLeft large high last ps) }
+        ensures kept { HasRoomFor (length self.items.items) (length self.items.items) self.work
+            → IfOk result (λ w. paths_in w.watches ≡ paths_in self.work.watches) }
     {
-        let Waiting { tree, items } = self;
-        let _size = tree.size();
-        put_all(alloc, tree, large, items.as_slice(), scratch, steps)
+        let Waiting { work, items } = self;
+        let _size = work.tree.size();
+        work.put_items(alloc, large, items.as_slice(), scratch, steps)
     }
 
     // With the entrant, or without it where the voxel's best item stays. Nothing that waits lies in its voxel, so that the tree
@@ -113,6 +117,9 @@ impl Waiting {
         ensures held { IfOk result (λ w. held_by w ≡ thin settings.now.voxel (held_by self) entrant.now.item.number entrant.now.item.point) }
         ensures waiting { IfOk result (λ w. IsWaiting settings.now.large high w) }
         ensures joined { IfOk result (IsJoined entrant.now.cube self) }
+        ensures draft { (last : ℕ) (ps : List PartAt) → IsDraft settings.now.large high last ps self.work
+            → IfOk result (λ w. IsDraftLeft settings.now.large high last ps w.work) }
+        ensures worked { IfOk result (λ w. IsWorked 0 1 self.work w.work) }
     {
         let large = settings.large();
         let Entrant { item: new, cube } = *entrant;
@@ -134,12 +141,12 @@ impl Waiting {
     // What is live in the cuboid.
     fn rivals(&self, cuboid: &Cuboid) -> Rivals
         requires clear { IsClear cuboid.now self.now }
-        requires distinct { AreDistinct (contents self.now.tree ++ self.now.items.items) }
+        requires distinct { AreDistinct (contents self.now.work.tree ++ self.now.items.items) }
         ensures none { IsNone result.best ↔ (inside_all (held_by self.now) cuboid.now ≡ []) }
         ensures best { IfSome result.best (IsBest (held_by self.now) cuboid.now) }
         ensures count { result.count ≡ count (held_by self.now) cuboid.now }
     {
-        rivals_in(&self.tree, cuboid)
+        rivals_in(&self.work.tree, cuboid)
     }
 
     // Without what is live in the cuboid.
@@ -156,12 +163,15 @@ impl Waiting {
         ensures held { IfOk result (λ w. held_by w ≡ mark (held_by self) (in_box cuboid.now) thin_tag) }
         ensures waiting { IfOk result (λ w. IsWaiting large high w) }
         ensures same { IfOk result (λ w. w.items.items ≡ self.items.items) }
+        ensures draft { (last : ℕ) (ps : List PartAt) → IsDraft large high last ps self.work
+            → IfOk result (λ w. IsDraftLeft large high last ps w.work) }
+        ensures worked { IfOk result (λ w. IsWorked 0 1 self.work w.work) }
     {
-        let Waiting { tree, items } = self;
-        let _size = tree.size();
+        let Waiting { work, items } = self;
+        let _size = work.tree.size();
         let choice = Choice::within(cuboid);
-        let tree = marked(alloc, tree, large, &choice, Tag::THIN, steps)?;
-        Ok(Waiting { tree, items })
+        let work = work.marked(alloc, large, &choice, Tag::THIN, steps)?;
+        Ok(Waiting { work, items })
     }
 
     // With one more that waits.
@@ -173,9 +183,10 @@ impl Waiting {
         ensures held { IfOk result (λ w. held_by w ≡ put (held_by self) item.number item.point) }
         ensures waiting { IfOk result (λ w. IsWaiting large high w) }
         ensures one { IfOk result (λ w. w.items.items ≡ self.items.items ++ item ∷ []) }
+        ensures work { IfOk result (λ w. w.work ≡ self.work) }
     {
-        let Waiting { tree, mut items } = self;
+        let Waiting { work, mut items } = self;
         items.push(item)?;
-        Ok(Waiting { tree, items })
+        Ok(Waiting { work, items })
     }
 }

@@ -20,6 +20,11 @@ use Rattle.rebuild_core.proofs.Both.{distinct_both}
 use Rattle.rebuild_core.proofs.Entering.{entered_none, entered_same, winner_below, winner_new}
 use Rattle.map_fold.proofs.Numbered.{contents_rise}
 use Rattle.rebuild_core.proofs.Winners.{alone_inside, held_wins, new_wins}
+use Rattle.rebuild_core.specs.declared.work.Work.{Work}
+use Rattle.rebuild_core.specs.declared.waiting.Waiting.{Waiting}
+use Rattle.rebuild_core.specs.Draft.{IsDraft, IsDraftLeft, IsWorked}
+use Rattle.rebuild_core.proofs.Detached.{left_itself}
+use Rattle.rebuild_core.proofs.Worked.{worked_itself}
 use Rattle.rebuild_core.proofs.waiting.Waiting.thinned.Goals as goal
 
 -- an item lies in its voxel
@@ -51,7 +56,7 @@ returns-in_default-clause-joined g c =
     IfOk-weaker c.with.result _ (IsJoined c.args.entrant.now.cube c.args.self) (λ w e. inr (i, there, e)) c.with.ensures.one
 
 pub rivals-best-requires-clause-distinct : goal.rivals-best-requires-clause-distinct
-rivals-best-requires-clause-distinct g c = distinct_both c.args.high c.args.self.tree c.args.self.items.items c.requires.waiting.held
+rivals-best-requires-clause-distinct g c = distinct_both c.args.high c.args.self.work.tree c.args.self.items.items c.requires.waiting.held
 
 pub with-requires-then-comes_before-clause-new : goal.with-requires-then-comes_before-clause-new
 with-requires-then-comes_before-clause-new g c =
@@ -138,3 +143,41 @@ returns-clause-held g c =
     let left = c.in_ok-cleared-2.ensures.held ∙ ap (λ (b : Bounds). mark m (in_box b) thin_tag) c.requires.cube in
     IfOk-weaker c.with-2.result _ (λ w. held_by w ≡ thin edge m i.number i.point)
     (λ w e. e ∙ ap (λ (xs : List Item). put xs old.number old.point) left ∙ ap (λ (j : Item). put (mark m (in_box cube) thin_tag) j.number j.point) (sym (held_wins edge i.number m i.point old (contents_rise 0 c.args.high m c.requires.waiting.held) c.requires.new best behind))) c.with-2.ensures.held
+
+-- where only what waits is more
+
+pub returns-in_default-clause-draft : goal.returns-in_default-clause-draft
+returns-in_default-clause-draft g c = λ last ps d.
+    IfOk-weaker c.with.result _ (λ (w : Waiting). IsDraftLeft c.args.settings.now.large c.args.high last ps w.work)
+    (λ w same. subst (IsDraftLeft c.args.settings.now.large c.args.high last ps) (sym same) (ps, left_itself ps, d)) c.with.ensures.work
+
+pub returns-in_default-clause-worked : goal.returns-in_default-clause-worked
+returns-in_default-clause-worked g c =
+    IfOk-weaker c.with.result _ (λ (w : Waiting). IsWorked 0 1 c.args.self.work w.work)
+    (λ w same. subst (IsWorked 0 1 c.args.self.work) (sym same) (worked_itself 0 1 c.args.self.work)) c.with.ensures.work
+
+pub returns-then-comes_before-clause-draft : goal.returns-then-comes_before-clause-draft
+returns-then-comes_before-clause-draft g c = λ last ps d.
+    IfOk-weaker c.with-then-comes_before.result _ (λ (w : Waiting). IsDraftLeft c.args.settings.now.large c.args.high last ps w.work)
+    (λ w same. subst (IsDraftLeft c.args.settings.now.large c.args.high last ps) (sym same) (subst (λ (l : ℕ). IsDraft l c.args.high last ps c.args.self.work → IsDraftLeft l c.args.high last ps c.in_ok-cleared.cleared.work) c.large-large.ensures.value (c.in_ok-cleared.ensures.draft last ps) d)) c.with-then-comes_before.ensures.work
+
+pub returns-then-comes_before-clause-worked : goal.returns-then-comes_before-clause-worked
+returns-then-comes_before-clause-worked g c =
+    IfOk-weaker c.with-then-comes_before.result _ (λ (w : Waiting). IsWorked 0 1 c.args.self.work w.work)
+    (λ w same. subst (IsWorked 0 1 c.args.self.work) (sym same) c.in_ok-cleared.ensures.worked) c.with-then-comes_before.ensures.work
+
+pub returns-then-count-eq1-clause-draft : goal.returns-then-count-eq1-clause-draft
+returns-then-count-eq1-clause-draft g c = λ last ps d. (ps, left_itself ps, d)
+
+pub returns-then-count-eq1-clause-worked : goal.returns-then-count-eq1-clause-worked
+returns-then-count-eq1-clause-worked g c = worked_itself 0 1 c.args.self.work
+
+pub returns-clause-draft : goal.returns-clause-draft
+returns-clause-draft g c = λ last ps d.
+    IfOk-weaker c.with-2.result _ (λ (w : Waiting). IsDraftLeft c.args.settings.now.large c.args.high last ps w.work)
+    (λ w same. subst (IsDraftLeft c.args.settings.now.large c.args.high last ps) (sym same) (subst (λ (l : ℕ). IsDraft l c.args.high last ps c.args.self.work → IsDraftLeft l c.args.high last ps c.in_ok-cleared-2.cleared.work) c.large-large.ensures.value (c.in_ok-cleared-2.ensures.draft last ps) d)) c.with-2.ensures.work
+
+pub returns-clause-worked : goal.returns-clause-worked
+returns-clause-worked g c =
+    IfOk-weaker c.with-2.result _ (λ (w : Waiting). IsWorked 0 1 c.args.self.work w.work)
+    (λ w same. subst (IsWorked 0 1 c.args.self.work) (sym same) c.in_ok-cleared-2.ensures.worked) c.with-2.ensures.work
