@@ -1,5 +1,5 @@
 //! Subtrees, detached to be built anew elsewhere, and what they have met since.
-ghost use Rattle.std.specs.Prelude.{◌≡◌, ◌+◌, ◌<◌, ◌≤◌, ◌↔◌, true, length, slice_set, IfErr, IfOk, IfSome, IsNone, OnErr, OnOk};
+ghost use Rattle.std.specs.Prelude.{◌≡◌, ◌+◌, ◌<◌, ◌≤◌, ◌↔◌, true, length, slice_set, Some, IfErr, IfOk, IfSome, IsNone, OnErr, OnOk};
 ghost use Rattle.std.specs.List.{insert};
 ghost use Rattle.map_fold.specs.Ops.{Fit};
 ghost use Rattle.kd_tree.specs.Contents.{contents};
@@ -56,6 +56,15 @@ impl MapState {
             ticket,
             items: twin,
         }))
+    }
+
+    /// The items of the detached subtree in the slot, held once more. The state may be the last to hold them, and lets them go in
+    /// the step that forgets the subtree: whoever takes that step under a lock can so free them after it.
+    pub fn items_in(&self, slot: u8) -> Option<Arc<Items>>
+        ensures { IfSome result (λ items. (p : PartAt) × (part_in slot self.now.state.parts ≡ Some p) × (items.value ≡ p.items)) }
+    {
+        let part = part_in(self.parts.as_slice(), slot)?;
+        Arc::try_clone(&part.items).ok()
     }
 
     // Where a subtree is detached into the slot.
