@@ -3,7 +3,7 @@ ghost use Rattle.std.specs.Prelude.{◌≡◌, ◌≤◌, IfErr, IfOk, IfSome, O
 ghost use mathlib.Core.List.{IsPrefix};
 ghost use Rattle.map_fold.specs.Ops.{Fit};
 ghost use Rattle.kd_tree.specs.Contents.{contents};
-ghost use Rattle.rebuild_core.specs.Desk.{IsAskCause, IsSwapCause};
+ghost use Rattle.rebuild_core.specs.Desk.{IsAskCause, IsSwapCause, IsUnswappedCause};
 ghost use Rattle.rebuild_core.specs.Steps.{IsFault};
 ghost use Rattle.published_map.specs.Answers.{Updated};
 ghost use Rattle.published_map.specs.Marks.{Added, Grown, IsMade};
@@ -12,13 +12,13 @@ use crate::kinds::MapWriter;
 use crate::mark::MarkList;
 use crate::name::MapName;
 use crate::pass::Pass;
-use crate::plans::{plan_swap, plan_update};
+use crate::plans::{plan_swap, plan_swap_or_log, plan_update};
 use crate::shown::Shown;
 use crate::turn::{catch_up, take_step};
 use core::mem::replace;
 use left_right::Absorb;
-use map_fold::{Entry, NoMemory, Ops, Update};
-use rebuild_core::{Built, Job, LogAsk, MapState, StateFault, SwapFault, Version};
+use map_fold::{Entry, Items, NoMemory, Ops, Update};
+use rebuild_core::{Built, Job, LogAsk, MapState, StateFault, SwapFault, Unswapped, Version};
 use std::alloc::Global;
 use std::marker::Model;
 use std::sync::ledger::{Book, Share};
@@ -40,6 +40,9 @@ where
     pub(crate) former: Option<Arc<Version>>,
     // Whether an update, which makes few nodes anew, came after the former version.
     pub(crate) by_update: bool,
+    // The version that the last swap or settling took the place of, once an update came after it. It may be the last to hold what
+    // was taken out of the tree, so a worker lets it go, and not the caller that updates.
+    pub(crate) left: Option<Arc<Version>>,
 }
 
 impl<L: MapName> Model for Locked<L>
@@ -91,8 +94,26 @@ impl<L: MapName> Locked<L> {
                 self.state.recycle(version);
                 None
             }
+            Some(version) if is_update => replace(&mut self.left, Some(version)),
             spent => spent,
         }
+    }
+
+    /// What a swap left behind it, if it is still here: it is to be let go of after the lock was given back.
+    pub fn leave(&mut self) -> Option<Arc<Version>>
+        ensures same { self.new ≡ self.old }
+    {
+        self.left.take()
+    }
+
+    /// The items of the detached subtrees, held once more: a turn that may forget some lets them go after the lock was given back.
+    pub fn items(&self) -> [Option<Arc<Items>>; 4] {
+        [
+            self.state.items_in(1),
+            self.state.items_in(2),
+            self.state.items_in(3),
+            self.state.items_in(4),
+        ]
     }
 
     /// Lets the pass's reader get the version of the whole history, which shows that it begins with what the pass has seen.
@@ -215,6 +236,29 @@ impl<L: MapName> Locked<L> {
         ensures refused { IfErr result (IsSwapCause built.now force) }
     {
         let planned = plan_swap(alloc, &mut self.state, built, force)?;
+        take_step(
+            rt,
+            &mut self.marks,
+            &mut self.state,
+            &mut self.writer,
+            planned,
+        )?;
+        Ok(())
+    }
+
+    /// One turn of the lock that swaps the value in, or answers the operations that it lacks.
+    pub fn swap_or_log<R: Wait>(
+        &mut self,
+        rt: &R,
+        alloc: Global,
+        built: &Built,
+        most: u32,
+    ) -> Result<(), Unswapped>
+        ensures history { self.new.state.history ≡ self.old.state.history }
+
+        ensures refused { IfErr result (IsUnswappedCause built.now) }
+    {
+        let planned = plan_swap_or_log(alloc, &self.state, built, most)?;
         take_step(
             rt,
             &mut self.marks,

@@ -2,10 +2,11 @@
 ghost use Rattle.std.specs.Prelude.{◌≡◌, ◌<◌, ◌≤◌, IfErr, IfOk, OnOk};
 ghost use Rattle.rebuild_core.specs.Steps.{HasRoom, IsFault, IsUpdatePlan};
 ghost use Rattle.rebuild_core.specs.Swap.{IsSwapFault, IsSwapPlan};
+ghost use Rattle.rebuild_core.specs.Desk.{IsUnswappedCause};
 
 use kd_tree::Steps;
 use map_fold::Update;
-use rebuild_core::{Built, MapState, Planned, StateFault, SwapFault};
+use rebuild_core::{Built, MapState, Planned, StateFault, SwapFault, Unswapped};
 use std::alloc::Global;
 use std::marker::Brand;
 use std::sync::ledger::{Blank, Ledger};
@@ -80,4 +81,34 @@ fn swap_counted<C: Ledger>(
 {
     let mut steps: Steps<C> = Steps::new(blank);
     state.plan_swap(alloc, built, force, &mut steps)
+}
+
+// The plan of a swap, or the operations that the value lacks.
+pub(crate) fn plan_swap_or_log(
+    alloc: Global,
+    state: &MapState,
+    built: &Built,
+    most: u32,
+) -> Result<Planned, Unswapped>
+    ensures planned { IfOk result (IsSwapPlan built.now state.now.state) }
+    ensures refused { IfErr result (IsUnswappedCause built.now) }
+{
+    near_counted::<Brand>(alloc, state, built, most, Blank::new(1))
+}
+
+fn near_counted<C: Ledger>(
+    alloc: Global,
+    state: &MapState,
+    built: &Built,
+    most: u32,
+    blank: Blank,
+) -> Result<Planned, Unswapped>
+    requires name { blank.name ≡ C.name }
+    requires parts { blank.parts ≡ C.parts }
+    requires some { 0 < blank.parts }
+    ensures planned { IfOk result (IsSwapPlan built.now state.now.state) }
+    ensures refused { IfErr result (IsUnswappedCause built.now) }
+{
+    let mut steps: Steps<C> = Steps::new(blank);
+    state.plan_swap_or_log(alloc, built, most, &mut steps)
 }

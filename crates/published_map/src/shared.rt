@@ -19,7 +19,8 @@ use std::sync::ledger::Blank;
 use std::sync::{Mutex, MutexGuard, Wait};
 
 /// A map that several callers share, each with a pass of its own. A call that is handed `rt` takes the lock, and waits for those
-/// that have it. What an update, `settle` or a swap lets go of is freed after the lock was given back, though no clause says so.
+/// that have it. What a turn lets go of is freed after the lock was given back, and what a swap took out of the tree by the next
+/// turn of a worker rather than by the caller that updates, though no clause says so.
 /// End it by `finish` or `close`.
 pub struct Shared<L: MapName> {
     pub(crate) lock: Mutex<Locked<L>>,
@@ -61,6 +62,7 @@ impl<L: MapName> Shared<L> {
                     purse,
                     former: None,
                     by_update: false,
+                    left: None,
                 });
                 Ok((Shared { lock }, passes))
             }
@@ -85,23 +87,23 @@ impl<L: MapName> Shared<L> {
         // The pass may be the last that keeps its version.
         let kept = pass.kept.again().ok();
         let mut locked = self.lock.lock(rt);
-        let former = locked.version();
+        let (former, items) = (locked.version(), locked.items());
         let done = locked.update(rt, alloc, pass, update);
         let spent = locked.keep(former, done.is_ok(), true);
         MutexGuard::unlock(locked);
         drop(kept);
-        drop(spent);
+        drop((spent, items));
         done
     }
 
     /// Builds anew what breaches a criterion, as `MapState::settle` does, and publishes the version.
     pub fn settle<R: Wait>(&self, rt: &R, alloc: Global) -> Result<(), NoMemory> {
         let mut locked = self.lock.lock(rt);
-        let former = locked.version();
+        let (former, items) = (locked.version(), locked.items());
         let done = locked.settle(rt, alloc);
         let spent = locked.keep(former, done.is_ok(), false);
         MutexGuard::unlock(locked);
-        drop(spent);
+        drop((spent, items));
         done
     }
 
@@ -146,6 +148,7 @@ impl<L: MapName> Shared<L> {
             purse: _purse,
             former: _former,
             by_update: _by_update,
+            left: _left,
         } = locked;
         writer.take(rt);
         let _history = state.history();
@@ -163,6 +166,7 @@ impl<L: MapName> Shared<L> {
             purse: _purse,
             former: _former,
             by_update: _by_update,
+            left: _left,
         } = lock.into_inner();
         writer.take(rt);
     }

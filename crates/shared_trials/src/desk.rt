@@ -3,7 +3,7 @@ use crate::trial::{Trial, cuboid, deleted, row, tried, updated};
 use kd_search::nearest;
 use point_geom::Point;
 use published_map::{Ended, MapName, Pass, Shared};
-use rebuild_core::{Built, Desk, Job, LogAsk, MapState, SwapFault, SwapLeft};
+use rebuild_core::{Built, Desk, Job, Late, LogAsk, MapState, SwapFault, SwapLeft, Unswapped};
 use std::alloc::Global;
 use std::process::Abort;
 use std::sync::Wait;
@@ -129,6 +129,46 @@ fn a_value_that_is_65_behind_catches_up_and_a_stale_one_is_refused(
     rt: HostRuntime,
 ) -> Result<(), Fail> {
     tried(&rt, rt.alloc(), 1, &AddedMeanwhile { last: 106 })
+}
+
+// In one call a value that is 65 behind is told what it lacks, and then it is swapped in.
+struct ToldMeanwhile;
+
+impl<R: Wait + Abort> Trial<R> for ToldMeanwhile {
+    fn run<L: MapName>(
+        &self,
+        rt: &R,
+        alloc: Global,
+        shared: &Shared<L>,
+        passes: &mut [Pass<L>],
+    ) -> Result<(), Fail> {
+        updated(rt, alloc, shared, passes, 0, row(alloc, 1, 41)?)?;
+        let built = first(rt, alloc, shared)?;
+        updated(rt, alloc, shared, passes, 0, row(alloc, 41, 106)?)?;
+        let Err(Late { built, fault }) = shared.swap_or_log(rt, alloc, built, 64) else {
+            return Err(Fail::new("it was swapped in"));
+        };
+        let Unswapped::Behind { ops } = fault else {
+            return Err(Fail::new("the value is of the part"));
+        };
+        assert_eq!(rt; ops.len(), 65);
+        let Ok(built) = built.replay(alloc, 16, ops.as_slice()) else {
+            return Err(Fail::new("nothing was replayed"));
+        };
+        assert!(rt; shared.swap_or_log(rt, alloc, built, 0).is_ok());
+        Ok(())
+    }
+
+    fn end(&self, rt: &R, state: &MapState, _ended: &[Ended]) -> Result<(), Fail> {
+        assert_eq!(rt; state.version().counts().live, 105);
+        assert!(rt; state.part(1).is_none());
+        Ok(())
+    }
+}
+
+#[test]
+fn one_call_swaps_a_value_in_or_tells_what_it_lacks(rt: HostRuntime) -> Result<(), Fail> {
+    tried(&rt, rt.alloc(), 1, &ToldMeanwhile)
 }
 
 // A pass keeps a version while points are deleted and a built value is swapped in.
