@@ -3,6 +3,7 @@ use Rattle.std.specs.Prelude.{◌≡◌, ℕ, ◌≤◌, List, [], length}
 use mathlib.Core.List.{IsPrefix}
 use Rattle.logbook.specs.Pages.{Book}
 use Rattle.map_fold.specs.declared.entry.Entry.{Entry}
+use Rattle.map_fold.specs.declared.item.Item.{Item}
 use Rattle.published_map.specs.Marks.{IsMarked}
 
 -- A pass keeps the history of one version, and its reader knows that or more. The marks are the places of its caller's entries.
@@ -16,11 +17,14 @@ pub record IsPass (caller : ℕ) (kept known : List Entry) (marks : List ℕ) (p
   pub part : parts ≡ 1
   pub counted : amount ≡ length marks
 
--- a map that isn't shared yet: the book that its versions are to be marked in, its callers and its voxels' edge
+-- a map that isn't shared yet: the book that its versions are to be marked in, its callers, its voxels' edge, from how many nodes
+-- on a subtree is large, and what it holds
 pub record OpenedAt : Type 0 where
   pub marks : Book
   pub callers : ℕ
   pub voxel : ℕ
+  pub large : ℕ
+  pub held : List Item
 
 -- it has 1 to 8 callers, and no entry
 pub record IsOpened (callers : ℕ) (history : List Entry) : Type 0 where

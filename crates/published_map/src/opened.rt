@@ -1,5 +1,5 @@
 //! Maps that aren't shared yet.
-ghost use Rattle.std.specs.Prelude.{◌≡◌, ◌≤◌, IfOk};
+ghost use Rattle.std.specs.Prelude.{◌≡◌, ◌≤◌, [], IfOk};
 
 use crate::mark::MarkList;
 use map_fold::{NoMemory, Settings};
@@ -8,7 +8,7 @@ use std::alloc::Global;
 use std::marker::Model;
 
 /// A map that holds nothing, before it gets its name: `Shared::start` shares it. Contracts see the book of its marks, how many
-/// callers it is for, and the edge of its voxels.
+/// callers it is for, its settings and what it holds.
 #[derive(Drop)]
 pub struct Opened {
     pub(crate) state: MapState,
@@ -17,11 +17,12 @@ pub struct Opened {
 }
 
 impl Model for Opened {
+    ghost use Rattle.kd_tree.specs.Contents.{contents};
     ghost use Rattle.published_map.specs.Held.{IsOpened, OpenedAt};
 
     ghost Value = { OpenedAt };
 
-    ghost view = { λ o. record { marks = o.marks; callers = o.callers; voxel = o.state.state.settings.voxel } };
+    ghost view = { λ o. record { marks = o.marks; callers = o.callers; voxel = o.state.state.settings.voxel; large = o.state.state.settings.large; held = contents o.state.state.tree } };
 
     ghost invariant = { λ o. IsOpened o.callers o.state.state.history };
 }
@@ -33,6 +34,8 @@ impl Opened {
         requires callers_to { callers ≤ 8 }
         ensures callers { IfOk result (λ o. o.callers ≡ callers) }
         ensures voxel { IfOk result (λ o. o.voxel ≡ settings.voxel) }
+        ensures large { IfOk result (λ o. o.large ≡ settings.large) }
+        ensures empty { IfOk result (λ o. o.held ≡ []) }
     {
         Ok(Opened {
             state: MapState::new(alloc, settings)?,

@@ -2,7 +2,7 @@
 ghost use Rattle.std.specs.Prelude.{◌≡◌, ◌≤◌, [], length, IfOk, IsOk};
 ghost use Rattle.std.specs.Option.{ForSome};
 ghost use Rattle.published_map.specs.Answers.{box_reply, near_reply};
-ghost use Rattle.published_map.specs.Marks.{Grown, newcomer_of};
+ghost use Rattle.published_map.specs.Marks.{Grown, IsMade, newcomer_of};
 ghost use Rattle.published_map.specs.Versions.{IsVersionOf};
 
 use crate::kinds::{MapReader, look};
@@ -68,7 +68,12 @@ impl<L: MapName> Pass<L> {
 
     /// Whose it is, from 1 to 8.
     pub fn caller(&self) -> u8
-        ensures { result ≡ self.now.caller }
+        ensures value { result ≡ self.now.caller }
+        ensures from { 1 ≤ result }
+        ensures to { result ≤ 8 }
+
+        // What it has made stands at rising places of what it has seen, each under its caller.
+        ensures own { IsMade self.now.seen self.now }
     {
         self.caller
     }

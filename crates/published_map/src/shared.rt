@@ -130,6 +130,7 @@ impl<L: MapName> Shared<L> {
         requires parts { L.callers ≡ L.parts }
         requires distinct { IsDistinct (callers_of passes.items) }
         ensures lawful { IfOk result (λ r. IsLawful r.0.state) }
+        ensures voxel { IfOk result (λ r. r.0.state.settings.voxel ≡ L.voxel) }
         ensures ended { IfOk result (λ r. AllEnded r.0.state.history passes.items) }
         ensures told { IfOk result (λ r. r.1.items ≡ map ended_of passes.items) }
     {

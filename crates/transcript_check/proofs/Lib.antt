@@ -12,3 +12,4 @@ pub mod Replays
 pub mod Plain
 pub mod ReplyLines
 pub mod OneVerdict
+pub mod Barriers

@@ -19,11 +19,11 @@ loop-command-preserved g c =
       index = omega (arith, c.loop-command.invariant.index);
       ran = elim c.if-is_own.branch [
         | then-is_own+in_ok-reply+in-Some+in_ok-put w ↦
-            let by : is_by q.caller command ≡ true = cc (c.is_own.ensures, c.caller.ensures, w.if-is_own.true) in
+            let by : is_by q.caller command ≡ true = cc (c.is_own.ensures, c.caller.ensures.value, w.if-is_own.true) in
             let told : Answered voxel command q w.answer.new.pass w.in-Some.reply = subst (λ z. Tried voxel command q w.answer.new.pass z) w.in-Some.is w.in_ok-reply.ensures in
             rw (w.pass-is, w.replies-is, w.in_ok-put.ensures.ok) (ran_own voxel cs (drop (i + 1) cs) command c.args.pass q w.answer.new.pass c.loop-command.replies w.in-Some.reply ran by told)
         | else-is_own w ↦
-            let by : is_by q.caller command ≡ false = cc (c.is_own.ensures, c.caller.ensures, w.if-is_own.false) in
+            let by : is_by q.caller command ≡ false = cc (c.is_own.ensures, c.caller.ensures.value, w.if-is_own.false) in
             rw (w.pass-is, w.replies-is) (ran_other voxel cs (drop (i + 1) cs) command c.args.pass q c.loop-command.replies ran by)
       ];
     }

@@ -1,0 +1,133 @@
+/* The map, for C and C++. Numbers are whole millimetres.
+ *
+ * A handle (corv_map, corv_view, corv_job, corv_built) is a struct that is all zeros before the call that fills it, and is filled
+ * until the call that frees it, or that takes what it holds. A call that is refused answers why, and leaves every handle as it was,
+ * but for what is said at corv_map_swap.
+ *
+ * What the caller owes, and all of it: each pointer is to memory of its type that is there for the whole call, is aligned, is not
+ * null (also where a length is 0), and overlaps no other argument; memory that a call only writes may hold anything, but for
+ * handles; a handle begins as zeros, is never copied, and its fields are neither read nor written; one call at a time has a handle,
+ * and a handle that goes to another thread goes there by a lock, or by that thread's start or join; what a handle holds is freed
+ * before the handle's memory goes; no call is made in a signal handler, nor in the forked child of a process with threads; malloc,
+ * realloc and free are one allocator's. All else is checked, and answered by a status. */
+#ifndef CORV_MAP_H
+#define CORV_MAP_H
+#include <stdbool.h>
+#include <stddef.h>
+#include <stdint.h>
+#ifdef __cplusplus
+extern "C" {
+#endif
+
+/* A map. */
+typedef struct { void *at; bool full; } corv_map;
+/* What a map held when the view was made. */
+typedef struct { void *at; bool full; } corv_view;
+/* A subtree of a map, given out to be built anew. */
+typedef struct { void *at; bool full; } corv_job;
+/* That subtree, built anew. */
+typedef struct { void *at; bool full; } corv_built;
+
+/* Each number of a place is from -1,099,511,627,776 to 1,099,511,627,776. */
+typedef struct { int64_t x, y, z; } corv_place;
+typedef struct { int64_t x, y, z; uint16_t intensity; } corv_point;
+/* Half-open: a point p is in it where lo <= p < hi on each axis. A number of it may be one greater than a place's. */
+typedef struct { corv_place lo, hi; } corv_box;
+/* A live point that was found, under its number. Its squared distance is dist2_high * 2^64 + dist2_low. */
+typedef struct { corv_point point; uint64_t dist2_high, dist2_low; uint32_t number; } corv_hit;
+/* A live point, under its number. */
+typedef struct { corv_point point; uint32_t number; } corv_item;
+/* How many updates were made, how many points they submitted, and how many of those are live and how many suspended. */
+typedef struct { uint64_t updates; uint32_t points, live, suspended; } corv_totals;
+
+/* What a call answers. Where more than one cause is there, it is the first in the order in which a call's comment names them. */
+enum {
+    CORV_DONE = 0,
+    CORV_NO_MEMORY = 1,         /* there was no memory */
+    CORV_EMPTY = 2,             /* a handle that should be filled holds nothing */
+    CORV_FULL = 3,              /* a handle that should be empty is filled */
+    CORV_BAD_NUMBER = 4,        /* a number is not one that the call takes */
+    CORV_NO_ROOM = 5,           /* an array is too short */
+    CORV_OUT_OF_RANGE = 6,      /* a number of a place is out of range */
+    CORV_BAD_BOX = 7,           /* a number of a box is out of range, or one of hi is below that of lo */
+    CORV_TOO_MANY_UPDATES = 8,  /* the map has 1,048,576 updates */
+    CORV_TOO_MANY_POINTS = 9,   /* more than 4,194,304 points would have been submitted */
+    CORV_NOTHING_TO_DETACH = 10, /* no subtree is to be built anew */
+    CORV_STALE = 11,            /* the built subtree's place in the map is there no more */
+    CORV_BEHIND = 12            /* more than 64 operations are left to be done on the built subtree */
+};
+
+/* Makes a map that holds nothing. Its voxels have edges of 1 to 1,000,000, and of 16 to 1,000,000 nodes on a subtree is large.
+ * FULL, BAD_NUMBER, NO_MEMORY. */
+int32_t corv_map_new(uint32_t voxel, uint32_t large, corv_map *map);
+/* Lets go of what the handle holds, if anything, and leaves it empty. So do the other three. */
+void corv_map_free(corv_map *map);
+
+/* Updates. Points are held under the next numbers, which count all that were submitted, from 0.
+ * EMPTY, OUT_OF_RANGE or BAD_BOX, TOO_MANY_UPDATES, TOO_MANY_POINTS, and at any step NO_MEMORY. */
+/* Each point in turn is held, live. */
+int32_t corv_map_add(corv_map *map, const corv_point *points, size_t n);
+/* Each point in turn takes a number, and of its voxel the live point that is nearest to the centre stays. */
+int32_t corv_map_thin(corv_map *map, const corv_point *points, size_t n);
+/* What is live or suspended in each box in turn is dropped for good. */
+int32_t corv_map_delete(corv_map *map, const corv_box *boxes, size_t n);
+/* What is live in each box in turn is hidden until it is restored. */
+int32_t corv_map_suspend(corv_map *map, const corv_box *boxes, size_t n);
+/* What is suspended in each box in turn is live again. */
+int32_t corv_map_restore(corv_map *map, const corv_box *boxes, size_t n);
+/* What is live or suspended under a number below this one is dropped for good. */
+int32_t corv_map_expire(corv_map *map, uint32_t number);
+
+/* Questions. An answer of several points is written to the front of the array, and how many they are to the count, which is 0 where
+ * the call is refused. What else the array held may be lost. */
+/* The k nearest live points, or all where there are fewer: by distance, then by x, y and z, then by number. k is from 1 to 256,
+ * and room at least k. They are within so many millimetres, up to 4,398,046,511,104, or however far where that is below 0.
+ * EMPTY, BAD_NUMBER, NO_ROOM, OUT_OF_RANGE, NO_MEMORY (never for k up to 16). */
+int32_t corv_map_nearest(corv_map *map, const corv_place *place, uint32_t k, int64_t within, corv_hit *hits, size_t room, size_t *count);
+/* The same for each place: the first place's hits, and right behind them the next one's. counts says how many each place has.
+ * counts_room is at least n, and room at least n times k. EMPTY, BAD_NUMBER, NO_ROOM, and at any place OUT_OF_RANGE or NO_MEMORY. */
+int32_t corv_map_nearest_each(corv_map *map, const corv_place *places, size_t n, uint32_t k, int64_t within, corv_hit *hits, size_t room, uint32_t *counts, size_t counts_room, size_t *count);
+/* How many live points are in the box. EMPTY, BAD_BOX. */
+int32_t corv_map_count(corv_map *map, const corv_box *box, uint32_t *live);
+/* The live points in the box, by number; the first most where there are more. most is from 1 to 256, and room at least that.
+ * EMPTY, BAD_NUMBER, NO_ROOM, BAD_BOX, NO_MEMORY. */
+int32_t corv_map_inside(corv_map *map, const corv_box *box, uint32_t most, corv_item *items, size_t room, size_t *count);
+/* EMPTY. */
+int32_t corv_map_totals(corv_map *map, corv_totals *totals);
+
+/* Makes a view of what the map holds now. It stays as it is while the map goes on, and is asked in another thread without a lock.
+ * Views of one map are handles of their own: each thread that asks has one. FULL (the view), EMPTY (the map), NO_MEMORY. */
+int32_t corv_map_view(corv_map *map, corv_view *view);
+/* Makes another view of the same. FULL (the copy), EMPTY (the view), NO_MEMORY. */
+int32_t corv_view_copy(corv_view *view, corv_view *copy);
+void corv_view_free(corv_view *view);
+/* As of a map. */
+int32_t corv_view_nearest(corv_view *view, const corv_place *place, uint32_t k, int64_t within, corv_hit *hits, size_t room, size_t *count);
+int32_t corv_view_nearest_each(corv_view *view, const corv_place *places, size_t n, uint32_t k, int64_t within, corv_hit *hits, size_t room, uint32_t *counts, size_t counts_room, size_t *count);
+int32_t corv_view_count(corv_view *view, const corv_box *box, uint32_t *live);
+int32_t corv_view_inside(corv_view *view, const corv_box *box, uint32_t most, corv_item *items, size_t room, size_t *count);
+int32_t corv_view_totals(corv_view *view, corv_totals *totals);
+
+/* Large subtrees are built anew beside the updates, on threads of the caller's: detach (in the map's thread), build (in any, while
+ * the map goes on), swap (in the map's thread). Where a swap answers BEHIND: replay (in any thread), and swap again. Nothing of it
+ * changes what the map holds. */
+/* Gives out the subtree of the slot, from 1 to 4: the one that was given out under it before and is not yet swapped in, which makes
+ * that one stale, or else the first large one that is to be built anew. EMPTY (the map), FULL (the job), BAD_NUMBER,
+ * NOTHING_TO_DETACH, NO_MEMORY. */
+int32_t corv_map_detach(corv_map *map, uint32_t slot, corv_job *job);
+/* Builds the subtree anew, and leaves the job empty. EMPTY (the job), FULL (the built subtree), NO_MEMORY. */
+int32_t corv_job_build(corv_job *job, corv_built *built);
+void corv_job_free(corv_job *job);
+/* Does on the built subtree the operations that the last swap that answered BEHIND put beside it, if there are any. EMPTY, NO_MEMORY. */
+int32_t corv_built_replay(corv_built *built);
+void corv_built_free(corv_built *built);
+/* Puts the built subtree in its place, after the operations that it has missed since, and leaves the handle empty. A swap that isn't
+ * forced, where force is 0, does at most 64 of those: where there are more it answers BEHIND, and puts them beside the built
+ * subtree, to be replayed. Where its place is there no more the subtree is STALE, and stays in its handle, only to be freed.
+ * EMPTY (either), STALE, BEHIND, NO_MEMORY. */
+int32_t corv_map_swap(corv_map *map, corv_built *built, uint32_t force);
+
+#ifdef __cplusplus
+}
+#endif
+#endif

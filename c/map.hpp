@@ -1,0 +1,320 @@
+// The map, for C++17: map.h with owners that free what they hold, moves in place of copies, and refusals that are thrown.
+//
+// An owner has its handle in memory of its own, so that it may be moved and the handle never is. What map.h asks of a caller is seen
+// to here, but for this: one thread at a time calls a Map, View, Job or Built, and one that goes to another thread goes there by a
+// lock, or by that thread's start or join. So nothing here is const: a View is cheap, and each thread that asks has one of its own.
+//
+// Why exceptions: a scan that isn't taken in, and nobody looks, would leave a map with a hole, and C++17 has no type for a result
+// that has to be looked at. What is no fault is no exception: that there is nothing to detach, and how a swap goes. Who builds
+// without exceptions has map.h.
+#ifndef CORV_MAP_HPP
+#define CORV_MAP_HPP
+#include "map.h"
+
+#include <algorithm>
+#include <cmath>
+#include <cstddef>
+#include <cstdint>
+#include <memory>
+#include <new>
+#include <optional>
+#include <stdexcept>
+#include <utility>
+#include <vector>
+
+namespace corv {
+
+using Place = corv_place;
+using Point = corv_point;
+using Box = corv_box;
+using Hit = corv_hit;
+using Item = corv_item;
+using Totals = corv_totals;
+
+/// A call was refused, and everything is as it was. Where memory was wanting it is std::bad_alloc instead.
+class Refused : public std::runtime_error {
+public:
+    explicit Refused(std::int32_t status) : std::runtime_error(text(status)), status_(status) {}
+
+    /// The cause: one of CORV_EMPTY, which is so for what was moved from, CORV_BAD_NUMBER and so on.
+    std::int32_t status() const noexcept { return status_; }
+
+private:
+    static const char *text(std::int32_t status) {
+        switch (status) {
+            case CORV_EMPTY: return "corv: it holds nothing, or was moved from";
+            case CORV_FULL: return "corv: it holds something already";
+            case CORV_BAD_NUMBER: return "corv: a number is not one that the call takes";
+            case CORV_NO_ROOM: return "corv: an array is too short";
+            case CORV_OUT_OF_RANGE: return "corv: a number of a place is out of range";
+            case CORV_BAD_BOX: return "corv: a number of a box is out of range, or one of hi is below that of lo";
+            case CORV_TOO_MANY_UPDATES: return "corv: too many updates";
+            case CORV_TOO_MANY_POINTS: return "corv: too many points";
+            default: return "corv: a call was refused";
+        }
+    }
+
+    std::int32_t status_;
+};
+
+namespace detail {
+
+inline void check(std::int32_t status) {
+    if (status == CORV_NO_MEMORY) throw std::bad_alloc();
+    if (status != CORV_DONE) throw Refused(status);
+}
+
+/// A handle where it stays, from its zeros to its release.
+template <class Handle, void (*release)(Handle *)>
+class Owned {
+public:
+    Handle *get() const {
+        check(handle_ ? CORV_DONE : CORV_EMPTY);
+        return handle_.get();
+    }
+
+private:
+    struct Release {
+        void operator()(Handle *handle) const noexcept {
+            release(handle);
+            delete handle;
+        }
+    };
+    std::unique_ptr<Handle, Release> handle_{new Handle()};
+};
+
+/// The calls by which a map is asked, and those for a view.
+struct MapCalls {
+    using Handle = corv_map;
+    static constexpr auto release = corv_map_free;
+    static constexpr auto nearest = corv_map_nearest;
+    static constexpr auto nearest_each = corv_map_nearest_each;
+    static constexpr auto count = corv_map_count;
+    static constexpr auto inside = corv_map_inside;
+    static constexpr auto totals = corv_map_totals;
+};
+
+struct ViewCalls {
+    using Handle = corv_view;
+    static constexpr auto release = corv_view_free;
+    static constexpr auto nearest = corv_view_nearest;
+    static constexpr auto nearest_each = corv_view_nearest_each;
+    static constexpr auto count = corv_view_count;
+    static constexpr auto inside = corv_view_inside;
+    static constexpr auto totals = corv_view_totals;
+};
+
+}  // namespace detail
+
+/// Values that stand side by side and are the caller's: a std::vector, a std::array, or a pointer and a count.
+template <class T>
+class List {
+public:
+    List(const T *first, std::size_t size) : first_(size ? first : &none), size_(size) {}
+    template <class Values, class = decltype(std::declval<const Values &>().data())>
+    List(const Values &values) : List(values.data(), values.size()) {}
+
+    const T *data() const noexcept { return first_; }
+    std::size_t size() const noexcept { return size_; }
+
+private:
+    // A pointer to nothing is no pointer that a call takes, and an empty vector may have one.
+    static inline const T none{};
+    const T *first_;
+    std::size_t size_;
+};
+
+/// The hits of several places: those of the first one, and right behind them the next one's. `counts` tells how many each has.
+struct Hits {
+    std::vector<Hit> all;
+    std::vector<std::uint32_t> counts;
+};
+
+/// The distance of a hit in millimetres, as near as a double comes to it.
+inline double distance(const Hit &hit) {
+    return std::sqrt(std::ldexp(static_cast<double>(hit.dist2_high), 64) + static_cast<double>(hit.dist2_low));
+}
+
+#ifdef __SIZEOF_INT128__
+__extension__ using Wide = unsigned __int128;
+
+/// The squared distance of a hit, exactly.
+inline Wide squared_distance(const Hit &hit) {
+    return Wide{hit.dist2_high} << 64 | hit.dist2_low;
+}
+#endif
+
+/// What is asked of a Map and of a View. Numbers out of their range are refused, and so are places and boxes.
+template <class Calls>
+class Asked {
+public:
+    /// The k nearest live points, from 1 to 256, or all where there are fewer; no farther than so many millimetres where that is given.
+    std::vector<Hit> nearest(const Place &place, std::uint32_t k, std::optional<std::uint64_t> within = {}) {
+        std::vector<Hit> hits;
+        nearest(place, k, within, hits);
+        return hits;
+    }
+
+    /// The same into a vector that is used again, which spares its memory from call to call.
+    void nearest(const Place &place, std::uint32_t k, std::optional<std::uint64_t> within, std::vector<Hit> &hits) {
+        hits.resize(room(k));
+        std::size_t count = 0;
+        auto status = Calls::nearest(get(), &place, k, reach(within), hits.data(), hits.size(), &count);
+        hits.resize(count);
+        detail::check(status);
+    }
+
+    /// The same for each of several places, in one call.
+    void nearest_each(List<Place> places, std::uint32_t k, std::optional<std::uint64_t> within, Hits &hits) {
+        auto &[all, counts] = hits;
+        all.resize(std::max<std::size_t>(1, places.size() * room(k)));
+        counts.resize(std::max<std::size_t>(1, places.size()));
+        std::size_t count = 0;
+        auto status = Calls::nearest_each(get(), places.data(), places.size(), k, reach(within), all.data(), all.size(),
+                                          counts.data(), counts.size(), &count);
+        all.resize(count);
+        counts.resize(status == CORV_DONE ? places.size() : 0);
+        detail::check(status);
+    }
+
+    /// How many live points are in a box.
+    std::uint32_t count(const Box &box) {
+        std::uint32_t live = 0;
+        detail::check(Calls::count(get(), &box, &live));
+        return live;
+    }
+
+    /// The live points in a box by number, or the first `most` of them, from 1 to 256.
+    std::vector<Item> inside(const Box &box, std::uint32_t most) {
+        std::vector<Item> items(room(most));
+        std::size_t count = 0;
+        auto status = Calls::inside(get(), &box, most, items.data(), items.size(), &count);
+        items.resize(count);
+        detail::check(status);
+        return items;
+    }
+
+    /// How many updates were made, and how many points are there.
+    Totals totals() {
+        Totals totals{};
+        detail::check(Calls::totals(get(), &totals));
+        return totals;
+    }
+
+protected:
+    typename Calls::Handle *get() const { return handle_.get(); }
+
+private:
+    // Room for as many as a call can give; where k is refused, for what it would say.
+    static std::size_t room(std::uint32_t k) { return std::clamp<std::uint32_t>(k, 1, 256); }
+
+    // What is too far for a signed number is too far for the call too.
+    static std::int64_t reach(std::optional<std::uint64_t> within) {
+        return within ? static_cast<std::int64_t>(std::min<std::uint64_t>(*within, INT64_MAX)) : -1;
+    }
+
+    detail::Owned<typename Calls::Handle, Calls::release> handle_;
+};
+
+/// What a map held when the view was made, for a thread that asks while the map goes on.
+class View : public Asked<detail::ViewCalls> {
+public:
+    /// Another view of the same, for another thread.
+    View copy() {
+        View other;
+        detail::check(corv_view_copy(get(), other.get()));
+        return other;
+    }
+
+private:
+    friend class Map;
+    View() = default;
+};
+
+/// A subtree, built anew, to be swapped in.
+class Built {
+public:
+    /// Does what the last swap that was behind put beside it. In any thread.
+    void replay() { detail::check(corv_built_replay(handle_.get())); }
+
+private:
+    friend class Job;
+    friend class Map;
+    Built() = default;
+    detail::Owned<corv_built, corv_built_free> handle_;
+};
+
+/// A subtree that is given out, to be built anew.
+class Job {
+public:
+    /// Builds it, in any thread, and leaves the job empty.
+    Built build() {
+        Built built;
+        detail::check(corv_job_build(handle_.get(), built.handle_.get()));
+        return built;
+    }
+
+private:
+    friend class Map;
+    Job() = default;
+    detail::Owned<corv_job, corv_job_free> handle_;
+};
+
+/// How a swap went: it is done; or more is left to be replayed first; or the subtree's place is there no more, and it is of no use.
+enum class Swapped { done, behind, stale };
+
+/// A map.
+class Map : public Asked<detail::MapCalls> {
+public:
+    /// Holds nothing. Its voxels have edges of 1 to 1,000,000 mm; subtrees of so many nodes, 16 to 1,000,000, count as large.
+    Map(std::uint32_t voxel, std::uint32_t large) { detail::check(corv_map_new(voxel, large, get())); }
+
+    /// Each point is held, live, under the next number.
+    void add(List<Point> points) { update(corv_map_add, points); }
+    /// Each point takes the next number, and of its voxel's live points the one nearest to the centre stays.
+    void thin(List<Point> points) { update(corv_map_thin, points); }
+    /// What is live or suspended in the boxes is dropped for good.
+    void remove(List<Box> boxes) { update(corv_map_delete, boxes); }
+    /// What is live in the boxes is hidden.
+    void suspend(List<Box> boxes) { update(corv_map_suspend, boxes); }
+    /// What is suspended in the boxes is live again.
+    void restore(List<Box> boxes) { update(corv_map_restore, boxes); }
+    /// What is held under a number below this one is dropped for good.
+    void expire(std::uint32_t number) { detail::check(corv_map_expire(get(), number)); }
+
+    /// A view of what the map holds now.
+    View view() {
+        View view;
+        detail::check(corv_map_view(get(), view.get()));
+        return view;
+    }
+
+    /// Gives out a large subtree to be built anew, if there is one, in a slot from 1 to 4. What the slot gave out before, and isn't
+    /// swapped in yet, is given out once more, and what was built of it is stale.
+    std::optional<Job> detach(std::uint32_t slot) {
+        Job job;
+        auto status = corv_map_detach(get(), slot, job.handle_.get());
+        if (status == CORV_NOTHING_TO_DETACH) return std::nullopt;
+        detail::check(status);
+        return job;
+    }
+
+    /// Puts a built subtree in its place. Where it is behind, by more than 64 operations and not forced, it is to be replayed.
+    Swapped swap(Built &built, bool force = false) {
+        auto status = corv_map_swap(get(), built.handle_.get(), force);
+        if (status == CORV_STALE) return Swapped::stale;
+        if (status == CORV_BEHIND) return Swapped::behind;
+        detail::check(status);
+        return Swapped::done;
+    }
+
+private:
+    template <class T>
+    void update(std::int32_t (*call)(corv_map *, const T *, std::size_t), List<T> list) {
+        detail::check(call(get(), list.data(), list.size()));
+    }
+};
+
+}  // namespace corv
+
+#endif

@@ -1,0 +1,147 @@
+-- Where marks are legal, a barrier's is the number of updates before it.
+use Rattle.std.proofs.Common.{◌≡◌, ℕ, zero, suc, ◌+◌, ◌<◌, ◌≤◌, Bool, true, false, nat_le, if◌then◌else◌, List, [], ◌∷◌, take, length, map, Some, slice_get, refl, sym, ap, ◌∙◌, subst, arith, nat_lt}
+use Rattle.std.proofs.lemmas.Bool.Decides.{nat_tests}
+use Rattle.std.specs.List.{AllByRecursion}
+use Rattle.map_fold.specs.declared.update.Update.{Update}
+use Rattle.scan_log.specs.declared.command.Command.{Command}
+use Rattle.scan_log.specs.declared.command.Command.TheVariants.{Change, Near, Nears, Inside, Ball, Lonely, Clusters, Pose, Sync}
+use Rattle.scan_log.specs.Transcript.{updates_in, put_update, marked_updates}
+use Rattle.scan_log.specs.Legal.{counted, MayFollow, IsLater, AllFollow, AreInOrder, IsLegal}
+
+-- 1 where the mark isn't above top
+abbrev one : ℕ → ℕ → ℕ
+one top m = if nat_le m top then 1 else 0
+
+one_low : (top m : ℕ) → m ≤ top → one top m ≡ 1
+one_low top m le = let e : nat_le m top ≡ true = grind (arith, nat_tests) in rw e refl
+
+one_high : (top m : ℕ) → top < m → one top m ≡ 0
+one_high top m lt = let e : nat_le m top ≡ false = grind (arith, nat_tests) in rw e refl
+
+-- how many are not above top
+abbrev few : ℕ → List ℕ → ℕ
+few top [] = 0
+few top (m ∷ ms) = one top m + few top ms
+
+few_high : (top n k : ℕ) → top < n → few top (counted n k) ≡ 0
+few_high top n zero lt = refl
+few_high top n (suc k) lt = omega (arith, one_high top n lt, few_high top (n + 1) k (omega arith))
+
+few_by : (top n k : ℕ) → n ≤ top + 1 → top + 1 ≤ n + k → (b : Bool) → nat_le n top ≡ b → n + few top (counted n k) ≡ top + 1
+few_by top n zero low high b is = omega arith
+few_by top n (suc k) low high true is =
+    let le : n ≤ top = grind (arith, nat_tests) in
+    let a = one_low top n le in
+    let e = few_by top (n + 1) k (omega arith) (omega arith) (nat_le (n + 1) top) refl in
+    omega arith
+few_by top n (suc k) low high false is =
+    let lt : top < n = grind (arith, nat_tests) in
+    let a = one_high top n lt in
+    let e = few_high top (n + 1) k (omega arith) in
+    omega arith
+
+few_put_by : (top m : ℕ) (u : Update) (g : ℕ × Update) (hs : List (ℕ × Update)) → few top (map (λ h. h.0) (put_update m u hs)) ≡ one top m + few top (map (λ h. h.0) hs)
+    → (b : Bool) → nat_lt g.0 m ≡ b → few top (map (λ h. h.0) (put_update m u (g ∷ hs))) ≡ one top m + few top (map (λ h. h.0) (g ∷ hs))
+few_put_by top m u g hs more true is = rw is (omega (arith, more))
+few_put_by top m u g hs more false is = rw is refl
+
+few_put : (top m : ℕ) (u : Update) (hs : List (ℕ × Update)) → few top (map (λ h. h.0) (put_update m u hs)) ≡ one top m + few top (map (λ h. h.0) hs)
+few_put top m u [] = refl
+few_put top m u (g ∷ hs) = few_put_by top m u g hs (few_put top m u hs) (nat_lt g.0 m) refl
+
+-- how many updates have no mark above top
+abbrev early : ℕ → List Command → List ℕ → ℕ
+early top (Change caller u ∷ cs) (m ∷ ms) = one top m + early top cs ms
+early top (Near caller k p within ∷ cs) (m ∷ ms) = early top cs ms
+early top (Inside caller k c ∷ cs) (m ∷ ms) = early top cs ms
+early top (Nears caller k ps ∷ cs) (m ∷ ms) = early top cs ms
+early top (Ball caller k r p ∷ cs) (m ∷ ms) = early top cs ms
+early top (Lonely caller k r ∷ cs) (m ∷ ms) = early top cs ms
+early top (Clusters caller k r ∷ cs) (m ∷ ms) = early top cs ms
+early top (Pose caller rules p ∷ cs) (m ∷ ms) = early top cs ms
+early top (Sync ∷ cs) (m ∷ ms) = early top cs ms
+early top [] ms = 0
+early top (c ∷ cs) [] = 0
+
+early_few : (top : ℕ) (cs : List Command) (ms : List ℕ) → few top (map (λ h. h.0) (marked_updates cs ms)) ≡ early top cs ms
+early_few top [] ms = refl
+early_few top (Change caller u ∷ cs) [] = refl
+early_few top (Near caller k p within ∷ cs) [] = refl
+early_few top (Inside caller k c ∷ cs) [] = refl
+early_few top (Nears caller k ps ∷ cs) [] = refl
+early_few top (Ball caller k r p ∷ cs) [] = refl
+early_few top (Lonely caller k r ∷ cs) [] = refl
+early_few top (Clusters caller k r ∷ cs) [] = refl
+early_few top (Pose caller rules p ∷ cs) [] = refl
+early_few top (Sync ∷ cs) [] = refl
+early_few top (Change caller u ∷ cs) (m ∷ ms) = few_put top m u (marked_updates cs ms) ∙ ap (λ n. one top m + n) (early_few top cs ms)
+early_few top (Near caller k p within ∷ cs) (m ∷ ms) = early_few top cs ms
+early_few top (Inside caller k c ∷ cs) (m ∷ ms) = early_few top cs ms
+early_few top (Nears caller k ps ∷ cs) (m ∷ ms) = early_few top cs ms
+early_few top (Ball caller k r p ∷ cs) (m ∷ ms) = early_few top cs ms
+early_few top (Lonely caller k r ∷ cs) (m ∷ ms) = early_few top cs ms
+early_few top (Clusters caller k r ∷ cs) (m ∷ ms) = early_few top cs ms
+early_few top (Pose caller rules p ∷ cs) (m ∷ ms) = early_few top cs ms
+early_few top (Sync ∷ cs) (m ∷ ms) = early_few top cs ms
+
+-- after a barrier no update has such a mark
+none_early : (top : ℕ) (cs : List Command) (ms : List ℕ) → AllFollow Sync top cs ms → early top cs ms ≡ 0
+none_early top [] ms f = refl
+none_early top (c ∷ cs) [] f = refl
+none_early top (Change caller u ∷ cs) (m ∷ ms) f = omega (arith, one_high top m f.0, none_early top cs ms f.1)
+none_early top (Near caller k p within ∷ cs) (m ∷ ms) f = none_early top cs ms f.1
+none_early top (Inside caller k c ∷ cs) (m ∷ ms) f = none_early top cs ms f.1
+none_early top (Nears caller k ps ∷ cs) (m ∷ ms) f = none_early top cs ms f.1
+none_early top (Ball caller k r p ∷ cs) (m ∷ ms) f = none_early top cs ms f.1
+none_early top (Lonely caller k r ∷ cs) (m ∷ ms) f = none_early top cs ms f.1
+none_early top (Clusters caller k r ∷ cs) (m ∷ ms) f = none_early top cs ms f.1
+none_early top (Pose caller rules p ∷ cs) (m ∷ ms) f = none_early top cs ms f.1
+none_early top (Sync ∷ cs) (m ∷ ms) f = none_early top cs ms f.1
+
+-- what comes later may follow
+follows_at : (c : Command) (m : ℕ) (ds : List Command) (ns : List ℕ) (k : ℕ) (d : Command) (n : ℕ)
+    → AllFollow c m ds ns → slice_get ds k ≡ Some d → slice_get ns k ≡ Some n → MayFollow c m d n
+follows_at c m [] ns k d n f at there = absurd (cc at)
+follows_at c m (e ∷ ds) [] k d n f at there = absurd (cc there)
+follows_at c m (e ∷ ds) (j ∷ ns) zero d n f at there =
+    let a : e ≡ d = cc at in let b : j ≡ n = cc there in subst (λ z. MayFollow c m z n) a (subst (λ z. MayFollow c m e z) b f.0)
+follows_at c m (e ∷ ds) (j ∷ ns) (suc k) d n f at there = follows_at c m ds ns k d n f.1 at there
+
+early_at : (top : ℕ) (cs : List Command) (ms : List ℕ) (k : ℕ) → AreInOrder cs ms → slice_get cs k ≡ Some Sync → slice_get ms k ≡ Some top
+    → early top cs ms ≡ updates_in (take k cs)
+early_at top [] ms k o at there = absurd (cc at)
+early_at top (c ∷ cs) [] k o at there = absurd (cc there)
+early_at top (Sync ∷ cs) (m ∷ ms) zero o at there = let b : m ≡ top = cc there in none_early top cs ms (subst (λ z. AllFollow Sync z cs ms) b o.0)
+early_at top (Change caller u ∷ cs) (m ∷ ms) zero o at there = absurd (cc at)
+early_at top (Near caller k p within ∷ cs) (m ∷ ms) zero o at there = absurd (cc at)
+early_at top (Inside caller k c ∷ cs) (m ∷ ms) zero o at there = absurd (cc at)
+early_at top (Nears caller k ps ∷ cs) (m ∷ ms) zero o at there = absurd (cc at)
+early_at top (Ball caller k r p ∷ cs) (m ∷ ms) zero o at there = absurd (cc at)
+early_at top (Lonely caller k r ∷ cs) (m ∷ ms) zero o at there = absurd (cc at)
+early_at top (Clusters caller k r ∷ cs) (m ∷ ms) zero o at there = absurd (cc at)
+early_at top (Pose caller rules p ∷ cs) (m ∷ ms) zero o at there = absurd (cc at)
+early_at top (Change caller u ∷ cs) (m ∷ ms) (suc k) o at there =
+    let le : m ≤ top = follows_at (Change caller u) m cs ms k Sync top o.0 at there tt in
+    omega (arith, one_low top m le, early_at top cs ms k o.1 at there)
+early_at top (Near caller j p within ∷ cs) (m ∷ ms) (suc k) o at there = early_at top cs ms k o.1 at there
+early_at top (Inside caller j c ∷ cs) (m ∷ ms) (suc k) o at there = early_at top cs ms k o.1 at there
+early_at top (Nears caller j ps ∷ cs) (m ∷ ms) (suc k) o at there = early_at top cs ms k o.1 at there
+early_at top (Ball caller j r p ∷ cs) (m ∷ ms) (suc k) o at there = early_at top cs ms k o.1 at there
+early_at top (Lonely caller j r ∷ cs) (m ∷ ms) (suc k) o at there = early_at top cs ms k o.1 at there
+early_at top (Clusters caller j r ∷ cs) (m ∷ ms) (suc k) o at there = early_at top cs ms k o.1 at there
+early_at top (Pose caller rules p ∷ cs) (m ∷ ms) (suc k) o at there = early_at top cs ms k o.1 at there
+early_at top (Sync ∷ cs) (m ∷ ms) (suc k) o at there = early_at top cs ms k o.1 at there
+
+below_at : (P : ℕ → Type 0) (ms : List ℕ) (k n : ℕ) → AllByRecursion P ms → slice_get ms k ≡ Some n → P n
+below_at P [] k n all there = absurd (cc there)
+below_at P (m ∷ ms) zero n all there = subst P (cc there) all.0
+below_at P (m ∷ ms) (suc k) n all there = below_at P ms k n all.1 there
+
+pub barrier_is : (cs : List Command) (ms : List ℕ) (k n : ℕ) → IsLegal cs ms → slice_get cs k ≡ Some Sync → slice_get ms k ≡ Some n → n ≡ updates_in (take k cs)
+barrier_is cs ms k n legal at there =
+    let le : n ≤ updates_in cs = below_at (λ m. m ≤ updates_in cs) ms k n legal.none_above there in
+    let a = few_by n 1 (updates_in cs) (omega arith) (omega arith) (nat_le 1 n) refl in
+    let b : few n (map (λ h. h.0) (marked_updates cs ms)) ≡ few n (counted 1 (updates_in cs)) = ap (few n) legal.each_once in
+    let c = early_few n cs ms in
+    let d = early_at n cs ms k legal.in_order at there in
+    omega arith
