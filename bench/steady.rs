@@ -1,7 +1,7 @@
-// How steady the plain tree is behind a lock that readers share: scans come every ten milliseconds, beside a reader that asks without a
-// pause, as in map_bench. Uneven subtrees are built anew either in the updates, or the larger ones by a thread beside them. That thread
-// lists a subtree under the lock and builds it outside. Meanwhile what is done to the subtree is written down. The thread does it to what it
-// built, and puts that in the subtree's place under the lock.
+// How steady the plain tree is behind a lock that readers share: scans come every ten milliseconds, beside a reader that asks
+// without a pause, as in map_bench. Uneven subtrees are built anew either in the updates, or the larger ones by a thread beside
+// them. That thread lists a subtree under the lock and builds it outside. Meanwhile what is done to the subtree is written down.
+// The thread does it to what it built, and puts that in the subtree's place under the lock.
 use super::{Cuboid, DELETE, Draws, Item, KEEP, Map, POINTS_OF_SCAN, Tree};
 use super::{apply, build, mark, near, numbered, parted, put_all, then};
 use crate::pointers::owned;

@@ -20,5 +20,8 @@ use Rattle.map_bench.proofs.steady.plan.Plan.TheSendSync as steady_plan
 -- what `search` lists for it
 pub ruleset to_thread = (sendable, std.crosses, map.shared_sync, map.pass_send, heap.the_send, heap.the_sync, memory.the_send, memory.the_field_send, memory.the_sync, memory.the_field_sync, option.the_sync, option.the_field_sync, flag.the_sync, flag.the_field_sync, duration.the_sync, duration.the_field_sync, point.the_sync, corner.the_sync, corner.the_field_sync, cuboid.the_sync, sequence.the_sync, scan.the_sync, scan.the_field_sync, plan.the_sync, plan.the_field_sync)
 
--- the same for a thread beside a writer whose steps are timed
-pub ruleset to_timed = (to_thread, rest.the_send, rest.the_field_send, builders.the_sync, builders.the_field_sync, steady_plan.the_sync, steady_plan.the_field_sync)
+-- the same for a reader whose steps are timed
+pub ruleset to_timed = (to_thread, builders.the_sync, builders.the_field_sync, steady_plan.the_sync, steady_plan.the_field_sync)
+
+-- and for a worker
+pub ruleset to_worker = (to_timed, rest.the_send)

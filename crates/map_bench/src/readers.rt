@@ -91,7 +91,7 @@ fn run<L: MapName + Send + Sync, R: Threads + Wait + Clock + Sync>(
     };
     add_all(rt, alloc, shared, &mut writer, before)?;
     let begun = Instant::now(rt)?;
-    let (written, asked) = side_by_side(rt, alloc, shared, plan, &mut writer, passes);
+    let (asked, written) = side_by_side(rt, alloc, shared, plan, &mut writer, passes);
     let micros = begun.elapsed(rt)?.as_micros();
     let Tally { queries, longest } = asked?;
     Ok(Beside {
@@ -102,7 +102,7 @@ fn run<L: MapName + Send + Sync, R: Threads + Wait + Clock + Sync>(
     })
 }
 
-// The microseconds of the writer, and what the readers did. Where no threads can be made, the writer comes first.
+// What the readers did, and the microseconds of the writer. Where no threads can be made, the readers come when the writer is done.
 fn side_by_side<L: MapName + Send + Sync, R: Threads + Wait + Clock + Sync>(
     rt: &R,
     alloc: Global,
@@ -110,10 +110,10 @@ fn side_by_side<L: MapName + Send + Sync, R: Threads + Wait + Clock + Sync>(
     plan: &Plan,
     writer: &mut Pass<L>,
     passes: Vec<Pass<L>>,
-) -> (Result<u128, Stop>, Result<Tally, Stop>) {
+) -> (Result<Tally, Stop>, Result<u128, Stop>) {
     join(
         rt,
-        || write(rt, alloc, shared, plan, writer),
         || read_all(rt, alloc, plan, passes),
+        || write(rt, alloc, shared, plan, writer),
     )
 }
