@@ -1,18 +1,18 @@
 //! A drawn schedule of updates and of subtrees that are detached, built, brought up to date and swapped in, beside the plain
 //! map.
+ghost use Rattle.std.specs.Prelude.{◌≤◌};
+
 use crate::beside::compare;
 use crate::draws::Draws;
 use crate::steps::{swapped, updated};
 use kd_search::{count_in, in_cuboid};
-use map_fold::{PlainMap, Settings, Update};
+use map_fold::{PlainMap, Points, Settings, Update};
 use point_geom::{Corner, Cuboid};
 use rebuild_core::{Built, BuiltLeft, Job, LogAsk, MapState, SwapFault};
 use std::alloc::Global;
 use std::mem;
 use std::process::Abort;
 use std::test::Fail;
-
-const LARGE: u32 = 16;
 
 // What a turn came to.
 #[derive(Clone, Copy, Debug, PartialEq, Eq)]
@@ -34,6 +34,9 @@ enum Turn {
 #[derive(Drop)]
 struct Schedule {
     settings: Settings,
+    large: u32,
+    // How many points a scan has at least, and how many more it may have.
+    scan: (u32, u32),
     state: MapState,
     plain: PlainMap,
     draws: Draws,
@@ -42,10 +45,15 @@ struct Schedule {
 }
 
 impl Schedule {
-    fn new(alloc: Global) -> Result<Schedule, Fail> {
-        let settings = Settings::new(3, LARGE);
+    fn new(alloc: Global, large: u32, scan: (u32, u32)) -> Result<Schedule, Fail>
+        requires large_from { 16 ≤ large }
+        requires large_to { large ≤ 1000000 }
+    {
+        let settings = Settings::new(3, large);
         Ok(Schedule {
             settings,
+            large,
+            scan,
             state: MapState::new(alloc, settings)?,
             plain: PlainMap::new(alloc),
             draws: Draws::new(),
@@ -67,7 +75,7 @@ impl Schedule {
 
     fn update(&mut self, rt: &impl Abort, alloc: Global) -> Result<Turn, Fail> {
         let update = self.drawn_update(alloc)?;
-        assert!(rt; update.points() <= 80);
+        assert!(rt; update.points() <= 2_000);
         assert!(rt; self.plain.next() <= 4_000_000);
         let plain = mem::replace(&mut self.plain, PlainMap::new(alloc));
         self.plain = plain.apply(&self.settings, &update)?;
@@ -79,8 +87,8 @@ impl Schedule {
     // Now and then an update of more points than are put one by one.
     fn drawn_update(&mut self, alloc: Global) -> Result<Update, Fail> {
         match self.draws.below(8) {
-            0 => Ok(Update::Add(self.draws.scan(alloc, 80)?)),
-            1 => Ok(Update::Thin(self.draws.scan(alloc, 80)?)),
+            0 => Ok(Update::Add(self.drawn_scan(alloc)?)),
+            1 => Ok(Update::Thin(self.drawn_scan(alloc)?)),
             // The older half of the numbers, or fewer.
             2 => {
                 let next = u64::from(self.plain.next());
@@ -88,6 +96,15 @@ impl Schedule {
             }
             _ => self.draws.update(alloc, self.plain.next()),
         }
+    }
+
+    fn drawn_scan(&mut self, alloc: Global) -> Result<Points, Fail> {
+        let (least, more) = self.scan;
+        if more == 0 {
+            return self.draws.scan(alloc, least);
+        }
+        let extra = self.draws.below(u64::from(more)) as u32;
+        self.draws.scan(alloc, least.saturating_add(extra))
     }
 
     fn settle(&mut self, alloc: Global) -> Result<Turn, Fail> {
@@ -108,7 +125,7 @@ impl Schedule {
         let Some(job) = taken(&mut self.draws, &mut self.jobs) else {
             return Ok(Turn::Idle);
         };
-        match job.build(alloc, LARGE) {
+        match job.build(alloc, self.large) {
             Err(_) => Err(Fail::new("nothing was built")),
             Ok(value) => {
                 self.values.push(value)?;
@@ -126,7 +143,7 @@ impl Schedule {
             Err(LogAsk::NoMemory) => return Err(Fail::new("no memory")),
             Err(LogAsk::Stale { .. }) => return self.put_back(value),
         };
-        match value.replay(alloc, LARGE, ops.as_slice()) {
+        match value.replay(alloc, self.large, ops.as_slice()) {
             Err(BuiltLeft { .. }) => Err(Fail::new("nothing was replayed")),
             Ok(value) => {
                 self.values.push(value)?;
@@ -207,7 +224,7 @@ fn taken<T: Drop>(draws: &mut Draws, from: &mut Vec<T>) -> Option<T> {
 #[test]
 fn a_drawn_schedule_answers_as_the_plain_map_does(rt: HostRuntime) -> Result<(), Fail> {
     let alloc = rt.alloc();
-    let mut schedule = Schedule::new(alloc)?;
+    let mut schedule = Schedule::new(alloc, 16, (80, 0))?;
     let mut turns = Vec::new(alloc);
     for _ in 0..3_000 {
         turns.push(schedule.turn(&rt, alloc)?)?;
@@ -227,6 +244,27 @@ fn a_drawn_schedule_answers_as_the_plain_map_does(rt: HostRuntime) -> Result<(),
     ] {
         let count = turns.iter().filter(|t| **t == turn).count();
         assert!(rt; count > least, "{turn:?}: {count}");
+    }
+    Ok(())
+}
+
+// Whole scans, of which those beside subtrees of 100 nodes and more are put in pieces at once, and others one by one.
+#[test]
+fn whole_scans_beside_detached_subtrees_answer_as_the_plain_map_does(
+    rt: HostRuntime,
+) -> Result<(), Fail> {
+    let alloc = rt.alloc();
+    for large in [16, 100] {
+        let mut schedule = Schedule::new(alloc, large, (200, 1_800))?;
+        let mut swapped = 0u32;
+        for _ in 0..100 {
+            let turn = schedule.turn(&rt, alloc)?;
+            schedule.compare(&rt, alloc)?;
+            if turn == Turn::Swapped {
+                swapped = swapped.saturating_add(1);
+            }
+        }
+        assert!(rt; swapped > 0, "large {large}: {swapped}");
     }
     Ok(())
 }
