@@ -1,6 +1,7 @@
 //! A bounded list of operations: what a subtree met while it was being built anew elsewhere.
 #![tactic(auto)]
 
+mod block;
 mod fault;
 mod log;
 #[cfg(test)]

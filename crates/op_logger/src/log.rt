@@ -3,28 +3,40 @@ ghost use Rattle.std.specs.Prelude.{◌≡◌, ◌+◌, ◌-◌, ◌<◌, ◌≤
 ghost use Rattle.op_logger.specs.declared.fault.PushFault.TheVariants.{Full};
 
 use crate::PushFault;
+use crate::block::{Block, add_after, again_all, begin_with, cut_blocks};
 use map_fold::{NoMemory, Op};
-use std::alloc::Global;
+use std::alloc::{AllocError, Global};
 use std::marker::Model;
+use std::mem;
 
 // As many operations as are held at most.
 const MOST: u32 = 65_536;
 
-/// A list of at most 65,536 operations. It keeps its allocator, and grows at its end.
+// From so many operations on the tail becomes a block.
+const FULL: usize = 256;
+
+/// A list of at most 65,536 operations. It keeps its allocator, and grows at its end. A copy shares all but the newest few hundred
+/// of them.
 #[derive(Debug, Drop)]
 pub struct OpLog {
-    ops: Vec<Op>,
+    alloc: Global,
+    blocks: Vec<Block>,
+    // How many the blocks have together.
+    front: u32,
+    // Those after them, which no other list has.
+    tail: Vec<Op>,
 }
 
 impl Model for OpLog {
-    ghost use Rattle.std.specs.Prelude.{List, ◌≤◌, length};
+    ghost use Rattle.std.specs.Prelude.{List, ◌≡◌, ◌+◌, ◌≤◌, ◌++◌, length};
+    ghost use Rattle.op_logger.specs.Blocks.{ops_in};
     ghost use Rattle.map_fold.specs.declared.op.Op.{Op};
 
     ghost Value = { List Op };
 
-    ghost view = { λ l. l.ops.items };
+    ghost view = { λ l. ops_in l.blocks.items ++ l.tail.items };
 
-    ghost invariant = { λ l. length l.ops.items ≤ 65536 };
+    ghost invariant = { λ l. (l.front ≡ length (ops_in l.blocks.items)) × (l.front + length l.tail.items ≤ 65536) };
 }
 
 impl OpLog {
@@ -33,7 +45,10 @@ impl OpLog {
         ensures { result ≡ [] }
     {
         OpLog {
-            ops: Vec::new(alloc),
+            alloc,
+            blocks: Vec::new(alloc),
+            front: 0,
+            tail: Vec::new(alloc),
         }
     }
 
@@ -42,7 +57,7 @@ impl OpLog {
         ensures value { result ≡ length self.now }
         ensures few { result ≤ 65536 }
     {
-        self.ops.len() as u32
+        self.front + self.tail.len() as u32
     }
 
     /// How many more there may be.
@@ -53,27 +68,37 @@ impl OpLog {
         MOST - self.len()
     }
 
-    /// Those after the first n, in order.
-    pub fn after(&self, n: u32) -> &[Op]
+    /// Those after the first n, in order, as a list of its own. It costs a step for each of them, and for each few hundred before.
+    pub fn after(&self, alloc: Global, n: u32) -> Result<Vec<Op>, NoMemory>
         requires { n ≤ length self.now }
-        ensures { result.now ≡ drop n self.now }
+        ensures { IfOk result (λ v. v.items ≡ drop n self.now) }
     {
-        &self.ops.as_slice()[n as usize..]
+        let len = self.len();
+        let mut ops = Vec::with_capacity(alloc, (len - n) as usize)?;
+        let (blocks, tail) = (self.blocks.as_slice(), self.tail.as_slice());
+        add_after(blocks, tail, n as usize, &mut ops)?;
+        Ok(ops)
     }
 
     /// Whether these are the first ones. It costs a step for each of them.
     pub fn begins_with(&self, ops: &[Op]) -> bool
         ensures { result ≡ true ↔ (take (length ops.now) self.now ≡ ops.now) }
     {
-        self.ops.as_slice().starts_with(ops)
+        begin_with(self.blocks.as_slice(), self.tail.as_slice(), ops)
     }
 
-    /// An equal list, with memory of its own.
+    /// An equal list. It costs a step for each few hundred operations, and for each of the newest ones.
     pub fn copy(&self, alloc: Global) -> Result<OpLog, NoMemory>
         ensures { IfOk result (λ log. log ≡ self.now) }
     {
-        let ops = Vec::from_slice(alloc, self.ops.as_slice())?;
-        Ok(OpLog { ops })
+        let blocks = again_all(alloc, self.blocks.as_slice())?;
+        let tail = Vec::from_slice(alloc, self.tail.as_slice())?;
+        Ok(OpLog {
+            alloc,
+            blocks,
+            front: self.front,
+            tail,
+        })
     }
 
     /// Puts one more at the end. It is refused where 65,536 are held, and where memory is wanting; then the list stays as it
@@ -83,35 +108,62 @@ impl OpLog {
         ensures err { OnErr result (self.new ≡ self.old) }
         ensures full { IsErrOf result Full ↔ (length self.old ≡ 65536) }
     {
+        if self.len() == MOST {
+            return Err(PushFault::Full);
+        }
+        if FULL <= self.tail.len() {
+            self.close_block()?;
+        }
+        self.tail.reserve(1)?;
         // Made anew, since the borrow checker can't yet carry an operation that was passed in.
         let op = match op {
             Op::Mark { choice, tag } => Op::Mark { choice, tag },
             Op::Put { number, point } => Op::Put { number, point },
         };
-        push_below(&mut self.ops, op)
+        put(&mut self.tail, op);
+        Ok(())
+    }
+
+    // Makes a block of the tail.
+    #[tactic(auto, using(crate::proofs::Blocks::ops_in_pushed))]
+    fn close_block(&mut self) -> Result<(), AllocError>
+        ensures { self.new ≡ self.old }
+    {
+        self.blocks.reserve(1)?;
+        let tail = mem::replace(&mut self.tail, Vec::new(self.alloc));
+        match Block::new(self.alloc, tail) {
+            Ok(block) => {
+                self.front += block.len();
+                self.blocks.push_reserved(block);
+                Ok(())
+            }
+            Err(tail) => {
+                self.tail = tail;
+                Err(AllocError)
+            }
+        }
     }
 
     /// Keeps the first n alone.
+    #[tactic(auto, using(crate::proofs::Blocks::take_past, crate::proofs::Blocks::take_within))]
     pub fn cut(&mut self, n: u32)
         requires { n ≤ length self.old }
         ensures { self.new ≡ take n self.old }
     {
-        self.ops.truncate(n as usize)
+        if self.front <= n {
+            self.tail.truncate((n - self.front) as usize);
+            return;
+        }
+        self.tail.clear();
+        cut_blocks(&mut self.blocks, self.front, n);
+        self.front = n;
     }
 }
 
-// Of items of any kind: what holds of an operation would have to be carried past the refusal.
-fn push_below<T: Drop>(items: &mut Vec<T>, item: T) -> Result<(), PushFault>
-    requires { length items.old.items ≤ 65536 }
-    ensures ok { OnOk result (items.new.items ≡ items.old.items ++ item ∷ []) }
-    ensures err { OnErr result (items.new.items ≡ items.old.items) }
-    ensures full { IsErrOf result Full ↔ (length items.old.items ≡ 65536) }
-    ensures few { length items.new.items ≤ 65536 }
+// Of items of any kind: what holds of an operation would have to be carried past the call.
+fn put<T>(items: &mut Vec<T>, item: T)
+    requires { length items.old.items < items.old.cap }
+    ensures { items.new.items ≡ items.old.items ++ item ∷ [] }
 {
-    if items.len() == MOST as usize {
-        return Err(PushFault::Full);
-    }
-    items.reserve(1)?;
     items.push_reserved(item);
-    Ok(())
 }

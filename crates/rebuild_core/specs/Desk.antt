@@ -1,10 +1,14 @@
 -- What a refusal says of the value that was handed in, where nobody sees the state.
 use Rattle.std.specs.Prelude.{◌≡◌, ◌<◌, ⊤, Bool, false}
+use Rattle.map_fold.specs.Ops.{Fit}
+use Rattle.kd_tree.specs.Contents.{contents}
 use Rattle.rebuild_core.specs.Built.{BuiltAt}
 use Rattle.rebuild_core.specs.declared.fault.LogAsk.{LogAsk}
 use Rattle.rebuild_core.specs.declared.fault.LogAsk.TheVariants as ask_of
 use Rattle.rebuild_core.specs.declared.fault.SwapFault.{SwapFault}
 use Rattle.rebuild_core.specs.declared.fault.SwapFault.TheVariants as fault_of
+use Rattle.rebuild_core.specs.declared.fault.Unswapped.{Unswapped}
+use Rattle.rebuild_core.specs.declared.fault.Unswapped.TheVariants as unswapped_of
 
 -- a stale value's ticket is told
 abbrev pub IsAskCause : BuiltAt → LogAsk → Type 0
@@ -16,3 +20,9 @@ abbrev pub IsSwapCause : BuiltAt → Bool → SwapFault → Type 0
 IsSwapCause b force (fault_of.Stale ticket) = ticket ≡ b.ticket
 IsSwapCause b force (fault_of.Behind left) = (force ≡ false) × (64 < left)
 IsSwapCause b force fault_of.NoMemory = ⊤
+
+-- and what a value that is behind is told can be done on its tree
+abbrev pub IsUnswappedCause : BuiltAt → Unswapped → Type 0
+IsUnswappedCause b (unswapped_of.Stale ticket) = ticket ≡ b.ticket
+IsUnswappedCause b (unswapped_of.Behind ops) = Fit (contents b.tree) ops
+IsUnswappedCause b unswapped_of.NoMemory = ⊤

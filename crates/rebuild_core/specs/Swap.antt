@@ -9,7 +9,10 @@ use Rattle.kd_update.specs.Replace.{HasRoomAt, IsCalmAbove}
 use Rattle.kd_update.specs.Update.{IsEven}
 use Rattle.rebuild_core.specs.declared.fault.SwapFault.{SwapFault}
 use Rattle.rebuild_core.specs.declared.fault.SwapFault.TheVariants.{Stale, Behind, NoMemory}
+use Rattle.rebuild_core.specs.declared.fault.Unswapped.{Unswapped}
+use Rattle.rebuild_core.specs.declared.fault.Unswapped.TheVariants as unswapped_of
 use Rattle.rebuild_core.specs.Built.{BuiltAt, IsPartOf, IsStale, undone}
+use Rattle.rebuild_core.specs.Detach.{IsLogAfter}
 use Rattle.rebuild_core.specs.Lawful.{IsLawful, StateAt}
 use Rattle.rebuild_core.specs.Logs.{planned_parts}
 use Rattle.rebuild_core.specs.Parts.{PartAt, without}
@@ -24,6 +27,16 @@ abbrev pub IsSwapFault : BuiltAt → Bool → StateAt → SwapFault → Type 0
 IsSwapFault b force s (Stale ticket) = (ticket ≡ b.ticket) × IsStale b s.parts
 IsSwapFault b force s (Behind n) = (force ≡ false) × (p : PartAt) × IsPartOf b s.parts p × (n ≡ length (undone b p)) × (64 < n)
 IsSwapFault b force s NoMemory = MaySwap b force s
+
+-- the value is of one of the parts, and at most so many operations behind
+abbrev pub IsNear : BuiltAt → ℕ → StateAt → Type 0
+IsNear b most s = (p : PartAt) × IsPartOf b s.parts p × (length (undone b p) ≤ most)
+
+-- why a value isn't swapped in where at most so many operations are done: one that is further behind is told which
+abbrev pub IsUnswapped : BuiltAt → ℕ → StateAt → Unswapped → Type 0
+IsUnswapped b most s (unswapped_of.Stale ticket) = (ticket ≡ b.ticket) × IsStale b s.parts
+IsUnswapped b most s (unswapped_of.Behind ops) = IsLogAfter b s ops × (most < length ops)
+IsUnswapped b most s unswapped_of.NoMemory = (p : PartAt) × IsPartOf b s.parts p
 
 -- The tree is the value's after these operations: each point that they put adds a level and a node at most. It is the value's own
 -- where there is none, and that is even.

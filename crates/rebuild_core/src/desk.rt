@@ -2,9 +2,9 @@
 ghost use Rattle.std.specs.Prelude.{◌≡◌, ◌≤◌, IfErr, IfOk, IfSome};
 ghost use Rattle.map_fold.specs.Ops.{Fit};
 ghost use Rattle.kd_tree.specs.Contents.{contents};
-ghost use Rattle.rebuild_core.specs.Desk.{IsAskCause, IsSwapCause};
+ghost use Rattle.rebuild_core.specs.Desk.{IsAskCause, IsSwapCause, IsUnswappedCause};
 
-use crate::{Built, Job, LogAsk, SwapLeft};
+use crate::{Built, Job, Late, LogAsk, SwapFault, SwapLeft, Unswapped};
 use map_fold::{NoMemory, Ops};
 use std::alloc::Global;
 use std::sync::Wait;
@@ -33,4 +33,35 @@ pub trait Desk {
     ) -> Result<(), SwapLeft>
         ensures left { IfErr result (λ l. l.built ≡ built) }
         ensures refused { IfErr result (λ l. IsSwapCause built force l.fault) };
+
+    /// Swaps a built value in that is at most so many operations behind, or answers those that it hasn't done, as
+    /// `MapState::plan_swap_or_log` does. A refused value comes back as it was.
+    ///
+    /// By itself it asks `swap` without force and then `log_after`, which are two steps, and does as many operations as `swap`
+    /// does, whatever is asked for. A map that can do it in one step compares the value's items once.
+    fn swap_or_log<R: Wait>(
+        &self,
+        rt: &R,
+        alloc: Global,
+        built: Built,
+        _most: u32,
+    ) -> Result<(), Late>
+        ensures left { IfErr result (λ l. l.built ≡ built) }
+        ensures refused { IfErr result (λ l. IsUnswappedCause built l.fault) }
+    {
+        let SwapLeft { built, fault } = match self.swap(rt, alloc, built, false) {
+            Ok(()) => return Ok(()),
+            Err(left) => left,
+        };
+        let fault = match fault {
+            SwapFault::Stale { ticket } => Unswapped::Stale { ticket },
+            SwapFault::NoMemory => Unswapped::NoMemory,
+            SwapFault::Behind { .. } => match self.log_after(rt, alloc, &built) {
+                Ok(ops) => Unswapped::Behind { ops },
+                Err(LogAsk::Stale { ticket }) => Unswapped::Stale { ticket },
+                Err(LogAsk::NoMemory) => Unswapped::NoMemory,
+            },
+        };
+        Err(Late { built, fault })
+    }
 }

@@ -1,5 +1,5 @@
 //! Subtrees, detached to be built anew elsewhere, and what they have met since.
-ghost use Rattle.std.specs.Prelude.{◌≡◌, ◌+◌, ◌<◌, ◌≤◌, ◌↔◌, true, length, slice_set, IfErr, IfOk, IfSome, IsNone, OnErr, OnOk};
+ghost use Rattle.std.specs.Prelude.{◌≡◌, ◌+◌, ◌<◌, ◌≤◌, ◌↔◌, true, length, slice_set, Some, IfErr, IfOk, IfSome, IsNone, OnErr, OnOk};
 ghost use Rattle.std.specs.List.{insert};
 ghost use Rattle.map_fold.specs.Ops.{Fit};
 ghost use Rattle.kd_tree.specs.Contents.{contents};
@@ -10,7 +10,7 @@ ghost use Rattle.rebuild_core.specs.Parts.{PartAt, part_in};
 use crate::part::{Part, part_in, part_of, paths_of};
 use crate::{Built, Job, LogAsk, MapState};
 use kd_tree::{Path, Tree};
-use map_fold::{Item, Items, NoMemory, Op, Ops};
+use map_fold::{Item, Items, NoMemory, Ops};
 use op_logger::OpLog;
 use std::alloc::Global;
 use std::sync::Arc;
@@ -58,6 +58,15 @@ impl MapState {
         }))
     }
 
+    /// The items of the detached subtree in the slot, held once more. The state may be the last to hold them, and lets them go in
+    /// the step that forgets the subtree: whoever takes that step under a lock can so free them after it.
+    pub fn items_in(&self, slot: u8) -> Option<Arc<Items>>
+        ensures { IfSome result (λ items. (p : PartAt) × (part_in slot self.now.state.parts ≡ Some p) × (items.value ≡ p.items)) }
+    {
+        let part = part_in(self.parts.as_slice(), slot)?;
+        Arc::try_clone(&part.items).ok()
+    }
+
     // Where a subtree is detached into the slot.
     fn detach_path(&self, alloc: Global, slot: u8) -> Result<Option<Path>, NoMemory>
         ensures none { IfOk result (λ o. IsNone o ↔ IsNoneToDetach (part_in slot self.now.state.parts) self.now.state) }
@@ -79,29 +88,31 @@ impl MapState {
 
         ensures refused { IfErr result (IsLogFault built.now self.now.state) }
     {
-        let Some((_part, ops)) = self.part_built(built) else {
+        let Some(part) = self.part_built(built) else {
             return Err(LogAsk::Stale {
                 ticket: built.ticket,
             });
         };
-        let ops = Vec::from_slice(alloc, ops)?;
+        let done = built.done.len() as u32;
+        let Ok(ops) = part.log.after(alloc, done) else {
+            return Err(LogAsk::NoMemory);
+        };
         Ok(Ops::from(ops))
     }
 
-    // The part that the value is of, and the operations that the value hasn't done.
-    pub(crate) fn part_built(&self, built: &Built) -> Option<(&Part, &[Op])>
+    // The part that the value is of, whose log begins with the operations that the value has done.
+    pub(crate) fn part_built(&self, built: &Built) -> Option<&Part>
         ensures none { IsNone result → IsStale built.now self.now.state.parts }
-        ensures some { IfSome result (λ r. IsPartOf built.now self.now.state.parts r.0.now) }
-        ensures undone { IfSome result (λ r. r.1.now ≡ undone built.now r.0.now) }
-        ensures fit { IfSome result (λ r. Fit (contents built.now.tree) r.1.now) }
-        ensures few { IfSome result (λ r. length r.1.now ≤ 65536) }
+        ensures some { IfSome result (λ p. IsPartOf built.now self.now.state.parts p.now) }
+        ensures done { IfSome result (λ p. length built.now.done ≤ length p.now.log) }
+        ensures few { IfSome result (λ p. length p.now.log ≤ 65536) }
+        ensures fit { IfSome result (λ p. Fit (contents built.now.tree) (undone built.now p.now)) }
     {
         let part = self.part_like(built)?;
         let _history = self.history();
         let _done = built.done();
         let _few = part.log.len();
-        let done = built.done.len() as u32;
-        Some((part, part.log.after(done)))
+        Some(part)
     }
 
     // The part that the value is of. It costs a step for each item and for each operation that is done.

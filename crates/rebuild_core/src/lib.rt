@@ -25,10 +25,10 @@ mod work;
 
 pub use built::{Built, BuiltLeft};
 pub use desk::Desk;
-pub use fault::{LogAsk, StateFault, SwapFault};
+pub use fault::{LogAsk, StateFault, SwapFault, Unswapped};
 pub use job::{Job, JobLeft};
 pub use part::PartInfo;
 pub use planned::Planned;
 pub use state::MapState;
-pub use swap::SwapLeft;
+pub use swap::{Late, SwapLeft};
 pub use version::Version;

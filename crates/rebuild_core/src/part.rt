@@ -38,7 +38,7 @@ impl Model for Part {
     ghost view = { λ p. record { slot = p.slot; path = p.path; ticket = p.ticket; items = p.items.value; log = p.log } };
 }
 
-// The parts as they are watched, each log with memory of its own.
+// The parts as they are watched, each with a copy of its log.
 pub(crate) fn watched(alloc: Global, parts: &[Part]) -> Result<Watches, NoMemory>
     requires { length parts.now ≤ 4 }
     ensures { IfOk result (λ w. w ≡ watches_of parts.now) }

@@ -4,15 +4,16 @@ ghost use Rattle.map_fold.specs.Ops.{Fit};
 ghost use Rattle.kd_tree.specs.Contents.{contents};
 ghost use Rattle.kd_tree.specs.Parts.{replaced_at};
 ghost use Rattle.rebuild_core.specs.Built.{IsPartOf, undone};
+ghost use Rattle.rebuild_core.specs.Desk.{IsUnswappedCause};
 ghost use Rattle.rebuild_core.specs.Parts.{PartAt};
-ghost use Rattle.rebuild_core.specs.Swap.{IsQuietSwap, IsSwapFault, IsSwapPlan, IsSwapStep, MaySwap};
+ghost use Rattle.rebuild_core.specs.Swap.{IsNear, IsQuietSwap, IsSwapFault, IsSwapPlan, IsSwapStep, IsUnswapped, MaySwap};
 
 use crate::logs::forgotten_for;
 use crate::part::{Part, others_of};
-use crate::{Built, MapState, Planned, SwapFault, Version};
+use crate::{Built, MapState, Planned, SwapFault, Unswapped, Version};
 use kd_tree::Steps;
 use kd_update::{Replaced, replaced};
-use map_fold::{NoMemory, Op};
+use map_fold::{NoMemory, Op, Ops};
 use std::alloc::Global;
 use std::sync::ledger::Ledger;
 
@@ -24,6 +25,13 @@ const MOST_LEFT: u32 = 64;
 pub struct SwapLeft {
     pub built: Built,
     pub fault: SwapFault,
+}
+
+/// The same, with what the value lacks where it is behind.
+#[derive(Debug, Drop)]
+pub struct Late {
+    pub built: Built,
+    pub fault: Unswapped,
 }
 
 impl MapState {
@@ -83,16 +91,55 @@ impl MapState {
             → IfOk result (λ x. x.tree ≡ replaced_at p.path built.now.tree self.old.state.tree) }
         ensures ticks { (p : PartAt) → IsQuietSwap built.now p self.old.state → steps.new ≤ steps.old + length p.path }
     {
-        let Some((part, ops)) = self.part_built(built) else {
+        let Some(part) = self.part_built(built) else {
             return Err(SwapFault::Stale {
                 ticket: built.ticket,
             });
         };
-        let left = ops.len() as u32;
+        let done = built.done.len() as u32;
+        let left = part.log.len() - done;
         if !force && MOST_LEFT < left {
             return Err(SwapFault::Behind { left });
         }
-        let planned = self.swapped(alloc, built, part, ops, steps)?;
+        let ops = part.log.after(alloc, done)?;
+        let planned = self.swapped(alloc, built, part, ops.as_slice(), steps)?;
+        Ok(planned)
+    }
+
+    /// Works out the swap of a value that is at most so many operations behind. One that is further behind is answered the
+    /// operations that it hasn't done, so that its items needn't be compared once more to ask for them.
+    pub fn plan_swap_or_log<L: Ledger>(
+        &self,
+        alloc: Global,
+        built: &Built,
+        most: u32,
+        steps: &mut Steps<L>,
+    ) -> Result<Planned, Unswapped>
+        ensures planned { IfOk result (IsSwapPlan built.now self.now.state) }
+        ensures near { OnOk result (IsNear built.now most self.now.state) }
+
+        ensures refused { IfErr result (IsUnswapped built.now most self.now.state) }
+        ensures cause { IfErr result (IsUnswappedCause built.now) }
+
+        // As of `swap`.
+        ensures unrebuilt { (p : PartAt) → IsQuietSwap built.now p self.now.state
+            → IfOk result (λ x. x.tree ≡ replaced_at p.path built.now.tree self.now.state.tree) }
+        ensures ticks { (p : PartAt) → IsQuietSwap built.now p self.now.state → steps.new ≤ steps.old + length p.path }
+    {
+        let Some(part) = self.part_built(built) else {
+            return Err(Unswapped::Stale {
+                ticket: built.ticket,
+            });
+        };
+        let done = built.done.len() as u32;
+        let left = part.log.len() - done;
+        let ops = part.log.after(alloc, done)?;
+        if most < left {
+            return Err(Unswapped::Behind {
+                ops: Ops::from(ops),
+            });
+        }
+        let planned = self.swapped(alloc, built, part, ops.as_slice(), steps)?;
         Ok(planned)
     }
 

@@ -1,5 +1,5 @@
 //! What a worker does.
-ghost use Rattle.std.specs.Prelude.{◌≡◌, ◌≤◌, ◌↔◌, ◌⊎◌, List, false, IfOk, IfSome};
+ghost use Rattle.std.specs.Prelude.{◌≡◌, ◌≤◌, ◌↔◌, ◌⊎◌, List, IfOk, IfSome};
 ghost use Rattle.map_fold.specs.declared.op.Op.{Op};
 ghost use Rattle.rebuild_core.specs.Built.{IsReplayOf};
 ghost use Rattle.rebuild_worker.specs.declared.worker.Round.TheVariants.{Idle, OutOfMemory};
@@ -7,19 +7,27 @@ ghost use Rattle.rebuild_worker.specs.declared.worker.Round.TheVariants.{Idle, O
 use crate::bell::Rest;
 use crate::gate::Gate;
 use map_fold::NoMemory;
-use rebuild_core::{Built, Desk, Job, LogAsk, SwapFault, SwapLeft};
+use rebuild_core::{Built, Desk, Job, Late, SwapFault, SwapLeft, Unswapped};
 use std::alloc::Global;
 use std::sync::Wait;
 
 // How often a value is brought up to date before its swap is forced.
 const TRIES: u32 = 8;
 
+// As many operations are left to the first swap.
+const FEW: u32 = 64;
+
+// And as many once the value was brought up to date: about what a scan of 2,000 points logs for a subtree. Beside such scans no
+// fewer are ever left, and they take the lock no longer than the scan did.
+const SCAN: u32 = 4_096;
+
 /// Works until it is told to end, as worker 1 or 2: it looks for subtrees to be built anew in two slots, 1 and 2 or 3 and 4, builds
 /// them, and swaps them in. Where there is none, or memory was wanting, it sleeps until its bell rings. It looks whether it was told
 /// to end before each round, so a round that was begun is done whole. `large` is best that of the map's settings.
 ///
-/// A value that is behind is brought up to date outside the map, 8 times at most, and then swapped in by force. One that is stale is
-/// dropped, and so is one for which memory was wanting: its subtree stays detached, and is detached afresh in the next round.
+/// A value that is behind is brought up to date outside the map, 8 times at most, and then swapped in by force. Once it was brought up
+/// to date, a map that has a call for it swaps it in with as many operations left as a scan logs. A value that is stale is dropped,
+/// and so is one for which memory was wanting: its subtree stays detached, and is detached afresh in the next round.
 pub fn work<D: Desk, G: Gate, R: Wait>(
     rt: &R,
     alloc: Global,
@@ -119,49 +127,49 @@ impl<'a, D: Desk, G: Gate> Worker<'a, D, G> {
         }
     }
 
-    // It is forced only once the value is nearly up to date, or others change the subtree faster than it can be brought so.
+    // It is forced only where others change the subtree faster than the value can be brought up to date.
     fn swap_in<R: Wait>(&self, rt: &R, built: Built) -> Result<(), NoMemory> {
         let mut built = built;
+        let mut most = FEW;
         for _ in 0..TRIES {
-            let Some(behind) = self.swap(rt, built, false)? else {
-                return Ok(());
-            };
-            let Some(replayed) = self.catch_up(rt, behind)? else {
+            let Some(replayed) = self.catch_up(rt, built, most)? else {
                 return Ok(());
             };
             built = replayed;
+            most = SCAN;
         }
-        let _none = self.swap(rt, built, true)?;
-        Ok(())
+        self.force(rt, built)
     }
 
-    // The value, where it is behind. A stale one is dropped.
-    fn swap<R: Wait>(&self, rt: &R, built: Built, force: bool) -> Result<Option<Built>, NoMemory>
-        ensures same { IfOk result (λ o. IfSome o (λ b. b ≡ built)) }
-        ensures unforced { IfOk result (λ o. IfSome o (λ b. force ≡ false)) }
-    {
-        match self.desk.swap(rt, self.alloc, built, force) {
-            Ok(()) => Ok(None),
-            Err(SwapLeft { built, fault }) => match fault {
-                SwapFault::Stale { .. } => Ok(None),
-                SwapFault::NoMemory => Err(NoMemory),
-                SwapFault::Behind { .. } => Ok(Some(built)),
-            },
-        }
-    }
-
-    // The value with the operations that its subtree has met since, or none where it is stale.
-    fn catch_up<R: Wait>(&self, rt: &R, built: Built) -> Result<Option<Built>, NoMemory>
+    // Swaps the value in, where it is at most so far behind. Else it is the value with the operations that its subtree has met
+    // since. A stale one is dropped.
+    fn catch_up<R: Wait>(&self, rt: &R, built: Built, most: u32) -> Result<Option<Built>, NoMemory>
         ensures { IfOk result (λ o. IfSome o (λ b. (ops : List Op) × IsReplayOf built ops b)) }
     {
-        let ops = match self.desk.log_after(rt, self.alloc, &built) {
-            Ok(ops) => ops,
-            Err(LogAsk::Stale { .. }) => return Ok(None),
-            Err(LogAsk::NoMemory) => return Err(NoMemory),
+        let Late { built, fault } = match self.desk.swap_or_log(rt, self.alloc, built, most) {
+            Ok(()) => return Ok(None),
+            Err(late) => late,
+        };
+        let ops = match fault {
+            Unswapped::Stale { .. } => return Ok(None),
+            Unswapped::NoMemory => return Err(NoMemory),
+            Unswapped::Behind { ops } => ops,
         };
         match built.replay(self.alloc, self.large, ops.as_slice()) {
             Ok(replayed) => Ok(Some(replayed)),
             Err(_) => Err(NoMemory),
+        }
+    }
+
+    // Swaps the value in, however far it is behind. A stale one is dropped.
+    fn force<R: Wait>(&self, rt: &R, built: Built) -> Result<(), NoMemory> {
+        match self.desk.swap(rt, self.alloc, built, true) {
+            Ok(()) => Ok(()),
+            Err(SwapLeft { fault, .. }) => match fault {
+                SwapFault::Stale { .. } => Ok(()),
+                SwapFault::NoMemory => Err(NoMemory),
+                SwapFault::Behind { .. } => unreachable!(),
+            },
         }
     }
 }

@@ -147,8 +147,9 @@ fn own(alloc: Global, tree: &Tree, path: &Path) -> Result<Vec<Item>, Fail> {
 }
 
 // Does what was logged to the items of the list. The points that are put have rising numbers.
-fn replay_plainly(items: &mut Vec<Item>, log: &OpLog) -> Result<(), Fail> {
-    for op in log.after(0) {
+fn replay_plainly(alloc: Global, items: &mut Vec<Item>, log: &OpLog) -> Result<(), Fail> {
+    let ops = log.after(alloc, 0)?;
+    for op in ops.as_slice() {
         match op {
             Op::Mark { choice, tag } => mark_plainly(items, choice, *tag),
             Op::Put { number, point } => items.push(Item {
@@ -261,7 +262,7 @@ fn an_action_that_rests_above_a_watched_root_is_logged_when_it_is_pushed_into_it
             tag: Tag::RESTORE,
         },
     ];
-    assert!(rt; watch.log.after(0) == want.as_slice());
+    assert!(rt; watch.log.after(alloc, 0)?.as_slice() == want.as_slice());
     Ok(())
 }
 
@@ -309,7 +310,7 @@ fn beside(rt: &impl Abort, alloc: Global, paths: &[Path]) -> Result<(), Fail> {
         let Some(mut items) = olds.next() else {
             return Err(Fail::new("no list"));
         };
-        replay_plainly(&mut items, &watch.log)?;
+        replay_plainly(alloc, &mut items, &watch.log)?;
         let held = own(alloc, &map.tree, &watch.path)?;
         assert!(rt; held.as_slice() == items.as_slice());
     }
