@@ -2,7 +2,7 @@
 use super::plan::Plan;
 use super::times::Times;
 use map_fold::{NoMemory, Ops};
-use rebuild_core::{Built, Desk, Job, LogAsk, SwapLeft};
+use rebuild_core::{Built, Desk, Job, Late, LogAsk, SwapLeft, Unswapped};
 use std::alloc::Global;
 use std::io;
 use std::sync::{Mutex, Wait};
@@ -113,5 +113,30 @@ impl<'a, D: Desk, C: Clock> Desk for TimedDesk<'a, D, C> {
         let done = self.desk.swap(rt, alloc, built, force);
         self.keep(rt, Call::Swap, begun);
         done
+    }
+
+    // It counts as a swap, or where the value was behind, as a look at the log.
+    fn swap_or_log<R: Wait>(
+        &self,
+        rt: &R,
+        alloc: Global,
+        built: Built,
+        most: u32,
+    ) -> Result<(), Late> {
+        let begun = Instant::now(self.clock);
+        let done = self.desk.swap_or_log(rt, alloc, built, most);
+        let call = match &done {
+            Ok(()) => Call::Swap,
+            Err(late) => call_of(&late.fault),
+        };
+        self.keep(rt, call, begun);
+        done
+    }
+}
+
+fn call_of(fault: &Unswapped) -> Call {
+    match fault {
+        Unswapped::Behind { .. } => Call::Log,
+        Unswapped::Stale { .. } | Unswapped::NoMemory => Call::Swap,
     }
 }
