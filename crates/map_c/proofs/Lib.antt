@@ -1,0 +1,6 @@
+pub mod AsBox
+pub mod Crossing
+pub mod Holding
+pub mod Made
+pub mod Pieces
+pub mod Steps

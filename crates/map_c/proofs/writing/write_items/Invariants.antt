@@ -1,0 +1,6 @@
+use Rattle.std.proofs.Common.{◌≡◌, length, map, take}
+use Rattle.map_c.specs.Answers.{item_of}
+use Rattle.map_c.proofs.writing.write_items.Given as goal
+
+abbrev pub invariant-loop-i : goal.invariant-loop-i
+invariant-loop-i l = take l.i l.items ≡ map item_of (take l.i l.found)

@@ -1,0 +1,74 @@
+-- What a call answers.
+use Rattle.std.specs.Prelude.{◌≡◌, ◌⊎◌, ℤ, pos, Result, Ok, Err}
+use Rattle.map_c.specs.declared.refusal.Refusal.{Refusal}
+use Rattle.map_c.specs.declared.refusal.Refusal.TheVariants as refusal
+use Rattle.rebuild_core.specs.declared.fault.StateFault.{StateFault}
+use Rattle.rebuild_core.specs.declared.fault.StateFault.TheVariants as fault
+
+abbrev pub done : ℤ
+done = pos 0
+
+abbrev pub no_memory : ℤ
+no_memory = pos 1
+
+abbrev pub empty : ℤ
+empty = pos 2
+
+abbrev pub full : ℤ
+full = pos 3
+
+abbrev pub bad_number : ℤ
+bad_number = pos 4
+
+abbrev pub no_room : ℤ
+no_room = pos 5
+
+abbrev pub out_of_range : ℤ
+out_of_range = pos 6
+
+abbrev pub bad_box : ℤ
+bad_box = pos 7
+
+abbrev pub too_many_updates : ℤ
+too_many_updates = pos 8
+
+abbrev pub too_many_points : ℤ
+too_many_points = pos 9
+
+abbrev pub nothing_to_detach : ℤ
+nothing_to_detach = pos 10
+
+abbrev pub stale : ℤ
+stale = pos 11
+
+abbrev pub behind : ℤ
+behind = pos 12
+
+-- the status of each refusal
+abbrev pub code : Refusal → ℤ
+code refusal.NoMemory = no_memory
+code refusal.Empty = empty
+code refusal.Full = full
+code refusal.BadNumber = bad_number
+code refusal.NoRoom = no_room
+code refusal.OutOfRange = out_of_range
+code refusal.BadBox = bad_box
+code refusal.TooManyUpdates = too_many_updates
+code refusal.TooManyPoints = too_many_points
+code refusal.NothingToDetach = nothing_to_detach
+code refusal.Stale = stale
+code refusal.Behind = behind
+
+abbrev pub status_of : Result (Unit {0}) Refusal → ℤ
+status_of (Ok ended) = done
+status_of (Err r) = code r
+
+-- how a call says why an update is refused
+abbrev pub refusal_of : StateFault → Refusal
+refusal_of fault.NoMemory = refusal.NoMemory
+refusal_of (fault.TooManyUpdates len) = refusal.TooManyUpdates
+refusal_of (fault.TooManyPoints next asked) = refusal.TooManyPoints
+
+-- a list isn't read: it has a wrong one, and the status says so, or there is no memory
+abbrev pub IsNoList : ℤ → Type 0 → ℤ → Type 0
+IsNoList wrong cause status = ((status ≡ wrong) × cause) ⊎ (status ≡ no_memory)

@@ -1,0 +1,89 @@
+//! Subtrees, detached and given out as jobs.
+ghost use Rattle.std.specs.Prelude.{◌≡◌, ◌≢◌, ◌≤◌, IfErr, IfOk, None, OnErr, Some};
+ghost use Rattle.map_c.specs.Building.{IsDetachRefusal, IsDetached, IsSlot};
+ghost use Rattle.map_c.specs.Status.{code, done};
+ghost use Rattle.map_c.specs.declared.content.Content.TheVariants as is;
+
+use crate::content::{Content, Kept};
+use crate::handle::Handle;
+use crate::refusal::{DONE, Refusal};
+use crate::work::Work;
+use std::alloc::Global;
+
+/// Gives out the subtree of the slot, from 1 to 4: the one that was given out under it before, or else the first large one that
+/// is to be built anew.
+#[unsafe(no_mangle)]
+pub extern "C" fn corv_map_detach(
+    alloc: Global,
+    map: &mut Handle,
+    slot: u32,
+    job: &mut Handle,
+) -> i32
+    ensures detached { result ≡ done → IsDetached slot map.old.held.content map.new.held.content job.new.held.content }
+    ensures slot { result ≡ done → IsSlot slot }
+    ensures was { result ≡ done → job.old.held.content ≡ None }
+    ensures refused { result ≢ done → IsDetachRefusal slot map.old.held.content job.old.held.content result }
+    ensures same { result ≢ done → map.new.held.content ≡ map.old.held.content }
+    ensures job_same { result ≢ done → job.new.held.content ≡ job.old.held.content }
+{
+    if map.is_empty() {
+        return Refusal::Empty.status();
+    }
+    if !job.is_empty() {
+        return Refusal::Full.status();
+    }
+    if slot < 1 || 4 < slot {
+        return Refusal::BadNumber.status();
+    }
+    let Some(mut content) = map.take(alloc) else {
+        return Refusal::Empty.status();
+    };
+    let detached = detached(alloc, &mut content, slot as u8);
+    *map = Handle::of(content);
+    match detached {
+        Err(refusal) => refusal.status(),
+        Ok(work) => {
+            *job = Handle::of(work);
+            DONE
+        }
+    }
+}
+
+// The memory for the job's handle is taken first, so that nothing is detached where it is wanting.
+fn detached(alloc: Global, content: &mut Content, slot: u8) -> Result<Box<Content>, Refusal>
+    requires slot_from { 1 ≤ slot }
+    requires slot_to { slot ≤ 4 }
+    ensures detached { IfOk result (λ work. IsDetached slot (Some content.old) (Some content.new) (Some work.value)) }
+    ensures refused { IfErr result (λ r. IsDetachRefusal slot (Some content.old) None (code r)) }
+    ensures same { OnErr result (content.new ≡ content.old) }
+{
+    let mut place = Box::new(alloc, Content::Nothing)?;
+    let Content::Map(kept) = content else {
+        return Err(Refusal::Empty);
+    };
+    let work = work_of(alloc, kept, slot)?;
+    *place = Content::Job(work);
+    Ok(place)
+}
+
+fn work_of(alloc: Global, kept: &mut Kept, slot: u8) -> Result<Work, Refusal>
+    requires slot_from { 1 ≤ slot }
+    requires slot_to { slot ≤ 4 }
+    ensures detached { IfOk result (λ work. IsDetached slot (Some (is.Map kept.old)) (Some (is.Map kept.new)) (Some (is.Job work))) }
+    ensures refused { IfErr result (λ r. IsDetachRefusal slot (Some (is.Map kept.old)) None (code r)) }
+    ensures same { OnErr result (kept.new ≡ kept.old) }
+{
+    let large = kept.state.settings().large();
+    match kept.state.detach(alloc, slot)? {
+        None => Err(Refusal::NothingToDetach),
+        Some(job) => Ok(Work { job, large }),
+    }
+}
+
+/// Lets go of what the handle holds.
+#[unsafe(no_mangle)]
+pub extern "C" fn corv_job_free(alloc: Global, job: &mut Handle)
+    ensures { job.new.held.content ≡ None }
+{
+    let _content = job.take(alloc);
+}

@@ -1,0 +1,28 @@
+//! Subtrees that were built anew.
+use map_fold::Ops;
+use rebuild_core::Built;
+use std::marker::Model;
+
+/// A subtree that was built anew, for a map with this `large`, and the operations that are to be done on it next, which fit it.
+#[derive(Drop)]
+pub struct Done {
+    pub built: Built,
+    pub left: Ops,
+    pub large: u32,
+}
+
+impl Model for Done {
+    ghost use Rattle.map_fold.specs.Ops.{Fit};
+    ghost use Rattle.kd_tree.specs.Contents.{contents};
+    ghost use Rattle.map_c.specs.Done.{DoneAt};
+    ghost use Rattle.std.specs.Coded.{codes};
+    ghost use Rattle.kd_tree.specs.ShapeCode.{coded_shape};
+
+    ghost Value = { DoneAt };
+
+    ghost coded = { Prim.hlevel (codes, coded_shape) };
+
+    ghost view = { λ d. record { built = d.built; left = d.left; large = d.large } };
+
+    ghost invariant = { λ d. Fit (contents d.built.tree) d.left };
+}

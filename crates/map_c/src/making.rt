@@ -1,0 +1,55 @@
+//! Maps, made and freed.
+ghost use Rattle.std.specs.Prelude.{◌≡◌, ◌≢◌, IfOk, None};
+ghost use Rattle.map_fold.specs.Sizes.{AreSizes};
+ghost use Rattle.rebuild_core.specs.Lawful.{new_state};
+ghost use Rattle.map_c.specs.Maps.{IsNew, IsNewRefusal};
+ghost use Rattle.map_c.specs.Status.{done};
+ghost use Rattle.map_c.specs.declared.content.Content.TheVariants as content_is;
+
+use crate::content::{Content, Kept};
+use crate::handle::Handle;
+use crate::refusal::{DONE, Refusal};
+use map_fold::{NoMemory, Settings};
+use rebuild_core::MapState;
+use std::alloc::Global;
+
+/// Makes a map that holds nothing, with voxels of 1 to 1,000,000 millimetres, of which a subtree of 16 to 1,000,000 nodes is
+/// large.
+#[unsafe(no_mangle)]
+pub extern "C" fn corv_map_new(alloc: Global, voxel: u32, large: u32, map: &mut Handle) -> i32
+    ensures made { result ≡ done → IsNew voxel large map.new.held.content }
+    ensures sizes { result ≡ done → AreSizes (record { voxel = voxel; large = large }) }
+    ensures was { result ≡ done → map.old.held.content ≡ None }
+    ensures refused { result ≢ done → IsNewRefusal voxel large map.old.held.content result }
+    ensures same { result ≢ done → map.new.held.content ≡ map.old.held.content }
+{
+    if !map.is_empty() {
+        return Refusal::Full.status();
+    }
+    if voxel < 1 || 1_000_000 < voxel || large < 16 || 1_000_000 < large {
+        return Refusal::BadNumber.status();
+    }
+    match made(alloc, Settings::new(voxel, large)) {
+        Err(_) => Refusal::NoMemory.status(),
+        Ok(content) => {
+            *map = Handle::of(content);
+            DONE
+        }
+    }
+}
+
+fn made(alloc: Global, settings: Settings) -> Result<Box<Content>, NoMemory>
+    ensures { IfOk result (λ content. content.value ≡ content_is.Map (new_state settings)) }
+{
+    let state = MapState::new(alloc, settings)?;
+    let content = Box::new(alloc, Content::Map(Kept { state }))?;
+    Ok(content)
+}
+
+/// Lets go of what the handle holds.
+#[unsafe(no_mangle)]
+pub extern "C" fn corv_map_free(alloc: Global, map: &mut Handle)
+    ensures { map.new.held.content ≡ None }
+{
+    let _content = map.take(alloc);
+}

@@ -1,0 +1,133 @@
+//! Built subtrees, swapped in.
+ghost use Rattle.std.specs.Prelude.{◌≡◌, ◌≢◌, ◌<◌, ◌==◌, ◌⊎◌, IfErr, IfOk, None, OnErr, OnOk, Some, not};
+ghost use Rattle.map_c.specs.Building.{IsBehind, IsLeft, IsStaleAs, IsSwapRefusal, IsSwapped};
+ghost use Rattle.map_c.specs.Status.{behind, code, done};
+ghost use Rattle.map_fold.specs.Ops.{Fit};
+ghost use Rattle.kd_tree.specs.Contents.{contents};
+ghost use Rattle.rebuild_core.specs.Built.{IsStale};
+ghost use Rattle.rebuild_core.specs.Detach.{IsLogAfter};
+ghost use Rattle.rebuild_core.specs.Swap.{IsSwapFault, IsSwapStep, MaySwap};
+ghost use Rattle.map_c.specs.declared.refusal.Refusal.TheVariants as refused_as;
+
+use crate::content::Content;
+use crate::done::Done;
+use crate::handle::Handle;
+use crate::refusal::{DONE, Refusal};
+use kd_tree::Steps;
+use map_fold::Ops;
+use rebuild_core::{Built, LogAsk, MapState, SwapFault, SwapLeft};
+use std::alloc::Global;
+use std::marker::Brand;
+use std::mem;
+use std::sync::ledger::{Blank, Ledger};
+
+/// Puts the built subtree in its place, after the operations that it has missed since, and leaves its handle empty. Where it is
+/// behind, what it has missed stands beside it then.
+#[unsafe(no_mangle)]
+pub extern "C" fn corv_map_swap(
+    alloc: Global,
+    map: &mut Handle,
+    built: &mut Handle,
+    force: u32,
+) -> i32
+    ensures swapped { result ≡ done → IsSwapped (not (force == 0)) map.old.held.content map.new.held.content built.old.held.content }
+    ensures empty { result ≡ done → built.new.held.content ≡ None }
+    ensures refused { result ≢ done → IsSwapRefusal (not (force == 0)) map.old.held.content built.old.held.content result }
+    ensures same { result ≢ done → map.new.held.content ≡ map.old.held.content }
+    ensures left { result ≡ behind → IsLeft map.old.held.content built.old.held.content built.new.held.content }
+    ensures built_same { result ≢ done → result ≢ behind → built.new.held.content ≡ built.old.held.content }
+{
+    let Some(mut content) = map.take(alloc) else {
+        return Refusal::Empty.status();
+    };
+    let Some(mut value) = built.take(alloc) else {
+        *map = Handle::of(content);
+        return Refusal::Empty.status();
+    };
+    let swapped = swap(alloc, &mut content, &mut value, force != 0);
+    *map = Handle::of(content);
+    match swapped {
+        Ok(()) => DONE,
+        Err(refusal) => {
+            *built = Handle::of(value);
+            refusal.status()
+        }
+    }
+}
+
+fn swap(
+    alloc: Global,
+    content: &mut Content,
+    value: &mut Content,
+    force: bool,
+) -> Result<(), Refusal>
+    ensures swapped { OnOk result (IsSwapped force (Some content.old) (Some content.new) (Some value.old)) }
+    ensures refused { IfErr result (λ r. IsSwapRefusal force (Some content.old) (Some value.old) (code r)) }
+    ensures same { OnErr result (content.new ≡ content.old) }
+    ensures left { IfErr result (λ r. r ≡ refused_as.Behind → IsLeft (Some content.old) (Some value.old) (Some value.new)) }
+    ensures value_same { IfErr result (λ r. (r ≡ refused_as.Behind → ⊥) → value.new ≡ value.old) }
+{
+    let Content::Map(kept) = content else {
+        return Err(Refusal::Empty);
+    };
+    match mem::replace(value, Content::Nothing) {
+        Content::Built(Done { built, left, large }) => {
+            match counted::<Brand>(alloc, &mut kept.state, built, force, Blank::new(1)) {
+                Ok(()) => Ok(()),
+                Err(SwapLeft { built, fault }) => match missed(alloc, &kept.state, &built, fault) {
+                    Ok(left) => {
+                        *value = Content::Built(Done { built, left, large });
+                        Err(Refusal::Behind)
+                    }
+                    Err(refusal) => {
+                        *value = Content::Built(Done { built, left, large });
+                        Err(refusal)
+                    }
+                },
+            }
+        }
+        other => {
+            *value = other;
+            Err(Refusal::Empty)
+        }
+    }
+}
+
+// What the value has missed, where it is refused for being behind; else why it is refused.
+fn missed(alloc: Global, state: &MapState, built: &Built, fault: SwapFault) -> Result<Ops, Refusal>
+    ensures missed { IfOk result (IsLogAfter built.now state.now.state) }
+    ensures fit { IfOk result (Fit (contents built.now.tree)) }
+    ensures behind { OnOk result (IsBehind fault) }
+    ensures refused { IfErr result (λ r. ((r ≡ refused_as.Stale) × (IsStaleAs fault ⊎ IsStale built.now state.now.state.parts)) ⊎ (r ≡ refused_as.NoMemory)) }
+{
+    match fault {
+        SwapFault::Stale { ticket: _ } => Err(Refusal::Stale),
+        SwapFault::NoMemory => Err(Refusal::NoMemory),
+        SwapFault::Behind { left: _ } => match state.log_after(alloc, built) {
+            Ok(ops) => Ok(ops),
+            Err(LogAsk::Stale { ticket: _ }) => Err(Refusal::Stale),
+            Err(LogAsk::NoMemory) => Err(Refusal::NoMemory),
+        },
+    }
+}
+
+// Swaps it in, with a counter that nothing looks at.
+fn counted<L: Ledger>(
+    alloc: Global,
+    state: &mut MapState,
+    built: Built,
+    force: bool,
+    blank: Blank,
+) -> Result<(), SwapLeft>
+    requires name { blank.name ≡ L.name }
+    requires parts { blank.parts ≡ L.parts }
+    requires some { 0 < blank.parts }
+    ensures swapped { OnOk result (IsSwapStep built state.old.state state.new.state) }
+    ensures may { OnOk result (MaySwap built force state.old.state) }
+    ensures refused { IfErr result (λ l. IsSwapFault built force state.old.state l.fault) }
+    ensures same { OnErr result (state.new.state ≡ state.old.state) }
+    ensures left { IfErr result (λ l. l.built ≡ built) }
+{
+    let mut steps: Steps<L> = Steps::new(blank);
+    state.swap(alloc, built, force, &mut steps)
+}

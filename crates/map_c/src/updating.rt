@@ -1,0 +1,159 @@
+//! Updates of a map. All updates of C are those of one caller.
+ghost use Rattle.std.specs.Prelude.{◌≡◌, ◌≢◌, ◌<◌, All, IfErr, OnOk, OnErr, Some};
+ghost use Rattle.map_fold.specs.declared.update.Update.TheVariants.{Add, Delete, Expire, Restore, Suspend, Thin};
+ghost use Rattle.rebuild_core.specs.Steps.{HasRoom, IsFault, IsUpdateStep};
+ghost use Rattle.map_c.specs.Forms.{IsRightBox, IsRightPoint, boxes_at, points_at};
+ghost use Rattle.map_c.specs.Maps.{IsBoxesRefusal, IsMade, IsPointsRefusal, IsUpdateRefusal};
+ghost use Rattle.map_c.specs.Status.{code, done};
+
+use crate::content::Content;
+use crate::forms::{Bounds, Point};
+use crate::handle::Handle;
+use crate::reading::{read_boxes, read_points};
+use crate::refusal::{Refusal, status_of};
+use kd_tree::Steps;
+use map_fold::Update;
+use rebuild_core::{MapState, StateFault};
+use std::alloc::Global;
+use std::marker::Brand;
+use std::sync::ledger::{Blank, Ledger};
+
+/// Adds points, each under the next number.
+#[unsafe(no_mangle)]
+pub extern "C" fn corv_map_add(alloc: Global, map: &mut Handle, all: &[Point]) -> i32
+    ensures made { result ≡ done → IsMade (Add (points_at all.now)) map.old.held.content map.new.held.content }
+    ensures range { result ≡ done → All IsRightPoint all.now }
+    ensures refused { result ≢ done → IsPointsRefusal (Add (points_at all.now)) all.now map.old.held.content result }
+    ensures same { result ≢ done → map.new.held.content ≡ map.old.held.content }
+{
+    if map.is_empty() {
+        return Refusal::Empty.status();
+    }
+    match read_points(alloc, all) {
+        Err(refusal) => refusal.status(),
+        Ok(points) => updated(alloc, map, Update::Add(points)),
+    }
+}
+
+/// Adds points, and of each one's voxel the one nearest to its centre stays.
+#[unsafe(no_mangle)]
+pub extern "C" fn corv_map_thin(alloc: Global, map: &mut Handle, all: &[Point]) -> i32
+    ensures made { result ≡ done → IsMade (Thin (points_at all.now)) map.old.held.content map.new.held.content }
+    ensures range { result ≡ done → All IsRightPoint all.now }
+    ensures refused { result ≢ done → IsPointsRefusal (Thin (points_at all.now)) all.now map.old.held.content result }
+    ensures same { result ≢ done → map.new.held.content ≡ map.old.held.content }
+{
+    if map.is_empty() {
+        return Refusal::Empty.status();
+    }
+    match read_points(alloc, all) {
+        Err(refusal) => refusal.status(),
+        Ok(points) => updated(alloc, map, Update::Thin(points)),
+    }
+}
+
+/// Drops for good what lies in each box.
+#[unsafe(no_mangle)]
+pub extern "C" fn corv_map_delete(alloc: Global, map: &mut Handle, boxes: &[Bounds]) -> i32
+    ensures made { result ≡ done → IsMade (Delete (boxes_at boxes.now)) map.old.held.content map.new.held.content }
+    ensures range { result ≡ done → All IsRightBox boxes.now }
+    ensures refused { result ≢ done → IsBoxesRefusal (Delete (boxes_at boxes.now)) boxes.now map.old.held.content result }
+    ensures same { result ≢ done → map.new.held.content ≡ map.old.held.content }
+{
+    if map.is_empty() {
+        return Refusal::Empty.status();
+    }
+    match read_boxes(alloc, boxes) {
+        Err(refusal) => refusal.status(),
+        Ok(boxes) => updated(alloc, map, Update::Delete(boxes)),
+    }
+}
+
+/// Hides what is live in each box.
+#[unsafe(no_mangle)]
+pub extern "C" fn corv_map_suspend(alloc: Global, map: &mut Handle, boxes: &[Bounds]) -> i32
+    ensures made { result ≡ done → IsMade (Suspend (boxes_at boxes.now)) map.old.held.content map.new.held.content }
+    ensures range { result ≡ done → All IsRightBox boxes.now }
+    ensures refused { result ≢ done → IsBoxesRefusal (Suspend (boxes_at boxes.now)) boxes.now map.old.held.content result }
+    ensures same { result ≢ done → map.new.held.content ≡ map.old.held.content }
+{
+    if map.is_empty() {
+        return Refusal::Empty.status();
+    }
+    match read_boxes(alloc, boxes) {
+        Err(refusal) => refusal.status(),
+        Ok(boxes) => updated(alloc, map, Update::Suspend(boxes)),
+    }
+}
+
+/// Shows again what was hidden in each box.
+#[unsafe(no_mangle)]
+pub extern "C" fn corv_map_restore(alloc: Global, map: &mut Handle, boxes: &[Bounds]) -> i32
+    ensures made { result ≡ done → IsMade (Restore (boxes_at boxes.now)) map.old.held.content map.new.held.content }
+    ensures range { result ≡ done → All IsRightBox boxes.now }
+    ensures refused { result ≢ done → IsBoxesRefusal (Restore (boxes_at boxes.now)) boxes.now map.old.held.content result }
+    ensures same { result ≢ done → map.new.held.content ≡ map.old.held.content }
+{
+    if map.is_empty() {
+        return Refusal::Empty.status();
+    }
+    match read_boxes(alloc, boxes) {
+        Err(refusal) => refusal.status(),
+        Ok(boxes) => updated(alloc, map, Update::Restore(boxes)),
+    }
+}
+
+/// Drops for good what is held under a number below this one.
+#[unsafe(no_mangle)]
+pub extern "C" fn corv_map_expire(alloc: Global, map: &mut Handle, number: u32) -> i32
+    ensures made { result ≡ done → IsMade (Expire number) map.old.held.content map.new.held.content }
+    ensures refused { result ≢ done → IsUpdateRefusal (Expire number) map.old.held.content result }
+    ensures same { result ≢ done → map.new.held.content ≡ map.old.held.content }
+{
+    updated(alloc, map, Update::Expire(number))
+}
+
+// Makes one more update of the map, if the handle holds one.
+fn updated(alloc: Global, map: &mut Handle, update: Update) -> i32
+    ensures made { result ≡ done → IsMade update map.old.held.content map.new.held.content }
+    ensures refused { result ≢ done → IsUpdateRefusal update map.old.held.content result }
+    ensures same { result ≢ done → map.new.held.content ≡ map.old.held.content }
+{
+    let Some(mut content) = map.take(alloc) else {
+        return Refusal::Empty.status();
+    };
+    let status = status_of(changed(alloc, &mut content, update));
+    *map = Handle::of(content);
+    status
+}
+
+fn changed(alloc: Global, content: &mut Content, update: Update) -> Result<(), Refusal>
+    ensures made { OnOk result (IsMade update (Some content.old) (Some content.new)) }
+    ensures refused { IfErr result (λ r. IsUpdateRefusal update (Some content.old) (code r)) }
+    ensures same { OnErr result (content.new ≡ content.old) }
+{
+    let Content::Map(kept) = content else {
+        return Err(Refusal::Empty);
+    };
+    counted::<Brand>(alloc, &mut kept.state, update, Blank::new(1))?;
+    Ok(())
+}
+
+// Makes it, with a counter that nothing looks at.
+fn counted<L: Ledger>(
+    alloc: Global,
+    state: &mut MapState,
+    update: Update,
+    blank: Blank,
+) -> Result<u64, StateFault>
+    requires name { blank.name ≡ L.name }
+    requires parts { blank.parts ≡ L.parts }
+    requires some { 0 < blank.parts }
+    ensures stepped { OnOk result (IsUpdateStep 1 update state.old.state state.new.state) }
+    ensures room { OnOk result (HasRoom update state.old.state) }
+    ensures refused { IfErr result (IsFault update state.old.state) }
+    ensures same { OnErr result (state.new.state ≡ state.old.state) }
+{
+    let mut steps: Steps<L> = Steps::new(blank);
+    state.update(alloc, 1, update, &mut steps)
+}
