@@ -1,6 +1,6 @@
 -- What detaching, building, replaying and swapping leave in handles.
 use Rattle.std.specs.Prelude.{◌≡◌, ◌<◌, ◌≤◌, ◌⊎◌, ℕ, ℤ, Bool, false, [], length, Option, None, Some}
-use Rattle.rebuild_core.specs.Built.{BuiltAt, IsBuiltOf, IsPartOf, IsReplayOf, IsStale, JobAt, undone}
+use Rattle.rebuild_core.specs.Built.{BuiltAt, IsBuiltOf, IsPartOf, IsReplayOf, IsStale, undone}
 use Rattle.rebuild_core.specs.Detach.{IsDetachStep, IsNoDetach}
 use Rattle.rebuild_core.specs.Lawful.{StateAt}
 use Rattle.rebuild_core.specs.Parts.{PartAt}

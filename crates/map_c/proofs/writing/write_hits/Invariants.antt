@@ -1,4 +1,4 @@
-use Rattle.std.proofs.Common.{◌≡◌, ◌+◌, ◌++◌, length, map, take}
+use Rattle.std.proofs.Common.{◌≡◌, ◌+◌, ◌++◌, map, take}
 use Rattle.map_c.specs.Answers.{hit_of}
 use Rattle.map_c.proofs.writing.write_hits.Given as goal
 

@@ -5,7 +5,7 @@ use Rattle.std.specs.Prelude.{true, Option, Some, is_some}
 use Rattle.map_c.proofs.Holding.{content_of, is_it}
 use seplogic.Ra.Ura.{Ura}
 use mir.Val.{Val}
-use base.Logic.{SProp, ent, emp, id⊢}
+use base.Logic.{SProp, ent, id⊢}
 use base.Fml.{ftrue, fsep}
 use prog.Memory.{Memory}
 use prog.Routine.{Routine}

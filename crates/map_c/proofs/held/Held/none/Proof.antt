@@ -1,5 +1,5 @@
 -- `none` puts null and the handle together, which own nothing more.
-use mathlib.Core.Path.{◌≡◌, refl, sym, subst}
+use mathlib.Core.Path.{refl, sym, subst}
 use mathlib.Core.List.{List, [], ◌∷◌, ◌++◌}
 use lib.Dec.{T, lit<}
 use mathlib.Core.Bool.{true, ◌&&◌}
@@ -22,7 +22,7 @@ use types.Run.{no_more, and_then, lit, returns, enter}
 use types.ByLocal.{alloc_all, pass_all, free_all, look_at, get, sets}
 use denote.Exit.{yes}
 use denote.RattleType.{RattleType, Valss}
-use denote.RawPtr.{RawPtr, null_ptr}
+use denote.RawPtr.{null_ptr}
 use denote.Signature.{plain, type_at}
 use denote.Steps.{nothing}
 use denote.Struct.Struct.{within}
