@@ -1,4 +1,3 @@
-pub mod AfterOps
 pub mod Calm
 pub mod Crossing
 pub mod Grown
@@ -10,6 +9,8 @@ pub mod Logged
 pub mod Made
 pub mod ManyLogs
 pub mod Numbers
+pub mod OpRuns
+pub mod Performed
 pub mod Refresh
 pub mod Results
 pub mod Route

@@ -10,4 +10,5 @@ pub mod Several
 pub mod Watches
 pub mod Ways
 pub mod Replace
+pub mod Replay
 pub mod Crossing

@@ -21,6 +21,7 @@ mod replace;
 mod replacement;
 mod replay;
 mod room;
+mod runs;
 mod scan;
 mod scan_watched;
 mod settle;

@@ -16,12 +16,12 @@ use std::alloc::Global;
 use std::sync::ledger::Ledger;
 
 // A pass adds at most 22 levels, so it begins with no more than these.
-const LOW: u32 = 490;
+pub(crate) const LOW: u32 = 490;
 
 // A tree with so many levels takes no point.
 const FULL: u32 = 512;
 
-const MOST: u32 = 4_194_304;
+pub(crate) const MOST: u32 = 4_194_304;
 
 /// The tree with these items put: each of them is live, and its number isn't held.
 ///

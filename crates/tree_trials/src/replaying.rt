@@ -1,9 +1,13 @@
 //! Operations replayed with ample memory.
+use crate::draw::Draw;
 use crate::script::Script;
+use crate::watch::perform_plainly;
 use kd_tree::Tree;
 use kd_update::replayed;
 use map_fold::{Choice, Tag};
 use point_geom::{Corner, Cuboid, Point};
+use std::alloc::Global;
+use std::process::Abort;
 use std::test::Fail;
 
 #[test]
@@ -34,5 +38,38 @@ fn a_full_log_is_replayed(rt: HostRuntime) -> Result<(), Fail> {
     let tree = replayed(alloc, Tree::empty(), 1_000, script.as_slice())?;
     let counts = tree.counts();
     assert_eq!(rt; (counts.live, counts.suspended), (3_936, 59_025));
+    Ok(())
+}
+
+// Runs of points, each with two actions behind it.
+fn runs(rt: &impl Abort, alloc: Global, counts: &[u32]) -> Result<Script, Fail> {
+    let mut draw = Draw { state: 3 };
+    let mut script = Script::new(alloc);
+    for count in counts {
+        for _ in 0..*count {
+            script = script.put(rt, draw.point()?)?;
+        }
+        for _ in 0..2 {
+            let cuboid = draw.cuboid()?;
+            script = script.mark(draw.choice(&cuboid), draw.tag())?;
+        }
+    }
+    Ok(script)
+}
+
+#[test]
+fn runs_of_points_do_what_single_points_do(rt: HostRuntime) -> Result<(), Fail> {
+    let alloc = rt.alloc();
+    let script = runs(&rt, alloc, &[63, 64, 1_500, 5_000, 1])?;
+    let mut plain = Vec::new(alloc);
+    for op in script.as_slice() {
+        perform_plainly(&mut plain, op)?;
+    }
+    assert!(rt; plain.len() > 1_000);
+    for large in [16, 100, 1_500] {
+        let tree = replayed(alloc, Tree::empty(), large, script.as_slice())?;
+        let held = tree.flatten(alloc)?;
+        assert!(rt; held.as_slice() == plain.as_slice(), "large {large}");
+    }
     Ok(())
 }

@@ -150,14 +150,19 @@ pub fn own(alloc: Global, tree: &Tree, path: &Path) -> Result<Vec<Item>, Fail> {
 pub fn replay_plainly(alloc: Global, items: &mut Vec<Item>, log: &OpLog) -> Result<(), Fail> {
     let ops = log.after(alloc, 0)?;
     for op in ops.as_slice() {
-        match op {
-            Op::Mark { choice, tag } => mark_plainly(items, choice, *tag),
-            Op::Put { number, point } => items.push(Item {
-                number: *number,
-                point: *point,
-                label: Label::Live,
-            })?,
-        }
+        perform_plainly(items, op)?;
+    }
+    Ok(())
+}
+
+pub fn perform_plainly(items: &mut Vec<Item>, op: &Op) -> Result<(), Fail> {
+    match op {
+        Op::Mark { choice, tag } => mark_plainly(items, choice, *tag),
+        Op::Put { number, point } => items.push(Item {
+            number: *number,
+            point: *point,
+            label: Label::Live,
+        })?,
     }
     Ok(())
 }

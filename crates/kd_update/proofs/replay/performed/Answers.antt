@@ -1,4 +1,4 @@
-use Rattle.std.proofs.Common.{◌+◌, ◌≤◌, [], ◌∷◌, arith, length, sym, subst}
+use Rattle.std.proofs.Common.{◌+◌, ◌≤◌, [], ◌∷◌, arith, sym, subst}
 use Rattle.std.proofs.lemmas.Result.{IfOk-weaker}
 use Rattle.map_fold.specs.declared.op.Op.{Op}
 use Rattle.node_labels.specs.Labels.{keep_tag}

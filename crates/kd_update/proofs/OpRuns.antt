@@ -1,0 +1,104 @@
+-- Runs of points among operations, and the items that they put.
+use Rattle.std.proofs.Common.{◌≡◌, ℕ, ◌<◌, ◌≤◌, Bool, true, false, cond, List, [], ◌∷◌, ◌++◌, length, refl, ap, ◌∙◌, sym, subst, arith}
+use Rattle.std.specs.Prelude.{count_by, ◌==◌}
+use Rattle.std.proofs.lemmas.Bool.{eqb-true, false≢true}
+use Rattle.std.proofs.lemmas.List.{append-nil}
+use Rattle.std.proofs.lemmas.List.Elements.{All-cons, All-head, All-nil, All-tail}
+use Rattle.std.proofs.lemmas.List.Sorted.{length_permutation, IsPermutation-middle, IsPermutation-sym, sum_by-IsPermutation}
+use Rattle.std.proofs.lemmas.List.Sums.{sum_by-cons}
+use Rattle.map_fold.specs.declared.item.Item.{Item}
+use Rattle.map_fold.specs.declared.op.Op.{Op}
+use Rattle.map_fold.specs.declared.op.Op.TheVariants.{Mark, Put}
+use Rattle.map_fold.specs.Contents.{live_at, put}
+use Rattle.map_fold.specs.Ops.{Fit, IsUnheld, numbers_put, replay}
+use Rattle.kd_tree.specs.Shape.{Shape, numbers}
+use Rattle.kd_tree.specs.Contents.{AreDistinct, by_number, contents}
+use Rattle.kd_tree.specs.Sound.{IsSound}
+use Rattle.kd_tree.proofs.Held.{by_number-contents, contents_distinct, contents_few}
+use Rattle.kd_tree.proofs.Numbered.{by_number_moves, once_moved}
+use Rattle.kd_update.specs.Refresh.{AreAmong}
+use Rattle.kd_update.specs.Update.{IsEven}
+use Rattle.kd_update.specs.Scan.{IsGrown, IsPiece, MayJoin, numbers_in, put_each}
+use Rattle.kd_update.specs.Replay.{ArePuts, IsPerformed, IsRun, is_put, items_put}
+use Rattle.kd_update.proofs.Grown.{IsLive}
+use Rattle.kd_update.proofs.Joins.{join_grown, join_piece, put_new}
+
+abbrev IsPutOp : Op → Type 0
+IsPutOp op = is_put op ≡ true
+
+-- what the items are
+
+pub numbers_put-items : (ops : List Op) → numbers_put ops ≡ numbers_in (items_put ops)
+numbers_put-items [] = refl
+numbers_put-items (Mark c a ∷ ops) = numbers_put-items ops
+numbers_put-items (Put n p ∷ ops) = ap (λ ns. n ∷ ns) (numbers_put-items ops)
+
+pub items_put-length : (ops : List Op) → length (items_put ops) ≡ length (numbers_put ops)
+items_put-length [] = refl
+items_put-length (Mark c a ∷ ops) = items_put-length ops
+items_put-length (Put n p ∷ ops) = omega (arith, items_put-length ops)
+
+puts-length : (ops : List Op) → ArePuts ops → length (numbers_put ops) ≡ length ops
+puts-length [] k = refl
+puts-length (Mark c a ∷ ops) k = absurd (false≢true (All-head IsPutOp (Mark c a) ops k))
+puts-length (Put n p ∷ ops) k = omega (arith, puts-length ops (All-tail IsPutOp (Put n p) ops k))
+
+replay-put_each : (m : List Item) (ops : List Op) → ArePuts ops → replay m ops ≡ put_each m (items_put ops)
+replay-put_each m [] k = refl
+replay-put_each m (Mark c a ∷ ops) k = absurd (false≢true (All-head IsPutOp (Mark c a) ops k))
+replay-put_each m (Put n p ∷ ops) k = replay-put_each (put m n p) ops (All-tail IsPutOp (Put n p) ops k)
+
+-- where the operations fit, the items may join
+
+distinct_new : (x : Item) (xs : List Item) → IsUnheld x.number xs → AreDistinct xs → AreDistinct (x ∷ xs)
+distinct_new x xs new k = record { once = λ n. cases n (n == x.number) refl }
+  where
+    cases : (n : ℕ) (b : Bool) → (n == x.number) ≡ b → count_by (λ i. n == i.number) (x ∷ xs) ≤ 1
+    cases n true e =
+        let here : n ≡ x.number = eqb-true n x.number e in
+        let one : ◌≡◌ {A = ℕ} (cond (n == x.number) 1 0) 1 = ap (λ (b : Bool). cond {A = ℕ} b 1 0) e in
+        let none : IsUnheld n xs = subst (λ (m : ℕ). IsUnheld m xs) (sym here) new in
+        omega (arith, sum_by-cons (λ (i : Item). cond (n == i.number) 1 0) x xs, none)
+    cases n false e =
+        let zero : ◌≡◌ {A = ℕ} (cond (n == x.number) 1 0) 0 = ap (λ (b : Bool). cond {A = ℕ} b 1 0) e in
+        omega (arith, sum_by-cons (λ (i : Item). cond (n == i.number) 1 0) x xs, k.once n)
+
+join_list : (w : List Item) (ops : List Op) → ArePuts ops → AreDistinct w → length w ≤ 4194304 → Fit (by_number w) ops → MayJoin w (items_put ops)
+join_list w [] k d few f = record { live = All-nil IsLive; distinct = rw append-nil d; room = omega (arith, few) }
+join_list w (Mark c a ∷ ops) k d few f = absurd (false≢true (All-head IsPutOp (Mark c a) ops k))
+join_list w (Put n p ∷ ops) k d few f =
+    let i = live_at n p in
+    let is = items_put ops in
+    let g : Item → ℕ = λ j. cond (n == j.number) 1 0 in
+    let new : IsUnheld n w = omega (arith, sum_by-IsPermutation g w (by_number w) (by_number_moves w), f.0) in
+    let once = distinct_new i w new d in
+    let fit : Fit (by_number (i ∷ w)) ops = subst (λ m. Fit m ops) (sym (put_new i w refl once)) f.2 in
+    let less : length w < 4194304 = omega (arith, length_permutation w (by_number w) (by_number_moves w), f.1) in
+    let rest = join_list (i ∷ w) ops (All-tail IsPutOp (Put n p) ops k) once (omega (arith, less)) fit in
+    record {
+      live = All-cons IsLive i is refl rest.live;
+      distinct = once_moved ((i ∷ w) ++ is) (w ++ i ∷ is) (IsPermutation-sym _ _ (IsPermutation-middle w i is)) rest.distinct;
+      room = omega (arith, rest.room);
+    }
+
+pub run_join : (large : ℕ) (s : Shape) (ops : List Op) → IsSound s → IsRun large ops s → Fit (contents s) ops → MayJoin (contents s) (items_put ops)
+run_join large s ops sound r f =
+    join_list (contents s) ops r.puts (contents_distinct s sound) (omega (arith, r.few, contents_few s)) (subst (λ m. Fit m ops) (sym (by_number-contents s sound)) f)
+
+-- a run may be put in one pass
+pub run_piece : (large : ℕ) (s : Shape) (ops : List Op) → IsRun large ops s → MayJoin (contents s) (items_put ops) → IsPiece large s (items_put ops)
+run_piece large s ops r k =
+    let same = items_put-length ops ∙ puts-length ops r.puts in
+    join_piece large s (items_put ops) k (omega (arith, same, r.small)) (omega (arith, same, r.short)) r.low (omega (arith, same, r.few))
+
+-- and a tree that has grown by it has its operations done
+pub run_performed : (large : ℕ) (s t : Shape) (ops : List Op) → IsRun large ops s → MayJoin (contents s) (items_put ops) → IsGrown s (items_put ops) t → (IsEven large s → IsEven large t) → IsPerformed large s ops t
+run_performed large s t ops r k g even =
+    let put = join_grown large s t (items_put ops) k g even in
+    record {
+      held = put.held ∙ sym (replay-put_each (contents s) ops r.puts);
+      from = subst (λ ns. AreAmong (numbers t) (ns ++ numbers s)) (sym (numbers_put-items ops)) put.from;
+      even = even;
+      low = omega (arith, g.low, r.many, puts-length ops r.puts);
+      few = omega (arith, g.few, items_put-length ops);
+    }
