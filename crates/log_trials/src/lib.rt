@@ -5,6 +5,8 @@
 #[cfg(test)]
 mod limits;
 #[cfg(test)]
+mod messages;
+#[cfg(test)]
 mod numbers;
 #[cfg(test)]
 mod poses;

@@ -1,5 +1,6 @@
 //! Why an operation isn't taken.
 use std::alloc::AllocError;
+use std::fmt::{Display, Error, Formatter, Write};
 
 /// Why an operation isn't taken.
 #[derive(Clone, Copy, Debug, PartialEq, Eq)]
@@ -17,5 +18,14 @@ impl From<AllocError> for PushFault {
 
     fn from(_error: AllocError) -> PushFault {
         PushFault::NoMemory
+    }
+}
+
+impl Display for PushFault {
+    fn fmt<W: Write>(&self, f: &mut Formatter<W>) -> Result<(), Error> {
+        f.write_str(match self {
+            PushFault::Full => "the log is full",
+            PushFault::NoMemory => "no memory",
+        })
     }
 }

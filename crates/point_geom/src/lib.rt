@@ -5,6 +5,7 @@ mod axis;
 mod cuboid;
 mod distance;
 mod extent;
+mod messages;
 mod point;
 
 pub use axis::Axis;

@@ -1,5 +1,6 @@
 //! Why a log is not read.
 use map_fold::NoMemory;
+use std::fmt::{Display, Error, Formatter, Write};
 
 /// What is wrong with a line of a log.
 #[derive(Clone, Copy, Debug, PartialEq, Eq)]
@@ -71,5 +72,23 @@ impl From<NoMemory> for ParseFault {
 
     fn from(_error: NoMemory) -> ParseFault {
         ParseFault::NoMemory
+    }
+}
+
+impl Display for LogCause {
+    fn fmt<W: Write>(&self, f: &mut Formatter<W>) -> Result<(), Error> {
+        for byte in self.text() {
+            f.write_char(char::from(*byte))?;
+        }
+        Ok(())
+    }
+}
+
+impl Display for ParseFault {
+    fn fmt<W: Write>(&self, f: &mut Formatter<W>) -> Result<(), Error> {
+        match self {
+            ParseFault::Bad { line, cause } => write!(f, "line {line}: {cause}"),
+            ParseFault::NoMemory => f.write_str("no memory"),
+        }
     }
 }
