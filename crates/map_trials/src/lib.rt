@@ -23,6 +23,8 @@ mod scans;
 #[cfg(test)]
 mod schedules;
 #[cfg(test)]
+mod snapshots;
+#[cfg(test)]
 mod steps;
 #[cfg(test)]
 mod thinning;

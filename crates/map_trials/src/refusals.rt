@@ -2,7 +2,7 @@
 use crate::steps::updated;
 use map_fold::{Cuboids, Points, Settings, Update};
 use point_geom::Point;
-use rebuild_core::{MapState, StateFault};
+use rebuild_core::{LogAsk, MapState, StateFault, SwapFault};
 use std::test::Fail;
 
 #[test]
@@ -58,4 +58,36 @@ fn fault(answer: Result<u64, StateFault>) -> Result<StateFault, Fail> {
         Ok(_) => Err(Fail::new("it was not refused")),
         Err(fault) => Ok(fault),
     }
+}
+
+#[test]
+fn a_refusal_says_what_is_full_stale_or_behind(rt: HostRuntime) -> Result<(), Fail> {
+    let alloc = rt.alloc();
+    let many = StateFault::TooManyPoints {
+        next: 4_194_000,
+        asked: 305,
+    };
+    let text = format!(in alloc; "{many}")?;
+    assert_eq!(rt;
+        text.as_str(),
+        "4194000 points were submitted, and there is no room for 305 more"
+    );
+    let full = StateFault::TooManyUpdates { len: 1_048_576 };
+    let text = format!(in alloc; "{full}")?;
+    assert_eq!(rt;
+        text.as_str(),
+        "the history is full: it has 1048576 updates"
+    );
+    let text = format!(in alloc; "{}", SwapFault::Stale { ticket: 3 })?;
+    assert_eq!(rt;
+        text.as_str(),
+        "no detached subtree has ticket 3 and what the value was built of"
+    );
+    let text = format!(in alloc; "{}", SwapFault::Behind { left: 65 })?;
+    assert_eq!(rt; text.as_str(), "the value is 65 operations behind");
+    assert_eq!(rt;
+        format!(in alloc; "{}", LogAsk::NoMemory)?.as_str(),
+        "no memory"
+    );
+    Ok(())
 }

@@ -72,7 +72,7 @@ fits_old q from (r ∷ ps) p e path s k =
 -- with a part in its slot
 
 -- what holds of parts, and of them with the part in its slot, by cases
-with_cases : (P : List PartAt → List PartAt → Type 0) (q : PartAt) → P [] (q ∷ []) → ((p : PartAt) (ps : List PartAt) → q.slot ≡ p.slot → P (p ∷ ps) (q ∷ ps)) → ((p : PartAt) (ps : List PartAt) → q.slot < p.slot → P (p ∷ ps) (q ∷ p ∷ ps))
+pub with_cases : (P : List PartAt → List PartAt → Type 0) (q : PartAt) → P [] (q ∷ []) → ((p : PartAt) (ps : List PartAt) → q.slot ≡ p.slot → P (p ∷ ps) (q ∷ ps)) → ((p : PartAt) (ps : List PartAt) → q.slot < p.slot → P (p ∷ ps) (q ∷ p ∷ ps))
     → ((p : PartAt) (ps qs : List PartAt) → p.slot < q.slot → P ps qs → P (p ∷ ps) (p ∷ qs)) → (ps : List PartAt) → P ps (with_part q ps)
 with_cases P q none same before after [] = none
 with_cases P q none same before after (p ∷ ps) =
@@ -155,13 +155,13 @@ detach_fits slot s path node k d = by (part_in slot s.parts) refl d
     by (Some p) e d = fits_old (part_detached slot path node s) 1 s.parts p e d k.parts.slots k.parts.apart
     by None e d = fits_new (part_detached slot path node s) s.parts e d.clear
 
--- its ticket is new
-detach_new : (large next last : ℕ) (t : Shape) (ps : List PartAt) → AreEachLawful large next last t ps → IsNewTicket (last + 1) ps
-detach_new large next last t [] k = tt
-detach_new large next last t (p ∷ ps) k = (later p.ticket k.0.ticket_to, detach_new large next last t ps k.1)
+-- a ticket above the last one is new
+pub later_new : (large next last ticket : ℕ) (t : Shape) (ps : List PartAt) → last < ticket → AreEachLawful large next last t ps → IsNewTicket ticket ps
+later_new large next last ticket t [] above k = tt
+later_new large next last ticket t (p ∷ ps) above k = (later p.ticket k.0.ticket_to, later_new large next last ticket t ps above k.1)
   where
-    later : (n : ℕ) → n ≤ last → last + 1 ≡ n → ⊥
-    later n le e = omega (arith, le, e)
+    later : (n : ℕ) → n ≤ last → ticket ≡ n → ⊥
+    later n le e = omega (arith, le, above, e)
 
 -- what the subtree holds by itself
 pub detach_items : (s : StateAt) (path : List Side) (node : Shape) → IsLawful s → IsSound node → at path s.tree ≡ Some node → AreContents 0 s.next (contents node)
@@ -196,7 +196,7 @@ detached_lawful slot s path node from to k sound chosen there =
         each = each_with s.settings.large s.next (s.last + 1) s.tree q part s.parts (each_more s.settings.large s.next s.next s.last (s.last + 1) s.tree s.parts (omega arith) (omega arith) k.parts.each);
         apart = apart_with q 1 s.parts k.parts.slots fits k.parts.apart;
         slots = slots_with q to s.parts 1 from k.parts.slots;
-        tickets = tickets_with q s.parts (detach_new s.settings.large s.next s.last s.tree s.parts k.parts.each) k.parts.tickets;
+        tickets = tickets_with q s.parts (later_new s.settings.large s.next s.last (s.last + 1) s.tree s.parts (omega arith) k.parts.each) k.parts.tickets;
       };
       even = even_more s.settings.large (paths s.parts) (paths (with_part q s.parts)) s.tree (ones_with q s.parts fits) k.even;
       shown = k.shown;

@@ -9,6 +9,7 @@ pub mod Detached
 pub mod Working
 pub mod Replaying
 pub mod Detaching
+pub mod KnownItems
 pub mod Balance
 pub mod OtherParts
 pub mod Swapping
@@ -20,6 +21,7 @@ pub mod Entering
 pub mod Firsts
 pub mod AnyOrder
 pub mod Ranks
+pub mod SameItems
 pub mod Entrances
 pub mod Worked
 pub mod Staying

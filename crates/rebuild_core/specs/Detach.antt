@@ -1,6 +1,7 @@
 -- What detaching a subtree does to a state.
-use Rattle.std.specs.Prelude.{◌≡◌, ℕ, ◌+◌, ◌⊎◌, List, [], ◌∷◌, Option, Some, None, nat_lt, ◌==◌, if◌then◌else◌}
+use Rattle.std.specs.Prelude.{◌≡◌, ℕ, ◌+◌, ◌<◌, ◌⊎◌, List, [], ◌∷◌, Option, Some, None, nat_lt, ◌==◌, if◌then◌else◌}
 use Rattle.kd_tree.specs.Shape.{Shape}
+use Rattle.kd_tree.specs.Sound.{IsSound}
 use Rattle.kd_tree.specs.Contents.{contents}
 use Rattle.kd_tree.specs.Parts.{at}
 use Rattle.kd_tree.specs.Apart.{IsCalmClear, IsFirstFree}
@@ -30,6 +31,16 @@ IsNoDetach slot s = (s.last ≡ 18446744073709551615) ⊎ IsNoneToDetach (part_i
 abbrev pub with_part : PartAt → List PartAt → List PartAt
 with_part q [] = q ∷ []
 with_part q (p ∷ ps) = if q.slot == p.slot then q ∷ ps else (if nat_lt q.slot p.slot then q ∷ p ∷ ps else p ∷ with_part q ps)
+
+-- the subtree at the path can be detached into the slot next, with this ticket, and holds these items
+pub record IsDetachable (slot : ℕ) (s : StateAt) (path : List Side) (job : JobAt) : Type 0 where
+  pub node : Shape
+  pub left : s.last < 18446744073709551615
+  pub chosen : IsDetachedAt (part_in slot s.parts) s path
+  pub there : at path s.tree ≡ Some node
+  pub sound : IsSound node
+  pub ticket : job.ticket ≡ s.last + 1
+  pub items : job.items ≡ contents node
 
 -- The second state is the first with a subtree detached into the slot: it has the next ticket, what the subtree holds by itself,
 -- and an empty log. All else stays.

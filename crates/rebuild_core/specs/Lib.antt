@@ -9,6 +9,7 @@ pub mod Steps
 pub mod Stays
 pub mod Desk
 pub mod Detach
+pub mod Holding
 pub mod Draft
 pub mod StateView
 pub mod Swap

@@ -44,6 +44,11 @@ abbrev pub IsNewTicket : ℕ → List PartAt → Type 0
 IsNewTicket ticket [] = Unit {0}
 IsNewTicket ticket (p ∷ ps) = (ticket ≡ p.ticket → ⊥) × IsNewTicket ticket ps
 
+-- each part of the ticket held these items
+abbrev pub AreItemsOf : ℕ → List Item → List PartAt → Type 0
+AreItemsOf ticket items [] = Unit {0}
+AreItemsOf ticket items (p ∷ ps) = (p.ticket ≡ ticket → p.items ≡ items) × AreItemsOf ticket items ps
+
 -- no two parts have the same ticket
 abbrev pub HaveOwnTickets : List PartAt → Type 0
 HaveOwnTickets [] = Unit {0}

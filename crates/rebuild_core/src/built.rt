@@ -1,5 +1,6 @@
 //! Detached subtrees that were built anew, and are brought up to date. Nothing here knows the state that they come from.
 ghost use Rattle.std.specs.Prelude.{◌≡◌, ◌+◌, ◌≤◌, [], ◌++◌, length, IfErr, IfOk};
+ghost use Rattle.map_fold.specs.Contents.{AreContents};
 ghost use Rattle.map_fold.specs.Ops.{Fit, numbers_put, replay};
 ghost use Rattle.kd_tree.specs.Shape.{levels, nodes, numbers};
 ghost use Rattle.kd_tree.specs.Contents.{contents};
@@ -41,7 +42,9 @@ impl Model for Built {
 
     ghost view = { λ b. record { ticket = b.ticket; items = b.items.value; done = b.done.items; tree = b.tree } };
 
-    ghost invariant = { λ b. IsLawfulBuilt (record { ticket = b.ticket; items = b.items.value; done = b.done.items; tree = b.tree }) × IsEven b.large b.tree };
+    ghost use Rattle.map_fold.specs.Contents.{AreContents};
+
+    ghost invariant = { λ b. IsLawfulBuilt (record { ticket = b.ticket; items = b.items.value; done = b.done.items; tree = b.tree }) × IsEven b.large b.tree × AreContents 0 4194304 b.items.value };
 }
 
 /// A value on which nothing more was done for want of memory.
@@ -59,6 +62,7 @@ impl Built {
         large: u32,
         tree: Tree,
     ) -> Built
+        requires items { AreContents 0 4194304 items.value }
         requires held { contents tree ≡ items.value }
         requires numbers { AreNumbersOf items.value tree }
         requires calm { IsCalm 10 tree }

@@ -4,16 +4,15 @@ ghost use Rattle.std.specs.List.{insert};
 ghost use Rattle.map_fold.specs.Ops.{Fit};
 ghost use Rattle.kd_tree.specs.Contents.{contents};
 ghost use Rattle.rebuild_core.specs.Built.{IsPartOf, IsStale, undone};
-ghost use Rattle.rebuild_core.specs.Detach.{IsDetachStep, IsDetachedAt, IsLogAfter, IsLogFault, IsNoDetach, IsNoneToDetach, with_part};
-ghost use Rattle.rebuild_core.specs.Parts.{PartAt, part_in};
+ghost use Rattle.rebuild_core.specs.Detach.{IsDetachStep, IsDetachable, IsDetachedAt, IsLogAfter, IsLogFault, IsNoDetach, IsNoneToDetach, with_part};
+ghost use Rattle.rebuild_core.specs.Parts.{AreItemsOf, PartAt, part_in};
 
 use crate::part::{Part, part_in, part_of, paths_of};
-use crate::{Built, Job, LogAsk, MapState};
-use kd_tree::{Path, Tree};
-use map_fold::{Item, Items, NoMemory, Ops};
+use crate::{Built, Holding, Job, LogAsk, MapState, Snapshot};
+use kd_tree::Path;
+use map_fold::{NoMemory, Ops};
 use op_logger::OpLog;
 use std::alloc::Global;
-use std::sync::Arc;
 
 impl MapState {
     /// Detaches a subtree into the slot: that of the slot's part afresh, where there is one, and else that of the first node, in
@@ -30,6 +29,42 @@ impl MapState {
         ensures same { OnErr result (self.new.state ≡ self.old.state) }
         ensures spare { self.new.spare ≡ self.old.spare }
     {
+        let Some((path, snapshot)) = self.detachable(alloc, slot)? else {
+            return Ok(None);
+        };
+        let Ok(job) = snapshot.job(alloc) else {
+            return Err(NoMemory);
+        };
+        let holding = job.holding()?;
+        self.put_part(alloc, slot, path, holding)?;
+        Ok(Some(job))
+    }
+
+    /// Does the same, and lists nothing: the subtree is handed out as the tree that it is, and the state keeps that too. So it
+    /// takes no time that depends on how many nodes the subtree has. `hold` can give the state the list later.
+    pub fn snapshot(&mut self, alloc: Global, slot: u8) -> Result<Option<Snapshot>, NoMemory>
+        requires slot_from { 1 ≤ slot }
+        requires slot_to { slot ≤ 4 }
+        ensures none { IfOk result (λ o. IsNone o ↔ IsNoDetach slot self.old.state) }
+        ensures detached { IfOk result (λ o. IfSome o (λ snapshot. IsDetachStep slot self.old.state snapshot self.new.state)) }
+        ensures stays { IfOk result (λ o. IsNone o → self.new.state ≡ self.old.state) }
+
+        ensures same { OnErr result (self.new.state ≡ self.old.state) }
+        ensures spare { self.new.spare ≡ self.old.spare }
+    {
+        let Some((path, snapshot)) = self.detachable(alloc, slot)? else {
+            return Ok(None);
+        };
+        let holding = snapshot.holding()?;
+        self.put_part(alloc, slot, path, holding)?;
+        Ok(Some(snapshot))
+    }
+
+    // The subtree that is detached into the slot next, and where it stands.
+    fn detachable(&self, alloc: Global, slot: u8) -> Result<Option<(Path, Snapshot)>, NoMemory>
+        ensures none { IfOk result (λ o. IsNone o ↔ IsNoDetach slot self.now.state) }
+        ensures some { IfOk result (λ o. IfSome o (λ r. IsDetachable slot self.now.state r.0 r.1)) }
+    {
         let last = self.last;
         if last == u64::MAX {
             return Ok(None);
@@ -41,30 +76,37 @@ impl MapState {
             return Ok(None);
         };
         let _size = node.size();
-        let (items, twin) = items_of(alloc, node)?;
+        let holding = Holding::of(alloc, node)?;
         let ticket = last + 1;
+        Ok(Some((path, Snapshot { ticket, holding })))
+    }
+
+    // Puts it into the slot, with the next ticket.
+    fn put_part(
+        &mut self,
+        alloc: Global,
+        slot: u8,
+        path: Path,
+        held: Holding,
+    ) -> Result<(), NoMemory>
+        requires slot_from { 1 ≤ slot }
+        requires slot_to { slot ≤ 4 }
+        requires there { IsDetachable slot self.old.state path (record { ticket = self.old.state.last + 1; items = held }) }
+        ensures detached { OnOk result (IsDetachStep slot self.old.state (record { ticket = self.old.state.last + 1; items = held }) self.new.state) }
+        ensures same { OnErr result (self.new.state ≡ self.old.state) }
+        ensures spare { self.new.spare ≡ self.old.spare }
+    {
+        let ticket = self.last + 1;
         let part = Part {
             slot,
             path,
             ticket,
-            items,
+            held,
             log: OpLog::new(alloc),
         };
         put_in_slot(&mut self.parts, part)?;
         self.last = ticket;
-        Ok(Some(Job {
-            ticket,
-            items: twin,
-        }))
-    }
-
-    /// The items of the detached subtree in the slot, held once more. The state may be the last to hold them, and lets them go in
-    /// the step that forgets the subtree: whoever takes that step under a lock can so free them after it.
-    pub fn items_in(&self, slot: u8) -> Option<Arc<Items>>
-        ensures { IfSome result (λ items. (p : PartAt) × (part_in slot self.now.state.parts ≡ Some p) × (items.value ≡ p.items)) }
-    {
-        let part = part_in(self.parts.as_slice(), slot)?;
-        Arc::try_clone(&part.items).ok()
+        Ok(())
     }
 
     // Where a subtree is detached into the slot.
@@ -100,7 +142,8 @@ impl MapState {
         Ok(Ops::from(ops))
     }
 
-    // The part that the value is of, whose log begins with the operations that the value has done.
+    // The part that the value is of. It costs a step for each item, or more where nobody has listed them, and for each operation
+    // that is done.
     pub(crate) fn part_built(&self, built: &Built) -> Option<&Part>
         ensures none { IsNone result → IsStale built.now self.now.state.parts }
         ensures some { IfSome result (λ p. IsPartOf built.now self.now.state.parts p.now) }
@@ -108,43 +151,31 @@ impl MapState {
         ensures few { IfSome result (λ p. length p.now.log ≤ 65536) }
         ensures fit { IfSome result (λ p. Fit (contents built.now.tree) (undone built.now p.now)) }
     {
-        let part = self.part_like(built)?;
+        let part = part_of(self.parts.as_slice(), built.ticket)?;
+        if !part.held.is_of(built) {
+            return None;
+        }
+        self.part_known(built)
+    }
+
+    // The same, where the part of the value's ticket is known to have held the value's items.
+    pub(crate) fn part_known(&self, built: &Built) -> Option<&Part>
+        requires known { AreItemsOf built.now.ticket built.now.items self.now.state.parts }
+        ensures none { IsNone result → IsStale built.now self.now.state.parts }
+        ensures some { IfSome result (λ p. IsPartOf built.now self.now.state.parts p.now) }
+        ensures done { IfSome result (λ p. length built.now.done ≤ length p.now.log) }
+        ensures few { IfSome result (λ p. length p.now.log ≤ 65536) }
+        ensures fit { IfSome result (λ p. Fit (contents built.now.tree) (undone built.now p.now)) }
+    {
+        let part = part_of(self.parts.as_slice(), built.ticket)?;
+        if !part.log.begins_with(built.done.as_slice()) {
+            return None;
+        }
         let _history = self.history();
         let _done = built.done();
         let _few = part.log.len();
         Some(part)
     }
-
-    // The part that the value is of. It costs a step for each item and for each operation that is done.
-    fn part_like(&self, built: &Built) -> Option<&Part>
-        ensures none { IsNone result → IsStale built.now self.now.state.parts }
-        ensures some { IfSome result (λ p. IsPartOf built.now self.now.state.parts p.now) }
-    {
-        let part = part_of(self.parts.as_slice(), built.ticket)?;
-        if !are_same(part.items.as_slice(), built.items.as_slice()) {
-            return None;
-        }
-        if !part.log.begins_with(built.done.as_slice()) {
-            return None;
-        }
-        Some(part)
-    }
-}
-
-// What the subtree holds by itself, as a list that two hold.
-fn items_of(alloc: Global, node: &Tree) -> Result<(Arc<Items>, Arc<Items>), NoMemory>
-    ensures first { IfOk result (λ r. r.0.value ≡ contents node.now) }
-    ensures second { IfOk result (λ r. r.1.value ≡ contents node.now) }
-{
-    let items = Arc::new(alloc, node.flatten(alloc)?)?;
-    let twin = items.clone()?;
-    Ok((items, twin))
-}
-
-fn are_same(items: &[Item], others: &[Item]) -> bool
-    ensures { result ≡ true ↔ (items.now ≡ others.now) }
-{
-    items == others
 }
 
 fn put_in_slot(parts: &mut Vec<Part>, part: Part) -> Result<(), NoMemory>

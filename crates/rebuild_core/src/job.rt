@@ -4,7 +4,7 @@ ghost use Rattle.kd_tree.specs.Contents.{contents};
 ghost use Rattle.kd_tree.specs.Criteria.{IsCalm};
 ghost use Rattle.rebuild_core.specs.Built.{AreNumbersOf, IsBuiltOf};
 
-use crate::Built;
+use crate::{Built, Holding};
 use kd_tree::{Steps, Tree};
 use map_fold::{Item, Items, NoMemory};
 use std::alloc::Global;
@@ -49,6 +49,14 @@ impl Job {
         ensures { result.now ≡ self.now.items }
     {
         self.items.as_slice()
+    }
+
+    /// The same, held once more: a pointer is copied.
+    pub fn holding(&self) -> Result<Holding, NoMemory>
+        ensures { IfOk result (λ h. h ≡ self.now.items) }
+    {
+        let items = Arc::try_clone(&self.items)?;
+        Ok(Holding::listed(items))
     }
 
     /// A tree of the items, built by medians, with nothing done on it yet. n items take time in the order of n log n. Where

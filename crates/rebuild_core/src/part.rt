@@ -3,13 +3,13 @@ ghost use Rattle.std.specs.Prelude.{◌≡◌, ◌≤◌, length, None, Some, If
 ghost use Rattle.rebuild_core.specs.Draft.{watches_of};
 ghost use Rattle.rebuild_core.specs.Parts.{IsNewTicket, IsPlaceOf, part_in, part_of, paths, without};
 
+use crate::Holding;
 use kd_tree::Path;
 use kd_update::{Watch, Watches};
-use map_fold::{Items, NoMemory};
+use map_fold::NoMemory;
 use op_logger::OpLog;
 use std::alloc::Global;
 use std::marker::Model;
-use std::sync::Arc;
 
 /// What can be seen of a detached subtree.
 #[derive(Clone, Copy, Debug, PartialEq, Eq)]
@@ -20,13 +20,13 @@ pub struct PartInfo {
     pub logged: u32,
 }
 
-// A detached subtree: its items are shared with the job that was made of it.
+// A detached subtree. What it held is shared with the snapshot or the job that was made of it.
 #[derive(Debug, Drop)]
 pub(crate) struct Part {
     pub(crate) slot: u8,
     pub(crate) path: Path,
     pub(crate) ticket: u64,
-    pub(crate) items: Arc<Items>,
+    pub(crate) held: Holding,
     pub(crate) log: OpLog,
 }
 
@@ -35,7 +35,7 @@ impl Model for Part {
 
     ghost Value = { PartAt };
 
-    ghost view = { λ p. record { slot = p.slot; path = p.path; ticket = p.ticket; items = p.items.value; log = p.log } };
+    ghost view = { λ p. record { slot = p.slot; path = p.path; ticket = p.ticket; items = p.held; log = p.log } };
 }
 
 // The parts as they are watched, each with a copy of its log.

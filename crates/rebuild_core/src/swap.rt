@@ -5,7 +5,7 @@ ghost use Rattle.kd_tree.specs.Contents.{contents};
 ghost use Rattle.kd_tree.specs.Parts.{replaced_at};
 ghost use Rattle.rebuild_core.specs.Built.{IsPartOf, undone};
 ghost use Rattle.rebuild_core.specs.Desk.{IsUnswappedCause};
-ghost use Rattle.rebuild_core.specs.Parts.{PartAt};
+ghost use Rattle.rebuild_core.specs.Parts.{AreItemsOf, PartAt};
 ghost use Rattle.rebuild_core.specs.Swap.{IsNear, IsQuietSwap, IsSwapFault, IsSwapPlan, IsSwapStep, IsUnswapped, MaySwap};
 
 use crate::logs::forgotten_for;
@@ -107,7 +107,7 @@ impl MapState {
     }
 
     /// Works out the swap of a value that is at most so many operations behind. One that is further behind is answered the
-    /// operations that it hasn't done, so that its items needn't be compared once more to ask for them.
+    /// operations that it hasn't done. No items are compared: `Holding::is_of` does that, of what `holding` hands out.
     pub fn plan_swap_or_log<L: Ledger>(
         &self,
         alloc: Global,
@@ -115,6 +115,7 @@ impl MapState {
         most: u32,
         steps: &mut Steps<L>,
     ) -> Result<Planned, Unswapped>
+        requires known { AreItemsOf built.now.ticket built.now.items self.now.state.parts }
         ensures planned { IfOk result (IsSwapPlan built.now self.now.state) }
         ensures near { OnOk result (IsNear built.now most self.now.state) }
 
@@ -126,7 +127,7 @@ impl MapState {
             → IfOk result (λ x. x.tree ≡ replaced_at p.path built.now.tree self.now.state.tree) }
         ensures ticks { (p : PartAt) → IsQuietSwap built.now p self.now.state → steps.new ≤ steps.old + length p.path }
     {
-        let Some(part) = self.part_built(built) else {
+        let Some(part) = self.part_known(built) else {
             return Err(Unswapped::Stale {
                 ticket: built.ticket,
             });

@@ -11,7 +11,7 @@ returns-in_default t c = λ qs k same. adds_nothing c.args.parts.now qs c.args.l
 pub returns : goal.returns
 returns t c = λ qs k same.
     let p = c.part.inside in
-    let part : PartAt = record { slot = p.slot; path = p.path; ticket = p.ticket; items = p.items.value; log = p.log } in
+    let part : PartAt = record { slot = p.slot; path = p.path; ticket = p.ticket; items = p.held; log = p.log } in
     let rest = c.in-Some.rest.now in
     let all : c.args.parts.now ≡ part ∷ rest = c.in-Some.ensures.cases.0 ∙ ap (λ (q : PartAt). q ∷ rest) (sym c.part.view_is) in
     let r = c.add_logs.result in

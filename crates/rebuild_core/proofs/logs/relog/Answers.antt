@@ -22,7 +22,7 @@ returns-in-Some-log c =
     let x : LogPlan = record { ticket = c.log.inside.ticket; log = c.log.inside.log } in
     let place = subst (IsPlaceOf x.ticket c.in-Some.place) c.as_slice.ensures.value c.in-Some.ensures.some in
     let p = c.part.inside in
-    let q : PartAt = record { slot = p.slot; path = p.path; ticket = p.ticket; items = p.items.value; log = p.log } in
+    let q : PartAt = record { slot = p.slot; path = p.path; ticket = p.ticket; items = p.held; log = p.log } in
     let read = c.index_mut-part.ensures.value in
     let is : q ≡ get_or c.args.parts.now.items c.in-Some.place q =
     c.part.view_is ∙ read ∙ get_or_default c.args.parts.now.items c.in-Some.place c.index_mut-part.result.now q (place_below c.log.inside.ticket c.in-Some.place c.args.parts.now.items place) in

@@ -19,4 +19,5 @@ invariant_of-built-in-Ok c =
     let among = subst (λ (t : Shape). AreAmong (numbers c.args.tree) (numbers_put ops ++ numbers t)) tree c.requires.numbers in (
       subst (λ (os : List Op). IsLawfulBuilt (record b { done = os; tree = c.args.tree })) (sym c.in-Ok.ensures.items) (replayed_lawful b ops c.args.tree c.built.invariant.0 fit held among),
       c.requires.even,
+      c.built.invariant.2,
     )

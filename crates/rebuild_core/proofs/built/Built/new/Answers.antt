@@ -8,4 +8,5 @@ pub invariant_of-result : goal.invariant_of-result
 invariant_of-result c = (
   subst (λ (ops : List Op). IsLawfulBuilt (record { ticket = c.args.ticket; items = c.args.items.value; done = ops; tree = c.args.tree })) (sym c.new.ensures.items) (record { fit = tt; replayed = c.requires.held; numbers = c.requires.numbers }),
   calm_even c.args.large c.args.tree c.requires.calm,
+  c.requires.items,
 )
