@@ -1,15 +1,14 @@
--- The exchange that adds a history keeps the rule of the book.
+-- The exchange that adds a page keeps the rule of the book.
 use Rattle.std.proofs.Common.{◌≡◌, ℕ, ◌+◌, ◌<◌, ◌≤◌, ◌==◌, Bool, true, false, List, [], ◌∷◌, ◌++◌, length, fold, refl, ap, sym, subst, arith, inl, length-append, None, ◌∙◌}
 use Rattle.std.proofs.lemmas.List.{append-nil}
 use Rattle.std.proofs.lemmas.Bool.Decides.{nat_tests}
 use mathlib.Core.List.{IsPrefix}
 use prog.Atomic.{either}
 use Rattle.logbook.specs.Pages.{Cell, cell, keeps, no_nib, step, Moves, Goes}
-use Rattle.map_fold.specs.declared.entry.Entry.{Entry}
-use Rattle.published_map.specs.Book.{IsKept, Adds, last_of}
+use Rattle.published_map.specs.Book.{Page, IsKept, Adds, blank, last_of}
 
 abbrev Log : Type 0
-Log = List (List Entry)
+Log = List Page
 
 -- a beginning as long as the whole is the whole
 prefix_whole : {A : Type 0} (xs ys : List A) → IsPrefix xs ys → length ys ≤ length xs → xs ≡ ys
@@ -35,7 +34,7 @@ shown log = []
 abbrev pub moved : Log → Log → ℕ → Type 0
 moved xs ys n = Unit {0}
 
-adds_goes : (log v : Log) (e : List Entry) (old : ℕ) → length v ≡ old → IsPrefix v log → (b : Bool) → (length log == old) ≡ b
+adds_goes : (log v : Log) (e : Page) (old : ℕ) → length v ≡ old → IsPrefix v log → (b : Bool) → (length log == old) ≡ b
     → Goes IsKept shown moved 0 (v, (no_nib, None)) (λ n. either (n == old) (old + 1) n) (Adds (step 0 old (old + 1) e) (v, (no_nib, None))) ((length log, true) ∷ (0, true) ∷ []) log
 adds_goes log v e old len pre true is =
     let here : length log ≡ old = grind (arith, nat_tests) in
@@ -61,8 +60,8 @@ adds_goes log v e old len pre false is =
       rw is (ap length all),
     )
 
--- whatever the book is, the exchange adds the history to all that was seen, or finds that there are more
-pub adds_moves : (v : Log) (e : List Entry) (old : ℕ) → length v ≡ old
+-- whatever the book is, the exchange adds the page to all that was seen, or finds that there are more
+pub adds_moves : (v : Log) (e : Page) (old : ℕ) → length v ≡ old
     → Moves IsKept shown moved 0 (v, (no_nib, None)) (λ n. either (n == old) (old + 1) n) (Adds (step 0 old (old + 1) e) (v, (no_nib, None)))
 adds_moves v e old len cs log kept pre away =
     let P : List Cell → Type 0 = λ c. (0 < length c) × ((cell c 0).1 ≡ true) × Goes IsKept shown moved 0 (v, (no_nib, None)) (λ n. either (n == old) (old + 1) n) (Adds (step 0 old (old + 1) e) (v, (no_nib, None))) c log in
@@ -73,5 +72,5 @@ last_counts b [] x = refl
 last_counts b (y ∷ ys) x = last_counts y ys x
 
 -- what was added is the last
-pub last_added : (log v : Log) (e : List Entry) → log ≡ v ++ e ∷ [] → last_of log ≡ e
-last_added log v e is = ap last_of is ∙ last_counts [] v e
+pub last_added : (log v : Log) (e : Page) → log ≡ v ++ e ∷ [] → last_of log ≡ e
+last_added log v e is = ap last_of is ∙ last_counts blank v e

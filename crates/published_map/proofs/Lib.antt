@@ -8,3 +8,5 @@ pub mod Pending
 pub mod Counting
 pub mod Shows
 pub mod Crossing
+mod Holding
+mod Late

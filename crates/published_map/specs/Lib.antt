@@ -6,4 +6,6 @@ pub mod Rules
 pub mod Names
 pub mod Turns
 pub mod Held
+pub mod Holds
+pub mod Late
 pub mod Ends

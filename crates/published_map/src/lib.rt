@@ -9,6 +9,7 @@
 
 mod desk;
 mod ended;
+mod hold;
 mod kinds;
 mod locked;
 mod mark;
@@ -23,6 +24,7 @@ mod shown;
 mod start;
 mod story;
 mod turn;
+mod workers;
 
 pub use ended::Ended;
 pub use name::MapName;

@@ -1,24 +1,23 @@
 //! What lies under the lock.
-ghost use Rattle.std.specs.Prelude.{◌≡◌, ◌≤◌, IfErr, IfOk, IfSome, OnErr};
+ghost use Rattle.std.specs.Prelude.{◌≡◌, None, IfErr, IfOk, OnErr};
 ghost use mathlib.Core.List.{IsPrefix};
-ghost use Rattle.map_fold.specs.Ops.{Fit};
-ghost use Rattle.kd_tree.specs.Contents.{contents};
-ghost use Rattle.rebuild_core.specs.Desk.{IsAskCause, IsSwapCause, IsUnswappedCause};
-ghost use Rattle.rebuild_core.specs.Steps.{IsFault};
+ghost use Rattle.rebuild_core.specs.Lawful.{IsLawful};
+ghost use Rattle.rebuild_core.specs.Steps.{IsFault, entered};
 ghost use Rattle.published_map.specs.Answers.{Updated};
 ghost use Rattle.published_map.specs.Marks.{Added, Grown, IsMade};
 
+use crate::hold::Hold;
 use crate::kinds::MapWriter;
 use crate::mark::MarkList;
 use crate::name::MapName;
 use crate::pass::Pass;
-use crate::plans::{plan_swap, plan_swap_or_log, plan_update};
+use crate::plans::plan_update;
 use crate::shown::Shown;
 use crate::turn::{catch_up, take_step};
 use core::mem::replace;
 use left_right::Absorb;
-use map_fold::{Entry, Items, NoMemory, Ops, Update};
-use rebuild_core::{Built, Job, LogAsk, MapState, StateFault, SwapFault, Unswapped, Version};
+use map_fold::{Entry, NoMemory, Update};
+use rebuild_core::{Holding, MapState, Planned, StateFault, Version};
 use std::alloc::Global;
 use std::marker::Model;
 use std::sync::ledger::{Book, Share};
@@ -43,6 +42,11 @@ where
     // The version that the last swap or settling took the place of, once an update came after it. It may be the last to hold what
     // was taken out of the tree, so a worker lets it go, and not the caller that updates.
     pub(crate) left: Option<Arc<Version>>,
+    // What the pass of the last update kept before it. After several swaps it may hold what the first of them took out, so a worker
+    // lets it go as well.
+    pub(crate) kept: Option<Shown<L>>,
+    // What subtrees held that were detached, the last of each slot.
+    pub(crate) holds: Vec<Hold<L>>,
 }
 
 impl<L: MapName> Model for Locked<L>
@@ -53,6 +57,7 @@ where
     ghost use Rattle.left_right.specs.Sides.{view as seat_view};
     ghost use Rattle.rebuild_core.specs.Lawful.{Stored};
     ghost use Rattle.published_map.specs.Held.{IsWhole};
+    ghost use Rattle.published_map.specs.Holds.{AreTrueOf};
 
     ghost Value = { Stored };
 
@@ -63,7 +68,7 @@ where
 
     ghost view = { λ s. s.state };
 
-    ghost invariant = { λ s. (s.marks ≡ L.marks) × (s.state.state.settings.voxel ≡ L.voxel) × IsWhole (seat_view s.writer.desk.place) s.writer.desk.shown.value s.state.state.history s.book.total s.purse.parts s.purse.amount };
+    ghost invariant = { λ s. (s.marks ≡ L.marks) × (s.state.state.settings.voxel ≡ L.voxel) × IsWhole (seat_view s.writer.desk.place) s.writer.desk.shown.value s.state.state.history s.book.total s.purse.parts s.purse.amount × AreTrueOf s.state.state s.holds.items };
 }
 
 impl<L: MapName> Locked<L> {
@@ -99,20 +104,21 @@ impl<L: MapName> Locked<L> {
         }
     }
 
-    /// What a swap left behind it, if it is still here: it is to be let go of after the lock was given back.
-    pub fn leave(&mut self) -> Option<Arc<Version>>
+    /// Takes what the pass of an update kept before it, in the place of what an earlier pass did, which is to be let go of after the
+    /// lock was given back.
+    pub fn set_aside(&mut self, kept: Option<Shown<L>>) -> Option<Shown<L>>
         ensures same { self.new ≡ self.old }
     {
-        self.left.take()
+        replace(&mut self.kept, kept)
     }
 
-    /// The items of the detached subtrees, held once more: a turn that may forget some lets them go after the lock was given back.
-    pub fn items(&self) -> [Option<Arc<Items>>; 4] {
+    /// What the detached subtrees held, held once more: a turn that may forget some lets it go after the lock was given back.
+    pub fn holdings(&self) -> [Option<Holding>; 4] {
         [
-            self.state.items_in(1),
-            self.state.items_in(2),
-            self.state.items_in(3),
-            self.state.items_in(4),
+            self.state.holding_in(1),
+            self.state.holding_in(2),
+            self.state.holding_in(3),
+            self.state.holding_in(4),
         ]
     }
 
@@ -194,71 +200,15 @@ impl<L: MapName> Locked<L> {
         ensures { self.new.state.history ≡ self.old.state.history }
     {
         let planned = self.state.plan_settle(alloc)?;
-        take_step(
-            rt,
-            &mut self.marks,
-            &mut self.state,
-            &mut self.writer,
-            planned,
-        )?;
-        Ok(())
+        self.step(rt, planned)
     }
 
-    /// One turn of the lock that detaches a subtree. Nothing that queries see changes.
-    pub fn detach(&mut self, alloc: Global, slot: u8) -> Result<Option<Job>, NoMemory>
-        requires slot_from { 1 ≤ slot }
-        requires slot_to { slot ≤ 4 }
-        ensures history { self.new.state.history ≡ self.old.state.history }
-        ensures ticket { IfOk result (λ o. IfSome o (λ job. 1 ≤ job.ticket)) }
+    // Publishes a planned step that is no update, and enters it.
+    pub(crate) fn step<R: Wait>(&mut self, rt: &R, planned: Planned) -> Result<(), NoMemory>
+        requires lawful { IsLawful (entered planned self.old.state) }
+        requires none { planned.entry ≡ None }
+        ensures { self.new.state.history ≡ self.old.state.history }
     {
-        self.state.detach(alloc, slot)
-    }
-
-    /// The operations that the built value hasn't done.
-    pub fn log_after(&self, alloc: Global, built: &Built) -> Result<Ops, LogAsk>
-        ensures fit { IfOk result (Fit (contents built.now.tree)) }
-
-        ensures refused { IfErr result (IsAskCause built.now) }
-    {
-        self.state.log_after(alloc, built)
-    }
-
-    /// One turn of the lock that swaps the value in.
-    pub fn swap<R: Wait>(
-        &mut self,
-        rt: &R,
-        alloc: Global,
-        built: &Built,
-        force: bool,
-    ) -> Result<(), SwapFault>
-        ensures history { self.new.state.history ≡ self.old.state.history }
-
-        ensures refused { IfErr result (IsSwapCause built.now force) }
-    {
-        let planned = plan_swap(alloc, &mut self.state, built, force)?;
-        take_step(
-            rt,
-            &mut self.marks,
-            &mut self.state,
-            &mut self.writer,
-            planned,
-        )?;
-        Ok(())
-    }
-
-    /// One turn of the lock that swaps the value in, or answers the operations that it lacks.
-    pub fn swap_or_log<R: Wait>(
-        &mut self,
-        rt: &R,
-        alloc: Global,
-        built: &Built,
-        most: u32,
-    ) -> Result<(), Unswapped>
-        ensures history { self.new.state.history ≡ self.old.state.history }
-
-        ensures refused { IfErr result (IsUnswappedCause built.now) }
-    {
-        let planned = plan_swap_or_log(alloc, &self.state, built, most)?;
         take_step(
             rt,
             &mut self.marks,

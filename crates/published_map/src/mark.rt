@@ -9,7 +9,7 @@ use std::marker::{Model, PhantomData};
 /// So many marks, and no more.
 const MOST_MARKS: u64 = 1 << 62;
 
-/// The word of a book is the number of its entries. An entry is the history of a version.
+/// The word of a book is the number of its entries. An entry is a page: what a mark is of.
 pub struct Law;
 
 impl Rule<Story, u64> for Law {
@@ -87,7 +87,8 @@ impl MarkList {
     }
 }
 
-/// The number of a version among all. Contracts see the history of that version.
+/// The number of a version, or of a detached subtree, among all. Contracts see its page: the history of that version, or what the
+/// subtree held.
 #[derive(Drop)]
 pub struct Mark<L: MapName> {
     number: u64,
@@ -96,11 +97,10 @@ pub struct Mark<L: MapName> {
 }
 
 impl<L: MapName> Model for Mark<L> {
-    ghost use Rattle.std.specs.Prelude.{◌≡◌, List, length};
-    ghost use Rattle.map_fold.specs.declared.entry.Entry.{Entry};
-    ghost use Rattle.published_map.specs.Book.{last_of};
+    ghost use Rattle.std.specs.Prelude.{◌≡◌, length};
+    ghost use Rattle.published_map.specs.Book.{Page, last_of};
 
-    ghost Value = { List Entry };
+    ghost Value = { Page };
 
     ghost view = { λ m. last_of m.seen.log };
 
@@ -108,7 +108,7 @@ impl<L: MapName> Model for Mark<L> {
 }
 
 impl<L: MapName> Mark<L> {
-    /// A new number, for this version. `None` where another step came between, which the lock excludes, but no clause says so.
+    /// A new number, for this page. `None` where another step came between, which the lock excludes, but no clause says so.
     pub fn of(marks: &mut MarkList, story: &Story) -> Option<Mark<L>>
         requires { marks.old ≡ L.marks }
         ensures same { marks.new ≡ marks.old }
@@ -153,7 +153,7 @@ impl<L: MapName> Mark<L> {
         }
     }
 
-    /// True where both have one number, so that they are of one history.
+    /// True where both have one number, so that they have one page.
     pub fn is_same(&self, other: &Mark<L>) -> bool
         ensures { result ≡ true → self.now ≡ other.now }
     {

@@ -1,12 +1,13 @@
 //! Plans of a state's steps, with counters that nothing looks at.
 ghost use Rattle.std.specs.Prelude.{◌≡◌, ◌<◌, ◌≤◌, IfErr, IfOk, OnOk};
 ghost use Rattle.rebuild_core.specs.Steps.{HasRoom, IsFault, IsUpdatePlan};
-ghost use Rattle.rebuild_core.specs.Swap.{IsSwapFault, IsSwapPlan};
-ghost use Rattle.rebuild_core.specs.Desk.{IsUnswappedCause};
+ghost use Rattle.rebuild_core.specs.Parts.{AreItemsOf};
+ghost use Rattle.rebuild_core.specs.Swap.{IsSwapPlan};
+ghost use Rattle.published_map.specs.Late.{IsLateCause};
 
 use kd_tree::Steps;
 use map_fold::Update;
-use rebuild_core::{Built, MapState, Planned, StateFault, SwapFault, Unswapped};
+use rebuild_core::{Built, MapState, Planned, StateFault, Unswapped};
 use std::alloc::Global;
 use std::marker::Brand;
 use std::sync::ledger::{Blank, Ledger};
@@ -51,38 +52,6 @@ fn update_counted<C: Ledger>(
     state.plan_update(alloc, caller, update, &mut steps)
 }
 
-// The plan of a swap.
-pub(crate) fn plan_swap(
-    alloc: Global,
-    state: &mut MapState,
-    built: &Built,
-    force: bool,
-) -> Result<Planned, SwapFault>
-    ensures same { state.new.state ≡ state.old.state }
-    ensures planned { IfOk result (IsSwapPlan built.now state.old.state) }
-    ensures refused { IfErr result (IsSwapFault built.now force state.old.state) }
-{
-    swap_counted::<Brand>(alloc, state, built, force, Blank::new(1))
-}
-
-fn swap_counted<C: Ledger>(
-    alloc: Global,
-    state: &mut MapState,
-    built: &Built,
-    force: bool,
-    blank: Blank,
-) -> Result<Planned, SwapFault>
-    requires name { blank.name ≡ C.name }
-    requires parts { blank.parts ≡ C.parts }
-    requires some { 0 < blank.parts }
-    ensures same { state.new.state ≡ state.old.state }
-    ensures planned { IfOk result (IsSwapPlan built.now state.old.state) }
-    ensures refused { IfErr result (IsSwapFault built.now force state.old.state) }
-{
-    let mut steps: Steps<C> = Steps::new(blank);
-    state.plan_swap(alloc, built, force, &mut steps)
-}
-
 // The plan of a swap, or the operations that the value lacks.
 pub(crate) fn plan_swap_or_log(
     alloc: Global,
@@ -90,8 +59,9 @@ pub(crate) fn plan_swap_or_log(
     built: &Built,
     most: u32,
 ) -> Result<Planned, Unswapped>
+    requires known { AreItemsOf built.now.ticket built.now.items state.now.state.parts }
     ensures planned { IfOk result (IsSwapPlan built.now state.now.state) }
-    ensures refused { IfErr result (IsUnswappedCause built.now) }
+    ensures late { IfErr result (IsLateCause built.now most) }
 {
     near_counted::<Brand>(alloc, state, built, most, Blank::new(1))
 }
@@ -106,9 +76,11 @@ fn near_counted<C: Ledger>(
     requires name { blank.name ≡ C.name }
     requires parts { blank.parts ≡ C.parts }
     requires some { 0 < blank.parts }
+    requires known { AreItemsOf built.now.ticket built.now.items state.now.state.parts }
     ensures planned { IfOk result (IsSwapPlan built.now state.now.state) }
-    ensures refused { IfErr result (IsUnswappedCause built.now) }
+    ensures late { IfErr result (IsLateCause built.now most) }
 {
+    let _history = state.history();
     let mut steps: Steps<C> = Steps::new(blank);
     state.plan_swap_or_log(alloc, built, most, &mut steps)
 }

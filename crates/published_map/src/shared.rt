@@ -63,6 +63,8 @@ impl<L: MapName> Shared<L> {
                     former: None,
                     by_update: false,
                     left: None,
+                    kept: None,
+                    holds: Vec::new(alloc),
                 });
                 Ok((Shared { lock }, passes))
             }
@@ -87,23 +89,23 @@ impl<L: MapName> Shared<L> {
         // The pass may be the last that keeps its version.
         let kept = pass.kept.again().ok();
         let mut locked = self.lock.lock(rt);
-        let (former, items) = (locked.version(), locked.items());
+        let (former, holdings) = (locked.version(), locked.holdings());
         let done = locked.update(rt, alloc, pass, update);
         let spent = locked.keep(former, done.is_ok(), true);
+        let kept = locked.set_aside(kept);
         MutexGuard::unlock(locked);
-        drop(kept);
-        drop((spent, items));
+        drop((kept, spent, holdings));
         done
     }
 
     /// Builds anew what breaches a criterion, as `MapState::settle` does, and publishes the version.
     pub fn settle<R: Wait>(&self, rt: &R, alloc: Global) -> Result<(), NoMemory> {
         let mut locked = self.lock.lock(rt);
-        let (former, items) = (locked.version(), locked.items());
+        let (former, holdings) = (locked.version(), locked.holdings());
         let done = locked.settle(rt, alloc);
         let spent = locked.keep(former, done.is_ok(), false);
         MutexGuard::unlock(locked);
-        drop((spent, items));
+        drop((spent, holdings));
         done
     }
 
@@ -150,6 +152,8 @@ impl<L: MapName> Shared<L> {
             former: _former,
             by_update: _by_update,
             left: _left,
+            kept: _kept,
+            holds: _holds,
         } = locked;
         writer.take(rt);
         let _history = state.history();
@@ -168,6 +172,8 @@ impl<L: MapName> Shared<L> {
             former: _former,
             by_update: _by_update,
             left: _left,
+            kept: _kept,
+            holds: _holds,
         } = lock.into_inner();
         writer.take(rt);
     }

@@ -25,15 +25,15 @@ impl<L: MapName> Model for Shown<L> {
 
     ghost Value = { List Entry };
 
-    ghost view = { λ s. s.mark };
+    ghost view = { λ s. s.mark.history };
 
-    ghost invariant = { λ s. IsVersionOf L.voxel s.mark s.version.value };
+    ghost invariant = { λ s. IsVersionOf L.voxel s.mark.history s.version.value };
 }
 
 impl<L: MapName> Shown<L> {
     pub fn new(version: Arc<Version>, mark: Mark<L>) -> Shown<L>
-        requires { IsVersionOf L.voxel mark version.value }
-        ensures { result ≡ mark }
+        requires { IsVersionOf L.voxel mark.history version.value }
+        ensures { result ≡ mark.history }
     {
         Shown { version, mark }
     }
@@ -50,7 +50,7 @@ impl<L: MapName> Shown<L> {
     }
 
     pub fn mark(&self) -> &Mark<L>
-        ensures { result.now ≡ self.now }
+        ensures { result.now.history ≡ self.now }
     {
         &self.mark
     }

@@ -1,36 +1,51 @@
-//! A history that only clauses read.
-ghost use Rattle.std.specs.Prelude.{◌≡◌, ◌++◌};
+//! What a mark is of, as only clauses read it.
+ghost use Rattle.std.specs.Prelude.{◌≡◌, ◌++◌, []};
 ghost use Rattle.rebuild_core.specs.Steps.{listed};
 
 use map_fold::Entry;
-use rebuild_core::MapState;
+use rebuild_core::{MapState, Snapshot};
 use std::marker::Model;
-use std::snapshot::Snapshot;
+use std::snapshot;
 
-/// A list of entries that takes no bytes: those of a state, and maybe one more. It stays in the turn that makes it.
+/// A page of the book of marks, which takes next to no bytes: the entries of a state, and maybe one more; or what a detached subtree
+/// held. It stays in the turn that makes it.
 #[derive(Drop)]
 pub struct Story {
-    state: Snapshot<MapState>,
-    more: Snapshot<Option<Entry>>,
+    state: Option<snapshot::Snapshot<MapState>>,
+    more: snapshot::Snapshot<Option<Entry>>,
+    subtree: Option<snapshot::Snapshot<Snapshot>>,
 }
 
 impl Model for Story {
-    ghost use Rattle.std.specs.Prelude.{List, ◌++◌};
-    ghost use Rattle.map_fold.specs.declared.entry.Entry.{Entry};
+    ghost use Rattle.std.specs.Prelude.{◌++◌};
     ghost use Rattle.rebuild_core.specs.Steps.{listed};
+    ghost use Rattle.published_map.specs.Book.{Page, told};
 
-    ghost Value = { List Entry };
+    ghost Value = { Page };
 
-    ghost view = { λ s. s.state.value.state.history ++ listed s.more.value };
+    ghost view = { λ s. record { history = told (λ x. x.value.state.history ++ listed s.more.value) s.state; items = told (λ x. x.value.items) s.subtree } };
 }
 
 impl Story {
+    /// That of a version: the state's, after a step that adds this entry, if there is one.
     pub fn of(state: &MapState, more: &Option<Entry>) -> Story
-        ensures { result ≡ state.now.state.history ++ listed more.now }
+        ensures { result ≡ record { history = state.now.state.history ++ listed more.now; items = [] } }
     {
         Story {
-            state: Snapshot::of(state),
-            more: Snapshot::of(more),
+            state: Some(snapshot::Snapshot::of(state)),
+            more: snapshot::Snapshot::of(more),
+            subtree: None,
+        }
+    }
+
+    /// That of a detached subtree.
+    pub fn of_subtree(subtree: &Snapshot) -> Story
+        ensures { result ≡ record { history = []; items = subtree.now.items } }
+    {
+        Story {
+            state: None,
+            more: snapshot::Snapshot::of(&None),
+            subtree: Some(snapshot::Snapshot::of(subtree)),
         }
     }
 }

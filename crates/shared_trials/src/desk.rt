@@ -6,7 +6,7 @@ use published_map::{Ended, MapName, Pass, Shared};
 use rebuild_core::{Built, Desk, Job, Late, LogAsk, MapState, SwapFault, SwapLeft, Unswapped};
 use std::alloc::Global;
 use std::process::Abort;
-use std::sync::Wait;
+use std::sync::{Mutex, Wait};
 use std::test::Fail;
 
 fn some(job: Option<Job>) -> Result<Job, Fail> {
@@ -169,6 +169,79 @@ impl<R: Wait + Abort> Trial<R> for ToldMeanwhile {
 #[test]
 fn one_call_swaps_a_value_in_or_tells_what_it_lacks(rt: HostRuntime) -> Result<(), Fail> {
     tried(&rt, rt.alloc(), 1, &ToldMeanwhile)
+}
+
+// Another map lends its value of the first ticket, which holds other points.
+#[derive(Drop)]
+struct Lent {
+    built: Mutex<Option<Built>>,
+}
+
+// The lent value is stale, and this map's own is swapped in after it.
+fn refuse<L: MapName, R: Wait + Abort>(
+    rt: &R,
+    alloc: Global,
+    shared: &Shared<L>,
+    lent: Built,
+) -> Result<(), Fail> {
+    let own = first(rt, alloc, shared)?;
+    let Err(Late { built, fault }) = shared.swap_or_log(rt, alloc, lent, 64) else {
+        return Err(Fail::new("it was swapped in"));
+    };
+    assert!(rt; matches!(&fault, Unswapped::Stale { ticket: 1 }));
+    let SwapLeft { built: _, fault } = left(shared.swap(rt, alloc, built, true))?;
+    assert_eq!(rt; fault, SwapFault::Stale { ticket: 1 });
+    assert!(rt; shared.swap(rt, alloc, own, false).is_ok());
+    Ok(())
+}
+
+impl<R: Wait + Abort> Trial<R> for Lent {
+    fn run<L: MapName>(
+        &self,
+        rt: &R,
+        alloc: Global,
+        shared: &Shared<L>,
+        passes: &mut [Pass<L>],
+    ) -> Result<(), Fail> {
+        updated(rt, alloc, shared, passes, 0, row(alloc, 1, 41)?)?;
+        let mut built = self.built.lock(rt);
+        let Some(lent) = built.take() else {
+            return Err(Fail::new("nothing was lent"));
+        };
+        refuse(rt, alloc, shared, lent)
+    }
+
+    fn end(&self, rt: &R, state: &MapState, _ended: &[Ended]) -> Result<(), Fail> {
+        assert_eq!(rt; state.version().counts().live, 40);
+        assert!(rt; state.part(1).is_none());
+        Ok(())
+    }
+}
+
+struct Lender;
+
+impl<R: Wait + Abort> Trial<R> for Lender {
+    fn run<L: MapName>(
+        &self,
+        rt: &R,
+        alloc: Global,
+        shared: &Shared<L>,
+        passes: &mut [Pass<L>],
+    ) -> Result<(), Fail> {
+        updated(rt, alloc, shared, passes, 0, row(alloc, 2, 42)?)?;
+        let built = Mutex::new(Some(first(rt, alloc, shared)?));
+        tried(rt, alloc, 1, &Lent { built })
+    }
+
+    fn end(&self, rt: &R, state: &MapState, _ended: &[Ended]) -> Result<(), Fail> {
+        assert!(rt; state.part(1).is_some());
+        Ok(())
+    }
+}
+
+#[test]
+fn a_value_of_another_map_is_stale(rt: HostRuntime) -> Result<(), Fail> {
+    tried(&rt, rt.alloc(), 1, &Lender)
 }
 
 // A pass keeps a version while points are deleted and a built value is swapped in.

@@ -1,13 +1,32 @@
-use Rattle.std.proofs.Common.{◌≡◌, List, [], ◌∷◌, ◌++◌, length, refl, sym, ◌∙◌, ap, subst}
+use Rattle.std.proofs.Common.{◌≡◌, ◌+◌, List, [], ◌∷◌, ◌++◌, length, length-append, refl, sym, ◌∙◌, ap, subst, arith}
 use mathlib.Core.List.{IsPrefix}
 use Rattle.map_fold.specs.declared.entry.Entry.{Entry}
 use Rattle.rebuild_core.specs.History.{entry_by}
 use Rattle.rebuild_core.specs.Lawful.{StateAt, Stored}
-use Rattle.rebuild_core.specs.Steps.{listed}
+use Rattle.rebuild_core.specs.Steps.{entered, listed}
 use Rattle.published_map.specs.Marks.{Seen}
 use Rattle.published_map.proofs.Marking.{marked_after, pass_added}
 use Rattle.published_map.proofs.Hearing.{begins}
+use Rattle.published_map.proofs.Holding.{true_after}
 use Rattle.published_map.proofs.locked.Locked.make.Goals as goal
+
+pub invariant_of-self-2 : goal.invariant_of-self-2
+invariant_of-self-2 g c =
+    let i = c.self.invariant in
+    let s : StateAt = c.self.inside.state.state in
+    let t : StateAt = c.take_step.new.state.state in
+    let plan = c.in_ok-planned.ensures in
+    let step = c.in_ok-mark.ensures in
+    let is : t ≡ entered c.in_ok-planned.planned s = step.entered ∙ ap (entered c.in_ok-planned.planned) plan.same in
+    let entry : Entry = entry_by c.pass.inside.caller c.args.update s.history in
+    let longer : t.history ≡ s.history ++ entry ∷ [] = ap (λ (x : StateAt). x.history) is ∙ ap (λ o. s.history ++ listed o) plan.planned.entry in
+    let one : length t.history ≡ length s.history + 1 = ap length longer ∙ length-append s.history (entry ∷ []) in
+    let total = c.add.ensures.total in (
+      step.marks ∙ i.0,
+      ap (λ (x : StateAt). x.settings.voxel) is ∙ i.1,
+      record { writer = step.at.0; published = step.at.1; counted = omega (arith, total, i.2.counted, one); no_part = i.2.no_part; nothing = i.2.nothing },
+      true_after c.in_ok-planned.planned s t _ is i.3,
+    )
 
 pub invariant_of-pass-2 : goal.invariant_of-pass-2
 invariant_of-pass-2 g c =

@@ -1,0 +1,39 @@
+-- What a refused swap tells.
+use Rattle.std.proofs.Common.{◌≡◌, ℕ, ◌≤◌, List, [], ◌∷◌, length, subst, ap, arith, Option, Some, Result, Ok, Err}
+use Rattle.std.specs.Prelude.{◌==◌, IfErr}
+use Rattle.std.proofs.lemmas.Bool.{cond_both}
+use Rattle.std.proofs.lemmas.List.{length-drop}
+use Rattle.kd_tree.specs.Shape.{Shape}
+use Rattle.rebuild_core.specs.Built.{BuiltAt}
+use Rattle.rebuild_core.specs.Desk.{IsUnswappedCause}
+use Rattle.rebuild_core.specs.Lawful.{IsLawful, StateAt}
+use Rattle.rebuild_core.specs.Parts.{AreEachLawful, PartAt, part_of}
+use Rattle.rebuild_core.specs.Steps.{PlannedAt}
+use Rattle.rebuild_core.specs.Swap.{IsUnswapped}
+use Rattle.rebuild_core.specs.declared.fault.Unswapped.{Unswapped}
+use Rattle.rebuild_core.specs.declared.fault.Unswapped.TheVariants.{Stale, Behind, NoMemory}
+use Rattle.published_map.specs.Late.{IsLateCause}
+
+some_part : (a b : PartAt) → ◌≡◌ {A = Option PartAt} (Some a) (Some b) → a ≡ b
+some_part a b e = cc
+
+-- the log of a part has at most 65,536 operations
+few_logged : (large next last : ℕ) (t : Shape) (ticket : ℕ) (ps : List PartAt) (p : PartAt) → part_of ticket ps ≡ Some p → AreEachLawful large next last t ps → length p.log ≤ 65536
+few_logged large next last t ticket [] p e k = absurd cc
+few_logged large next last t ticket (r ∷ ps) p e k =
+    cond_both (ticket == r.ticket) (Some r) (part_of ticket ps) (λ o. o ≡ Some p → length p.log ≤ 65536) (λ _ f. subst (λ (x : PartAt). length x.log ≤ 65536) (some_part r p f) k.0.few)
+    (λ _ f. few_logged large next last t ticket ps p f k.1) e
+
+late_cause : (b : BuiltAt) (most : ℕ) (s : StateAt) (f : Unswapped) → IsLawful s → IsUnswapped b most s f → IsUnswappedCause b f → IsLateCause b most f
+late_cause b most s (Stale ticket) l u cause = cause
+late_cause b most s NoMemory l u cause = tt
+late_cause b most s (Behind ops) l u cause =
+    let log = u.0.part.log in
+    let logged = few_logged _ _ _ _ b.ticket s.parts u.0.part u.0.of.found l.parts.each in
+    let after = ap length u.0.after in
+    let left = length-drop (length b.done) log in (cause, u.1, omega (arith, logged, after, left))
+
+-- a refusal by a lawful state
+pub late : (b : BuiltAt) (most : ℕ) (s : StateAt) (r : Result PlannedAt Unswapped) → IsLawful s → IfErr r (IsUnswapped b most s) → IfErr r (IsUnswappedCause b) → IfErr r (IsLateCause b most)
+late b most s (Ok p) l u cause = tt
+late b most s (Err f) l u cause = late_cause b most s f l u cause

@@ -1,0 +1,18 @@
+use Rattle.std.proofs.Common.{◌≡◌, List, sym, ◌∙◌, ap, subst, Option, Some}
+use Rattle.std.specs.Prelude.{IfSome}
+use Rattle.map_fold.specs.declared.item.Item.{Item}
+use Rattle.rebuild_core.specs.Lawful.{StateAt}
+use Rattle.rebuild_core.specs.Parts.{PartAt, part_of}
+use Rattle.rebuild_core.proofs.KnownItems.{known_part}
+use Rattle.published_map.specs.Holds.{hold_of}
+use Rattle.published_map.proofs.Holding.{true_found}
+use Rattle.published_map.proofs.locked.Locked.held.Goals as goal
+
+pub returns : goal.returns
+returns g c =
+    let s : StateAt = c.self.inside.state.state in
+    let found = ap (λ hs. hold_of c.args.ticket hs) (sym c.as_slice.ensures.value) ∙ c.in-Some.ensures.some in
+    let known = true_found s c.args.ticket _ c.in-Some.hold.now found c.self.invariant.3 in
+    let part = subst (λ (o : Option (List Item)). IfSome o (λ h. (p : PartAt) × (part_of c.args.ticket s.parts ≡ Some p) × (h ≡ p.items))) c.in-Some-2.is c.in_ok-holding.ensures.some in
+    let items = known_part c.args.ticket c.in-Some.hold.now.items part.0 s.parts known part.1 in
+    ap (λ page. page.items) c.again.ensures ∙ (c.mark.ensures ∙ sym (part.2 ∙ items))

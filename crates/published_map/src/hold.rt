@@ -1,0 +1,75 @@
+//! What detached subtrees held, told by marks. A turn of the lock learns by them what an earlier one saw, though the state was out
+//! of sight between the two.
+ghost use Rattle.std.specs.Prelude.{◌≡◌, ◌<◌, ◌++◌, [], ◌∷◌, length, None, Some, slice_set, vec_len, vec_capacity, IfSome, IsNone};
+ghost use Rattle.published_map.specs.Holds.{HoldAt, hold_of, with_hold};
+
+use crate::mark::Mark;
+use crate::name::MapName;
+use std::marker::Model;
+
+/// What the subtree held that was detached with this ticket. Contracts see the slot, the ticket and the items.
+#[derive(Drop)]
+pub struct Hold<L: MapName> {
+    slot: u8,
+    ticket: u64,
+    mark: Mark<L>,
+}
+
+impl<L: MapName> Model for Hold<L> {
+    ghost use Rattle.published_map.specs.Holds.{HoldAt};
+
+    ghost Value = { HoldAt };
+
+    ghost view = { λ h. record { slot = h.slot; ticket = h.ticket; items = h.mark.items } };
+}
+
+impl<L: MapName> Hold<L> {
+    pub fn new(slot: u8, ticket: u64, mark: Mark<L>) -> Hold<L>
+        ensures { result ≡ record { slot = slot; ticket = ticket; items = mark.items } }
+    {
+        Hold { slot, ticket, mark }
+    }
+
+    pub fn mark(&self) -> &Mark<L>
+        ensures { result.now.items ≡ self.now.items }
+    {
+        &self.mark
+    }
+}
+
+/// The hold of the ticket.
+pub fn hold_of<L: MapName>(holds: &[Hold<L>], ticket: u64) -> Option<&Hold<L>>
+    ensures none { IsNone result → hold_of ticket holds.now ≡ None }
+    ensures some { IfSome result (λ h. hold_of ticket holds.now ≡ Some h.now) }
+{
+    let (first, rest) = holds.split_first()?;
+    if ticket == first.ticket {
+        return Some(first);
+    }
+    hold_of(rest, ticket)
+}
+
+/// Keeps the hold in the place of the one of its slot, so that no more are kept than there are slots. There is room for one more.
+pub fn keep_hold<L: MapName>(holds: &mut Vec<Hold<L>>, hold: Hold<L>)
+    requires { vec_len holds.old < vec_capacity holds.old }
+    ensures { holds.new.items ≡ with_hold hold holds.old.items }
+{
+    match place_of(holds.as_slice(), hold.slot) {
+        Some(place) => holds[place] = hold,
+        None => holds.push_reserved(hold),
+    }
+}
+
+// Where the hold of the slot stands.
+fn place_of<L: MapName>(holds: &[Hold<L>], slot: u8) -> Option<usize>
+    ensures low { IfSome result (λ i. i < length holds.now) }
+    ensures taken { IfSome result (λ i. (h : HoldAt) → h.slot ≡ slot → with_hold h holds.now ≡ slice_set holds.now i h) }
+    ensures free { IsNone result → (h : HoldAt) → h.slot ≡ slot → with_hold h holds.now ≡ holds.now ++ h ∷ [] }
+{
+    let (first, rest) = holds.split_first()?;
+    if slot == first.slot {
+        return Some(0);
+    }
+    let place = place_of(rest, slot)?;
+    Some(place + 1)
+}

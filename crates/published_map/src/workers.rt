@@ -1,0 +1,124 @@
+//! The turns of the lock that workers take. Between two of them the lists of detached subtrees are made and compared: nothing here
+//! takes time that depends on how many points such a subtree holds.
+ghost use Rattle.std.specs.Prelude.{◌≡◌, ◌≤◌, true, IfErr, IfOk, IfSome};
+ghost use Rattle.map_fold.specs.Ops.{Fit};
+ghost use Rattle.kd_tree.specs.Contents.{contents};
+ghost use Rattle.rebuild_core.specs.Desk.{IsAskCause};
+ghost use Rattle.rebuild_core.specs.Parts.{AreItemsOf};
+ghost use Rattle.published_map.specs.Late.{IsLateCause};
+
+use crate::hold::{Hold, hold_of, keep_hold};
+use crate::locked::Locked;
+use crate::mark::Mark;
+use crate::name::MapName;
+use crate::plans::plan_swap_or_log;
+use crate::shown::Shown;
+use crate::story::Story;
+use map_fold::{NoMemory, Ops};
+use rebuild_core::{Built, Holding, LogAsk, Snapshot, Unswapped, Version};
+use std::alloc::Global;
+use std::sync::{Arc, Wait};
+
+impl<L: MapName> Locked<L> {
+    /// What a swap left behind it, and what the pass of the last update kept before, if they are still here: they are to be let go
+    /// of after the lock was given back.
+    pub fn leave(&mut self) -> (Option<Arc<Version>>, Option<Shown<L>>)
+        ensures same { self.new ≡ self.old }
+    {
+        (self.left.take(), self.kept.take())
+    }
+
+    /// One turn of the lock that detaches a subtree, and marks what it held. Nothing that queries see changes.
+    pub fn detach(
+        &mut self,
+        alloc: Global,
+        slot: u8,
+    ) -> Result<Option<(Snapshot, Mark<L>)>, NoMemory>
+        requires slot_from { 1 ≤ slot }
+        requires slot_to { slot ≤ 4 }
+        ensures history { self.new.state.history ≡ self.old.state.history }
+        ensures ticket { IfOk result (λ o. IfSome o (λ r. 1 ≤ r.0.ticket)) }
+        ensures mark { IfOk result (λ o. IfSome o (λ r. r.1.items ≡ r.0.items)) }
+    {
+        let _history = self.state.history();
+        self.holds.reserve(1)?;
+        let Some(snapshot) = self.state.snapshot(alloc, slot)? else {
+            return Ok(None);
+        };
+        let Some(mark) = Mark::of(&mut self.marks, &Story::of_subtree(&snapshot)) else {
+            return Err(NoMemory);
+        };
+        let hold = Hold::new(slot, snapshot.ticket(), mark.again());
+        keep_hold(&mut self.holds, hold);
+        Ok(Some((snapshot, mark)))
+    }
+
+    // Whether the mark is of what the subtree of this ticket held. Then a part of the ticket, if there is one still, held the same.
+    fn is_known(&self, ticket: u64, mark: &Mark<L>) -> bool
+        ensures { result ≡ true → AreItemsOf ticket mark.now.items self.now.state.parts }
+    {
+        match hold_of(self.holds.as_slice(), ticket) {
+            None => false,
+            Some(hold) => hold.mark().is_same(mark),
+        }
+    }
+
+    /// One turn of the lock in which the part of the ticket gets the list of what it held, by this mark. What it answers is to be
+    /// let go of after the lock was given back: what the part had before, or the list where nobody waits for it any more.
+    pub fn hold(&mut self, ticket: u64, list: Holding, mark: &Mark<L>) -> Holding
+        requires { list ≡ mark.now.items }
+        ensures { self.new ≡ self.old }
+    {
+        if !self.is_known(ticket, mark) {
+            return list;
+        }
+        self.state.hold(ticket, list)
+    }
+
+    /// What the subtree of the ticket held, with its mark, if it is still detached.
+    pub fn held(&self, ticket: u64) -> Result<Option<(Holding, Mark<L>)>, NoMemory>
+        ensures { IfOk result (λ o. IfSome o (λ r. r.1.items ≡ r.0)) }
+    {
+        let Some(hold) = hold_of(self.holds.as_slice(), ticket) else {
+            return Ok(None);
+        };
+        let Some(holding) = self.state.holding(ticket)? else {
+            return Ok(None);
+        };
+        Ok(Some((holding, hold.mark().again())))
+    }
+
+    /// One turn of the lock that swaps the value in, where it is at most so many operations behind. It was built of what the mark
+    /// is of.
+    pub fn swap<R: Wait>(
+        &mut self,
+        rt: &R,
+        alloc: Global,
+        built: &Built,
+        mark: &Mark<L>,
+        most: u32,
+    ) -> Result<(), Unswapped>
+        requires { mark.now.items ≡ built.now.items }
+        ensures history { self.new.state.history ≡ self.old.state.history }
+
+        ensures refused { IfErr result (IsLateCause built.now most) }
+    {
+        if !self.is_known(built.ticket(), mark) {
+            return Err(Unswapped::Stale {
+                ticket: built.ticket(),
+            });
+        }
+        let planned = plan_swap_or_log(alloc, &self.state, built, most)?;
+        self.step(rt, planned)?;
+        Ok(())
+    }
+
+    /// The operations that the built value hasn't done.
+    pub fn log_after(&self, alloc: Global, built: &Built) -> Result<Ops, LogAsk>
+        ensures fit { IfOk result (Fit (contents built.now.tree)) }
+
+        ensures refused { IfErr result (IsAskCause built.now) }
+    {
+        self.state.log_after(alloc, built)
+    }
+}
