@@ -57,7 +57,7 @@ print_row() {
         }' "$folder/$2"
 }
 
-printf '%22s %-36s %-36s %s\n' '' ' update, ms' ' query' ' turn of a worker, ms'
+printf '%22s %-36s %-36s %s\n' '' ' update, ms' ' query' ' call of a worker, ms'
 printf '%8s %-13s' points program
 printf ' %9s %8s %8s %8s' median '99 %' longest deletion
 printf ' %9s %8s %8s %8s' 'median us' '99 % us' '99.9 ms' longest
@@ -89,9 +89,10 @@ plain_thread  the plain tree: subtrees from 1,500 nodes on are listed under the 
 update        what a scan took its caller: the median of 300, the 99th percentile and the longest; and the longest deletion
 query         what a query took the reader, with its waiting: the median and the 99th percentile in microseconds, the 99.9th and the
               longest in milliseconds
-turn          what a worker's call took, with its waiting for the lock: to detach a subtree, to swap it in, each at the 99th percentile
-              and at the longest, and to tell what was done to it meanwhile, at the longest. A dash is where there was none
+call          what a worker's call took, with its waiting for the lock, and with what it does between two turns of it: to detach a
+              subtree, to swap it in, each at the 99th percentile and at the longest, and to tell what was done to it meanwhile, at
+              the longest. A dash is where there was none
 
-Queries of ours take no lock. Each query of the plain tree takes a lock that readers share, and each update and each turn takes it
+Queries of ours take no lock. Each query of the plain tree takes a lock that readers share, and each update and each call takes it
 alone. There are up to four threads at a time: with fewer processors left than that, the longest is what a thread waits for one.
 LEGEND
