@@ -7,6 +7,8 @@ mod callers;
 #[cfg(test)]
 mod checks;
 #[cfg(test)]
+mod ended;
+#[cfg(test)]
 mod examples;
 #[cfg(test)]
 mod faults;
