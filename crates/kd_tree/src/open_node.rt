@@ -11,7 +11,7 @@ ghost use Rattle.kd_tree.specs.Contents.{contents};
 ghost use Rattle.kd_tree.specs.Parts.{contents_of_parts, fork_in, fork_of, joined, pushed};
 ghost use Rattle.kd_tree.specs.View.{IsKeptAt, IsOpened, IsTakenOf, shape_at, top_of};
 
-use crate::node::Node;
+use crate::node::{Node, Root};
 use crate::{Scratch, Steps, Tree};
 use map_fold::{Item, NoMemory, Tag};
 use point_geom::Axis;
@@ -116,9 +116,9 @@ impl Tree {
         ensures { IfOk result (λ o. IsOpened self o) }
     {
         match self.root {
-            None => Ok(None),
-            Some(block) => {
-                let node = taken(block)?;
+            Root::Empty => Ok(None),
+            Root::Full { node, .. } => {
+                let node = taken(node)?;
                 Ok(Some(node))
             }
         }
@@ -131,10 +131,13 @@ impl Tree {
         ensures stays { IfErr result (λ t. t ≡ self) }
     {
         match self.root {
-            None => Err(Tree::empty()),
-            Some(block) => match taken_if_own(block) {
+            Root::Empty => Err(Tree::empty()),
+            Root::Full { levels, size, node } => match taken_if_own(node) {
                 Ok(node) => Ok(node),
-                Err(block) => Err(Tree { root: Some(block) }),
+                Err(node) => {
+                    let root = Root::Full { levels, size, node };
+                    Err(Tree { root })
+                }
             },
         }
     }
@@ -184,14 +187,26 @@ impl Block {
         requires { IsKeptAt node }
         ensures { IfOk result (λ t. t ≡ shape_at node) }
     {
+        let levels = node.left.levels().max(node.right.levels()) as u16 + 1;
+        let size = node.left.size() + node.right.size() + 1;
+        let node = self.filled_with(alloc, node)?;
+        let root = Root::Full { levels, size, node };
+        Ok(Tree { root })
+    }
+
+    // The same without its tree.
+    #[inline]
+    fn filled_with(self, alloc: Global, node: Node) -> Result<Arc<Node>, NoMemory>
+        ensures { IfOk result (λ a. arc_value a ≡ node) }
+    {
         if let Some(mut block) = self.node {
             if let Some(place) = Arc::get_mut(&mut block) {
                 *place = node;
-                return Ok(Tree { root: Some(block) });
+                return Ok(block);
             }
         }
         let block = Arc::new(alloc, node)?;
-        Ok(Tree { root: Some(block) })
+        Ok(block)
     }
 }
 

@@ -30,19 +30,19 @@ on_err : {T E : Type 0} (r : Result T E) (P : Type 0) → P → OnErr r P
 on_err (Ok x) P k = tt
 on_err (Err e) P k = k
 
-pub returns-in_err-gather_owed-in-Some-clause-front : goal.returns-in_err-gather_owed-in-Some-clause-front
-returns-in_err-gather_owed-in-Some-clause-front t c =
-    let shape : shape_of c.tree.inside ≡ shape_at c.in-Some.node.value = rw c.in-Some.is refl in
+pub returns-in_err-gather_owed-in-Full-clause-front : goal.returns-in_err-gather_owed-in-Full-clause-front
+returns-in_err-gather_owed-in-Full-clause-front t c =
+    let shape : shape_of c.tree.inside ≡ shape_at c.in-Full.node.value = rw c.in-Full.is refl in
     let F : Shape → Type 0 = λ s. AddsFront c.args.items.now.items (walk c.args.owed s) c.gather_owed.new.items.items in
-    let own = rw (c.apply-label.ensures, c.item.ensures, c.deref.ensures, c.deref-in-Some.ensures) at c.in_ok-push_kept-in-Some.ensures.all in
-    let left = rw (c.then-below.ensures.value, c.deref-in-Some-2.ensures, c.deref-in-Some-3.ensures) at c.in_err-gather_owed-in-Some.ensures.front in
+    let own = rw (c.apply-label.ensures, c.item.ensures, c.deref.ensures, c.deref-in-Full.ensures) at c.in_ok-push_kept-in-Full.ensures.all in
+    let left = rw (c.then-below.ensures.value, c.deref-in-Full-2.ensures, c.deref-in-Full-3.ensures) at c.in_err-gather_owed-in-Full.ensures.front in
     on_err _ (F c.args.tree.now) (subst F (sym shape ∙ c.tree.view_is) (front_left _ _ _ _ _ _ own left))
 
-pub returns-in_ok-gather_owed-in-Some-clause-front : goal.returns-in_ok-gather_owed-in-Some-clause-front
-returns-in_ok-gather_owed-in-Some-clause-front t c =
-    let shape : shape_of c.tree.inside ≡ shape_at c.in-Some.node.value = rw c.in-Some.is refl in
-    let F : Shape → Type 0 = λ s. AddsFront c.args.items.now.items (walk c.args.owed s) c.gather_owed-in-Some.new.items.items in
-    let own = rw (c.apply-label.ensures, c.item.ensures, c.deref.ensures, c.deref-in-Some.ensures) at c.in_ok-push_kept-in-Some.ensures.all in
-    let left = rw (c.then-below.ensures.value, c.deref-in-Some-2.ensures, c.deref-in-Some-3.ensures) at c.in_ok-gather_owed-in-Some.ensures.all in
-    let right = rw (c.then-below.ensures.value, c.deref-in-Some-2.ensures, c.deref-in-Some-4.ensures) at c.gather_owed-in-Some.ensures.front in
-    on_err_weaker c.gather_owed-in-Some.result (λ k. subst F (sym shape ∙ c.tree.view_is) (front_right _ _ _ _ _ _ _ own left k)) right
+pub returns-in_ok-gather_owed-in-Full-clause-front : goal.returns-in_ok-gather_owed-in-Full-clause-front
+returns-in_ok-gather_owed-in-Full-clause-front t c =
+    let shape : shape_of c.tree.inside ≡ shape_at c.in-Full.node.value = rw c.in-Full.is refl in
+    let F : Shape → Type 0 = λ s. AddsFront c.args.items.now.items (walk c.args.owed s) c.gather_owed-in-Full.new.items.items in
+    let own = rw (c.apply-label.ensures, c.item.ensures, c.deref.ensures, c.deref-in-Full.ensures) at c.in_ok-push_kept-in-Full.ensures.all in
+    let left = rw (c.then-below.ensures.value, c.deref-in-Full-2.ensures, c.deref-in-Full-3.ensures) at c.in_ok-gather_owed-in-Full.ensures.all in
+    let right = rw (c.then-below.ensures.value, c.deref-in-Full-2.ensures, c.deref-in-Full-4.ensures) at c.gather_owed-in-Full.ensures.front in
+    on_err_weaker c.gather_owed-in-Full.result (λ k. subst F (sym shape ∙ c.tree.view_is) (front_right _ _ _ _ _ _ _ own left k)) right
