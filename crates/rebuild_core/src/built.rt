@@ -122,6 +122,31 @@ impl Built {
         }
     }
 
+    /// `replay`, done in the place of the value's own nodes, so that none of them is copied: the value is let go of where memory is
+    /// wanting.
+    pub fn replay_in_place(self, alloc: Global, large: u32, ops: &[Op]) -> Result<Built, NoMemory>
+        requires { Fit (contents self.tree) ops.now }
+        ensures replayed { IfOk result (IsReplayOf self ops.now) }
+        ensures balance { IfOk result (λ b. IsEven large b.tree) }
+    {
+        let Built {
+            ticket,
+            items,
+            mut done,
+            tree,
+            large: made_with,
+        } = self;
+        done.extend_from_slice(ops)?;
+        let tree = replayed_from::<Brand>(alloc, tree, made_with, large, ops, Blank::new(1))?;
+        Ok(Built {
+            ticket,
+            items,
+            done,
+            tree,
+            large,
+        })
+    }
+
     // The tree after the operations, with a counter that nothing looks at.
     fn replayed_by<L: Ledger>(
         &self,
@@ -162,36 +187,12 @@ impl Built {
         ensures still { ops.now ≡ [] → IsEven large self.now.tree → steps.new ≡ steps.old }
     {
         let _done = self.done();
-        let tree = self.evened(alloc, large, steps)?;
+        let twin = self.tree.copy(alloc, steps)?;
+        let tree = evened(alloc, twin, self.large, large, steps)?;
         if ops.is_empty() {
             return Ok(tree);
         }
         replayed(alloc, tree, large, ops)
-    }
-
-    // The tree, built anew where it isn't even for this `large`. Only where the value was made with another is it looked at.
-    fn evened<L: Ledger>(
-        &self,
-        alloc: Global,
-        large: u32,
-        steps: &mut Steps<L>,
-    ) -> Result<Tree, NoMemory>
-        ensures contents { IfOk result (λ t. contents t ≡ contents self.now.tree) }
-        ensures numbers { IfOk result (λ t. AreAmong (numbers t) (numbers self.now.tree)) }
-        ensures balance { IfOk result (λ t. IsEven large t) }
-        ensures low { IfOk result (λ t. levels t ≤ levels self.now.tree) }
-        ensures few { IfOk result (λ t. nodes t ≤ nodes self.now.tree) }
-        ensures same { IsEven large self.now.tree → IfOk result (λ t. t ≡ self.now.tree) }
-        ensures still { IsEven large self.now.tree → steps.new ≡ steps.old }
-    {
-        let tree = self.tree.copy(alloc, steps)?;
-        if self.large == large {
-            return Ok(tree);
-        }
-        if is_even(&tree, large) {
-            return Ok(tree);
-        }
-        rebuilt(alloc, tree, steps)
     }
 
     // The value with this tree, in which the operations are done.
@@ -214,4 +215,53 @@ impl Built {
             }
         }
     }
+}
+
+// The tree after the operations, with a counter that nothing looks at.
+fn replayed_from<L: Ledger>(
+    alloc: Global,
+    tree: Tree,
+    made_with: u32,
+    large: u32,
+    ops: &[Op],
+    blank: Blank,
+) -> Result<Tree, NoMemory>
+    requires name { blank.name ≡ L.name }
+    requires parts { blank.parts ≡ L.parts }
+    requires some { blank.parts ≡ 1 }
+    requires even { IsEven made_with tree }
+    requires fit { Fit (contents tree) ops.now }
+    ensures contents { IfOk result (λ t. contents t ≡ replay (contents tree) ops.now) }
+    ensures numbers { IfOk result (λ t. AreAmong (numbers t) (numbers_put ops.now ++ numbers tree)) }
+    ensures balance { IfOk result (λ t. IsEven large t) }
+{
+    let mut steps: Steps<L> = Steps::new(blank);
+    let tree = evened(alloc, tree, made_with, large, &mut steps)?;
+    replayed(alloc, tree, large, ops)
+}
+
+// The tree, built anew where it isn't even for this `large`. Only where it was made with another is it looked at.
+fn evened<L: Ledger>(
+    alloc: Global,
+    tree: Tree,
+    made_with: u32,
+    large: u32,
+    steps: &mut Steps<L>,
+) -> Result<Tree, NoMemory>
+    requires { IsEven made_with tree }
+    ensures contents { IfOk result (λ t. contents t ≡ contents tree) }
+    ensures numbers { IfOk result (λ t. AreAmong (numbers t) (numbers tree)) }
+    ensures balance { IfOk result (λ t. IsEven large t) }
+    ensures low { IfOk result (λ t. levels t ≤ levels tree) }
+    ensures few { IfOk result (λ t. nodes t ≤ nodes tree) }
+    ensures same { IsEven large tree → IfOk result (λ t. t ≡ tree) }
+    ensures still { IsEven large tree → steps.new ≡ steps.old }
+{
+    if made_with == large {
+        return Ok(tree);
+    }
+    if is_even(&tree, large) {
+        return Ok(tree);
+    }
+    rebuilt(alloc, tree, steps)
 }

@@ -14,19 +14,22 @@ use std::sync::Wait;
 // How often a value is brought up to date before its swap is forced.
 const TRIES: u32 = 8;
 
-// As many operations are left to the first swap.
+// As many operations are left at most in the first tries: a swap of these hardly takes the lock.
 const FEW: u32 = 64;
 
-// And as many once the value was brought up to date: about what a scan of 2,000 points logs for a subtree. Beside such scans no
-// fewer are ever left, and they take the lock no longer than the scan did.
-const SCAN: u32 = 4_096;
+// How many tries these are.
+const FIRST: u32 = 2;
+
+// As many are left in the later ones: what a scan of 2,000 points and a deletion log for a subtree. Beside a caller that adds one scan
+// after the other no fewer are ever left.
+const SCAN: u32 = 2_560;
 
 /// Works until it is told to end, as worker 1 or 2: it looks for subtrees to be built anew in two slots, 1 and 2 or 3 and 4, builds
 /// them, and swaps them in. Where there is none, or memory was wanting, it sleeps until its bell rings. It looks whether it was told
 /// to end before each round, so a round that was begun is done whole. `large` is best that of the map's settings.
 ///
-/// A value that is behind is brought up to date outside the map, 8 times at most, and then swapped in by force. Once it was brought up
-/// to date, a map that has a call for it swaps it in with as many operations left as a scan logs. A value that is stale is dropped,
+/// A value that is behind is brought up to date outside the map, 8 times at most, and then swapped in by force. From the third time
+/// on, a map that has a call for it swaps it in with as many operations left as a scan logs. A value that is stale is dropped,
 /// and so is one for which memory was wanting: its subtree stays detached, and is detached afresh in the next round.
 pub fn work<D: Desk, G: Gate, R: Wait>(
     rt: &R,
@@ -130,13 +133,12 @@ impl<'a, D: Desk, G: Gate> Worker<'a, D, G> {
     // It is forced only where others change the subtree faster than the value can be brought up to date.
     fn swap_in<R: Wait>(&self, rt: &R, built: Built) -> Result<(), NoMemory> {
         let mut built = built;
-        let mut most = FEW;
-        for _ in 0..TRIES {
+        for attempt in 0..TRIES {
+            let most = if attempt < FIRST { FEW } else { SCAN };
             let Some(replayed) = self.catch_up(rt, built, most)? else {
                 return Ok(());
             };
             built = replayed;
-            most = SCAN;
         }
         self.force(rt, built)
     }
@@ -155,10 +157,8 @@ impl<'a, D: Desk, G: Gate> Worker<'a, D, G> {
             Unswapped::NoMemory => return Err(NoMemory),
             Unswapped::Behind { ops } => ops,
         };
-        match built.replay(self.alloc, self.large, ops.as_slice()) {
-            Ok(replayed) => Ok(Some(replayed)),
-            Err(_) => Err(NoMemory),
-        }
+        let replayed = built.replay_in_place(self.alloc, self.large, ops.as_slice())?;
+        Ok(Some(replayed))
     }
 
     // Swaps the value in, however far it is behind. A stale one is dropped.
