@@ -42,8 +42,8 @@ where
     // The version that the last swap or settling took the place of, once an update came after it. It may be the last to hold what
     // was taken out of the tree, so a worker lets it go, and not the caller that updates.
     pub(crate) left: Option<Arc<Version>>,
-    // What the pass of the last update kept before it. After several swaps it may hold what the first of them took out, so a worker
-    // lets it go as well.
+    // What the pass of an update kept before it, where that wasn't the version that was published last. After several swaps it may
+    // hold what the first of them took out, so a worker lets it go as well.
     pub(crate) kept: Option<Shown<L>>,
     // What subtrees held that were detached, the last of each slot.
     pub(crate) holds: Vec<Hold<L>>,
@@ -102,6 +102,11 @@ impl<L: MapName> Locked<L> {
             Some(version) if is_update => replace(&mut self.left, Some(version)),
             spent => spent,
         }
+    }
+
+    /// Whether this is the version that was published last.
+    pub fn is_newest(&self, kept: &Shown<L>) -> bool {
+        self.writer.published().mark().is_same(kept.mark())
     }
 
     /// Takes what the pass of an update kept before it, in the place of what an earlier pass did, which is to be let go of after the

@@ -90,9 +90,14 @@ impl<L: MapName> Shared<L> {
         let kept = pass.kept.again().ok();
         let mut locked = self.lock.lock(rt);
         let (former, holdings) = (locked.version(), locked.holdings());
+        let is_newest = locked.is_newest(&pass.kept);
         let done = locked.update(rt, alloc, pass, update);
         let spent = locked.keep(former, done.is_ok(), true);
-        let kept = locked.set_aside(kept);
+        let kept = if is_newest {
+            kept
+        } else {
+            locked.set_aside(kept)
+        };
         MutexGuard::unlock(locked);
         drop((kept, spent, holdings));
         done
