@@ -18,11 +18,14 @@ use Rattle.mapper_core.specs.declared.status.Status.TheVariants as status
 use Rattle.mapper_core.specs.declared.words.Ask.{Ask}
 use Rattle.mapper_core.specs.declared.words.Ask.TheVariants.{Run, Serial, Make, Drive, Check}
 use Rattle.mapper_core.specs.Asks.{Asks, AskForRun, AskForScans, AskNothing, AskOfLog, IsOfLog, log_of, most_of}
-use Rattle.mapper_core.specs.Causes.{Seen, LogSeen, Says, NotRead, IsDoneOn, IsTextOf, HasPrinted, HasRefused, Ended}
-use Rattle.mapper_core.specs.Endings.{status_of}
+use Rattle.mapper_core.specs.Causes.{Says, NotRead, IsDoneOn, IsTextOf, HasPrinted, HasRefused, Ended}
+use Rattle.mapper_core.specs.Done.{IsChecked, IsDriven, IsMade, IsTranscribed, IsTranscribedInOrder}
+use Rattle.mapper_core.specs.Endings.{IsOrNoMemory, status_of}
 use Rattle.mapper_core.specs.Generated.{generated}
-use Rattle.mapper_core.specs.Outside.{Rose, HasRead, AppendsFront}
-use Rattle.mapper_core.specs.Summary.{summary, summary_of}
+use Rattle.mapper_core.specs.Inputs.{IsOverLimit}
+use Rattle.mapper_core.specs.Outside.{NoFault, HasRead, AppendsFront}
+use Rattle.mapper_core.specs.Seen.{Seen, LogSeen}
+use Rattle.mapper_core.specs.Summary.{summary_of}
 use Rattle.mapper_core.specs.Verdicts.{IsFound, verdict_line}
 use Rattle.mapper_core.proofs.OneAsk.{same_ask}
 
@@ -65,16 +68,14 @@ said_of (Make n) log x of h = absurd of
 said_of (Drive n) log x of h = absurd of
 said_of (Check n) log x of h = h
 
-legal_text : (s : Seen) (x : ScriptAt) (lines : List ℕ) → Says Run s.log x → AreLegalLines x lines → Appends s.out.held s.out.held_after lines
-    → (s.log.ended ≡ true) × ((lines : List ℕ) × IfSome s.log.left (λ bytes. IsLegalTranscript bytes lines) × Appends s.out.held s.out.held_after lines)
+legal_text : (s : Seen) (x : ScriptAt) (lines : List ℕ) → Says Run s.log x → AreLegalLines x lines → Appends s.out.held s.out.held_after lines → IsTranscribed s.log s.out
 legal_text s x lines said legal written =
     let transcript = if_some s.log.left _ (λ bytes. IsLegalTranscript bytes lines)
     (λ bytes q. record { script = x; spelled = q.1.0; told = legal.told; legal = legal.legal; lines = legal.text }) said.1 in
     (said.0, (lines, transcript, written))
 
 -- where a run was asked for and all was done, the log was read to its end, and a legal transcript of it was written
-pub done_legal : (s : Seen) (e : Ending) → Ended s e → status_of e ≡ status.Done → AskForRun s.words
-    → (s.log.ended ≡ true) × ((lines : List ℕ) × IfSome s.log.left (λ bytes. IsLegalTranscript bytes lines) × Appends s.out.held s.out.held_after lines)
+pub done_legal : (s : Seen) (e : Ending) → Ended s e → status_of e ≡ status.Done → AskForRun s.words → IsTranscribed s.log s.out
 done_legal s e h done (inl asked) =
     let p = done_way s e h done in
     let t = asked_text s (Appends s.out.held s.out.held_after) Run p asked in
@@ -85,32 +86,28 @@ done_legal s e h done (inr asked) =
     legal_text s t.script p.lines t.said t.printed.0 p.written
 
 -- and for the words of a serial run it is the text of the marks in the log's order
-pub done_serial : (s : Seen) (e : Ending) → Ended s e → status_of e ≡ status.Done → Asks Serial s.words
-    → (x : ScriptAt) × IfSome s.log.left (λ bytes. Spells bytes x) × Appends s.out.held s.out.held_after (text x (serial_marks (plain_script x)))
+pub done_serial : (s : Seen) (e : Ending) → Ended s e → status_of e ≡ status.Done → Asks Serial s.words → IsTranscribedInOrder s.log s.out
 done_serial s e h done asked =
     let p = done_way s e h done in
     let t = asked_text s (Appends s.out.held s.out.held_after) Serial p asked in
     (t.script, if_some s.log.left _ _ (λ bytes q. q.1.0) t.said.1, subst (Appends s.out.held s.out.held_after) t.printed.1 p.written)
 
 -- the log of the generated script was written
-pub done_made : (s : Seen) (e : Ending) (n : ℕ) → Ended s e → status_of e ≡ status.Done → Asks (Make n) s.words
-    → Appends s.out.held s.out.held_after (script_text (generated n))
+pub done_made : (s : Seen) (e : Ending) (n : ℕ) → Ended s e → status_of e ≡ status.Done → Asks (Make n) s.words → IsMade n s.out
 done_made s e n h done asked =
     let p = done_way s e h done in
     let t = asked_text s (Appends s.out.held s.out.held_after) (Make n) p asked in
     subst (Appends s.out.held s.out.held_after) (t.printed ∙ ap script_text t.said) p.written
 
 -- the line of its sums was written
-pub done_driven : (s : Seen) (e : Ending) (n : ℕ) → Ended s e → status_of e ≡ status.Done → Asks (Drive n) s.words
-    → Appends s.out.held s.out.held_after (summary n)
+pub done_driven : (s : Seen) (e : Ending) (n : ℕ) → Ended s e → status_of e ≡ status.Done → Asks (Drive n) s.words → IsDriven n s.out
 done_driven s e n h done asked =
     let p = done_way s e h done in
     let t = asked_text s (Appends s.out.held s.out.held_after) (Drive n) p asked in
     subst (Appends s.out.held s.out.held_after) (t.printed ∙ ap (summary_of n) t.said) p.written
 
 -- where a check was asked for and all was done, the input was read to its end, and the line of its verdict was written
-pub done_checked : (s : Seen) (e : Ending) (n : ℕ) → Ended s e → status_of e ≡ status.Done → Asks (Check n) s.words
-    → (s.log.ended ≡ true) × ((v : Verdict) × IfSome s.log.left (λ bytes. IsFound n bytes v) × Appends s.out.held s.out.held_after (verdict_line v))
+pub done_checked : (s : Seen) (e : Ending) (n : ℕ) → Ended s e → status_of e ≡ status.Done → Asks (Check n) s.words → IsChecked n s.log s.out
 done_checked s e n h done asked =
     let p = done_way s e h done in
     let t = asked_text s (Appends s.out.held s.out.held_after) (Check n) p asked in
@@ -144,7 +141,7 @@ unprinted s so_far a bytes f p asked told fault =
 
 -- a log whose first fault is no limit is a bad one
 pub bad_way : (s : Seen) (e : Ending) (a : Ask) (bytes : List ℕ) (f : FaultAt) → Ended s e → AskOfLog a s.words → s.log.left ≡ Some bytes → length bytes ≤ most_of a
-    → first_fault (log_of a bytes) ≡ Some f → is_limit f.cause ≡ false → (Rose s.log.faults s.log.faults_after → ⊥) → (status_of e ≡ status.BadLog) ⊎ (status_of e ≡ status.NoMemory)
+    → first_fault (log_of a bytes) ≡ Some f → is_limit f.cause ≡ false → NoFault s.log.faults s.log.faults_after → IsOrNoMemory (status_of e) status.BadLog
 bad_way s Done a bytes f h asked told few fault small sure = absurd (unprinted s (Appends s.out.held s.out.held_after) a bytes f h asked told fault)
 bad_way s Usage a bytes f h asked told few fault small sure = absurd (h.0 a asked.0)
 bad_way s ReadFault a bytes f h asked told few fault small sure = absurd (sure (asked_cause s ReadFault a h asked.0).1)
@@ -159,7 +156,7 @@ bad_way s WriteFault a bytes f h asked told few fault small sure = absurd (unpri
 bad_way s NoMemory a bytes f h asked told few fault small sure = inr refl
 
 -- words that ask for nothing are told so
-pub nothing_way : (s : Seen) (e : Ending) → Ended s e → AskNothing s.words → (status_of e ≡ status.Usage) ⊎ (status_of e ≡ status.NoMemory)
+pub nothing_way : (s : Seen) (e : Ending) → Ended s e → AskNothing s.words → IsOrNoMemory (status_of e) status.Usage
 nothing_way s Done h nothing = absurd (nothing h.ask h.asked)
 nothing_way s Usage h nothing = inl refl
 nothing_way s ReadFault h nothing = absurd (nothing h.ask h.asked.0)
@@ -170,7 +167,7 @@ nothing_way s NoMemory h nothing = inr refl
 
 -- a log that is spelled is done
 pub spelled_way : (s : Seen) (e : Ending) (a : Ask) (bytes : List ℕ) (x : ScriptAt) → Ended s e → AskOfLog a s.words → s.log.left ≡ Some bytes → length bytes ≤ most_of a
-    → Spells (log_of a bytes) x → (Rose s.log.faults s.log.faults_after → ⊥) → (Rose s.out.faults s.out.faults_after → ⊥) → (status_of e ≡ status.Done) ⊎ (status_of e ≡ status.NoMemory)
+    → Spells (log_of a bytes) x → NoFault s.log.faults s.log.faults_after → NoFault s.out.faults s.out.faults_after → IsOrNoMemory (status_of e) status.Done
 spelled_way s Done a bytes x h asked told few spelled sure out = inl refl
 spelled_way s Usage a bytes x h asked told few spelled sure out = absurd (h.0 a asked.0)
 spelled_way s ReadFault a bytes x h asked told few spelled sure out = absurd (sure (asked_cause s ReadFault a h asked.0).1)
@@ -193,7 +190,7 @@ scans_asked words (n, inl made) nothing = nothing (Make n) made
 scans_asked words (n, inr driven) nothing = nothing (Drive n) driven
 
 -- what is generated is done
-pub scans_way : (s : Seen) (e : Ending) → Ended s e → AskForScans s.words → (Rose s.out.faults s.out.faults_after → ⊥) → (status_of e ≡ status.Done) ⊎ (status_of e ≡ status.NoMemory)
+pub scans_way : (s : Seen) (e : Ending) → Ended s e → AskForScans s.words → NoFault s.out.faults s.out.faults_after → IsOrNoMemory (status_of e) status.Done
 scans_way s Done h asked out = inl refl
 scans_way s Usage h asked out = absurd (scans_asked s.words asked h.0)
 scans_way s ReadFault h asked out = absurd (not_both s.words h.ask asked h.asked)
@@ -202,32 +199,28 @@ scans_way s (Bad line cause) h asked out = absurd (not_both s.words h.ask asked 
 scans_way s WriteFault h asked out = absurd (out h.1)
 scans_way s NoMemory h asked out = inr refl
 
--- the input is too long, or the log's first fault is a limit
-abbrev IsOver : Ask → List ℕ → Type 0
-IsOver a bytes = (most_of a < length bytes) ⊎ ((f : FaultAt) × (first_fault (log_of a bytes) ≡ Some f) × (is_limit f.cause ≡ true))
-
 -- such a log says no script
-over_unsaid : (a : Ask) (log : LogSeen) (x : ScriptAt) (bytes : List ℕ) → Says a log x → log.left ≡ Some bytes → IsOver a bytes → ⊥
+over_unsaid : (a : Ask) (log : LogSeen) (x : ScriptAt) (bytes : List ℕ) → Says a log x → log.left ≡ Some bytes → IsOverLimit a bytes → ⊥
 over_unsaid a log x bytes said told (inl long) =
     let h = subst (λ o. IfSome o (λ b. (length b ≤ most_of a) × (Spells (log_of a b) x × (first_fault (log_of a b) ≡ None)))) told said.1 in
     omega (arith, h.0, long)
 over_unsaid a log x bytes said told (inr fault) = unsaid a log x bytes fault.0 said told fault.1
 
-over_bad : (a : Ask) (line : ℕ) (cause : LogCause) (bytes : List ℕ) → length bytes ≤ most_of a → IsFirstFault (log_of a bytes) line cause → IsOver a bytes → is_limit cause ≡ true
+over_bad : (a : Ask) (line : ℕ) (cause : LogCause) (bytes : List ℕ) → length bytes ≤ most_of a → IsFirstFault (log_of a bytes) line cause → IsOverLimit a bytes → is_limit cause ≡ true
 over_bad a line cause bytes few first (inl long) = absurd (omega (arith, few, long))
 over_bad a line cause bytes few first (inr fault) =
     let found = fault.1 in
     let same : cause ≡ fault.0.cause = (let e = first.fault in cc) in
     rw same fault.2
 
-over_unprinted : (s : Seen) (so_far : List ℕ → Type 0) (a : Ask) (bytes : List ℕ) → HasPrinted s so_far → AskOfLog a s.words → s.log.left ≡ Some bytes → IsOver a bytes → ⊥
+over_unprinted : (s : Seen) (so_far : List ℕ → Type 0) (a : Ask) (bytes : List ℕ) → HasPrinted s so_far → AskOfLog a s.words → s.log.left ≡ Some bytes → IsOverLimit a bytes → ⊥
 over_unprinted s so_far a bytes p asked told over =
     let t = asked_text s so_far a p asked.0 in
     over_unsaid a s.log t.script bytes (said_of a s.log t.script asked.1 t.said) told over
 
 -- a log that is over a limit is told so
-pub over_way : (s : Seen) (e : Ending) (a : Ask) (bytes : List ℕ) → Ended s e → AskOfLog a s.words → s.log.left ≡ Some bytes → IsOver a bytes
-    → (Rose s.log.faults s.log.faults_after → ⊥) → (status_of e ≡ status.OverLimit) ⊎ (status_of e ≡ status.NoMemory)
+pub over_way : (s : Seen) (e : Ending) (a : Ask) (bytes : List ℕ) → Ended s e → AskOfLog a s.words → s.log.left ≡ Some bytes → IsOverLimit a bytes
+    → NoFault s.log.faults s.log.faults_after → IsOrNoMemory (status_of e) status.OverLimit
 over_way s Done a bytes h asked told over sure = absurd (over_unprinted s (Appends s.out.held s.out.held_after) a bytes h asked told over)
 over_way s Usage a bytes h asked told over sure = absurd (h.0 a asked.0)
 over_way s ReadFault a bytes h asked told over sure = absurd (sure (asked_cause s ReadFault a h asked.0).1)

@@ -1,5 +1,5 @@
 -- Why a run ends, and what it has read and written by then.
-use Rattle.std.specs.Prelude.{◌≡◌, ◌≤◌, ◌+◌, ◌⊎◌, ℕ, Bool, false, true, None, List, length, IfSome}
+use Rattle.std.specs.Prelude.{◌≡◌, ◌≤◌, ◌+◌, ◌⊎◌, ℕ, false, true, None, List, length, IfSome}
 use Rattle.std.specs.declared.option.Option.{Option}
 use Rattle.std.specs.Io.KnownBytes.{Appends, Keeps}
 use Rattle.scan_log.specs.Scripts.{ScriptAt}
@@ -16,30 +16,15 @@ use Rattle.mapper_core.specs.Endings.{status_of, note_of}
 use Rattle.mapper_core.specs.Generated.{generated}
 use Rattle.mapper_core.specs.Outside.{Rose, HasRead, AppendsFront}
 use Rattle.mapper_core.specs.Prints.{Prints}
-
--- what is seen of the log: the bytes left before and after, whether the last read was the end, and the counts of faults
-pub record LogSeen : Type 0 where
-  pub left : Option (List ℕ)
-  pub left_after : Option (List ℕ)
-  pub ended : Bool
-  pub faults : ℕ
-  pub faults_after : ℕ
-
--- what is seen of out: the bytes held before and after, and the counts of faults
-pub record OutSeen : Type 0 where
-  pub held : Option (List ℕ)
-  pub held_after : Option (List ℕ)
-  pub faults : ℕ
-  pub faults_after : ℕ
-
-pub record Seen : Type 0 where
-  pub words : List (List ℕ)
-  pub log : LogSeen
-  pub out : OutSeen
+use Rattle.mapper_core.specs.Seen.{LogSeen, Seen}
 
 -- a byte more than the input may have was read
 abbrev pub IsTooLong : Ask → LogSeen → Type 0
 IsTooLong a log = HasRead log.left log.left_after (λ n. n ≡ most_of a + 1)
+
+-- no more was read than a byte past the most that the input may have
+abbrev pub ReadsInLimit : Ask → LogSeen → Type 0
+ReadsInLimit a log = HasRead log.left log.left_after (λ n. n ≤ most_of a + 1)
 
 -- the input was read to its end and isn't too long, and this holds of the log in it, where its bytes are told
 abbrev pub WasRead : Ask → LogSeen → (List ℕ → Type 0) → Type 0

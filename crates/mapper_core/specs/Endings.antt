@@ -1,5 +1,5 @@
 -- What is answered and told of each way to end.
-use Rattle.std.specs.Prelude.{ℕ, List, [], ◌∷◌, ◌++◌, codes, if◌then◌else◌}
+use Rattle.std.specs.Prelude.{◌≡◌, ◌⊎◌, ℕ, List, [], ◌∷◌, ◌++◌, codes, if◌then◌else◌}
 use Rattle.scan_log.specs.Faults.{fault_text, is_limit}
 use Rattle.mapper_core.specs.declared.ending.Ending.{Ending}
 use Rattle.mapper_core.specs.declared.ending.Ending.TheVariants.{Done, Usage, ReadFault, TooLong, Bad, WriteFault, NoMemory}
@@ -15,6 +15,10 @@ status_of TooLong = status.OverLimit
 status_of (Bad line cause) = if is_limit cause then status.OverLimit else status.BadLog
 status_of WriteFault = status.WriteFault
 status_of NoMemory = status.NoMemory
+
+-- it is the status that is wanted, or memory was wanting
+abbrev pub IsOrNoMemory : Status → Status → Type 0
+IsOrNoMemory it wanted = (it ≡ wanted) ⊎ (it ≡ status.NoMemory)
 
 -- its line in notes
 abbrev pub note_of : Ending → List ℕ

@@ -11,6 +11,10 @@ raised n = min (n + 1) (2 ^ 64 - 1)
 abbrev pub Rose : ℕ → ℕ → Type 0
 Rose before now = raised before ≤ now
 
+-- no failure came between: the count didn't rise, and stands below its type's end
+abbrev pub NoFault : ℕ → ℕ → Type 0
+NoFault before now = Rose before now → ⊥
+
 -- a count never falls, and a failure comes only where it rose
 pub record HasCause {T E : Type 0} (failed : E) (before now : ℕ) (result : Result T E) : Type 0 where
   pub later : before ≤ now

@@ -1,8 +1,8 @@
 //! Reading an input, and the log in it.
-ghost use Rattle.std.specs.Prelude.{◌≡◌, ◌≤◌, ◌+◌, drop, true, false, IfOk, IfErr, IfSome};
+ghost use Rattle.std.specs.Prelude.{◌≡◌, drop, IfOk, IfErr, IfSome};
 ghost use Rattle.mapper_core.specs.Asks.{CanBeDone, IsOfLog, log_of, most_of};
-ghost use Rattle.mapper_core.specs.Causes.{NotRead, Says};
-ghost use Rattle.mapper_core.specs.Outside.{HasRead};
+ghost use Rattle.mapper_core.specs.Causes.{NotRead, ReadsInLimit, Says};
+ghost use Rattle.mapper_core.specs.Seen.{log_seen};
 
 use crate::ending::Ending;
 use crate::outside::Source;
@@ -24,9 +24,9 @@ pub struct Input {
 pub fn read_script<R: Source>(alloc: Global, ask: Ask, log: &mut R) -> Result<Script, Ending>
     requires can_be_done { CanBeDone ask }
     requires of_log { IsOfLog ask }
-    ensures says { IfOk result (Says ask (record { left = R.left log.old; left_after = R.left log.new; ended = R.ended log.new; faults = R.faults log.old; faults_after = R.faults log.new })) }
-    ensures cause { IfErr result (NotRead ask (record { left = R.left log.old; left_after = R.left log.new; ended = R.ended log.new; faults = R.faults log.old; faults_after = R.faults log.new })) }
-    ensures reads { HasRead (R.left log.old) (R.left log.new) (λ n. n ≤ most_of ask + 1) }
+    ensures says { IfOk result (Says ask (log_seen R.Source log.old log.new)) }
+    ensures cause { IfErr result (NotRead ask (log_seen R.Source log.old log.new)) }
+    ensures reads { ReadsInLimit ask (log_seen R.Source log.old log.new) }
 {
     let input = read_input(alloc, ask, log)?;
     Ok(input.script)
@@ -36,10 +36,10 @@ pub fn read_script<R: Source>(alloc: Global, ask: Ask, log: &mut R) -> Result<Sc
 pub fn read_input<R: Source>(alloc: Global, ask: Ask, log: &mut R) -> Result<Input, Ending>
     requires can_be_done { CanBeDone ask }
     requires of_log { IsOfLog ask }
-    ensures says { IfOk result (λ r. Says ask (record { left = R.left log.old; left_after = R.left log.new; ended = R.ended log.new; faults = R.faults log.old; faults_after = R.faults log.new }) r.script) }
+    ensures says { IfOk result (λ r. Says ask (log_seen R.Source log.old log.new) r.script) }
     ensures bytes { IfOk result (λ r. IfSome (R.left log.old) (λ bytes. bytes ≡ r.bytes.items)) }
-    ensures cause { IfErr result (NotRead ask (record { left = R.left log.old; left_after = R.left log.new; ended = R.ended log.new; faults = R.faults log.old; faults_after = R.faults log.new })) }
-    ensures reads { HasRead (R.left log.old) (R.left log.new) (λ n. n ≤ most_of ask + 1) }
+    ensures cause { IfErr result (NotRead ask (log_seen R.Source log.old log.new)) }
+    ensures reads { ReadsInLimit ask (log_seen R.Source log.old log.new) }
 {
     let bytes = match read_all(alloc, most_of(ask), log) {
         Ok(bytes) => bytes,

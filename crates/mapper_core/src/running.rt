@@ -1,22 +1,15 @@
 //! The top call.
-ghost use Rattle.std.specs.Prelude.{◌≡◌, ◌≤◌, ◌<◌, ◌+◌, ◌⊎◌, ℕ, List, length, true, false, map, IfOk, IfErr, IfSome, Some};
-ghost use Rattle.std.specs.String.{string_bytes};
-ghost use Rattle.std.specs.Io.KnownBytes.{Appends};
-ghost use Rattle.scan_log.specs.Scripts.{ScriptAt};
-ghost use Rattle.scan_log.specs.Spelling.{Spells};
-ghost use Rattle.scan_log.specs.Faults.{FaultAt, first_fault, is_limit};
-ghost use Rattle.scan_log.specs.Legal.{AreLegalLines, IsLegalTranscript};
-ghost use Rattle.scan_log.specs.Poses.{plain_script};
-ghost use Rattle.scan_log.specs.Transcript.{text, serial_marks};
-ghost use Rattle.scan_log.specs.Written.{script_text};
-ghost use Rattle.transcript_check.specs.declared.verdict.Verdict.{Verdict};
-ghost use Rattle.mapper_core.specs.Asks.{Asks, AskForLog, AskForRun, AskForScans, AskNothing, AskOfLog, CanBeDone, IsOfLog, log_of, most_of};
-ghost use Rattle.mapper_core.specs.Causes.{Ended, Ends, HasNoText, IsTextOf};
-ghost use Rattle.mapper_core.specs.Generated.{generated};
-ghost use Rattle.mapper_core.specs.Outside.{HasRead, Rose};
+ghost use Rattle.std.specs.Prelude.{◌≡◌, ℕ, Some, IfOk, IfErr};
+ghost use Rattle.scan_log.specs.Legal.{AreLegalLines};
+ghost use Rattle.mapper_core.specs.Asks.{Asks, AskForLog, AskForRun, AskForScans, AskNothing, CanBeDone, IsOfLog};
+ghost use Rattle.mapper_core.specs.Causes.{Ended, Ends, HasNoText, IsTextOf, ReadsInLimit};
+ghost use Rattle.mapper_core.specs.Done.{IsChecked, IsDriven, IsMade, IsTranscribed, IsTranscribedInOrder};
+ghost use Rattle.mapper_core.specs.Endings.{IsOrNoMemory};
+ghost use Rattle.mapper_core.specs.Inputs.{IfBad, IfOverLimit, IfSpelled};
+ghost use Rattle.mapper_core.specs.Outside.{NoFault};
 ghost use Rattle.mapper_core.specs.Prints.{AreSerialLines, IsVerdictLine};
-ghost use Rattle.mapper_core.specs.Summary.{summary, summary_of};
-ghost use Rattle.mapper_core.specs.Verdicts.{IsFound, verdict_line};
+ghost use Rattle.mapper_core.specs.Seen.{log_seen, out_seen, run_seen, texts};
+ghost use Rattle.mapper_core.specs.Summary.{summary_of};
 
 use crate::callers::threaded_plain;
 use crate::ending::Ending;
@@ -54,55 +47,31 @@ pub fn run<H: Threads + Wait + Sync, R: Source, W: Sink, E: Sink, G: Gate + Sync
     notes: &mut E,
     gate: &G,
 ) -> Status
-    // After Done of the words that have a log run it was read to its end, and a legal transcript of it was written.
-    ensures done { result ≡ Status.Done → AskForRun (map (λ w. string_bytes w) words.now) → (R.ended log.new ≡ true)
-        × ((lines : List ℕ) × IfSome (R.left log.old) (λ bytes. IsLegalTranscript bytes lines) × Appends (W.held out.old) (W.held out.new) lines) }
+    // After Done the log was read to its end, and a legal transcript of it was written: for a serial run that of the log's order.
+    ensures done { result ≡ Status.Done → AskForRun (texts words.now) → IsTranscribed (log_seen R.Source log.old log.new) (out_seen W.Sink out.old out.new) }
+    ensures serial { result ≡ Status.Done → Asks Ask.Serial (texts words.now) → IsTranscribedInOrder (log_seen R.Source log.old log.new) (out_seen W.Sink out.old out.new) }
 
-    // For the words of a serial run it is that of the marks in the log's order.
-    ensures serial { result ≡ Status.Done → Asks Ask.Serial (map (λ w. string_bytes w) words.now)
-        → (s : ScriptAt) × IfSome (R.left log.old) (λ bytes. Spells bytes s) × Appends (W.held out.old) (W.held out.new) (text s (serial_marks (plain_script s))) }
+    // A check has the line of its verdict written, and of a generated script its log is, or the line of its sums.
+    ensures checked { (n : ℕ) → result ≡ Status.Done → Asks (Ask.Check n) (texts words.now) → IsChecked n (log_seen R.Source log.old log.new) (out_seen W.Sink out.old out.new) }
+    ensures made { (n : ℕ) → result ≡ Status.Done → Asks (Ask.Make n) (texts words.now) → IsMade n (out_seen W.Sink out.old out.new) }
+    ensures driven { (n : ℕ) → result ≡ Status.Done → Asks (Ask.Drive n) (texts words.now) → IsDriven n (out_seen W.Sink out.old out.new) }
 
-    // For the word `check` the log and what stands behind it were read to their end, and the line of the verdict was written.
-    ensures checked { (n : ℕ) → result ≡ Status.Done → Asks (Ask.Check n) (map (λ w. string_bytes w) words.now) → (R.ended log.new ≡ true)
-        × ((v : Verdict) × IfSome (R.left log.old) (λ bytes. IsFound n bytes v) × Appends (W.held out.old) (W.held out.new) (verdict_line v)) }
+    // Each status has its cause, and notes get its line or a front of it. Only the words decide on Usage, where memory was not wanting.
+    ensures cause { Ends (run_seen (texts words.now) (log_seen R.Source log.old log.new) (out_seen W.Sink out.old out.new)) (E.held notes.old) (E.held notes.new) result }
+    ensures usage { result ≡ Status.Usage → AskNothing (texts words.now) }
+    ensures wrong_words { AskNothing (texts words.now) → IsOrNoMemory result Status.Usage }
 
-    // The words `make` and `drive` have the log of the generated script written, and the line of its sums.
-    ensures made { (n : ℕ) → result ≡ Status.Done → Asks (Ask.Make n) (map (λ w. string_bytes w) words.now) → Appends (W.held out.old) (W.held out.new) (script_text (generated n)) }
-    ensures driven { (n : ℕ) → result ≡ Status.Done → Asks (Ask.Drive n) (map (λ w. string_bytes w) words.now) → Appends (W.held out.old) (W.held out.new) (summary n) }
-
-    // Each status has its cause, and notes get its line or a front of it.
-    ensures cause { Ends (record {
-      words = map (λ w. string_bytes w) words.now;
-      log = record { left = R.left log.old; left_after = R.left log.new; ended = R.ended log.new; faults = R.faults log.old; faults_after = R.faults log.new };
-      out = record { held = W.held out.old; held_after = W.held out.new; faults = W.faults out.old; faults_after = W.faults out.new };
-    }) (E.held notes.old) (E.held notes.new) result }
-
-    // Only the words decide on Usage, where memory was not wanting.
-    ensures usage { result ≡ Status.Usage → AskNothing (map (λ w. string_bytes w) words.now) }
-    ensures wrong_words { AskNothing (map (λ w. string_bytes w) words.now) → (result ≡ Status.Usage) ⊎ (result ≡ Status.NoMemory) }
-
-    // A log that is spelled is done, where no fault came and memory was not wanting, whatever stands behind it.
-    ensures complete { (a : Ask) (bytes : List ℕ) (s : ScriptAt) → AskOfLog a (map (λ w. string_bytes w) words.now) → R.left log.old ≡ Some bytes
-        → length bytes ≤ most_of a → Spells (log_of a bytes) s → (Rose (R.faults log.old) (R.faults log.new) → ⊥) → (Rose (W.faults out.old) (W.faults out.new) → ⊥)
-        → (result ≡ Status.Done) ⊎ (result ≡ Status.NoMemory) }
-
-    // So is what is generated.
-    ensures complete_scans { AskForScans (map (λ w. string_bytes w) words.now) → (Rose (W.faults out.old) (W.faults out.new) → ⊥)
-        → (result ≡ Status.Done) ⊎ (result ≡ Status.NoMemory) }
-
-    // A log whose first fault is no limit is a bad one, where no read failed and memory was not wanting.
-    ensures bad_log { (a : Ask) (bytes : List ℕ) (f : FaultAt) → AskOfLog a (map (λ w. string_bytes w) words.now) → R.left log.old ≡ Some bytes
-        → length bytes ≤ most_of a → first_fault (log_of a bytes) ≡ Some f → is_limit f.cause ≡ false → (Rose (R.faults log.old) (R.faults log.new) → ⊥)
-        → (result ≡ Status.BadLog) ⊎ (result ≡ Status.NoMemory) }
-
-    // One whose first fault is a limit is over a limit, as is an input that is too long.
-    ensures over_limit { (a : Ask) (bytes : List ℕ) → AskOfLog a (map (λ w. string_bytes w) words.now) → R.left log.old ≡ Some bytes
-        → (most_of a < length bytes) ⊎ ((f : FaultAt) × (first_fault (log_of a bytes) ≡ Some f) × (is_limit f.cause ≡ true)) → (Rose (R.faults log.old) (R.faults log.new) → ⊥)
-        → (result ≡ Status.OverLimit) ⊎ (result ≡ Status.NoMemory) }
+    // Where no stream failed and memory was not wanting, a log that is spelled is done, whatever stands behind it, and so is what is
+    // generated. One whose first fault is no limit is bad, and else it is over a limit, as is an input that is too long.
+    ensures complete { IfSpelled (texts words.now) (R.left log.old) (NoFault (R.faults log.old) (R.faults log.new)
+        → NoFault (W.faults out.old) (W.faults out.new) → IsOrNoMemory result Status.Done) }
+    ensures complete_scans { AskForScans (texts words.now) → NoFault (W.faults out.old) (W.faults out.new) → IsOrNoMemory result Status.Done }
+    ensures bad_log { IfBad (texts words.now) (R.left log.old) (NoFault (R.faults log.old) (R.faults log.new) → IsOrNoMemory result Status.BadLog) }
+    ensures over_limit { IfOverLimit (texts words.now) (R.left log.old) (NoFault (R.faults log.old) (R.faults log.new) → IsOrNoMemory result Status.OverLimit) }
 
     // The input is read no farther than a byte past its limit, and not at all where the words don't ask for a log.
-    ensures reads { (a : Ask) → Asks a (map (λ w. string_bytes w) words.now) → HasRead (R.left log.old) (R.left log.new) (λ n. n ≤ most_of a + 1) }
-    ensures unread { (AskForLog (map (λ w. string_bytes w) words.now) → ⊥) → log.new ≡ log.old }
+    ensures reads { (a : Ask) → Asks a (texts words.now) → ReadsInLimit a (log_seen R.Source log.old log.new) }
+    ensures unread { (AskForLog (texts words.now) → ⊥) → log.new ≡ log.old }
 {
     let ending = run_quietly(rt, alloc, words, log, out, gate);
     tell(alloc, notes, ending);
@@ -117,13 +86,9 @@ fn run_quietly<H: Threads + Wait + Sync, R: Source, W: Sink, G: Gate + Sync>(
     out: &mut W,
     gate: &G,
 ) -> Ending
-    ensures cause { Ended (record {
-      words = map (λ w. string_bytes w) words.now;
-      log = record { left = R.left log.old; left_after = R.left log.new; ended = R.ended log.new; faults = R.faults log.old; faults_after = R.faults log.new };
-      out = record { held = W.held out.old; held_after = W.held out.new; faults = W.faults out.old; faults_after = W.faults out.new };
-    }) result }
-    ensures reads { (a : Ask) → Asks a (map (λ w. string_bytes w) words.now) → HasRead (R.left log.old) (R.left log.new) (λ n. n ≤ most_of a + 1) }
-    ensures unread { (AskForLog (map (λ w. string_bytes w) words.now) → ⊥) → log.new ≡ log.old }
+    ensures cause { Ended (run_seen (texts words.now) (log_seen R.Source log.old log.new) (out_seen W.Sink out.old out.new)) result }
+    ensures reads { (a : Ask) → Asks a (texts words.now) → ReadsInLimit a (log_seen R.Source log.old log.new) }
+    ensures unread { (AskForLog (texts words.now) → ⊥) → log.new ≡ log.old }
 {
     let ask = match asked(alloc, words) {
         Ok(Some(ask)) => ask,
@@ -150,9 +115,9 @@ fn text_of<H: Threads + Wait + Sync, R: Source, G: Gate + Sync>(
     gate: &G,
 ) -> Result<Vec<u8>, Ending>
     requires { CanBeDone ask }
-    ensures text { IfOk result (λ v. IsTextOf ask (record { left = R.left log.old; left_after = R.left log.new; ended = R.ended log.new; faults = R.faults log.old; faults_after = R.faults log.new }) v.items) }
-    ensures cause { IfErr result (HasNoText ask (record { left = R.left log.old; left_after = R.left log.new; ended = R.ended log.new; faults = R.faults log.old; faults_after = R.faults log.new })) }
-    ensures reads { HasRead (R.left log.old) (R.left log.new) (λ n. n ≤ most_of ask + 1) }
+    ensures text { IfOk result (λ v. IsTextOf ask (log_seen R.Source log.old log.new) v.items) }
+    ensures cause { IfErr result (HasNoText ask (log_seen R.Source log.old log.new)) }
+    ensures reads { ReadsInLimit ask (log_seen R.Source log.old log.new) }
     ensures unread { (IsOfLog ask → ⊥) → log.new ≡ log.old }
 {
     match ask {

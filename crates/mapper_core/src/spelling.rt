@@ -1,7 +1,7 @@
 //! The one spelling of what may be asked for.
-ghost use Rattle.std.specs.Prelude.{◌≡◌, ◌≢◌, ◌↔◌, ◌≤◌, ◌∷◌, [], ℕ, true, decimal, map, IfSome, IfNone};
-ghost use Rattle.std.specs.String.{string_bytes};
+ghost use Rattle.std.specs.Prelude.{◌≡◌, ◌≢◌, ◌↔◌, ◌≤◌, ◌∷◌, [], ℕ, true, decimal, IfSome, IfNone};
 ghost use Rattle.mapper_core.specs.Asks.{spelled};
+ghost use Rattle.mapper_core.specs.Seen.{texts};
 
 use crate::words::Ask;
 use itoa::Buffer;
@@ -15,7 +15,7 @@ pub const MAX_LOG: u32 = 268_435_456;
 
 /// Whether the words are the one spelling of it.
 pub fn is_spelled(words: &[String], ask: Ask) -> bool
-    ensures { (result ≡ true) ↔ (map (λ w. string_bytes w) words.now ≡ spelled ask) }
+    ensures { (result ≡ true) ↔ (texts words.now ≡ spelled ask) }
 {
     let mut number = Buffer::new();
     match ask {
@@ -50,7 +50,7 @@ pub fn length_of(text: &str) -> Option<u32>
 }
 
 fn is_one(words: &[String], first: &str) -> bool
-    ensures { (result ≡ true) ↔ (map (λ w. string_bytes w) words.now ≡ first.now ∷ []) }
+    ensures { (result ≡ true) ↔ (texts words.now ≡ first.now ∷ []) }
 {
     match words {
         [word] => word.as_str() == first,
@@ -59,7 +59,7 @@ fn is_one(words: &[String], first: &str) -> bool
 }
 
 fn are_two(words: &[String], first: &str, second: &str) -> bool
-    ensures { (result ≡ true) ↔ (map (λ w. string_bytes w) words.now ≡ first.now ∷ second.now ∷ []) }
+    ensures { (result ≡ true) ↔ (texts words.now ≡ first.now ∷ second.now ∷ []) }
 {
     match words {
         [word, other] => word.as_str() == first && other.as_str() == second,

@@ -1,7 +1,7 @@
 //! What the words ask for.
 ghost use Rattle.std.specs.Prelude.{◌≡◌, ◌∷◌, [], codes, map, IfOk, IfSome, IfNone};
-ghost use Rattle.std.specs.String.{string_bytes};
 ghost use Rattle.mapper_core.specs.Asks.{Asks, AskNothing};
+ghost use Rattle.mapper_core.specs.Seen.{texts};
 
 use crate::hearing::heard;
 use crate::spelling::is_spelled;
@@ -25,8 +25,8 @@ pub enum Ask {
 /// What the words ask for, if it is something that can be done. `clap`'s reading counts only where the words are the one
 /// spelling of what it read.
 pub fn asked(alloc: Global, words: &[String]) -> Result<Option<Ask>, AllocError>
-    ensures found { IfOk result (λ r. IfSome r (λ a. Asks a (map (λ w. string_bytes w) words.now))) }
-    ensures nothing { IfOk result (λ r. IfNone r (AskNothing (map (λ w. string_bytes w) words.now))) }
+    ensures found { IfOk result (λ r. IfSome r (λ a. Asks a (texts words.now))) }
+    ensures nothing { IfOk result (λ r. IfNone r (AskNothing (texts words.now))) }
 {
     let argv = with_program(alloc, words)?;
     let Some(ask) = heard(alloc, argv.as_slice())? else {
@@ -41,7 +41,7 @@ pub fn asked(alloc: Global, words: &[String]) -> Result<Option<Ask>, AllocError>
 
 // The words after the program's name, which `clap` passes over.
 fn with_program<'a>(alloc: Global, words: &'a [String]) -> Result<Vec<&'a str>, AllocError>
-    ensures { IfOk result (λ v. map (λ w. w.now) v.items ≡ codes "mapper" ∷ map (λ w. string_bytes w) words.now) }
+    ensures { IfOk result (λ v. map (λ w. w.now) v.items ≡ codes "mapper" ∷ texts words.now) }
 {
     let mut argv = Vec::new(alloc);
     argv.push("mapper")?;
