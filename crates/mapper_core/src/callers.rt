@@ -7,6 +7,7 @@ mod naming;
 mod phase;
 mod queue;
 mod script;
+mod stage;
 mod threads;
 
 pub use threads::{run_callers, threaded, threaded_plain};

@@ -9,10 +9,11 @@ ghost use Rattle.published_map.specs.Marks.{callers_of, IsDistinct, AllMetNow};
 ghost use Rattle.mapper_core.specs.Mine.{Turned};
 ghost use Rattle.mapper_core.specs.Meetings.{AllTurned, AllParted, IsOfCallers, Standing, IsTotal};
 
-use super::alarm::{Bells, Signals};
+use super::alarm::Signals;
 use super::caller::run_own;
 use super::merging::merge;
 use super::queue::Queue;
+use super::stage::Stage;
 use crate::replying::Replies;
 use map_fold::NoMemory;
 use published_map::{MapName, Pass, Shared};
@@ -98,10 +99,7 @@ fn all_meet<L: MapName, R: Wait>(rt: &R, shared: &Shared<L>, passes: Vec<Pass<L>
 /// which they meet has no more than the script's updates.
 pub fn phase<L: MapName + Send + Sync, G: Gate + Sync, R: Threads + Wait + Sync>(
     rt: &R,
-    alloc: Global,
-    shared: &Shared<L>,
-    gate: &G,
-    bells: &Bells,
+    stage: &Stage<'_, L, G>,
     commands: &[Command],
     from: usize,
     to: usize,
@@ -122,13 +120,13 @@ pub fn phase<L: MapName + Send + Sync, G: Gate + Sync, R: Threads + Wait + Sync>
 {
     let between = &commands[from..to];
     let signals = Signals {
-        gate,
-        bells,
+        gate: stage.gate,
+        bells: stage.bells,
         from: from as u32,
     };
-    let turns = run_each(rt, alloc, shared, &signals, between, passes)?;
-    let (passes, mut queues) = part(alloc, turns)?;
-    let passes = all_meet(rt, shared, passes);
+    let turns = run_each(rt, stage.alloc, stage.shared, &signals, between, passes)?;
+    let (passes, mut queues) = part(stage.alloc, turns)?;
+    let passes = all_meet(rt, stage.shared, passes);
     merge(between, queues.as_mut_slice(), replies)?;
     Ok(passes)
 }
@@ -148,10 +146,9 @@ pub fn held<L: MapName>(passes: &[Pass<L>]) -> Reply
 }
 
 /// The callers have met at a barrier, where the map is settled, and meet again.
-pub fn barrier<L: MapName, R: Wait>(
+pub fn barrier<L: MapName, G: Gate, R: Wait>(
     rt: &R,
-    alloc: Global,
-    shared: &Shared<L>,
+    stage: &Stage<'_, L, G>,
     commands: &[Command],
     at: usize,
     passes: Vec<Pass<L>>,
@@ -165,7 +162,7 @@ pub fn barrier<L: MapName, R: Wait>(
     ensures all { IfOk result (λ v. length v.items ≡ L.callers) }
     ensures standing { IfOk result (λ v. Standing L.voxel (take (at + 1) commands.now) v.items replies.new) }
 {
-    shared.settle(rt, alloc)?;
+    stage.shared.settle(rt, stage.alloc)?;
     replies.push(held(passes.as_slice()))?;
-    Ok(all_meet(rt, shared, passes))
+    Ok(all_meet(rt, stage.shared, passes))
 }

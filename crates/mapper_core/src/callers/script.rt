@@ -5,25 +5,21 @@ ghost use Rattle.scan_log.specs.Plain.{IsPlain};
 ghost use Rattle.scan_log.specs.Scripts.{points_of};
 ghost use Rattle.mapper_core.specs.Meetings.{AreNewcomers, HasCaller, StandingAtEnd};
 
-use super::alarm::Bells;
 use super::naming::is_barrier;
 use super::phase::{barrier, held, phase};
+use super::stage::Stage;
 use crate::replying::Replies;
 use map_fold::NoMemory;
-use published_map::{MapName, Pass, Shared};
+use published_map::{MapName, Pass};
 use rebuild_worker::Gate;
 use scan_log::Command;
-use std::alloc::Global;
 use std::sync::Wait;
 use std::thread::Threads;
 
 /// Runs the commands up to each barrier, and passes it. At the end all have met, and the last reply tells what is held.
 pub fn run_commands<L: MapName + Send + Sync, G: Gate + Sync, R: Threads + Wait + Sync>(
     rt: &R,
-    alloc: Global,
-    shared: &Shared<L>,
-    gate: &G,
-    bells: &Bells,
+    stage: &Stage<'_, L, G>,
     commands: &[Command],
     passes: Vec<Pass<L>>,
 ) -> Result<(Vec<Pass<L>>, Replies), NoMemory>
@@ -37,40 +33,18 @@ pub fn run_commands<L: MapName + Send + Sync, G: Gate + Sync, R: Threads + Wait 
     ensures { IfOk result (λ r. StandingAtEnd L.voxel L.callers commands.now r.0.items r.1) }
 {
     let mut passes = passes;
-    let mut replies = Replies::new(alloc);
+    let mut replies = Replies::new(stage.alloc);
     let mut from = 0;
     let mut at = 0;
     for command in commands {
         if is_barrier(command) {
-            let met = phase(
-                rt,
-                alloc,
-                shared,
-                gate,
-                bells,
-                commands,
-                from,
-                at,
-                passes,
-                &mut replies,
-            )?;
-            passes = barrier(rt, alloc, shared, commands, at, met, &mut replies)?;
+            let met = phase(rt, stage, commands, from, at, passes, &mut replies)?;
+            passes = barrier(rt, stage, commands, at, met, &mut replies)?;
             from = at + 1;
         }
         at += 1;
     }
-    let passes = phase(
-        rt,
-        alloc,
-        shared,
-        gate,
-        bells,
-        commands,
-        from,
-        at,
-        passes,
-        &mut replies,
-    )?;
+    let passes = phase(rt, stage, commands, from, at, passes, &mut replies)?;
     replies.push(held(passes.as_slice()))?;
     Ok((passes, replies))
 }

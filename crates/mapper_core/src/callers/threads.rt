@@ -10,6 +10,7 @@ ghost use Rattle.mapper_core.specs.Meetings.{AreNewcomers, HasCaller, StandingAt
 use super::alarm::{Bells, Post};
 use super::naming::callers_in;
 use super::script::run_commands;
+use super::stage::Stage;
 use crate::replying::Replies;
 use map_fold::NoMemory;
 use published_map::{MapName, Opened, Pass, Shared};
@@ -27,10 +28,7 @@ type Run<L> = Result<(Vec<Pass<L>>, Replies), NoMemory>;
 // The callers run beside the second worker, which is stopped with the first one when they have ended.
 fn beside_second<L: MapName + Send + Sync, G: Gate + Sync, R: Threads + Wait + Sync>(
     rt: &R,
-    alloc: Global,
-    shared: &Shared<L>,
-    gate: &G,
-    bells: &Bells,
+    stage: &Stage<'_, L, G>,
     post: Post,
     script: &PlainScript,
     passes: Vec<Pass<L>>,
@@ -45,6 +43,9 @@ fn beside_second<L: MapName + Send + Sync, G: Gate + Sync, R: Threads + Wait + S
     requires some { 0 < L.callers }
     ensures { IfOk result (λ r. StandingAtEnd L.voxel L.callers script.now.commands r.0.items r.1) }
 {
+    let alloc = stage.alloc;
+    let shared = stage.shared;
+    let gate = stage.gate;
     let (_, all) = join(
         rt,
         move ||
@@ -57,8 +58,8 @@ fn beside_second<L: MapName + Send + Sync, G: Gate + Sync, R: Threads + Wait + S
             requires { IsPlainScript script.now × AllByRecursion (HasCaller L.callers) script.now.commands × AreNewcomers L.callers passes.items × (L.callers ≡ L.parts) × (0 < L.callers) }
             ensures { IfOk result (λ r. StandingAtEnd L.voxel L.callers script.entry.now.commands r.0.items r.1) }
         {
-            let all = run_commands(rt, alloc, shared, gate, bells, script.commands(), passes);
-            bells.stop();
+            let all = run_commands(rt, stage, script.commands(), passes);
+            stage.bells.stop();
             all
         },
     );
@@ -117,6 +118,12 @@ fn run_plain<L: MapName + Send + Sync, G: Gate + Sync, R: Threads + Wait + Sync>
     let (second, rest) = pair(alloc)?;
     let other = Post { rest, large };
     let bells = Bells { first, second };
+    let stage = Stage {
+        alloc,
+        shared,
+        gate,
+        bells: &bells,
+    };
     let _commands = script.commands();
     let (_, all) = join(
         rt,
@@ -129,7 +136,7 @@ fn run_plain<L: MapName + Send + Sync, G: Gate + Sync, R: Threads + Wait + Sync>
         || -> Run<L>
             requires { IsPlainScript script.now × (16 ≤ other.large) × (other.large ≤ 1000000) × (L.voxel ≡ script.now.sizes.voxel) × AllByRecursion (HasCaller L.callers) script.now.commands × AreNewcomers L.callers passes.items × (L.callers ≡ L.parts) × (0 < L.callers) }
             ensures { IfOk result (λ r. StandingAtEnd L.voxel L.callers script.entry.now.commands r.0.items r.1) }
-        { beside_second(rt, alloc, shared, gate, &bells, other, script, passes) },
+        { beside_second(rt, &stage, other, script, passes) },
     );
     all
 }
