@@ -1,7 +1,8 @@
 //! How long a log may be, by hand.
-use crate::reading::{WIDE_HEADER, fault_of, log_of, log_with};
-use scan_log::{LogCause, ParseFault};
+use crate::reading::{WIDE_HEADER, is_bad, is_read, log_of, log_with};
+use scan_log::LogCause;
 use std::alloc::{AllocError, Global};
+use std::process::Abort;
 use std::test::Fail;
 
 // The header, and the line so many times.
@@ -16,23 +17,20 @@ fn repeated(alloc: Global, line: &[u8], times: u32) -> Result<Vec<u8>, AllocErro
 #[test]
 fn a_command_has_at_most_262144_points_or_boxes(rt: HostRuntime) -> Result<(), Fail> {
     let alloc = rt.alloc();
-    for (word, one) in [
-        (b"@1 add".as_slice(), b" 1 2 3".as_slice()),
-        (b"@1 erase".as_slice(), b" 1 2 3".as_slice()),
-        (b"@1 suspend".as_slice(), b" 0 0 0 0 0 0".as_slice()),
-    ] {
-        let mut log = log_of(alloc, word)?;
-        for _ in 0..262_144 {
-            log.extend_from_slice(one)?;
-        }
-        assert_eq!(rt; fault_of(alloc, log.as_slice()), None, "{word:?}");
+    holds_at_most(&rt, alloc, b"@1 add", b" 1 2 3")?;
+    holds_at_most(&rt, alloc, b"@1 erase", b" 1 2 3")?;
+    holds_at_most(&rt, alloc, b"@1 suspend", b" 0 0 0 0 0 0")
+}
+
+// The command holds one of these so many times, and no more.
+fn holds_at_most(rt: &impl Abort, alloc: Global, word: &[u8], one: &[u8]) -> Result<(), Fail> {
+    let mut log = log_of(alloc, word)?;
+    for _ in 0..262_144 {
         log.extend_from_slice(one)?;
-        let many = Some(ParseFault::Bad {
-            line: 2,
-            cause: LogCause::TooManyPoints,
-        });
-        assert_eq!(rt; fault_of(alloc, log.as_slice()), many, "{word:?}");
     }
+    is_read(rt, alloc, log.as_slice());
+    log.extend_from_slice(one)?;
+    is_bad(rt, alloc, log.as_slice(), 2, LogCause::TooManyPoints);
     Ok(())
 }
 
@@ -46,13 +44,9 @@ fn a_log_has_at_most_4194304_points(rt: HostRuntime) -> Result<(), Fail> {
     line.push(b'\n')?;
     let mut log = repeated(alloc, line.as_slice(), 16)?;
     log.extend_from_slice(b"@1 erase 0 0 0\n")?;
-    assert_eq!(rt; fault_of(alloc, log.as_slice()), None);
+    is_read(&rt, alloc, log.as_slice());
     log.extend_from_slice(b"@1 thin 0 0 x\n")?;
-    let many = Some(ParseFault::Bad {
-        line: 19,
-        cause: LogCause::TooManyPoints,
-    });
-    assert_eq!(rt; fault_of(alloc, log.as_slice()), many);
+    is_bad(&rt, alloc, log.as_slice(), 19, LogCause::TooManyPoints);
     Ok(())
 }
 
@@ -60,13 +54,15 @@ fn a_log_has_at_most_4194304_points(rt: HostRuntime) -> Result<(), Fail> {
 fn a_log_has_at_most_65536_commands(rt: HostRuntime) -> Result<(), Fail> {
     let alloc = rt.alloc();
     let mut log = repeated(alloc, b"sync\n", 65_536)?;
-    assert_eq!(rt; fault_of(alloc, log.as_slice()), None);
+    is_read(&rt, alloc, log.as_slice());
     log.extend_from_slice(b"# what\nwhat\n")?;
-    let many = Some(ParseFault::Bad {
-        line: 65_539,
-        cause: LogCause::TooManyCommands,
-    });
-    assert_eq!(rt; fault_of(alloc, log.as_slice()), many);
+    is_bad(
+        &rt,
+        alloc,
+        log.as_slice(),
+        65_539,
+        LogCause::TooManyCommands,
+    );
     Ok(())
 }
 
@@ -83,13 +79,9 @@ fn searches(alloc: Global, word: &[u8], times: u32) -> Result<Vec<u8>, AllocErro
 fn a_command_has_at_most_262144_searches(rt: HostRuntime) -> Result<(), Fail> {
     let alloc = rt.alloc();
     let log = searches(alloc, b"@1 nears 1", 262_144)?;
-    assert_eq!(rt; fault_of(alloc, log.as_slice()), None);
+    is_read(&rt, alloc, log.as_slice());
     let log = searches(alloc, b"@1 nears x", 262_145)?;
-    let many = Some(ParseFault::Bad {
-        line: 2,
-        cause: LogCause::TooManyPoints,
-    });
-    assert_eq!(rt; fault_of(alloc, log.as_slice()), many);
+    is_bad(&rt, alloc, log.as_slice(), 2, LogCause::TooManyPoints);
     Ok(())
 }
 
@@ -101,13 +93,9 @@ fn a_log_asks_for_at_most_16777216_hits(rt: HostRuntime) -> Result<(), Fail> {
     for _ in 0..16 {
         log.extend_from_slice(b"\n@1 near 1 0 0 0")?;
     }
-    assert_eq!(rt; fault_of(alloc, log.as_slice()), None);
+    is_read(&rt, alloc, log.as_slice());
     log.extend_from_slice(b"\n@1 near 1 0 0 0 within 0\n@1 what")?;
-    let many = Some(ParseFault::Bad {
-        line: 19,
-        cause: LogCause::TooManyHits,
-    });
-    assert_eq!(rt; fault_of(alloc, log.as_slice()), many);
+    is_bad(&rt, alloc, log.as_slice(), 19, LogCause::TooManyHits);
     Ok(())
 }
 
@@ -116,10 +104,6 @@ fn a_bad_number_is_told_before_too_many_hits(rt: HostRuntime) -> Result<(), Fail
     let alloc = rt.alloc();
     let mut log = searches(alloc, b"@1 nears 256", 65_536)?;
     log.extend_from_slice(b"\n@1 near 1 0 0 x")?;
-    let bad = Some(ParseFault::Bad {
-        line: 3,
-        cause: LogCause::BadNumber,
-    });
-    assert_eq!(rt; fault_of(alloc, log.as_slice()), bad);
+    is_bad(&rt, alloc, log.as_slice(), 3, LogCause::BadNumber);
     Ok(())
 }

@@ -3,6 +3,9 @@ use local_region::RulesFault;
 use map_fold::NoMemory;
 use point_geom::{Axis, CuboidError, OutOfRange};
 use scan_log::{LogCause, ParseFault};
+use std::alloc::Global;
+use std::fmt::Display;
+use std::process::Abort;
 use std::test::Fail;
 
 #[test]
@@ -12,26 +15,22 @@ fn a_refusal_says_where_and_why(rt: HostRuntime) -> Result<(), Fail> {
         axis: Axis::Z,
         value: -1_099_511_627_777,
     };
-    let text = format!(in alloc; "{far}")?;
-    assert_eq!(rt;
-        text.as_str(),
-        "z is -1099511627777 mm, which is out of range"
-    );
+    let want = "z is -1099511627777 mm, which is out of range";
+    says(&rt, alloc, &far, want)?;
     let inverted = CuboidError::Inverted { axis: Axis::Y };
-    assert_eq!(rt;
-        format!(in alloc; "{inverted}")?.as_str(),
-        "hi is below lo on y"
-    );
+    says(&rt, alloc, &inverted, "hi is below lo on y")?;
     let bad = ParseFault::Bad {
         line: 12,
         cause: LogCause::WrongCount,
     };
-    assert_eq!(rt;
-        format!(in alloc; "{bad}")?.as_str(),
-        "line 12: wrong count"
-    );
-    let text = format!(in alloc; "{}", RulesFault::Ball)?;
-    assert_eq!(rt; text.as_str(), "twice the ball is not below the side");
-    assert_eq!(rt; format!(in alloc; "{NoMemory}")?.as_str(), "no memory");
+    says(&rt, alloc, &bad, "line 12: wrong count")?;
+    let want = "twice the ball is not below the side";
+    says(&rt, alloc, &RulesFault::Ball, want)?;
+    says(&rt, alloc, &NoMemory, "no memory")
+}
+
+fn says<D: Display>(rt: &impl Abort, alloc: Global, refusal: &D, want: &str) -> Result<(), Fail> {
+    let text = format!(in alloc; "{refusal}")?;
+    assert_eq!(rt; text.as_str(), want);
     Ok(())
 }

@@ -1,7 +1,10 @@
 //! Numbers in a log, by hand.
-use crate::reading::{assert_faults, fault_of, log_of, read};
+use crate::assertions::same;
+use crate::reading::{assert_faults, is_bad, log_of, read};
 use map_fold::Update;
-use scan_log::{Command, LogCause, ParseFault};
+use point_geom::Point;
+use scan_log::{Command, LogCause};
+use std::process::Abort;
 use std::test::Fail;
 
 #[test]
@@ -46,10 +49,7 @@ fn a_number_far_out_is_not_taken_for_a_near_one(rt: HostRuntime) -> Result<(), F
 #[test]
 fn each_coordinate_is_the_one_that_is_spelled(rt: HostRuntime) -> Result<(), Fail> {
     let log = log_of(rt.alloc(), b"@3 add 0 -1 10 -1000000000 1000000000 -907")?;
-    let script = match read(rt.alloc(), log.as_slice()) {
-        Ok(script) => script,
-        Err(fault) => panic!(&rt; "{fault:?}"),
-    };
+    let script = read(rt.alloc(), log.as_slice())?;
     let [
         Command::Change {
             caller: 3,
@@ -57,14 +57,18 @@ fn each_coordinate_is_the_one_that_is_spelled(rt: HostRuntime) -> Result<(), Fai
         },
     ] = script.commands()
     else {
-        panic!(&rt; "{script:?}");
+        return Err(Fail::new("not one scan of caller 3"));
     };
-    let spelled = points.as_slice().iter().map(|p| [p.x(), p.y(), p.z()]);
+    are_spelled(&rt, points.as_slice());
+    Ok(())
+}
+
+fn are_spelled(rt: &impl Abort, points: &[Point]) {
+    same(rt, "points", points.len(), 2);
+    let spelled = points.iter().map(|p| [p.x(), p.y(), p.z()]);
     for (point, wanted) in spelled.zip([[0, -1, 10], [-1_000_000_000, 1_000_000_000, -907]]) {
         assert_eq!(rt; point, wanted);
     }
-    assert_eq!(rt; points.len(), 2);
-    Ok(())
 }
 
 #[test]
@@ -74,16 +78,8 @@ fn a_number_is_read_to_its_end_however_long(rt: HostRuntime) -> Result<(), Fail>
     for _ in 0..1_000_000 {
         log.push(b'9')?;
     }
-    let far = Some(ParseFault::Bad {
-        line: 2,
-        cause: LogCause::OutOfRange,
-    });
-    assert_eq!(rt; fault_of(alloc, log.as_slice()), far);
+    is_bad(&rt, alloc, log.as_slice(), 2, LogCause::OutOfRange);
     log.push(b'x')?;
-    let bad = Some(ParseFault::Bad {
-        line: 2,
-        cause: LogCause::BadNumber,
-    });
-    assert_eq!(rt; fault_of(alloc, log.as_slice()), bad);
+    is_bad(&rt, alloc, log.as_slice(), 2, LogCause::BadNumber);
     Ok(())
 }

@@ -1,8 +1,10 @@
 //! Poses, by hand.
+use crate::assertions::{are_bytes, holds, same};
 use crate::reading::{WIDE_HEADER, assert_faults, assert_faults_behind, assert_reads, read};
-use map_fold::{Cuboids, Update};
+use crate::written::is_told;
+use map_fold::Update;
 use point_geom::{Corner, Cuboid};
-use scan_log::{Command, Format, LogCause, PlainScript, Reply, Script, reply_line, write_script};
+use scan_log::{Command, Format, LogCause, PlainScript, Reply, Script, write_script};
 use std::alloc::Global;
 use std::test::Fail;
 
@@ -77,12 +79,12 @@ fn a_pose_is_written_as_it_was_read_and_told_by_its_place(rt: HostRuntime) -> Re
     let alloc = rt.alloc();
     let log = b"ikdmap 2 voxel 200 large 1500\n@7 pose 100 20 30 1 -2 3\n".as_slice();
     let script = read(alloc, log)?;
-    assert_eq!(rt; write_script(alloc, &script)?.as_slice(), log);
-    let mut line = Vec::new(alloc);
+    let written = write_script(alloc, &script)?;
+    are_bytes(&rt, written.as_slice(), log);
+    let pose = script.commands().first();
+    holds(&rt, "one command", pose.is_some());
     let done = Reply::Done { mark: 3 };
-    reply_line(&mut line, Format::Two, Some(&script.commands()[0]), &done)?;
-    assert_eq!(rt; line.as_slice(), b"@7 ok 3\n".as_slice());
-    Ok(())
+    is_told(&rt, alloc, Format::Two, pose, &done, b"@7 ok 3\n")
 }
 
 // What each command of the script that is run deletes.
@@ -115,10 +117,8 @@ fn each_caller_has_a_region_of_its_own(rt: HostRuntime) -> Result<(), Fail> {
                 sync\n"
         .as_slice();
     let script = read(alloc, log)?;
-    assert_eq!(rt;
-        deletions(alloc, &script)?.as_slice(),
-        [0, 0, 1, 0, 3, 0, 1, 9].as_slice()
-    );
+    let counts = deletions(alloc, &script)?;
+    assert!(rt; counts.as_slice() == [0, 0, 1, 0, 3, 0, 1, 9].as_slice());
     Ok(())
 }
 
@@ -129,6 +129,25 @@ fn what_a_region_leaves_is_deleted(rt: HostRuntime) -> Result<(), Fail> {
         b"ikdmap 2 voxel 200 large 1500\n@1 pose 100 20 30 0 0 0\n@1 pose 100 20 30 30 0 0\n".as_slice();
     let script = read(alloc, log)?;
     let plain = PlainScript::of(alloc, script)?;
+    let left = slab()?;
+    let Some(
+        Command::Change {
+            caller: 1,
+            update: Update::Delete(boxes),
+        },
+    ) = plain.commands().last()
+    else {
+        return Err(Fail::new("a pose stands as a deletion"));
+    };
+    same(&rt, "boxes", boxes.len(), 1);
+    for cuboid in boxes.as_slice() {
+        same(&rt, "the box", *cuboid, left);
+    }
+    Ok(())
+}
+
+// What the region leaves behind.
+fn slab() -> Result<Cuboid, Fail> {
     let lo = Corner {
         x: -50,
         y: -50,
@@ -139,17 +158,5 @@ fn what_a_region_leaves_is_deleted(rt: HostRuntime) -> Result<(), Fail> {
         y: 50,
         z: 50,
     };
-    let mut left = Cuboids::new(alloc);
-    left.push(Cuboid::new(lo, hi)?)?;
-    let Some(
-        Command::Change {
-            caller: 1,
-            update: Update::Delete(boxes),
-        },
-    ) = plain.commands().last()
-    else {
-        return Err(Fail::new("a pose stands as a deletion"));
-    };
-    assert_eq!(rt; boxes.as_slice(), left.as_slice());
-    Ok(())
+    Ok(Cuboid::new(lo, hi)?)
 }

@@ -1,4 +1,5 @@
 //! Logs and lines, by hand.
+use crate::assertions::{are_bytes, holds, same};
 use map_fold::{Hit, Hits, NearReply, Settings, Update};
 use point_geom::Point;
 use scan_log::{Command, Format, LogCause, ParseFault, Reply, Script, parse, reply_line};
@@ -31,6 +32,22 @@ pub fn read(alloc: Global, log: &[u8]) -> Result<Script, ParseFault> {
 
 pub fn fault_of(alloc: Global, log: &[u8]) -> Option<ParseFault> {
     read(alloc, log).err()
+}
+
+// The log is refused in this line for this cause.
+pub fn is_bad(rt: &impl Abort, alloc: Global, log: &[u8], line: u32, cause: LogCause) {
+    let fault = fault_of(alloc, log);
+    same(
+        rt,
+        "the fault",
+        fault,
+        Some(ParseFault::Bad { line, cause }),
+    );
+}
+
+// The log is read.
+pub fn is_read(rt: &impl Abort, alloc: Global, log: &[u8]) {
+    same(rt, "no fault", fault_of(alloc, log), None);
 }
 
 fn is_end(byte: &u8) -> bool {
@@ -66,26 +83,22 @@ pub fn assert_faults_behind(
 
 #[test]
 fn a_log_without_its_header_is_refused_where_it_would_stand(rt: HostRuntime) {
-    for (line, log) in [
-        (1, b"".as_slice()),
-        (2, b"\n".as_slice()),
-        (1, b"# a map".as_slice()),
-        (3, b"# a map\n\n".as_slice()),
-        (1, b"ikdmap 3 voxel 200 large 1500\n".as_slice()),
-        (1, b"ikdmap 1 voxel 200 large 1500 \n".as_slice()),
-        (1, b"ikdmap 1  voxel 200 large 1500\n".as_slice()),
-        (1, b"ikdmap 1 voxel 200\n".as_slice()),
-        (3, b"# a map\n\nikdmap 1 voxel 200 big 1500\n".as_slice()),
-    ] {
-        assert_eq!(rt;
-            fault_of(rt.alloc(), log),
-            Some(ParseFault::Bad {
-                line,
-                cause: LogCause::NoHeader
-            }),
-            "{log:?}"
-        );
-    }
+    has_no_header(&rt, rt.alloc(), b"", 1);
+    has_no_header(&rt, rt.alloc(), b"\n", 2);
+    has_no_header(&rt, rt.alloc(), b"# a map", 1);
+    has_no_header(&rt, rt.alloc(), b"# a map\n\n", 3);
+    has_no_header(&rt, rt.alloc(), b"ikdmap 3 voxel 200 large 1500\n", 1);
+    has_no_header(&rt, rt.alloc(), b"ikdmap 1 voxel 200 large 1500 \n", 1);
+    has_no_header(&rt, rt.alloc(), b"ikdmap 1  voxel 200 large 1500\n", 1);
+    has_no_header(&rt, rt.alloc(), b"ikdmap 1 voxel 200\n", 1);
+    let late = b"# a map\n\nikdmap 1 voxel 200 big 1500\n";
+    has_no_header(&rt, rt.alloc(), late, 3);
+}
+
+fn has_no_header(rt: &impl Abort, alloc: Global, log: &[u8], line: u32) {
+    let cause = LogCause::NoHeader;
+    let fault = fault_of(alloc, log);
+    assert_eq!(rt; fault, Some(ParseFault::Bad { line, cause }), "{log:?}");
 }
 
 // Each of these lines, as all of a log, has this fault.
@@ -118,13 +131,10 @@ fn a_header_has_its_limits(rt: HostRuntime) {
         b"ikdmap 1 voxel 200 large 1500\r\n\
           ikdmap 1 voxel 0200 large 15\n",
     );
-    for log in [
-        b"ikdmap 1 voxel 1 large 16".as_slice(),
-        b"ikdmap 2 voxel 1 large 16".as_slice(),
-        b"\n# the coarsest\nikdmap 1 voxel 1000000 large 1000000\n".as_slice(),
-    ] {
-        assert_eq!(rt; fault_of(rt.alloc(), log), None, "{log:?}");
-    }
+    is_read(&rt, rt.alloc(), b"ikdmap 1 voxel 1 large 16");
+    is_read(&rt, rt.alloc(), b"ikdmap 2 voxel 1 large 16");
+    let coarsest = b"\n# the coarsest\nikdmap 1 voxel 1000000 large 1000000\n";
+    is_read(&rt, rt.alloc(), coarsest);
 }
 
 #[test]
@@ -284,20 +294,17 @@ fn no_box_is_inverted(rt: HostRuntime) -> Result<(), Fail> {
 #[test]
 fn the_first_faulty_line_is_named_and_all_lines_count(rt: HostRuntime) -> Result<(), Fail> {
     let alloc = rt.alloc();
-    let fault = Some(ParseFault::Bad {
-        line: 4,
-        cause: LogCause::BadCaller,
-    });
-    for lines in [
-        b"# scan\n\n@9 add 1 2 3\n".as_slice(),
-        b"@1 add 1 2 3\nsync\n@9 add 1 2 3\n@1 add\n".as_slice(),
-        b"\n\n@0".as_slice(),
-    ] {
-        let log = log_of(alloc, lines)?;
-        assert_eq!(rt; fault_of(alloc, log.as_slice()), fault, "{lines:?}");
-    }
+    is_bad_in_line_4(&rt, alloc, b"# scan\n\n@9 add 1 2 3\n")?;
+    is_bad_in_line_4(&rt, alloc, b"@1 add 1 2 3\nsync\n@9 add 1 2 3\n@1 add\n")?;
+    is_bad_in_line_4(&rt, alloc, b"\n\n@0")?;
     let log = log_of(alloc, b"# one\n@1 add 1 2 3\n\n#\nsync\n# two")?;
-    assert_eq!(rt; fault_of(alloc, log.as_slice()), None);
+    is_read(&rt, alloc, log.as_slice());
+    Ok(())
+}
+
+fn is_bad_in_line_4(rt: &impl Abort, alloc: Global, lines: &[u8]) -> Result<(), Fail> {
+    let log = log_of(alloc, lines)?;
+    is_bad(rt, alloc, log.as_slice(), 4, LogCause::BadCaller);
     Ok(())
 }
 
@@ -313,7 +320,7 @@ pub fn assert_reads(
         assert_eq!(rt; fault_of(alloc, log.as_slice()), None, "{line:?}");
     }
     let log = log_with(alloc, header, lines)?;
-    assert_eq!(rt; fault_of(alloc, log.as_slice()), None);
+    is_read(rt, alloc, log.as_slice());
     Ok(())
 }
 
@@ -358,38 +365,45 @@ fn the_smallest_run_is_read_and_told(rt: HostRuntime) -> Result<(), Fail> {
     let alloc = rt.alloc();
     let log = log_of(alloc, b"@1 add 1 2 3\n@1 near 1 0 0 0\n")?;
     let script = read(alloc, log.as_slice())?;
-    assert_eq!(rt; script.settings(), &Settings::new(200, 1500));
-    assert_eq!(rt; script.commands().len(), 2);
-    assert_eq!(rt; script.commands()[0].points(), 1);
-    assert_eq!(rt; script.commands()[1].points(), 0);
+    let are_set = script.settings() == &Settings::new(200, 1500);
+    holds(&rt, "the settings", are_set);
+    let [add, near] = script.commands() else {
+        return Err(Fail::new("not two commands"));
+    };
+    same(&rt, "points of the scan", add.points(), 1);
+    same(&rt, "points of the search", near.points(), 0);
+    let out = told(alloc, add, near)?;
+    let want = b"@1 ok 1\n@1 near 1 | 0 1 2 3 14\nend 1 live 1 suspended 0\n";
+    are_bytes(&rt, out.as_slice(), want);
+    Ok(())
+}
 
-    let mut hits = Hits::new(alloc);
-    hits.push(Hit {
-        number: 0,
-        point: Point::new(1, 2, 3)?,
-        dist2: 14,
-    })?;
-    let near = Reply::Near(NearReply { mark: 1, hits });
+// What the run writes. A reply to no command is none of its lines.
+fn told(alloc: Global, add: &Command, near: &Command) -> Result<Vec<u8>, Fail> {
+    let hits = one_hit(alloc)?;
+    let found = Reply::Near(NearReply { mark: 1, hits });
     let totals = Reply::Totals {
         mark: 1,
         live: 1,
         suspended: 0,
     };
     let mut out = Vec::new(alloc);
-    reply_line(
-        &mut out,
-        Format::One,
-        Some(&script.commands()[0]),
-        &Reply::Done { mark: 1 },
-    )?;
-    reply_line(&mut out, Format::One, Some(&script.commands()[1]), &near)?;
+    let done = Reply::Done { mark: 1 };
+    reply_line(&mut out, Format::One, Some(add), &done)?;
+    reply_line(&mut out, Format::One, Some(near), &found)?;
     reply_line(&mut out, Format::One, None, &totals)?;
-    reply_line(&mut out, Format::One, None, &near)?;
-    assert_eq!(rt;
-        out.as_slice(),
-        b"@1 ok 1\n@1 near 1 | 0 1 2 3 14\nend 1 live 1 suspended 0\n".as_slice()
-    );
-    Ok(())
+    reply_line(&mut out, Format::One, None, &found)?;
+    Ok(out)
+}
+
+fn one_hit(alloc: Global) -> Result<Hits, Fail> {
+    let mut hits = Hits::new(alloc);
+    hits.push(Hit {
+        number: 0,
+        point: Point::new(1, 2, 3)?,
+        dist2: 14,
+    })?;
+    Ok(hits)
 }
 
 #[test]
@@ -401,7 +415,7 @@ fn a_script_holds_what_was_pushed(rt: HostRuntime) -> Result<(), Fail> {
         point: Point::new(1, -2, 3)?,
         within: Some(4_000_000_000),
     })?;
-    assert_eq!(rt; script.commands().len(), 1);
-    assert_eq!(rt; script.format(), Format::One);
+    same(&rt, "commands", script.commands().len(), 1);
+    same(&rt, "the format", script.format(), Format::One);
     Ok(())
 }

@@ -1,12 +1,15 @@
 //! The searches that version 2 alone has, by hand.
+use crate::assertions::{are_bytes, same};
 use crate::reading::{WIDE_HEADER, assert_faults, assert_faults_behind, assert_reads, read};
+use crate::written::is_told;
 use map_fold::{
     BoxReply, ClusterReply, Group, Groups, Hit, HitLists, Hits, Item, Items, Label, NearsReply,
     Points,
 };
 use point_geom::Point;
-use scan_log::{Command, Format, LogCause, Reply, reply_line, write_script};
+use scan_log::{Command, Format, LogCause, Reply, write_script};
 use std::alloc::Global;
+use std::process::Abort;
 use std::test::Fail;
 
 #[test]
@@ -122,16 +125,22 @@ fn each_search_is_written_as_it_was_read(rt: HostRuntime) -> Result<(), Fail> {
                 @1 clusters 7 12\n"
         .as_slice();
     let script = read(alloc, log)?;
-    assert_eq!(rt; write_script(alloc, &script)?.as_slice(), log);
-    assert_eq!(rt; script.commands()[0].points(), 0);
+    let written = write_script(alloc, &script)?;
+    are_bytes(&rt, written.as_slice(), log);
+    let points = script.commands().first().map(|nears| nears.points());
+    same(&rt, "points of the first", points, Some(0));
     Ok(())
 }
 
-// The line of this reply in version 2.
-fn line_of(alloc: Global, command: &Command, reply: &Reply) -> Result<Vec<u8>, Fail> {
-    let mut line = Vec::new(alloc);
-    reply_line(&mut line, Format::Two, Some(command), reply)?;
-    Ok(line)
+// The line of this reply in version 2 is this text.
+fn is_told_wide(
+    rt: &impl Abort,
+    alloc: Global,
+    command: &Command,
+    reply: &Reply,
+    want: &[u8],
+) -> Result<(), Fail> {
+    is_told(rt, alloc, Format::Two, Some(command), reply, want)
 }
 
 fn hits(alloc: Global, number: u32) -> Result<Hits, Fail> {
@@ -153,16 +162,21 @@ fn each_place_has_its_hits_behind_a_stroke(rt: HostRuntime) -> Result<(), Fail> 
         k: 2,
         points: Points::new(alloc),
     };
-    let mut lists = HitLists::new(alloc);
-    lists.push(hits(alloc, 5)?)?;
-    lists.push(Hits::new(alloc))?;
-    lists.push(hits(alloc, 0)?)?;
+    let lists = three_lists(alloc)?;
     let reply = Reply::Nears(NearsReply { mark: 12, lists });
-    assert_eq!(rt;
-        line_of(alloc, &nears, &reply)?.as_slice(),
-        b"@3 nears 12 / | 5 1 0 -1 9 4 / / | 0 1 0 -1 9 4\n".as_slice()
-    );
-    Ok(())
+    let want = b"@3 nears 12 / | 5 1 0 -1 9 4 / / | 0 1 0 -1 9 4\n";
+    is_told_wide(&rt, alloc, &nears, &reply, want)
+}
+
+// The second is empty.
+fn three_lists(alloc: Global) -> Result<HitLists, Fail> {
+    let mut lists = HitLists::new(alloc);
+    let first = hits(alloc, 5)?;
+    lists.push(first)?;
+    lists.push(Hits::new(alloc))?;
+    let last = hits(alloc, 0)?;
+    lists.push(last)?;
+    Ok(lists)
 }
 
 fn found(alloc: Global) -> Result<BoxReply, Fail> {
@@ -189,11 +203,11 @@ fn what_is_in_a_ball_is_told_after_its_number(rt: HostRuntime) -> Result<(), Fai
         r: 5,
         point,
     };
-    let line = line_of(alloc, &ball, &Reply::Ball(found(alloc)?))?;
-    assert_eq!(rt; line.as_slice(), b"@2 ball 9 7 | 6 1 -2 3 4\n".as_slice());
-    let line = line_of(alloc, &ball, &Reply::Inside(found(alloc)?))?;
-    assert_eq!(rt; line.as_slice(), b"".as_slice(), "a box is no ball");
-    Ok(())
+    let inside = Reply::Ball(found(alloc)?);
+    is_told_wide(&rt, alloc, &ball, &inside, b"@2 ball 9 7 | 6 1 -2 3 4\n")?;
+    // A box is no ball.
+    let other = Reply::Inside(found(alloc)?);
+    is_told_wide(&rt, alloc, &ball, &other, b"")
 }
 
 #[test]
@@ -204,9 +218,8 @@ fn the_lonely_points_are_told_after_their_number(rt: HostRuntime) -> Result<(), 
         k: 1,
         r: 5,
     };
-    let line = line_of(alloc, &lonely, &Reply::Lonely(found(alloc)?))?;
-    assert_eq!(rt; line.as_slice(), b"@8 lonely 9 7 | 6 1 -2 3 4\n".as_slice());
-    Ok(())
+    let alone = Reply::Lonely(found(alloc)?);
+    is_told_wide(&rt, alloc, &lonely, &alone, b"@8 lonely 9 7 | 6 1 -2 3 4\n")
 }
 
 #[test]
@@ -217,20 +230,22 @@ fn a_cluster_is_told_by_its_least_number_and_its_size(rt: HostRuntime) -> Result
         k: 2,
         r: 5,
     };
+    let groups = two_groups(alloc)?;
+    let reply = Reply::Clusters(ClusterReply {
+        mark: 1,
+        count: 4,
+        groups,
+    });
+    let want = b"@1 clusters 1 4 | 0 3 | 4194303 1\n";
+    is_told_wide(&rt, alloc, &clusters, &reply, want)
+}
+
+fn two_groups(alloc: Global) -> Result<Groups, Fail> {
     let mut groups = Groups::new(alloc);
     groups.push(Group { least: 0, size: 3 })?;
     groups.push(Group {
         least: 4_194_303,
         size: 1,
     })?;
-    let reply = Reply::Clusters(ClusterReply {
-        mark: 1,
-        count: 4,
-        groups,
-    });
-    assert_eq!(rt;
-        line_of(alloc, &clusters, &reply)?.as_slice(),
-        b"@1 clusters 1 4 | 0 3 | 4194303 1\n".as_slice()
-    );
-    Ok(())
+    Ok(groups)
 }

@@ -4,6 +4,7 @@ ghost use Rattle.scan_log.specs.declared.format.Format.TheVariants.{One, Two};
 ghost use Rattle.scan_log.specs.Scripts.{AreBoxes, AreScanned, IsCallerBox, IsCommand, asked, submitted};
 ghost use Rattle.scan_log.specs.declared.fault.ParseFault.TheVariants.{NoMemory as want};
 
+use crate::assertions::are_bytes;
 use crate::reading::read;
 use map_fold::{
     BoxReply, Cuboids, Hit, Hits, Item, Items, Label, NearReply, Points, Settings, Update,
@@ -11,6 +12,7 @@ use map_fold::{
 use point_geom::{Corner, Cuboid, Point};
 use scan_log::{Command, Format, ParseFault, Reply, Script, parse, reply_line, write_script};
 use std::alloc::Global;
+use std::process::Abort;
 use std::test::Fail;
 
 // The log of this one command.
@@ -64,45 +66,66 @@ fn boxes(alloc: Global) -> Result<Cuboids, Fail>
     Ok(boxes)
 }
 
+// The log of this one command is this text.
+fn is_written(
+    rt: &impl Abort,
+    alloc: Global,
+    format: Format,
+    command: Command,
+    want: &[u8],
+) -> Result<(), Fail>
+    requires limits { IsCommand format command }
+    requires room { submitted command ≤ 262144 }
+    requires hits { asked command ≤ 4194304 }
+{
+    let log = log_of(alloc, format, command)?;
+    are_bytes(rt, log.as_slice(), want);
+    Ok(())
+}
+
 #[test]
 fn an_update_has_one_line_with_all_its_numbers(rt: HostRuntime) -> Result<(), Fail> {
     let alloc = rt.alloc();
+    points_are_written(&rt, alloc)?;
+    wide_numbers_are_written(&rt, alloc)?;
+    boxes_are_written(&rt, alloc)
+}
+
+fn points_are_written(rt: &impl Abort, alloc: Global) -> Result<(), Fail> {
     let update = Update::Add(points(alloc)?);
-    assert_eq!(rt;
-        log_of(alloc, Format::One, Command::Change { caller: 1, update })?.as_slice(),
-        b"ikdmap 1 voxel 200 large 1500\n@1 add 1 -2 3 1000000000 0 -1000000000\n".as_slice()
-    );
+    let add = Command::Change { caller: 1, update };
+    let want = b"ikdmap 1 voxel 200 large 1500\n@1 add 1 -2 3 1000000000 0 -1000000000\n";
+    is_written(rt, alloc, Format::One, add, want)?;
     let update = Update::Thin(points(alloc)?);
-    assert_eq!(rt;
-        log_of(alloc, Format::One, Command::Change { caller: 2, update })?.as_slice(),
-        b"ikdmap 1 voxel 200 large 1500\n@2 thin 1 -2 3 1000000000 0 -1000000000\n".as_slice()
-    );
+    let thin = Command::Change { caller: 2, update };
+    let want = b"ikdmap 1 voxel 200 large 1500\n@2 thin 1 -2 3 1000000000 0 -1000000000\n";
+    is_written(rt, alloc, Format::One, thin, want)
+}
+
+fn wide_numbers_are_written(rt: &impl Abort, alloc: Global) -> Result<(), Fail> {
     let update = Update::Add(wide_points(alloc)?);
-    assert_eq!(rt;
-        log_of(alloc, Format::Two, Command::Change { caller: 1, update })?.as_slice(),
-        b"ikdmap 2 voxel 200 large 1500\n@1 add 1 -2 3 65535 1099511627776 0 0 7\n".as_slice()
-    );
+    let add = Command::Change { caller: 1, update };
+    let want = b"ikdmap 2 voxel 200 large 1500\n@1 add 1 -2 3 65535 1099511627776 0 0 7\n";
+    is_written(rt, alloc, Format::Two, add, want)?;
     let update = Update::Expire(4_194_304);
-    assert_eq!(rt;
-        log_of(alloc, Format::Two, Command::Change { caller: 4, update })?.as_slice(),
-        b"ikdmap 2 voxel 200 large 1500\n@4 expire 4194304\n".as_slice()
-    );
+    let expire = Command::Change { caller: 4, update };
+    let want = b"ikdmap 2 voxel 200 large 1500\n@4 expire 4194304\n";
+    is_written(rt, alloc, Format::Two, expire, want)
+}
+
+fn boxes_are_written(rt: &impl Abort, alloc: Global) -> Result<(), Fail> {
     let update = Update::Delete(boxes(alloc)?);
-    assert_eq!(rt;
-        log_of(alloc, Format::One, Command::Change { caller: 3, update })?.as_slice(),
-        b"ikdmap 1 voxel 200 large 1500\n@3 delete 1 -2 3 2 -1 4 4 -5 6 1000000001 -5 7\n".as_slice()
-    );
+    let delete = Command::Change { caller: 3, update };
+    let want = b"ikdmap 1 voxel 200 large 1500\n@3 delete 1 -2 3 2 -1 4 4 -5 6 1000000001 -5 7\n";
+    is_written(rt, alloc, Format::One, delete, want)?;
     let update = Update::Suspend(boxes(alloc)?);
-    assert_eq!(rt;
-        log_of(alloc, Format::One, Command::Change { caller: 4, update })?.as_slice(),
-        b"ikdmap 1 voxel 200 large 1500\n@4 suspend 1 -2 3 2 -1 4 4 -5 6 1000000001 -5 7\n".as_slice()
-    );
+    let suspend = Command::Change { caller: 4, update };
+    let want = b"ikdmap 1 voxel 200 large 1500\n@4 suspend 1 -2 3 2 -1 4 4 -5 6 1000000001 -5 7\n";
+    is_written(rt, alloc, Format::One, suspend, want)?;
     let update = Update::Restore(boxes(alloc)?);
-    assert_eq!(rt;
-        log_of(alloc, Format::One, Command::Change { caller: 5, update })?.as_slice(),
-        b"ikdmap 1 voxel 200 large 1500\n@5 restore 1 -2 3 2 -1 4 4 -5 6 1000000001 -5 7\n".as_slice()
-    );
-    Ok(())
+    let restore = Command::Change { caller: 5, update };
+    let want = b"ikdmap 1 voxel 200 large 1500\n@5 restore 1 -2 3 2 -1 4 4 -5 6 1000000001 -5 7\n";
+    is_written(rt, alloc, Format::One, restore, want)
 }
 
 #[test]
@@ -110,40 +133,26 @@ fn a_search_has_its_distance_where_one_is_given(rt: HostRuntime) -> Result<(), F
     let alloc = rt.alloc();
     let point = Point::new(1, -2, 3)?;
     let (caller, k) = (8, 256);
-    assert_eq!(rt;
-        log_of(
-            alloc,
-            Format::One,
-            Command::Near {
-                caller,
-                k,
-                point,
-                within: None
-            }
-        )?
-        .as_slice(),
-        b"ikdmap 1 voxel 200 large 1500\n@8 near 256 1 -2 3\n".as_slice()
-    );
-    assert_eq!(rt;
-        log_of(
-            alloc,
-            Format::Two,
-            Command::Near {
-                caller,
-                k,
-                point,
-                within: Some(4_398_046_511_104)
-            }
-        )?
-        .as_slice(),
-        b"ikdmap 2 voxel 200 large 1500\n@8 near 256 1 -2 3 within 4398046511104\n".as_slice()
-    );
+    let near = Command::Near {
+        caller,
+        k,
+        point,
+        within: None,
+    };
+    let want = b"ikdmap 1 voxel 200 large 1500\n@8 near 256 1 -2 3\n";
+    is_written(&rt, alloc, Format::One, near, want)?;
+    let within = Command::Near {
+        caller,
+        k,
+        point,
+        within: Some(4_398_046_511_104),
+    };
+    let want = b"ikdmap 2 voxel 200 large 1500\n@8 near 256 1 -2 3 within 4398046511104\n";
+    is_written(&rt, alloc, Format::Two, within, want)?;
     let cuboid = cuboid()?;
-    assert_eq!(rt;
-        log_of(alloc, Format::One, Command::Inside { caller, k, cuboid })?.as_slice(),
-        b"ikdmap 1 voxel 200 large 1500\n@8 box 256 4 -5 6 1000000001 -5 7\n".as_slice()
-    );
-    Ok(())
+    let inside = Command::Inside { caller, k, cuboid };
+    let want = b"ikdmap 1 voxel 200 large 1500\n@8 box 256 4 -5 6 1000000001 -5 7\n";
+    is_written(&rt, alloc, Format::One, inside, want)
 }
 
 // What is written is read as an equal script, or memory is wanting.
@@ -158,34 +167,49 @@ fn again(alloc: Global, script: &Script) -> Result<Script, ParseFault>
 #[test]
 fn what_is_written_is_read_as_the_same_script(rt: HostRuntime) -> Result<(), Fail> {
     let alloc = rt.alloc();
-    for (by_hand, written) in [
-        (
-            b"# by hand\nikdmap 1 voxel 200 large 1500\n\n@1 erase 1 2 3\nsync\n@8 near 2 0 0 0 within 7".as_slice(),
-            b"ikdmap 1 voxel 200 large 1500\n@1 delete 1 2 3 2 3 4\nsync\n@8 near 2 0 0 0 within 7\n".as_slice(),
-        ),
-        (
-            b"ikdmap 2 voxel 200 large 1500\n@1 add 1 2 3 4 -5 0 6 65535\n#\n@2 erase 1 2 3".as_slice(),
-            b"ikdmap 2 voxel 200 large 1500\n@1 add 1 2 3 4 -5 0 6 65535\n@2 delete 1 2 3 2 3 4\n".as_slice(),
-        ),
-    ] {
-        let script = read(alloc, by_hand)?;
-        assert_eq!(rt; write_script(alloc, &script)?.as_slice(), written);
-        let script = again(alloc, &script)?;
-        assert_eq!(rt; write_script(alloc, &script)?.as_slice(), written);
-    }
+    is_written_twice(
+        &rt,
+        alloc,
+        b"# by hand\nikdmap 1 voxel 200 large 1500\n\n@1 erase 1 2 3\nsync\n@8 near 2 0 0 0 within 7",
+        b"ikdmap 1 voxel 200 large 1500\n@1 delete 1 2 3 2 3 4\nsync\n@8 near 2 0 0 0 within 7\n",
+    )?;
+    is_written_twice(
+        &rt,
+        alloc,
+        b"ikdmap 2 voxel 200 large 1500\n@1 add 1 2 3 4 -5 0 6 65535\n#\n@2 erase 1 2 3",
+        b"ikdmap 2 voxel 200 large 1500\n@1 add 1 2 3 4 -5 0 6 65535\n@2 delete 1 2 3 2 3 4\n",
+    )
+}
+
+// The log by hand is written as this one, and so is what is read of that.
+fn is_written_twice(
+    rt: &impl Abort,
+    alloc: Global,
+    by_hand: &[u8],
+    written: &[u8],
+) -> Result<(), Fail> {
+    let script = read(alloc, by_hand)?;
+    let log = write_script(alloc, &script)?;
+    are_bytes(rt, log.as_slice(), written);
+    let script = again(alloc, &script)?;
+    let log = write_script(alloc, &script)?;
+    are_bytes(rt, log.as_slice(), written);
     Ok(())
 }
 
-// The line of this reply.
-fn line_of(
+// The line of this reply is this text.
+pub fn is_told(
+    rt: &impl Abort,
     alloc: Global,
     format: Format,
     command: Option<&Command>,
     reply: &Reply,
-) -> Result<Vec<u8>, Fail> {
+    want: &[u8],
+) -> Result<(), Fail> {
     let mut line = Vec::new(alloc);
     reply_line(&mut line, format, command, reply)?;
-    Ok(line)
+    are_bytes(rt, line.as_slice(), want);
+    Ok(())
 }
 
 #[test]
@@ -193,14 +217,15 @@ fn an_update_is_told_by_its_place(rt: HostRuntime) -> Result<(), Fail> {
     let alloc = rt.alloc();
     let update = Update::Add(Points::new(alloc));
     let change = Command::Change { caller: 8, update };
-    let line = line_of(
+    let reply = Reply::Done { mark: 65_536 };
+    is_told(
+        &rt,
         alloc,
         Format::One,
         Some(&change),
-        &Reply::Done { mark: 65_536 },
-    )?;
-    assert_eq!(rt; line.as_slice(), b"@8 ok 65536\n".as_slice());
-    Ok(())
+        &reply,
+        b"@8 ok 65536\n",
+    )
 }
 
 #[test]
@@ -213,7 +238,15 @@ fn each_hit_is_told_with_its_distance(rt: HostRuntime) -> Result<(), Fail> {
         point,
         within: None,
     };
-    let point = point.with_intensity(65_535);
+    let hits = two_hits(alloc, point.with_intensity(65_535))?;
+    let reply = Reply::Near(NearReply { mark: 9, hits });
+    let want = b"@7 near 9 | 5 1 -2 3 0 | 0 1 -2 3 12000000000000000000\n";
+    is_told(&rt, alloc, Format::One, Some(&near), &reply, want)?;
+    let want = b"@7 near 9 | 5 1 -2 3 65535 0 | 0 1 -2 3 65535 12000000000000000000\n";
+    is_told(&rt, alloc, Format::Two, Some(&near), &reply, want)
+}
+
+fn two_hits(alloc: Global, point: Point) -> Result<Hits, Fail> {
     let mut hits = Hits::new(alloc);
     hits.push(Hit {
         number: 5,
@@ -225,16 +258,7 @@ fn each_hit_is_told_with_its_distance(rt: HostRuntime) -> Result<(), Fail> {
         point,
         dist2: 12_000_000_000_000_000_000,
     })?;
-    let reply = Reply::Near(NearReply { mark: 9, hits });
-    assert_eq!(rt;
-        line_of(alloc, Format::One, Some(&near), &reply)?.as_slice(),
-        b"@7 near 9 | 5 1 -2 3 0 | 0 1 -2 3 12000000000000000000\n".as_slice()
-    );
-    assert_eq!(rt;
-        line_of(alloc, Format::Two, Some(&near), &reply)?.as_slice(),
-        b"@7 near 9 | 5 1 -2 3 65535 0 | 0 1 -2 3 65535 12000000000000000000\n".as_slice()
-    );
-    Ok(())
+    Ok(hits)
 }
 
 #[test]
@@ -245,32 +269,29 @@ fn what_is_found_in_a_box_is_told_after_its_number(rt: HostRuntime) -> Result<()
         k: 1,
         cuboid: cuboid()?,
     };
+    let items = one_item(alloc)?;
+    let reply = Reply::Inside(BoxReply {
+        mark: 9,
+        count: 7,
+        items,
+    });
+    let want = b"@2 box 9 7 | 4194303 1 -2 3\n";
+    is_told(&rt, alloc, Format::One, Some(&inside), &reply, want)?;
+    let want = b"@2 box 9 7 | 4194303 1 -2 3 4\n";
+    is_told(&rt, alloc, Format::Two, Some(&inside), &reply, want)?;
+    // A reply of another kind has no line.
+    let done = Reply::Done { mark: 1 };
+    is_told(&rt, alloc, Format::Two, Some(&inside), &done, b"")
+}
+
+fn one_item(alloc: Global) -> Result<Items, Fail> {
     let mut items = Items::new(alloc);
     items.push(Item {
         number: 4_194_303,
         point: Point::new(1, -2, 3)?.with_intensity(4),
         label: Label::Live,
     })?;
-    let reply = Reply::Inside(BoxReply {
-        mark: 9,
-        count: 7,
-        items,
-    });
-    assert_eq!(rt;
-        line_of(alloc, Format::One, Some(&inside), &reply)?.as_slice(),
-        b"@2 box 9 7 | 4194303 1 -2 3\n".as_slice()
-    );
-    assert_eq!(rt;
-        line_of(alloc, Format::Two, Some(&inside), &reply)?.as_slice(),
-        b"@2 box 9 7 | 4194303 1 -2 3 4\n".as_slice()
-    );
-    let done = line_of(alloc, Format::Two, Some(&inside), &Reply::Done { mark: 1 })?;
-    assert_eq!(rt;
-        done.as_slice(),
-        b"".as_slice(),
-        "a reply of another kind has no line"
-    );
-    Ok(())
+    Ok(items)
 }
 
 #[test]
@@ -281,13 +302,14 @@ fn a_barrier_and_the_end_tell_how_many_are_held(rt: HostRuntime) -> Result<(), F
         live: 2,
         suspended: 1,
     };
-    assert_eq!(rt;
-        line_of(alloc, Format::Two, Some(&Command::Sync), &totals)?.as_slice(),
-        b"sync 3 live 2 suspended 1\n".as_slice()
-    );
-    assert_eq!(rt;
-        line_of(alloc, Format::One, None, &totals)?.as_slice(),
-        b"end 3 live 2 suspended 1\n".as_slice()
-    );
-    Ok(())
+    let want = b"sync 3 live 2 suspended 1\n";
+    is_told(&rt, alloc, Format::Two, Some(&Command::Sync), &totals, want)?;
+    is_told(
+        &rt,
+        alloc,
+        Format::One,
+        None,
+        &totals,
+        b"end 3 live 2 suspended 1\n",
+    )
 }

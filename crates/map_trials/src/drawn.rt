@@ -2,15 +2,15 @@
 //! map.
 ghost use Rattle.std.specs.Prelude.{◌≤◌};
 
-use crate::beside::compare;
+use crate::assertions::{holds, same};
+use crate::beside::{compare, compare_inside, updated_plainly};
 use crate::draws::Draws;
-use crate::steps::{swapped, updated};
-use kd_search::{count_in, in_cuboid};
+use crate::looks::cuboid;
+use crate::steps::{settled, swapped, updated};
+use kd_search::count_in;
 use map_fold::{PlainMap, Points, Settings, Update};
-use point_geom::{Corner, Cuboid};
-use rebuild_core::{Built, BuiltLeft, Job, LogAsk, MapState, SwapFault};
+use rebuild_core::{Built, BuiltLeft, Job, LogAsk, MapState, SwapFault, SwapLeft};
 use std::alloc::Global;
-use std::mem;
 use std::process::Abort;
 use std::test::Fail;
 
@@ -75,10 +75,8 @@ impl Schedule {
 
     fn update(&mut self, rt: &impl Abort, alloc: Global) -> Result<Turn, Fail> {
         let update = self.drawn_update(alloc)?;
-        assert!(rt; update.points() <= 2_000);
-        assert!(rt; self.plain.next() <= 4_000_000);
-        let plain = mem::replace(&mut self.plain, PlainMap::new(alloc));
-        self.plain = plain.apply(&self.settings, &update)?;
+        holds(rt, "not many points", update.points() <= 2_000);
+        updated_plainly(rt, alloc, &self.settings, &mut self.plain, &update)?;
         let caller = 1 + self.draws.below(8) as u8;
         updated(alloc, &mut self.state, caller, update)?;
         Ok(Turn::Updated)
@@ -108,7 +106,7 @@ impl Schedule {
     }
 
     fn settle(&mut self, alloc: Global) -> Result<Turn, Fail> {
-        self.state.settle(alloc)?;
+        settled(alloc, &mut self.state)?;
         Ok(Turn::Settled)
     }
 
@@ -157,17 +155,21 @@ impl Schedule {
             return Ok(Turn::Idle);
         };
         let force = self.draws.below(4) == 0;
-        let Err(left) = swapped(alloc, &mut self.state, value, force) else {
-            return Ok(Turn::Swapped);
-        };
+        match swapped(alloc, &mut self.state, value, force) {
+            Ok(()) => Ok(Turn::Swapped),
+            Err(left) => self.refused(rt, force, left),
+        }
+    }
+
+    fn refused(&mut self, rt: &impl Abort, force: bool, left: SwapLeft) -> Result<Turn, Fail> {
         match left.fault {
             SwapFault::NoMemory => Err(Fail::new("no memory")),
             SwapFault::Stale { ticket } => {
-                assert_eq!(rt; ticket, left.built.ticket());
+                same(rt, "the ticket", ticket, left.built.ticket());
                 self.put_back(left.built)
             }
             SwapFault::Behind { left: behind } => {
-                assert!(rt; !force && behind > 64);
+                holds(rt, "it is behind", !force && behind > 64);
                 self.values.push(left.built)?;
                 Ok(Turn::Behind)
             }
@@ -185,28 +187,13 @@ impl Schedule {
     fn compare(&mut self, rt: &impl Abort, alloc: Global) -> Result<(), Fail> {
         let version = self.state.version();
         compare(rt, alloc, version, &self.plain, &mut self.draws)?;
-        let all = everything()?;
-        let found = in_cuboid(alloc, version.tree(), &all, 256)?;
-        let want = self.plain.in_cuboid(alloc, &all, 256)?;
-        assert!(rt; found.as_slice() == want.as_slice());
-        assert_eq!(rt; count_in(version.tree(), &all), self.plain.counts().live);
+        // The box round all that is drawn.
+        let all = cuboid((-99, -99, -99), (99, 99, 99))?;
+        compare_inside(rt, alloc, version, &self.plain, &all, 256)?;
+        let count = count_in(version.tree(), &all);
+        same(rt, "live points", count, self.plain.counts().live);
         Ok(())
     }
-}
-
-// The box round all that is drawn.
-fn everything() -> Result<Cuboid, Fail> {
-    let lo = Corner {
-        x: -99,
-        y: -99,
-        z: -99,
-    };
-    let hi = Corner {
-        x: 99,
-        y: 99,
-        z: 99,
-    };
-    Ok(Cuboid::new(lo, hi)?)
 }
 
 // One of them, taken out, if there is one: the last as often as any.
@@ -221,31 +208,58 @@ fn taken<T: Drop>(draws: &mut Draws, from: &mut Vec<T>) -> Option<T> {
     Some(from.swap_remove(place))
 }
 
+// How often a drawn schedule comes to each at least: more than a handful of times.
+const LEAST: [(Turn, usize); 9] = [
+    (Turn::Updated, 1_000),
+    (Turn::Settled, 20),
+    (Turn::Detached, 100),
+    (Turn::NothingDetached, 20),
+    (Turn::Built, 50),
+    (Turn::CaughtUp, 20),
+    (Turn::Swapped, 20),
+    (Turn::Behind, 2),
+    (Turn::Stale, 20),
+];
+
 #[test]
 fn a_drawn_schedule_answers_as_the_plain_map_does(rt: HostRuntime) -> Result<(), Fail> {
     let alloc = rt.alloc();
     let mut schedule = Schedule::new(alloc, 16, (80, 0))?;
-    let mut turns = Vec::new(alloc);
-    for _ in 0..3_000 {
-        turns.push(schedule.turn(&rt, alloc)?)?;
-        schedule.compare(&rt, alloc)?;
-    }
-    // The schedule came to each of these more than a handful of times.
-    for (turn, least) in [
-        (Turn::Updated, 1_000),
-        (Turn::Settled, 20),
-        (Turn::Detached, 100),
-        (Turn::NothingDetached, 20),
-        (Turn::Built, 50),
-        (Turn::CaughtUp, 20),
-        (Turn::Swapped, 20),
-        (Turn::Behind, 2),
-        (Turn::Stale, 20),
-    ] {
-        let count = turns.iter().filter(|t| **t == turn).count();
-        assert!(rt; count > least, "{turn:?}: {count}");
-    }
+    let turns = compared(&rt, alloc, &mut schedule, 3_000)?;
+    are_frequent(&rt, turns.as_slice(), &LEAST);
     Ok(())
+}
+
+// So many turns, after each of which the map is beside the plain one.
+fn compared(
+    rt: &impl Abort,
+    alloc: Global,
+    schedule: &mut Schedule,
+    count: u32,
+) -> Result<Vec<Turn>, Fail> {
+    let mut turns = Vec::new(alloc);
+    for _ in 0..count {
+        let turn = schedule.turn(rt, alloc)?;
+        turns.push(turn)?;
+        schedule.compare(rt, alloc)?;
+    }
+    Ok(turns)
+}
+
+fn are_frequent(rt: &impl Abort, turns: &[Turn], leasts: &[(Turn, usize)]) {
+    for (turn, least) in leasts {
+        is_frequent(rt, turns, *turn, *least);
+    }
+}
+
+// More than so many of the turns came to this.
+fn is_frequent(rt: &impl Abort, turns: &[Turn], turn: Turn, least: usize) {
+    let count = count_of(turns, turn);
+    assert!(rt; count > least, "{turn:?}: {count}");
+}
+
+fn count_of(turns: &[Turn], turn: Turn) -> usize {
+    turns.iter().filter(|t| **t == turn).count()
 }
 
 // Whole scans, of which those beside subtrees of 100 nodes and more are put in pieces at once, and others one by one.
@@ -255,16 +269,18 @@ fn whole_scans_beside_detached_subtrees_answer_as_the_plain_map_does(
 ) -> Result<(), Fail> {
     let alloc = rt.alloc();
     for large in [16, 100] {
-        let mut schedule = Schedule::new(alloc, large, (200, 1_800))?;
-        let mut swapped = 0u32;
-        for _ in 0..100 {
-            let turn = schedule.turn(&rt, alloc)?;
-            schedule.compare(&rt, alloc)?;
-            if turn == Turn::Swapped {
-                swapped = swapped.saturating_add(1);
-            }
-        }
+        let swapped = swaps_of_a_hundred(&rt, alloc, large)?;
         assert!(rt; swapped > 0, "large {large}: {swapped}");
     }
     Ok(())
+}
+
+// How many of a hundred turns swapped a value in.
+fn swaps_of_a_hundred(rt: &impl Abort, alloc: Global, large: u32) -> Result<usize, Fail>
+    requires large_from { 16 ≤ large }
+    requires large_to { large ≤ 1000000 }
+{
+    let mut schedule = Schedule::new(alloc, large, (200, 1_800))?;
+    let turns = compared(rt, alloc, &mut schedule, 100)?;
+    Ok(count_of(turns.as_slice(), Turn::Swapped))
 }

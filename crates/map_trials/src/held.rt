@@ -1,5 +1,7 @@
 //! Versions that somebody holds while later updates make their nodes in the memory of others.
+use crate::assertions::holds;
 use crate::draws::Draws;
+use crate::looks::live;
 use crate::steps::updated;
 use map_fold::{Items, Settings, Update};
 use rebuild_core::{MapState, Version};
@@ -24,7 +26,8 @@ impl Held {
 
     fn assert_same(&self, rt: &impl Abort, alloc: Global) -> Result<(), Fail> {
         let items = self.version.tree().flatten(alloc)?;
-        assert!(rt; items.as_slice() == self.items.as_slice());
+        let are_same = items.as_slice() == self.items.as_slice();
+        holds(rt, "what the version held", are_same);
         Ok(())
     }
 }
@@ -38,11 +41,14 @@ fn assert_all_same(rt: &impl Abort, alloc: Global, held: &[Held]) -> Result<(), 
 
 // Three scans: one is put, and two are thinned. Before the last, the caller gives back a version that nobody else has.
 fn three_scans(alloc: Global, state: &mut MapState, draws: &mut Draws) -> Result<(), Fail> {
-    updated(alloc, state, 1, Update::Add(draws.scan(alloc, 200)?))?;
+    let scan = draws.scan(alloc, 200)?;
+    updated(alloc, state, 1, Update::Add(scan))?;
     let version = Arc::try_clone(state.version())?;
-    updated(alloc, state, 1, Update::Thin(draws.scan(alloc, 200)?))?;
+    let scan = draws.scan(alloc, 200)?;
+    updated(alloc, state, 1, Update::Thin(scan))?;
     state.recycle(version);
-    updated(alloc, state, 1, Update::Thin(draws.scan(alloc, 300)?))?;
+    let scan = draws.scan(alloc, 300)?;
+    updated(alloc, state, 1, Update::Thin(scan))?;
     Ok(())
 }
 
@@ -59,6 +65,6 @@ fn a_held_version_stays_while_the_memory_of_others_is_used_again(
         held.push(Held::of(alloc, state.version())?)?;
         assert_all_same(&rt, alloc, held.as_slice())?;
     }
-    assert!(&rt; state.version().counts().live > 200);
+    holds(&rt, "many are live", live(&state) > 200);
     Ok(())
 }

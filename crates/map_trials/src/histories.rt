@@ -1,8 +1,9 @@
 //! Histories of all kinds of updates.
-use crate::beside::compare;
+use crate::assertions::{holds, same};
+use crate::beside::{compare, updated_plainly};
 use crate::draws::Draws;
-use crate::steps::updated;
-use map_fold::{Counts, PlainMap, Settings};
+use crate::steps::{settled, updated};
+use map_fold::{Counts, PlainMap, Settings, Update};
 use rebuild_core::MapState;
 use std::alloc::Global;
 use std::process::Abort;
@@ -16,20 +17,42 @@ fn compared(rt: &impl Abort, alloc: Global, settings: Settings) -> Result<Counts
     let mut state = MapState::new(alloc, settings)?;
     let mut plain = PlainMap::new(alloc);
     for _ in 0..TURNS {
-        let update = draws.update(alloc, plain.next())?;
-        assert!(rt; update.points() < 9);
-        assert!(rt; plain.next() <= 4_000_000);
-        plain = plain.apply(&settings, &update)?;
-        let caller = 1 + draws.below(8) as u8;
-        let mark = updated(alloc, &mut state, caller, update)?;
-        assert_eq!(rt; mark, state.version().len());
-        if draws.below(16) == 0 {
-            state.settle(alloc)?;
-        }
-        compare(rt, alloc, state.version(), &plain, &mut draws)?;
+        turn(rt, alloc, &settings, &mut state, &mut plain, &mut draws)?;
     }
-    assert_eq!(rt; state.history().len() as u64, TURNS);
+    same(rt, "updates", state.history().len() as u64, TURNS);
     Ok(plain.counts())
+}
+
+fn turn(
+    rt: &impl Abort,
+    alloc: Global,
+    settings: &Settings,
+    state: &mut MapState,
+    plain: &mut PlainMap,
+    draws: &mut Draws,
+) -> Result<(), Fail> {
+    let update = draws.update(alloc, plain.next())?;
+    holds(rt, "a few points", update.points() < 9);
+    updated_plainly(rt, alloc, settings, plain, &update)?;
+    updated_with_mark(rt, alloc, state, draws, update)?;
+    if draws.below(16) == 0 {
+        settled(alloc, state)?;
+    }
+    compare(rt, alloc, state.version(), plain, draws)
+}
+
+// By a drawn caller. The mark that it gets is how many updates the version has.
+fn updated_with_mark(
+    rt: &impl Abort,
+    alloc: Global,
+    state: &mut MapState,
+    draws: &mut Draws,
+    update: Update,
+) -> Result<(), Fail> {
+    let caller = 1 + draws.below(8) as u8;
+    let mark = updated(alloc, state, caller, update)?;
+    same(rt, "the mark", mark, state.version().len());
+    Ok(())
 }
 
 #[test]
@@ -39,8 +62,8 @@ fn what_is_left_of_all_kinds_of_updates_is_what_the_plain_map_holds(
     for large in [16, 1_500] {
         let counts = compared(&rt, rt.alloc(), Settings::new(3, large))?;
         // The comparison was one of more than a handful.
-        assert!(rt; counts.live > 20);
-        assert!(rt; counts.suspended > 20);
+        holds(&rt, "many are live", counts.live > 20);
+        holds(&rt, "many are suspended", counts.suspended > 20);
     }
     Ok(())
 }

@@ -3,6 +3,8 @@
 #![tactic(auto)]
 
 #[cfg(test)]
+mod assertions;
+#[cfg(test)]
 mod beside;
 #[cfg(test)]
 mod drawn;
@@ -12,6 +14,8 @@ mod draws;
 mod held;
 #[cfg(test)]
 mod histories;
+#[cfg(test)]
+mod looks;
 #[cfg(test)]
 mod parts;
 #[cfg(test)]

@@ -1,35 +1,45 @@
 //! Where a state refuses an update, and stays as it was.
+ghost use Rattle.std.specs.Prelude.{◌≤◌};
+
+use crate::assertions::same;
 use crate::steps::updated;
 use map_fold::{Cuboids, Points, Settings, Update};
 use point_geom::Point;
 use rebuild_core::{LogAsk, MapState, StateFault, SwapFault};
+use std::alloc::Global;
+use std::fmt::Display;
+use std::process::Abort;
 use std::test::Fail;
 
 #[test]
 fn a_new_state_refuses_more_points_than_there_may_be(rt: HostRuntime) -> Result<(), Fail> {
     let alloc = rt.alloc();
     let mut state = MapState::new(alloc, Settings::new(200, 5_000))?;
+    let points = too_many(alloc)?;
+    let answer = updated(alloc, &mut state, 1, Update::Add(points));
+    let StateFault::TooManyPoints { next, asked } = fault(answer)? else {
+        return Err(Fail::new("another fault"));
+    };
+    same(&rt, "the next number of the fault", next, 0);
+    same(&rt, "the points of the fault", asked, 4_194_305);
+    is_new(&rt, &state);
+    Ok(())
+}
+
+fn too_many(alloc: Global) -> Result<Points, Fail> {
     let point = Point::new(0, 0, 0)?;
     let mut points = Points::new(alloc);
     for _ in 0..4_194_305u32 {
         points.push(point)?;
     }
-    let StateFault::TooManyPoints { next, asked } = fault(updated(
-        alloc,
-        &mut state,
-        1,
-        Update::Add(points),
-    ))?
-    else {
-        return Err(Fail::new("another fault"));
-    };
-    assert_eq!(rt; next, 0);
-    assert_eq!(rt; asked, 4_194_305);
-    assert_eq!(rt; state.next(), 0);
-    assert_eq!(rt; state.history().len(), 0);
-    assert_eq!(rt; state.version().len(), 0);
-    assert_eq!(rt; state.version().tree().size(), 0);
-    Ok(())
+    Ok(points)
+}
+
+fn is_new(rt: &impl Abort, state: &MapState) {
+    same(rt, "the next number", state.next(), 0);
+    same(rt, "updates", state.history().len(), 0);
+    same(rt, "updates of the version", state.version().len(), 0);
+    same(rt, "nodes", state.version().tree().size(), 0);
 }
 
 #[test]
@@ -37,20 +47,22 @@ fn a_full_history_refuses_the_next_update(rt: HostRuntime) -> Result<(), Fail> {
     let alloc = rt.alloc();
     let mut state = MapState::new(alloc, Settings::new(200, 5_000))?;
     for _ in 0..1_048_576u32 {
-        updated(alloc, &mut state, 1, Update::Delete(Cuboids::new(alloc)))?;
+        deleted_nothing(alloc, &mut state, 1)?;
     }
-    let StateFault::TooManyUpdates { len } = fault(updated(
-        alloc,
-        &mut state,
-        2,
-        Update::Delete(Cuboids::new(alloc)),
-    ))?
-    else {
+    let answer = deleted_nothing(alloc, &mut state, 2);
+    let StateFault::TooManyUpdates { len } = fault(answer)? else {
         return Err(Fail::new("another fault"));
     };
-    assert_eq!(rt; len, 1_048_576);
-    assert_eq!(rt; state.history().len(), 1_048_576);
+    same(&rt, "the updates of the fault", len, 1_048_576);
+    same(&rt, "updates", state.history().len(), 1_048_576);
     Ok(())
+}
+
+fn deleted_nothing(alloc: Global, state: &mut MapState, caller: u8) -> Result<u64, StateFault>
+    requires caller_from { 1 ≤ caller }
+    requires caller_to { caller ≤ 8 }
+{
+    updated(alloc, state, caller, Update::Delete(Cuboids::new(alloc)))
 }
 
 fn fault(answer: Result<u64, StateFault>) -> Result<StateFault, Fail> {
@@ -67,27 +79,21 @@ fn a_refusal_says_what_is_full_stale_or_behind(rt: HostRuntime) -> Result<(), Fa
         next: 4_194_000,
         asked: 305,
     };
-    let text = format!(in alloc; "{many}")?;
-    assert_eq!(rt;
-        text.as_str(),
-        "4194000 points were submitted, and there is no room for 305 more"
-    );
+    let want = "4194000 points were submitted, and there is no room for 305 more";
+    says(&rt, alloc, &many, want)?;
     let full = StateFault::TooManyUpdates { len: 1_048_576 };
-    let text = format!(in alloc; "{full}")?;
-    assert_eq!(rt;
-        text.as_str(),
-        "the history is full: it has 1048576 updates"
-    );
-    let text = format!(in alloc; "{}", SwapFault::Stale { ticket: 3 })?;
-    assert_eq!(rt;
-        text.as_str(),
-        "no detached subtree has ticket 3 and what the value was built of"
-    );
-    let text = format!(in alloc; "{}", SwapFault::Behind { left: 65 })?;
-    assert_eq!(rt; text.as_str(), "the value is 65 operations behind");
-    assert_eq!(rt;
-        format!(in alloc; "{}", LogAsk::NoMemory)?.as_str(),
-        "no memory"
-    );
+    let want = "the history is full: it has 1048576 updates";
+    says(&rt, alloc, &full, want)?;
+    let stale = SwapFault::Stale { ticket: 3 };
+    let want = "no detached subtree has ticket 3 and what the value was built of";
+    says(&rt, alloc, &stale, want)?;
+    let behind = SwapFault::Behind { left: 65 };
+    says(&rt, alloc, &behind, "the value is 65 operations behind")?;
+    says(&rt, alloc, &LogAsk::NoMemory, "no memory")
+}
+
+fn says<D: Display>(rt: &impl Abort, alloc: Global, fault: &D, want: &str) -> Result<(), Fail> {
+    let text = format!(in alloc; "{fault}")?;
+    assert_eq!(rt; text.as_str(), want);
     Ok(())
 }

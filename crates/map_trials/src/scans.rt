@@ -1,13 +1,14 @@
 //! Scans that thin their voxels at once, beside the same points one by one, and beside the plain map.
 ghost use Rattle.std.specs.Prelude.{◌≤◌};
 
-use crate::beside::compare;
+use crate::assertions::holds;
+use crate::beside::{compare, updated_plainly};
 use crate::draws::Draws;
-use crate::steps::updated;
+use crate::steps::{settled, updated};
 use map_fold::{Cuboids, PlainMap, Points, Settings, Update};
+use point_geom::Point;
 use rebuild_core::MapState;
 use std::alloc::Global;
-use std::mem;
 use std::process::Abort;
 use std::test::Fail;
 
@@ -39,51 +40,70 @@ impl Twins {
     fn seed(&mut self, rt: &impl Abort, alloc: Global) -> Result<(), Fail> {
         let scan = self.draws.scan(alloc, 40)?;
         self.both(rt, alloc, Update::Add(scan))?;
-        let mut boxes = Cuboids::new(alloc);
-        boxes.push(self.draws.cuboid()?)?;
+        let boxes = self.drawn_box(alloc)?;
         self.both(rt, alloc, Update::Suspend(boxes))
     }
 
     fn restore(&mut self, rt: &impl Abort, alloc: Global) -> Result<(), Fail> {
-        let mut boxes = Cuboids::new(alloc);
-        boxes.push(self.draws.cuboid()?)?;
+        let boxes = self.drawn_box(alloc)?;
         self.both(rt, alloc, Update::Restore(boxes))
     }
 
-    fn both(&mut self, rt: &impl Abort, alloc: Global, update: Update) -> Result<(), Fail> {
-        self.plainly(rt, alloc, &update)?;
-        updated(alloc, &mut self.in_turn, 1, update.copy(alloc)?)?;
-        updated(alloc, &mut self.at_once, 1, update)?;
-        self.compare(rt, alloc)
+    fn drawn_box(&mut self, alloc: Global) -> Result<Cuboids, Fail> {
+        let mut boxes = Cuboids::new(alloc);
+        boxes.push(self.draws.cuboid()?)?;
+        Ok(boxes)
     }
 
-    fn plainly(&mut self, rt: &impl Abort, alloc: Global, update: &Update) -> Result<(), Fail> {
-        assert!(rt; update.points() <= 3_000);
-        assert!(rt; self.plain.next() <= 4_000_000);
-        let plain = mem::replace(&mut self.plain, PlainMap::new(alloc));
-        self.plain = plain.apply(&self.settings, update)?;
-        Ok(())
+    fn both(&mut self, rt: &impl Abort, alloc: Global, update: Update) -> Result<(), Fail> {
+        let copy = update.copy(alloc)?;
+        updated(alloc, &mut self.in_turn, 1, copy)?;
+        self.put_at_once(rt, alloc, update)
+    }
+
+    // The update in the map that takes scans at once, and in the plain one. Then the three are compared.
+    fn put_at_once(&mut self, rt: &impl Abort, alloc: Global, update: Update) -> Result<(), Fail> {
+        updated_plainly(rt, alloc, &self.settings, &mut self.plain, &update)?;
+        updated(alloc, &mut self.at_once, 1, update)?;
+        self.compare(rt, alloc)
     }
 
     fn thin(&mut self, rt: &impl Abort, alloc: Global, count: u32) -> Result<(), Fail> {
         let scan = self.draws.scan(alloc, count)?;
         for point in scan.as_slice() {
-            let mut alone = Points::new(alloc);
-            alone.push(*point)?;
-            updated(alloc, &mut self.in_turn, 1, Update::Thin(alone))?;
+            self.thin_in_turn(alloc, *point)?;
         }
-        let update = Update::Thin(scan);
-        self.plainly(rt, alloc, &update)?;
-        updated(alloc, &mut self.at_once, 1, update)?;
-        self.compare(rt, alloc)
+        self.put_at_once(rt, alloc, Update::Thin(scan))
+    }
+
+    fn thin_in_turn(&mut self, alloc: Global, point: Point) -> Result<(), Fail> {
+        let mut alone = Points::new(alloc);
+        alone.push(point)?;
+        updated(alloc, &mut self.in_turn, 1, Update::Thin(alone))?;
+        Ok(())
     }
 
     fn compare(&mut self, rt: &impl Abort, alloc: Global) -> Result<(), Fail> {
         let version = self.at_once.version();
         let items = version.tree().flatten(alloc)?;
         let want = self.in_turn.version().tree().flatten(alloc)?;
-        assert!(rt; items.as_slice() == want.as_slice());
+        let are_same = items.as_slice() == want.as_slice();
+        holds(rt, "what both hold", are_same);
         compare(rt, alloc, version, &self.plain, &mut self.draws)
+    }
+
+    // A scan before anything is detached, one beside a detached subtree, and one that finds the map settled.
+    fn scans(&mut self, rt: &impl Abort, alloc: Global, count: u32) -> Result<(), Fail> {
+        self.seed(rt, alloc)?;
+        self.thin(rt, alloc, count)?;
+        self.restore(rt, alloc)?;
+        // What is detached is watched from here on.
+        let job = self.at_once.detach(alloc, 1)?;
+        self.thin(rt, alloc, count)?;
+        let is_detached = job.is_some() || count < 400;
+        holds(rt, "a subtree was detached", is_detached);
+        settled(alloc, &mut self.at_once)?;
+        self.thin(rt, alloc, count)
     }
 }
 
@@ -94,15 +114,7 @@ fn a_scan_thins_as_its_points_do_in_turn(rt: HostRuntime) -> Result<(), Fail> {
     for edge in [1, 3, 200] {
         let mut twins = Twins::new(alloc, edge)?;
         for count in [1, 63, 64, 65, 400, 3_000, 100] {
-            twins.seed(&rt, alloc)?;
-            twins.thin(&rt, alloc, count)?;
-            twins.restore(&rt, alloc)?;
-            // What is detached is watched from here on.
-            let job = twins.at_once.detach(alloc, 1)?;
-            twins.thin(&rt, alloc, count)?;
-            assert!(rt; job.is_some() || count < 400);
-            twins.at_once.settle(alloc)?;
-            twins.thin(&rt, alloc, count)?;
+            twins.scans(&rt, alloc, count)?;
         }
     }
     Ok(())

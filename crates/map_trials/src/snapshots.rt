@@ -1,11 +1,14 @@
 //! Subtrees that are detached as trees, and listed later or never.
 ghost use Rattle.std.specs.Prelude.{◌≡◌, IfOk};
 
-use crate::steps::{swapped, updated};
+use crate::assertions::{holds, same};
+use crate::looks::live;
+use crate::steps::{built, refused, updated};
 use map_fold::{Points, Settings, Update};
 use point_geom::Point;
 use rebuild_core::{Built, Job, MapState, Snapshot, SwapFault};
 use std::alloc::Global;
+use std::process::Abort;
 use std::test::Fail;
 
 // A map of points in a row, and one more at this place.
@@ -37,21 +40,6 @@ fn listed(alloc: Global, snapshot: Snapshot) -> Result<Job, Fail>
     }
 }
 
-fn built(alloc: Global, job: Job) -> Result<Built, Fail> {
-    match job.build(alloc, 16) {
-        Ok(built) => Ok(built),
-        Err(_) => Err(Fail::new("nothing was built")),
-    }
-}
-
-// Why the value isn't swapped in, if it isn't.
-fn refused(alloc: Global, state: &mut MapState, built: Built) -> Option<SwapFault> {
-    match swapped(alloc, state, built, false) {
-        Ok(()) => None,
-        Err(left) => Some(left.fault),
-    }
-}
-
 // Detaches the whole tree, lists it, and gives the map the list.
 fn given_a_list(alloc: Global, state: &mut MapState) -> Result<Job, Fail> {
     let _history = state.history();
@@ -69,14 +57,15 @@ fn a_value_fits_a_subtree_that_nobody_has_listed(rt: HostRuntime) -> Result<(), 
     let alloc = rt.alloc();
     let mut state = with_row(alloc, 40, 40)?;
     let snapshot = detached(alloc, &mut state)?;
-    assert_eq!(rt; snapshot.ticket(), 1);
+    same(&rt, "the ticket", snapshot.ticket(), 1);
     let job = listed(alloc, snapshot)?;
-    assert_eq!(rt; job.items().len(), 41);
+    same(&rt, "items", job.items().len(), 41);
     updated(alloc, &mut state, 1, Update::Expire(1))?;
     let built = built(alloc, job)?;
-    assert_eq!(rt; refused(alloc, &mut state, built), None);
-    assert_eq!(rt; state.version().counts().live, 40);
-    assert!(rt; state.holding(1)?.is_none());
+    let fault = refused(alloc, &mut state, built, false);
+    same(&rt, "no fault", fault, None);
+    same(&rt, "live points", live(&state), 40);
+    holds(&rt, "nothing is held", state.holding(1)?.is_none());
     Ok(())
 }
 
@@ -84,14 +73,21 @@ fn a_value_fits_a_subtree_that_nobody_has_listed(rt: HostRuntime) -> Result<(), 
 fn another_value_is_stale_where_nobody_has_listed(rt: HostRuntime) -> Result<(), Fail> {
     let alloc = rt.alloc();
     for (count, last) in [(40, 41), (39, 40), (41, 41)] {
-        let mut other = with_row(alloc, count, last)?;
-        let job = listed(alloc, detached(alloc, &mut other)?)?;
-        let mut state = with_row(alloc, 40, 40)?;
-        let _snapshot = detached(alloc, &mut state)?;
-        let built = built(alloc, job)?;
-        let stale = SwapFault::Stale { ticket: 1 };
-        assert_eq!(rt; refused(alloc, &mut state, built), Some(stale));
+        is_stale_beside(&rt, alloc, count, last)?;
     }
+    Ok(())
+}
+
+// The value of this row is stale in a map of another row.
+fn is_stale_beside(rt: &impl Abort, alloc: Global, count: i64, last: i64) -> Result<(), Fail> {
+    let mut other = with_row(alloc, count, last)?;
+    let snapshot = detached(alloc, &mut other)?;
+    let job = listed(alloc, snapshot)?;
+    let mut state = with_row(alloc, 40, 40)?;
+    let _snapshot = detached(alloc, &mut state)?;
+    let built = built(alloc, job)?;
+    let fault = refused(alloc, &mut state, built, false);
+    same(rt, "the fault", fault, Some(SwapFault::Stale { ticket: 1 }));
     Ok(())
 }
 
@@ -111,8 +107,9 @@ fn a_list_takes_the_place_of_the_tree(rt: HostRuntime) -> Result<(), Fail> {
     let Some(holding) = state.holding(1)? else {
         return Err(Fail::new("the subtree is detached"));
     };
-    assert!(rt; holding.is_of(&own));
-    assert!(rt; !holding.is_of(&strange));
-    assert_eq!(rt; refused(alloc, &mut state, own), None);
+    holds(&rt, "it is of its own", holding.is_of(&own));
+    holds(&rt, "it is of no other", !holding.is_of(&strange));
+    let fault = refused(alloc, &mut state, own, false);
+    same(&rt, "no fault", fault, None);
     Ok(())
 }

@@ -2,11 +2,13 @@
 ghost use Rattle.std.specs.Prelude.{◌≡◌, ◌≤◌};
 
 use kd_tree::Steps;
-use map_fold::Update;
-use rebuild_core::{Built, MapState, StateFault, SwapLeft};
+use map_fold::{Points, Update};
+use point_geom::Point;
+use rebuild_core::{Built, Job, MapState, StateFault, SwapFault, SwapLeft};
 use std::alloc::Global;
 use std::marker::Brand;
 use std::sync::ledger::{Blank, Ledger};
+use std::test::Fail;
 
 pub fn updated(
     alloc: Global,
@@ -59,4 +61,65 @@ fn swapped_by<L: Ledger>(
 {
     let mut steps: Steps<L> = Steps::new(blank);
     state.swap(alloc, built, force, &mut steps)
+}
+
+// Why the value isn't swapped in, if it isn't.
+pub fn refused(
+    alloc: Global,
+    state: &mut MapState,
+    built: Built,
+    force: bool,
+) -> Option<SwapFault> {
+    match swapped(alloc, state, built, force) {
+        Ok(()) => None,
+        Err(left) => Some(left.fault),
+    }
+}
+
+pub fn settled(alloc: Global, state: &mut MapState) -> Result<(), Fail> {
+    state.settle(alloc)?;
+    Ok(())
+}
+
+pub fn detached(alloc: Global, state: &mut MapState, slot: u8) -> Result<Job, Fail>
+    requires slot_from { 1 ≤ slot }
+    requires slot_to { slot ≤ 4 }
+{
+    match state.detach(alloc, slot)? {
+        Some(job) => Ok(job),
+        None => Err(Fail::new("nothing was detached")),
+    }
+}
+
+// Whether nothing is left to be detached.
+pub fn is_even(alloc: Global, state: &mut MapState, slot: u8) -> Result<bool, Fail>
+    requires slot_from { 1 ≤ slot }
+    requires slot_to { slot ≤ 4 }
+{
+    Ok(state.detach(alloc, slot)?.is_none())
+}
+
+pub fn built(alloc: Global, job: Job) -> Result<Built, Fail> {
+    match job.build(alloc, 16) {
+        Ok(built) => Ok(built),
+        Err(_) => Err(Fail::new("nothing was built")),
+    }
+}
+
+// The points (x, 0, 0), from the first on and before the last.
+pub fn row(alloc: Global, first: i64, last: i64) -> Result<Points, Fail> {
+    let mut points = Points::new(alloc);
+    for x in first..last {
+        points.push(Point::new(x, 0, 0)?)?;
+    }
+    Ok(points)
+}
+
+pub fn add_row(alloc: Global, state: &mut MapState, xs: &[i64]) -> Result<(), Fail> {
+    let mut points = Points::new(alloc);
+    for x in xs {
+        points.push(Point::new(*x, 0, 0)?)?;
+    }
+    updated(alloc, state, 1, Update::Add(points))?;
+    Ok(())
 }

@@ -1,6 +1,11 @@
 //! Subtrees that are detached behind the lock.
+ghost use Rattle.map_fold.specs.Ops.{Fit};
+ghost use Rattle.kd_tree.specs.Contents.{contents};
+
+use crate::assertions::{holds, same};
 use crate::trial::{Trial, cuboid, deleted, row, tried, updated};
 use kd_search::nearest;
+use map_fold::Op;
 use point_geom::Point;
 use published_map::{Ended, MapName, Pass, Shared};
 use rebuild_core::{Built, Desk, Job, Late, LogAsk, MapState, SwapFault, SwapLeft, Unswapped};
@@ -42,9 +47,31 @@ fn first<L: MapName, R: Wait + Abort>(
     shared: &Shared<L>,
 ) -> Result<Built, Fail> {
     let job = some(shared.detach(rt, alloc, 1)?)?;
-    assert_eq!(rt; job.ticket(), 1);
-    assert_eq!(rt; job.items().len(), 40);
+    same(rt, "the ticket", job.ticket(), 1);
+    same(rt, "items", job.items().len(), 40);
     built(alloc, job)
+}
+
+// The value, swapped in with all that it lacks done.
+fn is_swapped<L: MapName, R: Wait + Abort>(
+    rt: &R,
+    alloc: Global,
+    shared: &Shared<L>,
+    built: Built,
+) {
+    let is_done = shared.swap(rt, alloc, built, false).is_ok();
+    holds(rt, "it is swapped in", is_done);
+}
+
+// The value with its 65 operations done.
+fn replayed(rt: &impl Abort, alloc: Global, built: Built, ops: &[Op]) -> Result<Built, Fail>
+    requires { Fit (contents built.tree) ops.now }
+{
+    same(rt, "operations", ops.len(), 65);
+    match built.replay(alloc, 16, ops) {
+        Ok(built) => Ok(built),
+        Err(_) => Err(Fail::new("nothing was replayed")),
+    }
 }
 
 // Brings a value up to date that has 65 operations to do, and swaps it in.
@@ -55,15 +82,12 @@ fn catch_up<L: MapName, R: Wait + Abort>(
     built: Built,
 ) -> Result<(), Fail> {
     let SwapLeft { built, fault } = left(shared.swap(rt, alloc, built, false))?;
-    assert_eq!(rt; fault, SwapFault::Behind { left: 65 });
+    same(rt, "the fault", fault, SwapFault::Behind { left: 65 });
     let Ok(ops) = shared.log_after(rt, alloc, &built) else {
         return Err(Fail::new("the value is of the part"));
     };
-    assert_eq!(rt; ops.len(), 65);
-    let Ok(built) = built.replay(alloc, 16, ops.as_slice()) else {
-        return Err(Fail::new("nothing was replayed"));
-    };
-    assert!(rt; shared.swap(rt, alloc, built, false).is_ok());
+    let built = replayed(rt, alloc, built, ops.as_slice())?;
+    is_swapped(rt, alloc, shared, built);
     Ok(())
 }
 
@@ -74,13 +98,14 @@ fn detach_twice<L: MapName, R: Wait + Abort>(
     shared: &Shared<L>,
 ) -> Result<(), Fail> {
     let second = some(shared.detach(rt, alloc, 1)?)?;
-    assert_eq!(rt; second.ticket(), 2);
-    assert_eq!(rt; some(shared.detach(rt, alloc, 1)?)?.ticket(), 3);
+    same(rt, "the second ticket", second.ticket(), 2);
+    let third = some(shared.detach(rt, alloc, 1)?)?;
+    same(rt, "the third ticket", third.ticket(), 3);
     let second = built(alloc, second)?;
-    let stale = LogAsk::Stale { ticket: 2 };
-    assert_eq!(rt; shared.log_after(rt, alloc, &second).err(), Some(stale));
+    let asked = shared.log_after(rt, alloc, &second).err();
+    same(rt, "the answer", asked, Some(LogAsk::Stale { ticket: 2 }));
     let SwapLeft { built: _, fault } = left(shared.swap(rt, alloc, second, true))?;
-    assert_eq!(rt; fault, SwapFault::Stale { ticket: 2 });
+    same(rt, "the fault", fault, SwapFault::Stale { ticket: 2 });
     Ok(())
 }
 
@@ -92,12 +117,13 @@ impl<R: Wait + Abort> Trial<R> for AddedMeanwhile {
         shared: &Shared<L>,
         passes: &mut [Pass<L>],
     ) -> Result<(), Fail> {
-        assert!(rt; shared.detach(rt, alloc, 1)?.is_none());
+        let is_even = shared.detach(rt, alloc, 1)?.is_none();
+        holds(rt, "nothing to detach", is_even);
         updated(rt, alloc, shared, passes, 0, row(alloc, 1, 41)?)?;
         let built = first(rt, alloc, shared)?;
         updated(rt, alloc, shared, passes, 0, row(alloc, 41, self.last)?)?;
         if self.last < 106 {
-            assert!(rt; shared.swap(rt, alloc, built, false).is_ok());
+            is_swapped(rt, alloc, shared, built);
             return Ok(());
         }
         catch_up(rt, alloc, shared, built)?;
@@ -105,16 +131,18 @@ impl<R: Wait + Abort> Trial<R> for AddedMeanwhile {
     }
 
     fn end(&self, rt: &R, state: &MapState, _ended: &[Ended]) -> Result<(), Fail> {
-        assert_eq!(rt; i64::from(state.version().counts().live) + 1, self.last);
+        let next = i64::from(state.version().counts().live) + 1;
+        same(rt, "the place behind the last point", next, self.last);
         let part = state.part(1);
         if self.last < 106 {
-            assert!(rt; part.is_none());
+            holds(rt, "nothing is detached", part.is_none());
             return Ok(());
         }
         let Some(part) = part else {
             return Err(Fail::new("the subtree was forgotten"));
         };
-        assert_eq!(rt; (part.ticket, part.logged), (3, 0));
+        same(rt, "the ticket", part.ticket, 3);
+        same(rt, "operations", part.logged, 0);
         Ok(())
     }
 }
@@ -129,6 +157,12 @@ fn a_value_that_is_65_behind_catches_up_and_a_stale_one_is_refused(
     rt: HostRuntime,
 ) -> Result<(), Fail> {
     tried(&rt, rt.alloc(), 1, &AddedMeanwhile { last: 106 })
+}
+
+// So many points are live, and nothing is detached.
+fn all_are_live(rt: &impl Abort, state: &MapState, live: u32) {
+    same(rt, "live points", state.version().counts().live, live);
+    holds(rt, "nothing is detached", state.part(1).is_none());
 }
 
 // In one call a value that is 65 behind is told what it lacks, and then it is swapped in.
@@ -151,17 +185,14 @@ impl<R: Wait + Abort> Trial<R> for ToldMeanwhile {
         let Unswapped::Behind { ops } = fault else {
             return Err(Fail::new("the value is of the part"));
         };
-        assert_eq!(rt; ops.len(), 65);
-        let Ok(built) = built.replay(alloc, 16, ops.as_slice()) else {
-            return Err(Fail::new("nothing was replayed"));
-        };
-        assert!(rt; shared.swap_or_log(rt, alloc, built, 0).is_ok());
+        let built = replayed(rt, alloc, built, ops.as_slice())?;
+        let is_done = shared.swap_or_log(rt, alloc, built, 0).is_ok();
+        holds(rt, "it is swapped in", is_done);
         Ok(())
     }
 
     fn end(&self, rt: &R, state: &MapState, _ended: &[Ended]) -> Result<(), Fail> {
-        assert_eq!(rt; state.version().counts().live, 105);
-        assert!(rt; state.part(1).is_none());
+        all_are_live(rt, state, 105);
         Ok(())
     }
 }
@@ -188,10 +219,11 @@ fn refuse<L: MapName, R: Wait + Abort>(
     let Err(Late { built, fault }) = shared.swap_or_log(rt, alloc, lent, 64) else {
         return Err(Fail::new("it was swapped in"));
     };
-    assert!(rt; matches!(&fault, Unswapped::Stale { ticket: 1 }));
+    let is_stale = matches!(&fault, Unswapped::Stale { ticket: 1 });
+    holds(rt, "the lent value is stale", is_stale);
     let SwapLeft { built: _, fault } = left(shared.swap(rt, alloc, built, true))?;
-    assert_eq!(rt; fault, SwapFault::Stale { ticket: 1 });
-    assert!(rt; shared.swap(rt, alloc, own, false).is_ok());
+    same(rt, "the fault", fault, SwapFault::Stale { ticket: 1 });
+    is_swapped(rt, alloc, shared, own);
     Ok(())
 }
 
@@ -212,8 +244,7 @@ impl<R: Wait + Abort> Trial<R> for Lent {
     }
 
     fn end(&self, rt: &R, state: &MapState, _ended: &[Ended]) -> Result<(), Fail> {
-        assert_eq!(rt; state.version().counts().live, 40);
-        assert!(rt; state.part(1).is_none());
+        all_are_live(rt, state, 40);
         Ok(())
     }
 }
@@ -234,7 +265,7 @@ impl<R: Wait + Abort> Trial<R> for Lender {
     }
 
     fn end(&self, rt: &R, state: &MapState, _ended: &[Ended]) -> Result<(), Fail> {
-        assert!(rt; state.part(1).is_some());
+        holds(rt, "a subtree is detached", state.part(1).is_some());
         Ok(())
     }
 }
@@ -253,11 +284,13 @@ fn assert_kept<L: MapName>(rt: &impl Abort, alloc: Global, passes: &[Pass<L>]) -
         return Err(Fail::new("no such pass"));
     };
     let version = pass.version();
-    assert_eq!(rt; (version.len(), version.counts().live), (1, 40));
-    let hits = nearest(alloc, version.tree(), 9, &Point::new(0, 0, 0)?, None)?;
-    assert_eq!(rt; hits.len(), 9);
+    same(rt, "updates", version.len(), 1);
+    same(rt, "live points", version.counts().live, 40);
+    let query = Point::new(0, 0, 0)?;
+    let hits = nearest(alloc, version.tree(), 9, &query, None)?;
+    same(rt, "hits", hits.len(), 9);
     for (place, hit) in hits.as_slice().iter().enumerate() {
-        assert_eq!(rt; hit.number as usize, place);
+        same(rt, "the number in its place", hit.number as usize, place);
     }
     Ok(())
 }
@@ -278,14 +311,14 @@ impl<R: Wait + Abort> Trial<R> for KeptMeanwhile {
         let built = first(rt, alloc, shared)?;
         let near = deleted(alloc, cuboid(10, 1, 1)?)?;
         updated(rt, alloc, shared, passes, 0, near)?;
-        assert!(rt; shared.swap(rt, alloc, built, false).is_ok());
+        is_swapped(rt, alloc, shared, built);
         // The step after a swap is the one that lets go of what was before it.
         updated(rt, alloc, shared, passes, 0, row(alloc, 41, 42)?)?;
         assert_kept(rt, alloc, passes)
     }
 
     fn end(&self, rt: &R, state: &MapState, _ended: &[Ended]) -> Result<(), Fail> {
-        assert_eq!(rt; state.version().counts().live, 32);
+        same(rt, "live points", state.version().counts().live, 32);
         Ok(())
     }
 }

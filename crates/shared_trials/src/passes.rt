@@ -1,4 +1,5 @@
 //! What a pass sees of the others' updates.
+use crate::assertions::same;
 use crate::trial::{Trial, are_distinct, cuboid, deleted, in_box, near, row, tried, updated};
 use map_fold::{BoxReply, NearReply};
 use published_map::{Ended, MapName, Pass, Shared};
@@ -10,18 +11,25 @@ use std::test::Fail;
 
 // The point (1, 0, 0), alone.
 fn assert_found(rt: &impl Abort, reply: &NearReply) {
-    assert_eq!(rt; reply.mark, 1);
-    assert_eq!(rt; reply.hits.len(), 1);
+    same(rt, "the mark", reply.mark, 1);
+    same(rt, "hits", reply.hits.len(), 1);
     for hit in reply.hits.as_slice() {
-        assert_eq!(rt; (hit.number, hit.dist2), (0, 1));
+        same(rt, "the number", hit.number, 0);
+        same(rt, "the squared distance", hit.dist2, 1);
     }
 }
 
+fn assert_empty(rt: &impl Abort, reply: &NearReply, mark: u64) {
+    same(rt, "the mark", reply.mark, mark);
+    same(rt, "hits", reply.hits.len(), 0);
+}
+
 fn assert_boxed(rt: &impl Abort, reply: &BoxReply) {
-    assert_eq!(rt; (reply.mark, reply.count), (1, 1));
-    assert_eq!(rt; reply.items.len(), 1);
+    same(rt, "the mark", reply.mark, 1);
+    same(rt, "the count", reply.count, 1);
+    same(rt, "items", reply.items.len(), 1);
     for item in reply.items.as_slice() {
-        assert_eq!(rt; item.number, 0);
+        same(rt, "the number", item.number, 0);
     }
 }
 
@@ -37,7 +45,8 @@ impl<R: Wait + Abort> Trial<R> for TwoCallers {
         passes: &mut [Pass<L>],
     ) -> Result<(), Fail> {
         let point = row(alloc, 1, 2)?;
-        assert_eq!(rt; updated(rt, alloc, shared, passes, 0, point)?, 1);
+        let mark = updated(rt, alloc, shared, passes, 0, point)?;
+        same(rt, "the first mark", mark, 1);
         if !are_distinct(passes) {
             return Err(Fail::new("a caller has two passes"));
         }
@@ -46,21 +55,21 @@ impl<R: Wait + Abort> Trial<R> for TwoCallers {
         assert_found(rt, &near(alloc, passes, 1, 17)?);
         assert_boxed(rt, &in_box(alloc, passes, 1)?);
         let around = deleted(alloc, cuboid(2, 1, 1)?)?;
-        assert_eq!(rt; updated(rt, alloc, shared, passes, 1, around)?, 2);
+        let mark = updated(rt, alloc, shared, passes, 1, around)?;
+        same(rt, "the second mark", mark, 2);
         // No clause says that a query enters the published version.
-        for place in [1, 0] {
-            let reply = near(alloc, passes, place, 1)?;
-            assert_eq!(rt; (reply.mark, reply.hits.len()), (2, 0));
-        }
+        assert_empty(rt, &near(alloc, passes, 1, 1)?, 2);
+        assert_empty(rt, &near(alloc, passes, 0, 1)?, 2);
         Ok(())
     }
 
     fn end(&self, rt: &R, state: &MapState, ended: &[Ended]) -> Result<(), Fail> {
-        assert_eq!(rt; state.history().len(), 2);
-        assert_eq!(rt; ended.len(), 2);
-        for place in 0..2u8 {
-            let told = ended[usize::from(place)];
-            assert_eq!(rt; (told.caller, told.updates, told.mark), (place + 1, 1, 2));
+        same(rt, "updates", state.history().len(), 2);
+        same(rt, "callers", ended.len(), 2);
+        for (told, caller) in ended.iter().zip([1, 2]) {
+            same(rt, "the caller", told.caller, caller);
+            same(rt, "the caller's updates", told.updates, 1);
+            same(rt, "the caller's mark", told.mark, 2);
         }
         Ok(())
     }
@@ -83,26 +92,25 @@ impl<R: Wait + Abort> Trial<R> for NewPass {
         passes: &mut [Pass<L>],
     ) -> Result<(), Fail> {
         let reply = near(alloc, passes, 1, 1)?;
-        assert_eq!(rt; (reply.mark, reply.hits.len()), (0, 0));
+        assert_empty(rt, &reply, 0);
         updated(rt, alloc, shared, passes, 0, row(alloc, 1, 2)?)?;
         let Some(pass) = passes.get_mut(1) else {
             return Err(Fail::new("no such pass"));
         };
-        assert_eq!(rt; pass.version().len(), 0);
+        same(rt, "no updates", pass.version().len(), 0);
         pass.renew();
-        assert_eq!(rt; pass.caller(), 2);
-        assert_eq!(rt;
-            (pass.version().len(), pass.version().counts().live),
-            (1, 1)
-        );
+        same(rt, "the caller", pass.caller(), 2);
+        same(rt, "updates", pass.version().len(), 1);
+        same(rt, "live points", pass.version().counts().live, 1);
         updated(rt, alloc, shared, passes, 0, row(alloc, 2, 3)?)?;
         let reply = in_box(alloc, passes, 1)?;
-        assert_eq!(rt; (reply.mark, reply.count), (2, 2));
+        same(rt, "the mark", reply.mark, 2);
+        same(rt, "the count", reply.count, 2);
         Ok(())
     }
 
     fn end(&self, rt: &R, state: &MapState, _ended: &[Ended]) -> Result<(), Fail> {
-        assert_eq!(rt; state.version().counts().live, 2);
+        same(rt, "live points", state.version().counts().live, 2);
         Ok(())
     }
 }

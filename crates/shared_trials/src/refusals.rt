@@ -1,4 +1,5 @@
 //! An update that is refused for want of memory. No memory is wanting in a plain run: it is made to be wanting from outside.
+use crate::assertions::same;
 use crate::trial::{Trial, row, tried};
 use published_map::{Ended, MapName, Pass, Shared};
 use rebuild_core::{MapState, StateFault};
@@ -28,13 +29,14 @@ impl<R: Wait + Abort> Trial<R> for MadeAgain {
                 Err(StateFault::NoMemory) => shared.update(rt, alloc, pass, again),
                 done => done,
             };
-            assert_eq!(rt; done.ok(), Some(mark));
+            same(rt, "the mark", done.ok(), Some(mark));
         }
         Ok(())
     }
 
     fn end(&self, rt: &R, state: &MapState, _ended: &[Ended]) -> Result<(), Fail> {
-        assert_eq!(rt; (state.history().len(), state.next()), (3, 24));
+        same(rt, "updates", state.history().len(), 3);
+        same(rt, "the next number", state.next(), 24);
         Ok(())
     }
 }

@@ -1,6 +1,7 @@
 //! Two callers at once.
 ghost use Rattle.std.specs.Prelude.{◌≡◌, ◌≤◌};
 
+use crate::assertions::{holds, same};
 use crate::trial::are_distinct;
 use map_fold::{Points, Settings, Update};
 use point_geom::Point;
@@ -73,9 +74,9 @@ fn once<L: MapName, R: Wait + Abort>(
     let mut points = Points::new(alloc);
     points.push(point).ok()?;
     let mark = shared.update(rt, alloc, pass, Update::Add(points)).ok()?;
-    assert!(rt; last < mark);
+    holds(rt, "a later mark", last < mark);
     let reply = pass.nearest(alloc, 1, &point, None).ok()?;
-    assert!(rt; mark <= reply.mark);
+    holds(rt, "a read of the update", mark <= reply.mark);
     Some(reply.mark)
 }
 
@@ -131,11 +132,11 @@ fn shared_by_two<L: MapName + Send + Sync, R: Threads + Wait + Abort + Sync>(
         return Err(Fail::new("a call was refused"));
     }
     let (state, ended) = shared.finish(rt, alloc, passes)?;
-    assert_eq!(rt; state.version().len(), 50_000);
-    assert_eq!(rt; state.version().counts().live, 50_000);
-    assert_eq!(rt; ended.len(), 2);
+    same(rt, "updates", state.version().len(), 50_000);
+    same(rt, "live points", state.version().counts().live, 50_000);
+    same(rt, "callers", ended.len(), 2);
     for told in ended.as_slice() {
-        assert_eq!(rt; told.updates, TURNS);
+        same(rt, "a caller's updates", told.updates, TURNS);
     }
     Ok(())
 }

@@ -6,12 +6,13 @@ ghost use Rattle.kd_update.specs.Crossing.{HaveRoomAtOnce};
 ghost use Rattle.kd_update.specs.Several.{AreLargeAt};
 ghost use Rattle.kd_update.specs.Watches.{paths_in};
 
+use crate::assertions::{holds, same};
 use crate::draw::Draw;
-use crate::numbered::{Numbered, row};
-use crate::watch::{are_large, grandsons, own, replay_plainly, watching};
+use crate::numbered::Numbered;
+use crate::watch::{are_large, became, drawn_map, grandsons, held_at, watching};
 use kd_tree::{Path, Scratch, Side, Steps};
 use kd_update::{Watch, Watches, live_items, put_all_watched};
-use map_fold::{Item, NoMemory};
+use map_fold::{Choice, Item, NoMemory, Tag};
 use point_geom::Point;
 use std::alloc::Global;
 use std::marker::Brand;
@@ -146,25 +147,118 @@ struct Watching {
 impl Watching {
     fn started(rt: &impl Abort, alloc: Global, paths: &[Path]) -> Result<Watching, Fail> {
         let mut draw = Draw { state: 7 };
-        let mut map = row(rt, alloc, 16, 16)?;
-        for _ in 0..200 {
-            map = map.put(rt, alloc, 16, draw.point()?)?;
-        }
-        let map = map.settled(alloc)?;
+        let map = drawn_map(rt, alloc, &mut draw)?;
         let watches = watching(rt, alloc, paths)?;
         Ok(Watching { map, watches })
     }
 
-    fn held_at(&self, alloc: Global) -> Result<Vec<Vec<Item>>, Fail> {
-        let mut lists = Vec::new(alloc);
-        for watch in self.watches.as_slice() {
-            lists.push(own(alloc, &self.map.tree, &watch.path)?)?;
+    fn marked(
+        self,
+        rt: &impl Abort,
+        alloc: Global,
+        large: u32,
+        choice: &Choice,
+        tag: Tag,
+    ) -> Result<Watching, Fail> {
+        let Watching { map, mut watches } = self;
+        let map = map.mark_watching(rt, alloc, large, choice, tag, &mut watches)?;
+        Ok(Watching { map, watches })
+    }
+
+    fn put_singly(
+        self,
+        rt: &impl Abort,
+        alloc: Global,
+        large: u32,
+        points: &[Point],
+    ) -> Result<Watching, Fail> {
+        let Watching {
+            mut map,
+            mut watches,
+        } = self;
+        for point in points {
+            map = map.put_watching(rt, alloc, large, *point, &mut watches)?;
         }
-        Ok(lists)
+        Ok(Watching { map, watches })
+    }
+
+    fn put_at_once(
+        self,
+        rt: &impl Abort,
+        alloc: Global,
+        large: u32,
+        points: &[Point],
+    ) -> Result<Watching, Fail> {
+        let Watching { map, mut watches } = self;
+        let map = map.put_scan_watching(rt, alloc, large, points, &mut watches)?;
+        Ok(Watching { map, watches })
     }
 }
 
-// The same scans beside the same subtrees, at once and point by point, with an action before each.
+// The same scans beside the same subtrees, point by point and at once, with an action before each.
+#[derive(Drop)]
+struct Both {
+    singly: Watching,
+    scanned: Watching,
+}
+
+impl Both {
+    fn changed(
+        self,
+        rt: &impl Abort,
+        alloc: Global,
+        draw: &mut Draw,
+        large: u32,
+        count: u32,
+    ) -> Result<Both, Fail> {
+        let Both { singly, scanned } = self;
+        let cuboid = draw.cuboid()?;
+        let choice = draw.choice(&cuboid);
+        let tag = draw.tag();
+        let singly = singly.marked(rt, alloc, large, &choice, tag)?;
+        let scanned = scanned.marked(rt, alloc, large, &choice, tag)?;
+        let points = drawn(alloc, draw, count)?;
+        let singly = singly.put_singly(rt, alloc, large, points.as_slice())?;
+        let scanned = scanned.put_at_once(rt, alloc, large, points.as_slice())?;
+        Ok(Both { singly, scanned })
+    }
+
+    fn hold_the_same(&self, rt: &impl Abort, alloc: Global) -> Result<(), Fail> {
+        let scanned = self.scanned.map.tree.flatten(alloc)?;
+        let singly = self.singly.map.tree.flatten(alloc)?;
+        let are_same = scanned.as_slice() == singly.as_slice();
+        holds(rt, "what both hold", are_same);
+        Ok(())
+    }
+
+    // As many operations are logged at each in both, and make of what it was what it holds.
+    fn have_logged(
+        &self,
+        rt: &impl Abort,
+        alloc: Global,
+        olds: Vec<Vec<Item>>,
+    ) -> Result<(), Fail> {
+        let mut olds = olds.into_iter();
+        let mut others = self.singly.watches.as_slice().iter();
+        for watch in self.scanned.watches.as_slice() {
+            let (Some(items), Some(other)) = (olds.next(), others.next()) else {
+                return Err(Fail::new("fewer watches"));
+            };
+            same(rt, "operations", watch.log.len(), other.log.len());
+            became(rt, alloc, &self.scanned.map.tree, watch, items)?;
+        }
+        Ok(())
+    }
+}
+
+fn drawn(alloc: Global, draw: &mut Draw, count: u32) -> Result<Vec<Point>, Fail> {
+    let mut points = Vec::new(alloc);
+    for _ in 0..count {
+        points.push(draw.point()?)?;
+    }
+    Ok(points)
+}
+
 fn scans_beside(
     rt: &impl Abort,
     alloc: Global,
@@ -172,45 +266,16 @@ fn scans_beside(
     large: u32,
     count: u32,
 ) -> Result<(), Fail> {
-    let Watching {
-        map: mut singly,
-        watches: mut one_by_one,
-    } = Watching::started(rt, alloc, paths)?;
-    let start = Watching::started(rt, alloc, paths)?;
-    let olds = start.held_at(alloc)?;
-    let Watching {
-        map: mut scanned,
-        watches: mut at_once,
-    } = start;
+    let singly = Watching::started(rt, alloc, paths)?;
+    let scanned = Watching::started(rt, alloc, paths)?;
+    let olds = held_at(alloc, &scanned.map.tree, paths)?;
+    let mut both = Both { singly, scanned };
     let mut draw = Draw { state: 11 };
     for _ in 0..5 {
-        let cuboid = draw.cuboid()?;
-        let choice = draw.choice(&cuboid);
-        let tag = draw.tag();
-        singly = singly.mark_watching(rt, alloc, large, &choice, tag, &mut one_by_one)?;
-        scanned = scanned.mark_watching(rt, alloc, large, &choice, tag, &mut at_once)?;
-        let mut points = Vec::new(alloc);
-        for _ in 0..count {
-            let point = draw.point()?;
-            points.push(point)?;
-            singly = singly.put_watching(rt, alloc, large, point, &mut one_by_one)?;
-        }
-        scanned = scanned.put_scan_watching(rt, alloc, large, points.as_slice(), &mut at_once)?;
-        let held = scanned.tree.flatten(alloc)?;
-        assert!(rt; held.as_slice() == singly.tree.flatten(alloc)?.as_slice());
+        both = both.changed(rt, alloc, &mut draw, large, count)?;
+        both.hold_the_same(rt, alloc)?;
     }
-    let mut olds = olds.into_iter();
-    let mut others = one_by_one.as_slice().iter();
-    for watch in at_once.as_slice() {
-        let (Some(mut items), Some(other)) = (olds.next(), others.next()) else {
-            return Err(Fail::new("fewer watches"));
-        };
-        assert_eq!(rt; watch.log.len(), other.log.len());
-        replay_plainly(alloc, &mut items, &watch.log)?;
-        let held = own(alloc, &scanned.tree, &watch.path)?;
-        assert!(rt; held.as_slice() == items.as_slice());
-    }
-    Ok(())
+    both.have_logged(rt, alloc, olds)
 }
 
 #[test]
@@ -220,9 +285,9 @@ fn a_scan_beside_watched_subtrees_does_what_its_points_do(rt: HostRuntime) -> Re
     let [first, second, ..] = places;
     let left = Path::root().down(Side::Left);
     for (large, count) in [(16, 12), (40, 39)] {
-        for paths in [&[left][..], &[second, first][..], &places[..]] {
-            scans_beside(&rt, alloc, paths, large, count)?;
-        }
+        scans_beside(&rt, alloc, &[left], large, count)?;
+        scans_beside(&rt, alloc, &[second, first], large, count)?;
+        scans_beside(&rt, alloc, &places, large, count)?;
     }
     Ok(())
 }

@@ -1,6 +1,7 @@
 //! Trees beside plain lists.
 ghost use Rattle.std.specs.Prelude.{◌≡◌};
 
+use crate::assertions::{holds, same};
 use crate::draw::{Draw, mark_plainly};
 use crate::numbered::{Numbered, between, row};
 use kd_tree::{Path, Side, Steps, Tree};
@@ -9,6 +10,7 @@ use map_fold::{Choice, Item, Label, NoMemory, Tag};
 use point_geom::{Cuboid, Point};
 use std::alloc::Global;
 use std::marker::Brand;
+use std::process::Abort;
 use std::sync::ledger::{Blank, Ledger};
 use std::test::Fail;
 
@@ -33,93 +35,115 @@ fn top_of(tree: &Tree) -> Result<(i64, u32, u32), Fail> {
 fn a_rising_row_is_held_to_its_last_point(rt: HostRuntime) -> Result<(), Fail> {
     let alloc = rt.alloc();
     let map = row(&rt, alloc, 16, 4_000)?;
-    assert_eq!(rt; map.tree.counts().live, 4_000);
+    same(&rt, "live points", map.tree.counts().live, 4_000);
     let items = map.tree.flatten(alloc)?;
-    assert_eq!(rt; items.len(), 4_000);
-    for (i, item) in items.as_slice().iter().enumerate() {
-        assert_eq!(rt; item.number as usize, i);
-        assert_eq!(rt; item.point.x(), i as i64);
-    }
+    same(&rt, "items", items.len(), 4_000);
+    are_in_a_row(&rt, items.as_slice());
     Ok(())
+}
+
+// Each has its place in the list as its number and its x.
+fn are_in_a_row(rt: &impl Abort, items: &[Item]) {
+    for (i, item) in items.iter().enumerate() {
+        same(rt, "the number", item.number as usize, i);
+        same(rt, "the x", item.point.x(), i as i64);
+    }
 }
 
 #[test]
 fn a_rising_row_leans_to_the_right_until_it_is_settled(rt: HostRuntime) -> Result<(), Fail> {
     let alloc = rt.alloc();
     let map = Numbered::new().risen(&rt, alloc, 16, 1, 41)?;
-    assert_eq!(rt; top_of(&map.tree)?, (7, 6, 33));
+    same(&rt, "the top", top_of(&map.tree)?, (7, 6, 33));
 
     let map = map.settled(alloc)?;
-    assert_eq!(rt; top_of(&map.tree)?, (20, 19, 20));
+    same(&rt, "the settled top", top_of(&map.tree)?, (20, 19, 20));
 
     let map = map.risen(&rt, alloc, 16, 41, 45)?;
-    assert_eq!(rt; top_of(&map.tree)?, (20, 19, 24));
+    same(&rt, "the last top", top_of(&map.tree)?, (20, 19, 24));
+    leans_to_the_right(&rt, &map.tree)
+}
+
+fn leans_to_the_right(rt: &impl Abort, tree: &Tree) -> Result<(), Fail> {
     let right = Path::root().down(Side::Right);
-    let Some(son) = map.tree.subtree_at(&right) else {
+    let Some(son) = tree.subtree_at(&right) else {
         return Err(Fail::new("no right son"));
     };
     let (_, left, below) = top_of(son)?;
-    assert_eq!(rt; (left, below), (9, 14));
-    assert!(rt; map.tree.first_breach(16) == Some(right));
-    assert!(rt; !map.tree.is_breached());
+    same(rt, "the right son", (left, below), (9, 14));
+    let is_first = tree.first_breach(16) == Some(right);
+    holds(rt, "the first breach", is_first);
+    holds(rt, "a whole that may stand", !tree.is_breached());
     Ok(())
+}
+
+// The map after the action on its points from `from` to `to` less one.
+fn acted(alloc: Global, map: Numbered, from: i64, to: i64, tag: Tag) -> Result<Numbered, Fail> {
+    let cuboid = between((from, 0, 0), (to, 1, 1))?;
+    Ok(map.marked(alloc, 16, &Choice::within(&cuboid), tag)?)
 }
 
 #[test]
 fn what_is_built_anew_holds_what_was_left(rt: HostRuntime) -> Result<(), Fail> {
     let alloc = rt.alloc();
     let map = row(&rt, alloc, 16, 400)?;
-    let middle = between((100, 0, 0), (350, 1, 1))?;
-    let map = map.marked(alloc, 16, &Choice::within(&middle), Tag::DELETE)?;
-    let first = between((0, 0, 0), (10, 1, 1))?;
-    let map = map.marked(alloc, 16, &Choice::within(&first), Tag::SUSPEND)?;
+    let map = acted(alloc, map, 100, 350, Tag::DELETE)?;
+    let map = acted(alloc, map, 0, 10, Tag::SUSPEND)?;
     let held = map.tree.flatten(alloc)?;
     let tree = build_anew::<Brand>(alloc, map.tree, Blank::new(1))?;
-    assert!(rt; tree.flatten(alloc)?.as_slice() == held.as_slice());
-    assert_eq!(rt; (tree.size(), tree.levels()), (150, 8));
+    holds_all(&rt, alloc, &tree, held.as_slice())?;
+    same(&rt, "nodes", tree.size(), 150);
+    same(&rt, "levels", tree.levels(), 8);
     let counts = tree.counts();
-    assert_eq!(rt;
-        (counts.live, counts.suspended, counts.dropped),
-        (140, 10, 0)
-    );
+    same(&rt, "live points", counts.live, 140);
+    same(&rt, "suspended points", counts.suspended, 10);
+    same(&rt, "dropped points", counts.dropped, 0);
+    Ok(())
+}
+
+fn holds_all(rt: &impl Abort, alloc: Global, tree: &Tree, held: &[Item]) -> Result<(), Fail> {
+    let items = tree.flatten(alloc)?;
+    let are_same = items.as_slice() == held;
+    holds(rt, "what was held", are_same);
     Ok(())
 }
 
 #[test]
 fn what_is_suspended_comes_back_and_what_is_deleted_does_not(rt: HostRuntime) -> Result<(), Fail> {
     let alloc = rt.alloc();
-    let mut map = row(&rt, alloc, 16, 3)?;
-    for (from, to, tag) in [
-        (0, 1, Tag::DELETE),
-        (0, 9, Tag::RESTORE),
-        (0, 9, Tag::SUSPEND),
-        (2, 3, Tag::RESTORE),
-    ] {
-        let cuboid = between((from, 0, 0), (to, 1, 1))?;
-        map = map.marked(alloc, 16, &Choice::within(&cuboid), tag)?;
-    }
+    let map = row(&rt, alloc, 16, 3)?;
+    let map = acted(alloc, map, 0, 1, Tag::DELETE)?;
+    let map = acted(alloc, map, 0, 9, Tag::RESTORE)?;
+    let map = acted(alloc, map, 0, 9, Tag::SUSPEND)?;
+    let map = acted(alloc, map, 2, 3, Tag::RESTORE)?;
     let items = map.tree.flatten(alloc)?;
-    let mut held = items.as_slice().iter().map(|i| (i.number, i.label));
-    assert_eq!(rt; held.next(), Some((1, Label::Suspended)));
-    assert_eq!(rt; held.next(), Some((2, Label::Live)));
-    assert_eq!(rt; held.next(), None);
+    let held = items.as_slice().iter().map(|i| (i.number, i.label));
+    let are_left = held.eq([(1, Label::Suspended), (2, Label::Live)]);
+    holds(&rt, "what is left", are_left);
     Ok(())
 }
 
 #[test]
 fn equal_points_are_erased_together(rt: HostRuntime) -> Result<(), Fail> {
     let alloc = rt.alloc();
+    let map = upright(&rt, alloc)?;
+    let unit = Cuboid::unit(&Point::new(1, 2, 3)?);
+    let map = map.marked(alloc, 16, &Choice::within(&unit), Tag::DELETE)?;
+    let items = map.tree.flatten(alloc)?;
+    let held = items.as_slice().iter().map(|i| (i.number, i.point.z()));
+    let is_left = held.eq([(1, 4)]);
+    holds(&rt, "what is left", is_left);
+    Ok(())
+}
+
+// Four points, of which three are equal.
+fn upright(rt: &impl Abort, alloc: Global) -> Result<Numbered, Fail> {
     let mut map = Numbered::new();
     for z in [3, 4, 3, 3] {
-        map = map.put(&rt, alloc, 16, Point::new(1, 2, z)?)?;
+        let point = Point::new(1, 2, z)?;
+        map = map.put(rt, alloc, 16, point)?;
     }
-    let unit = Cuboid::unit(&Point::new(1, 2, 3)?);
-    map = map.marked(alloc, 16, &Choice::within(&unit), Tag::DELETE)?;
-    let items = map.tree.flatten(alloc)?;
-    let mut held = items.as_slice().iter().map(|i| (i.number, i.point.z()));
-    assert_eq!(rt; held.next(), Some((1, 4)));
-    assert_eq!(rt; held.next(), None);
-    Ok(())
+    Ok(map)
 }
 
 #[test]
@@ -127,43 +151,86 @@ fn a_settled_tree_has_no_breach(rt: HostRuntime) -> Result<(), Fail> {
     let alloc = rt.alloc();
     for (points, from, to) in [(9, 0, 9), (400, 0, 0), (400, 100, 350), (400, 0, 400)] {
         let map = row(&rt, alloc, 16, points)?;
-        let cuboid = between((from, 0, 0), (to, 1, 1))?;
-        let map = map.marked(alloc, 16, &Choice::within(&cuboid), Tag::DELETE)?;
-        let held = map.tree.flatten(alloc)?;
-        let tree = settled(alloc, map.tree)?;
-        assert!(rt; tree.first_breach(10).is_none(), "{points} points");
-        let left = tree.flatten(alloc)?;
-        assert!(rt; left.as_slice() == held.as_slice(), "{points} points");
+        let map = acted(alloc, map, from, to, Tag::DELETE)?;
+        settles(&rt, alloc, map.tree, points)?;
     }
     Ok(())
+}
+
+// It holds then what it held, and has no breach.
+fn settles(rt: &impl Abort, alloc: Global, tree: Tree, points: i64) -> Result<(), Fail> {
+    let held = tree.flatten(alloc)?;
+    let tree = settled(alloc, tree)?;
+    assert!(rt; tree.first_breach(10).is_none(), "{points} points");
+    holds_all(rt, alloc, &tree, held.as_slice())
+}
+
+// A tree, a list, and what both are changed by.
+#[derive(Drop)]
+struct Twins {
+    draw: Draw,
+    map: Numbered,
+    plain: Vec<Item>,
+}
+
+impl Twins {
+    fn new(alloc: Global) -> Twins {
+        Twins {
+            draw: Draw { state: 7 },
+            map: Numbered::new(),
+            plain: Vec::new(alloc),
+        }
+    }
+
+    // In twelve of sixteen cases a point is put.
+    fn changed(self, rt: &impl Abort, alloc: Global, large: u32) -> Result<Twins, Fail> {
+        let mut twins = self;
+        if twins.draw.sixteenth() < 12 {
+            return twins.put(rt, alloc, large);
+        }
+        twins.marked(alloc, large)
+    }
+
+    fn put(self, rt: &impl Abort, alloc: Global, large: u32) -> Result<Twins, Fail> {
+        let Twins {
+            mut draw,
+            map,
+            mut plain,
+        } = self;
+        let point = draw.point()?;
+        plain.push(Item {
+            number: map.next,
+            point,
+            label: Label::Live,
+        })?;
+        let map = map.put(rt, alloc, large, point)?;
+        Ok(Twins { draw, map, plain })
+    }
+
+    fn marked(self, alloc: Global, large: u32) -> Result<Twins, Fail> {
+        let Twins {
+            mut draw,
+            map,
+            mut plain,
+        } = self;
+        let cuboid = draw.cuboid()?;
+        let choice = draw.choice(&cuboid);
+        let tag = draw.tag();
+        mark_plainly(&mut plain, &choice, tag);
+        let map = map.marked(alloc, large, &choice, tag)?;
+        Ok(Twins { draw, map, plain })
+    }
 }
 
 #[test]
 fn a_tree_holds_what_a_list_holds(rt: HostRuntime) -> Result<(), Fail> {
     let alloc = rt.alloc();
     for large in [16, 64, 1_000_000] {
-        let mut draw = Draw { state: 7 };
-        let mut map = Numbered::new();
-        let mut plain = Vec::new(alloc);
+        let mut twins = Twins::new(alloc);
         for step in 0..1_500 {
-            if draw.sixteenth() < 12 {
-                let point = draw.point()?;
-                plain.push(Item {
-                    number: map.next,
-                    point,
-                    label: Label::Live,
-                })?;
-                map = map.put(&rt, alloc, large, point)?;
-            } else {
-                let cuboid = draw.cuboid()?;
-                let choice = draw.choice(&cuboid);
-                let tag = draw.tag();
-                mark_plainly(&mut plain, &choice, tag);
-                map = map.marked(alloc, large, &choice, tag)?;
-            }
+            twins = twins.changed(&rt, alloc, large)?;
             if step % 50 == 0 {
-                let held = map.tree.flatten(alloc)?;
-                assert!(rt; held.as_slice() == plain.as_slice(), "step {step}");
+                holds_all(&rt, alloc, &twins.map.tree, twins.plain.as_slice())?;
             }
         }
     }

@@ -68,7 +68,8 @@ impl Numbered {
     ) -> Result<Numbered, Fail> {
         let mut map = self;
         for x in from..to {
-            map = map.put(rt, alloc, large, Point::new(x, 0, 0)?)?;
+            let point = Point::new(x, 0, 0)?;
+            map = map.put(rt, alloc, large, point)?;
         }
         Ok(map)
     }

@@ -1,6 +1,7 @@
 //! Scans put at once beside points put one by one.
 ghost use Rattle.std.specs.Prelude.{◌≡◌, ◌+◌, ◌≤◌, length};
 
+use crate::assertions::{holds, same};
 use crate::draw::Draw;
 use crate::numbered::{Numbered, between};
 use kd_tree::{Scratch, Steps};
@@ -112,18 +113,32 @@ fn scans_hold_what_single_points_hold(rt: HostRuntime) -> Result<(), Fail> {
         let mut draw = Draw { state: 5 };
         let mut both = Both::new();
         for count in [1, 2, 40, 15, 16, 17, 0, 300, 1, 3_000, 700] {
-            let points = drawn(alloc, &mut draw, count)?;
-            both = both.put(&rt, alloc, large, points.as_slice())?;
-            assert!(rt; both.are_same(alloc)?, "large {large}, {count} more");
-            let cuboid = draw.cuboid()?;
-            both = both.marked(alloc, large, &draw.choice(&cuboid), draw.tag())?;
-            assert!(rt;
-                both.are_same(alloc)?,
-                "large {large}, marked after {count}"
-            );
+            both = scanned(&rt, alloc, both, &mut draw, large, count)?;
         }
     }
     Ok(())
+}
+
+// Both after a scan and an action.
+fn scanned(
+    rt: &impl Abort,
+    alloc: Global,
+    both: Both,
+    draw: &mut Draw,
+    large: u32,
+    count: u32,
+) -> Result<Both, Fail> {
+    let points = drawn(alloc, draw, count)?;
+    let both = both.put(rt, alloc, large, points.as_slice())?;
+    assert!(rt; both.are_same(alloc)?, "large {large}, {count} more");
+    let cuboid = draw.cuboid()?;
+    let choice = draw.choice(&cuboid);
+    let both = both.marked(alloc, large, &choice, draw.tag())?;
+    assert!(rt;
+        both.are_same(alloc)?,
+        "large {large}, marked after {count}"
+    );
+    Ok(both)
 }
 
 fn row(alloc: Global, from: i64, to: i64) -> Result<Vec<Point>, Fail> {
@@ -138,14 +153,19 @@ fn row(alloc: Global, from: i64, to: i64) -> Result<Vec<Point>, Fail> {
 #[test]
 fn a_deep_tree_takes_scans_too(rt: HostRuntime) -> Result<(), Fail> {
     let alloc = rt.alloc();
-    let both = Both::new();
-    let mut both = Both {
-        scanned: both.scanned.risen(&rt, alloc, 2, 0, 500)?,
-        single: both.single.risen(&rt, alloc, 2, 0, 500)?,
-    };
-    assert_eq!(rt; both.scanned.tree.levels(), 500);
-    both = both.put(&rt, alloc, 16, row(alloc, 500, 510)?.as_slice())?;
-    both = both.put(&rt, alloc, 16, row(alloc, 510, 1_000)?.as_slice())?;
-    assert!(rt; both.are_same(alloc)?);
+    let both = risen(&rt, alloc)?;
+    same(&rt, "levels", both.scanned.tree.levels(), 500);
+    let few = row(alloc, 500, 510)?;
+    let both = both.put(&rt, alloc, 16, few.as_slice())?;
+    let many = row(alloc, 510, 1_000)?;
+    let both = both.put(&rt, alloc, 16, many.as_slice())?;
+    holds(&rt, "the same in both", both.are_same(alloc)?);
     Ok(())
+}
+
+fn risen(rt: &impl Abort, alloc: Global) -> Result<Both, Fail> {
+    Ok(Both {
+        scanned: Numbered::new().risen(rt, alloc, 2, 0, 500)?,
+        single: Numbered::new().risen(rt, alloc, 2, 0, 500)?,
+    })
 }

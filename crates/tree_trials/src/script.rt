@@ -67,7 +67,8 @@ impl Script {
     pub fn risen(self, rt: &impl Abort, from: i64, to: i64) -> Result<Script, Fail> {
         let mut script = self;
         for x in from..to {
-            script = script.put(rt, Point::new(x, 0, 0)?)?;
+            let point = Point::new(x, 0, 0)?;
+            script = script.put(rt, point)?;
         }
         Ok(script)
     }

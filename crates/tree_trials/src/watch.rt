@@ -5,6 +5,7 @@ ghost use Rattle.kd_update.specs.Several.{AreLargeAt};
 ghost use Rattle.kd_update.specs.Watch.{IsLargeAt};
 ghost use Rattle.kd_update.specs.Watches.{HaveRoom, paths_in};
 
+use crate::assertions::{holds, same};
 use crate::draw::{Draw, mark_plainly};
 use crate::numbered::{Numbered, between, row};
 use kd_tree::{Path, Side, Steps, Tree};
@@ -179,12 +180,49 @@ pub fn grandsons() -> [Path; 4] {
     ]
 }
 
+type Logged = (u32, u32, u32, u32);
+
 // How many operations are logged at each of four watches.
-fn logged(watches: &Watches) -> Result<(u32, u32, u32, u32), Fail> {
+fn logged(watches: &Watches) -> Result<Logged, Fail> {
     match watches.as_slice() {
         [a, b, c, d] => Ok((a.log.len(), b.log.len(), c.log.len(), d.log.len())),
         _ => Err(Fail::new("not four watches")),
     }
+}
+
+// The map after an action on the points from `from` to `to` less one, which leaves so many logged.
+fn acted(
+    rt: &impl Abort,
+    alloc: Global,
+    map: Numbered,
+    watches: &mut Watches,
+    (from, to, tag, want): (i64, i64, Tag, Logged),
+) -> Result<Numbered, Fail> {
+    let within = between((from, 0, 0), (to, 1, 1))?;
+    let choice = Choice::within(&within);
+    let map = map.mark_watching(rt, alloc, 16, &choice, tag, watches)?;
+    assert_eq!(rt; logged(watches)?, want, "from {from} to {to}");
+    Ok(map)
+}
+
+// The map after a point more, which leaves so many logged.
+fn with_point(
+    rt: &impl Abort,
+    alloc: Global,
+    map: Numbered,
+    watches: &mut Watches,
+    (x, want): (i64, Logged),
+) -> Result<Numbered, Fail> {
+    let point = Point::new(x, 0, 0)?;
+    let map = map.put_watching(rt, alloc, 16, point, watches)?;
+    assert_eq!(rt; logged(watches)?, want, "a point at {x}");
+    Ok(map)
+}
+
+// A settled row.
+fn even(rt: &impl Abort, alloc: Global, from: i64, to: i64) -> Result<Numbered, Fail> {
+    let map = Numbered::new().risen(rt, alloc, 16, from, to)?;
+    Ok(map.settled(alloc)?)
 }
 
 #[test]
@@ -193,11 +231,9 @@ fn an_action_is_logged_where_it_meets_a_watched_root_that_is_not_covered_from_ab
 ) -> Result<(), Fail> {
     let alloc = rt.alloc();
     // Four subtrees: 1 to 19, 21 to 39, 41 to 59 and 61 to 80.
-    let mut map = Numbered::new()
-        .risen(&rt, alloc, 16, 1, 81)?
-        .settled(alloc)?;
+    let mut map = even(&rt, alloc, 1, 81)?;
     let mut watches = watching(&rt, alloc, &grandsons())?;
-    for (from, to, tag, want) in [
+    for row in [
         // It covers the first root, touches the first two, and misses all.
         (1, 20, Tag::SUSPEND, (1, 0, 0, 0)),
         (19, 22, Tag::RESTORE, (2, 1, 0, 0)),
@@ -208,17 +244,13 @@ fn an_action_is_logged_where_it_meets_a_watched_root_that_is_not_covered_from_ab
         // What rests is pushed into both sons of the node above the first two, and into the father of the others.
         (30, 33, Tag::RESTORE, (3, 3, 0, 0)),
     ] {
-        let within = between((from, 0, 0), (to, 1, 1))?;
-        map = map.mark_watching(&rt, alloc, 16, &Choice::within(&within), tag, &mut watches)?;
-        assert_eq!(rt; logged(&watches)?, want, "from {from} to {to}");
+        map = acted(&rt, alloc, map, &mut watches, row)?;
     }
     // Here the father pushes it on, also into the root that the point doesn't go to.
-    for (x, want) in [(50, (3, 3, 2, 1)), (90, (3, 3, 2, 2)), (5, (4, 3, 2, 2))] {
-        let point = Point::new(x, 0, 0)?;
-        map = map.put_watching(&rt, alloc, 16, point, &mut watches)?;
-        assert_eq!(rt; logged(&watches)?, want, "a point at {x}");
+    for row in [(50, (3, 3, 2, 1)), (90, (3, 3, 2, 2)), (5, (4, 3, 2, 2))] {
+        map = with_point(&rt, alloc, map, &mut watches, row)?;
     }
-    assert_eq!(rt; watches.into_vec().len(), 4);
+    same(&rt, "watches", watches.into_vec().len(), 4);
     Ok(())
 }
 
@@ -227,47 +259,41 @@ fn an_action_that_rests_above_a_watched_root_is_logged_when_it_is_pushed_into_it
     rt: HostRuntime,
 ) -> Result<(), Fail> {
     let alloc = rt.alloc();
-    let map = Numbered::new()
-        .risen(&rt, alloc, 16, 1, 41)?
-        .settled(alloc)?;
+    let map = even(&rt, alloc, 1, 41)?;
     let map = map.risen(&rt, alloc, 16, 41, 45)?;
     let right = Path::root().down(Side::Right);
     let mut watches = watching(&rt, alloc, &[right])?;
 
-    let all = between((0, 0, 0), (100, 1, 1))?;
-    let map = map.mark_watching(
-        &rt,
-        alloc,
-        16,
-        &Choice::within(&all),
-        Tag::SUSPEND,
-        &mut watches,
-    )?;
-    let part = between((30, 0, 0), (33, 1, 1))?;
-    let map = map.mark_watching(
-        &rt,
-        alloc,
-        16,
-        &Choice::within(&part),
-        Tag::RESTORE,
-        &mut watches,
-    )?;
-    assert!(rt; is_large(&map.tree, 24, &right));
+    let all = Choice::within(&between((0, 0, 0), (100, 1, 1))?);
+    let map = map.mark_watching(&rt, alloc, 16, &all, Tag::SUSPEND, &mut watches)?;
+    let part = Choice::within(&between((30, 0, 0), (33, 1, 1))?);
+    let map = map.mark_watching(&rt, alloc, 16, &part, Tag::RESTORE, &mut watches)?;
+    let is_large = is_large(&map.tree, 24, &right);
+    holds(&rt, "a large subtree", is_large);
+    has_logged_both(&rt, alloc, &watches, part)
+}
 
+// The first watch has that all were suspended, and that part of them was restored.
+fn has_logged_both(
+    rt: &impl Abort,
+    alloc: Global,
+    watches: &Watches,
+    part: Choice,
+) -> Result<(), Fail> {
     let Some(watch) = watches.as_slice().first() else {
         return Err(Fail::new("no watch"));
     };
-    let want = [
-        Op::Mark {
-            choice: Choice::ALL,
-            tag: Tag::SUSPEND,
-        },
-        Op::Mark {
-            choice: Choice::within(&part),
-            tag: Tag::RESTORE,
-        },
-    ];
-    assert!(rt; watch.log.after(alloc, 0)?.as_slice() == want.as_slice());
+    let suspended = Op::Mark {
+        choice: Choice::ALL,
+        tag: Tag::SUSPEND,
+    };
+    let restored = Op::Mark {
+        choice: part,
+        tag: Tag::RESTORE,
+    };
+    let ops = watch.log.after(alloc, 0)?;
+    let are_both = ops.as_slice() == [suspended, restored].as_slice();
+    holds(rt, "what was logged", are_both);
     Ok(())
 }
 
@@ -277,47 +303,79 @@ fn what_was_logged_makes_a_watched_subtree_of_what_it_was(rt: HostRuntime) -> Re
     let places = grandsons();
     let [first, second, ..] = places;
     let left = Path::root().down(Side::Left);
-    for paths in [
-        &[left][..],
-        &[second, left][..],
-        &[first, second][..],
-        &places[..],
-    ] {
-        beside(&rt, alloc, paths)?;
+    beside(&rt, alloc, &[left])?;
+    beside(&rt, alloc, &[second, left])?;
+    beside(&rt, alloc, &[first, second])?;
+    beside(&rt, alloc, &places)
+}
+
+// A settled map of drawn points.
+pub fn drawn_map(rt: &impl Abort, alloc: Global, draw: &mut Draw) -> Result<Numbered, Fail> {
+    let mut map = row(rt, alloc, 16, 16)?;
+    for _ in 0..200 {
+        let point = draw.point()?;
+        map = map.put(rt, alloc, 16, point)?;
     }
-    Ok(())
+    Ok(map.settled(alloc)?)
+}
+
+// What each subtree holds.
+pub fn held_at(alloc: Global, tree: &Tree, paths: &[Path]) -> Result<Vec<Vec<Item>>, Fail> {
+    let mut lists = Vec::new(alloc);
+    for path in paths {
+        lists.push(own(alloc, tree, path)?)?;
+    }
+    Ok(lists)
 }
 
 // Random updates of a settled row beside the watches, and in the end each subtree beside its list.
 fn beside(rt: &impl Abort, alloc: Global, paths: &[Path]) -> Result<(), Fail> {
     let mut draw = Draw { state: 7 };
-    let mut map = row(rt, alloc, 16, 16)?;
-    for _ in 0..200 {
-        map = map.put(rt, alloc, 16, draw.point()?)?;
-    }
-    map = map.settled(alloc)?;
-    let mut olds = Vec::new(alloc);
-    for path in paths {
-        olds.push(own(alloc, &map.tree, path)?)?;
-    }
+    let mut map = drawn_map(rt, alloc, &mut draw)?;
+    let olds = held_at(alloc, &map.tree, paths)?;
     let mut watches = watching(rt, alloc, paths)?;
     for _ in 0..300 {
-        if draw.sixteenth() < 8 {
-            map = map.put_watching(rt, alloc, 16, draw.point()?, &mut watches)?;
-        } else {
-            let cuboid = draw.cuboid()?;
-            let choice = draw.choice(&cuboid);
-            map = map.mark_watching(rt, alloc, 16, &choice, draw.tag(), &mut watches)?;
-        }
+        map = changed(rt, alloc, map, &mut draw, &mut watches)?;
     }
     let mut olds = olds.into_iter();
     for watch in watches.as_slice() {
-        let Some(mut items) = olds.next() else {
+        let Some(items) = olds.next() else {
             return Err(Fail::new("no list"));
         };
-        replay_plainly(alloc, &mut items, &watch.log)?;
-        let held = own(alloc, &map.tree, &watch.path)?;
-        assert!(rt; held.as_slice() == items.as_slice());
+        became(rt, alloc, &map.tree, watch, items)?;
     }
+    Ok(())
+}
+
+fn changed(
+    rt: &impl Abort,
+    alloc: Global,
+    map: Numbered,
+    draw: &mut Draw,
+    watches: &mut Watches,
+) -> Result<Numbered, Fail> {
+    if draw.sixteenth() < 8 {
+        let point = draw.point()?;
+        return Ok(map.put_watching(rt, alloc, 16, point, watches)?);
+    }
+    let cuboid = draw.cuboid()?;
+    let choice = draw.choice(&cuboid);
+    let tag = draw.tag();
+    Ok(map.mark_watching(rt, alloc, 16, &choice, tag, watches)?)
+}
+
+// What was logged makes of these items what the subtree holds.
+pub fn became(
+    rt: &impl Abort,
+    alloc: Global,
+    tree: &Tree,
+    watch: &Watch,
+    items: Vec<Item>,
+) -> Result<(), Fail> {
+    let mut items = items;
+    replay_plainly(alloc, &mut items, &watch.log)?;
+    let held = own(alloc, tree, &watch.path)?;
+    let are_same = held.as_slice() == items.as_slice();
+    holds(rt, "what the subtree holds", are_same);
     Ok(())
 }
