@@ -27,6 +27,7 @@ pub struct Fork {
 
 impl Tree {
     /// The tree after this action on all its items. Where memory is wanting, the tree is let go.
+    #[inline(always)]
     pub fn tagged<L: Ledger>(
         self,
         alloc: Global,
@@ -43,6 +44,20 @@ impl Tree {
         if tag == Tag::KEEP {
             return Ok(self);
         }
+        self.retagged(alloc, tag, steps)
+    }
+
+    // The same, whatever the action is: the node is taken apart and put together, by itself, since most actions are none.
+    fn retagged<L: Ledger>(
+        self,
+        alloc: Global,
+        tag: Tag,
+        steps: &mut Steps<L>,
+    ) -> Result<Tree, NoMemory>
+        ensures shape { IfOk result (λ t. t ≡ tagged tag self) }
+        ensures ticks { steps.new ≤ steps.old + 1 }
+        ensures still { self ≡ leaf → steps.new ≡ steps.old }
+    {
         match self.opened()? {
             None => Ok(Tree::empty()),
             Some(node) => {

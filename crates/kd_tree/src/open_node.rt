@@ -51,7 +51,7 @@ pub(crate) struct Opened {
 impl Tree {
     /// The tree taken apart at its top node, if it has one, as `push_down` does. Where nobody else holds the node, its memory is
     /// kept. Where memory is wanting, the tree is let go.
-    #[inline]
+    #[inline(always)]
     pub fn take_apart<L: Ledger>(
         self,
         alloc: Global,
@@ -83,7 +83,7 @@ impl Tree {
 
     /// Joins the parts to a tree with nothing pending at its top, as `pull_up` does. Where memory was kept, the node is made in
     /// it. Where memory is wanting, the parts are let go.
-    #[inline]
+    #[inline(always)]
     pub fn put_together<L: Ledger>(
         alloc: Global,
         node: OpenNode,
@@ -111,7 +111,7 @@ impl Tree {
     }
 
     // The top node, if there is one.
-    #[inline]
+    #[inline(always)]
     pub(crate) fn opened(self) -> Result<Option<Opened>, NoMemory>
         ensures { IfOk result (λ o. IsOpened self o) }
     {
@@ -125,7 +125,7 @@ impl Tree {
     }
 
     // The top node, if nobody else holds it, and else the tree as it was.
-    #[inline]
+    #[inline(always)]
     pub(crate) fn opened_if_own(self) -> Result<Opened, Tree>
         ensures own { IfOk result (λ o. IsOpened self (Some o)) }
         ensures stays { IfErr result (λ t. t ≡ self) }
@@ -182,7 +182,7 @@ impl Block {
     }
 
     // The tree of this node. Where memory is kept that nobody else holds, it is in that.
-    #[inline]
+    #[inline(always)]
     pub(crate) fn filled(self, alloc: Global, node: Node) -> Result<Tree, NoMemory>
         requires { IsKeptAt node }
         ensures { IfOk result (λ t. t ≡ shape_at node) }
@@ -195,7 +195,7 @@ impl Block {
     }
 
     // The same without its tree.
-    #[inline]
+    #[inline(always)]
     fn filled_with(self, alloc: Global, node: Node) -> Result<Arc<Node>, NoMemory>
         ensures { IfOk result (λ a. arc_value a ≡ node) }
     {
@@ -211,7 +211,7 @@ impl Block {
 }
 
 // The parts of the node in this block. Where somebody else holds it, its sons are copied.
-#[inline]
+#[inline(always)]
 fn taken(block: Arc<Node>) -> Result<Opened, NoMemory>
     ensures { IfOk result (λ o. IsTakenOf (arc_value block) o) }
 {
@@ -229,7 +229,7 @@ fn taken(block: Arc<Node>) -> Result<Opened, NoMemory>
 }
 
 // The same where nobody else holds the block: the sons are taken out of it. Else the block as it was.
-#[inline]
+#[inline(always)]
 fn taken_if_own(mut block: Arc<Node>) -> Result<Opened, Arc<Node>>
     ensures own { IfOk result (λ o. IsTakenOf (arc_value block) o) }
     ensures stays { IfErr result (λ b. arc_value b ≡ arc_value block) }
