@@ -11,7 +11,7 @@ use Rattle.kd_tree.specs.Shape.{Head, Shape, fork}
 use Rattle.kd_tree.specs.Walk.{walk}
 use Rattle.kd_tree.specs.Sound.{IsSound}
 use Rattle.kd_tree.specs.declared.look.Top.{Top}
-use Rattle.kd_tree.proofs.Actions.{AllLeft-composed}
+use Rattle.kd_tree.proofs.Actions.{AllKept-composed}
 use Rattle.kd_tree.proofs.Left.{all_left}
 use Rattle.kd_search.specs.Points.{AreBelow, AreAbove, AreAway}
 use Rattle.kd_search.specs.Sides.{AreSidesOf, IsEitherWay}
@@ -23,14 +23,14 @@ pub left_below : (h : Head) (owed : Tag) (t l r : Shape) → t ≡ fork h l r �
 left_below h owed t l r e s =
     let sound = subst IsSound e s in
     let P : Place → Type 0 = λ x. on h.axis x ≤ℤ on h.axis h.item.point in
-    all_left P _ l (AllLeft-composed P h.pending owed l sound.0.below)
+    all_left P _ l (AllKept-composed P h.pending owed l sound.0.below)
 
 -- and the right son's aren't below it
 pub right_above : (h : Head) (owed : Tag) (t l r : Shape) → t ≡ fork h l r → IsSound t → AreAbove h.axis h.item.point (walk (composed h.pending owed) r)
 right_above h owed t l r e s =
     let sound = subst IsSound e s in
     let P : Place → Type 0 = λ x. on h.axis h.item.point ≤ℤ on h.axis x in
-    all_left P _ r (AllLeft-composed P h.pending owed r sound.0.above)
+    all_left P _ r (AllKept-composed P h.pending owed r sound.0.above)
 
 -- the top's item, which the gap is crossed to, and both sons, the farther of which it is crossed to
 pub record IsSplit (m : List Item) (q : Place) (gap : ℕ) (i : Item) (one other : List Item) : Type 0 where

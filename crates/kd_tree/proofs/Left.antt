@@ -10,7 +10,7 @@ use Rattle.node_labels.specs.declared.tag.Tag.{Tag}
 use Rattle.map_fold.specs.declared.item.Item.{Item}
 use Rattle.map_fold.specs.Contents.{relabelled, kept}
 use Rattle.kd_tree.specs.Shape.{Shape, leaf, fork}
-use Rattle.kd_tree.specs.Walk.{is_kept, walk, AllLeft}
+use Rattle.kd_tree.specs.Walk.{is_kept, walk, AllKept}
 
 rec_parts : {X : Type 0} (P : X → Type 0) (xs ys : List X) → AllByRecursion P (xs ++ ys) → AllByRecursion P xs × AllByRecursion P ys
 rec_parts P [] ys k = (tt, k)
@@ -26,14 +26,14 @@ own_of : (F : Item → Type 0) (i : Item) → All F (kept (i ∷ [])) → is_kep
 own_of F i k e = All-head F i [] (subst (All F) (cond-true (is_kept i.label) (i ∷ []) [] e) k)
 
 -- a fact of the points that are left is one of the walk
-pub all_left : (P : Place → Type 0) (a : Tag) (t : Shape) → AllLeft P a t → All (λ i. P i.point) (walk a t)
+pub all_left : (P : Place → Type 0) (a : Tag) (t : Shape) → AllKept P a t → All (λ i. P i.point) (walk a t)
 all_left P a leaf k = All-nil (λ (i : Item). P i.point)
 all_left P a (fork h l r) k =
     let F : Item → Type 0 = λ i. P i.point in
     All-append F _ _ (own_all F (relabelled a h.item) k.0) (All-append F _ _ (all_left P (composed h.pending a) l k.1) (all_left P (composed h.pending a) r k.2))
 
 -- and a fact of the walk is one of the points
-pub left_all : (P : Place → Type 0) (a : Tag) (t : Shape) → All (λ i. P i.point) (walk a t) → AllLeft P a t
+pub left_all : (P : Place → Type 0) (a : Tag) (t : Shape) → All (λ i. P i.point) (walk a t) → AllKept P a t
 left_all P a leaf k = tt
 left_all P a (fork h l r) k =
     let F : Item → Type 0 = λ i. P i.point in

@@ -59,8 +59,8 @@ first_free least ps (fork h l r) =
     else first_of (on_side Left (first_free least (onward Left ps) l)) (on_side Right (first_free least (onward Right ps) r)))
 
 -- each node of at least so many nodes that is clear of the paths meets both criteria
-abbrev pub IsCalmClear : ℕ → List (List Side) → Shape → Type 0
-IsCalmClear least ps t = (p : List Side) (s : Shape) → at p t ≡ Some s → IsClear p ps → least ≤ nodes s → MeetsCriteria s
+abbrev pub AllClearMeetCriteria : ℕ → List (List Side) → Shape → Type 0
+AllClearMeetCriteria least ps t = (p : List Side) (s : Shape) → at p t ≡ Some s → IsClear p ps → least ≤ nodes s → MeetsCriteria s
 
 -- such a node that doesn't stands at the path, clear of the others, and none does earlier
 pub record IsFirstFree (least : ℕ) (ps : List (List Side)) (t : Shape) (path : List Side) : Type 0 where

@@ -3,14 +3,14 @@ use Rattle.std.specs.Prelude.{ℕ, ◌+◌, ◌≤◌, max, ◌≤ℤ◌}
 use Rattle.point_geom.specs.Axes.{on}
 use Rattle.node_labels.specs.Labels.{keep_tag}
 use Rattle.kd_tree.specs.Shape.{Head, Shape, leaf, fork, nodes, levels}
-use Rattle.kd_tree.specs.Walk.{AllLeft, times}
+use Rattle.kd_tree.specs.Walk.{AllKept, times}
 
 -- what holds of a node and its sons
 pub record IsSoundFork (h : Head) (l r : Shape) : Type 0 where
   -- of what is left, the left son's points aren't above the node's, on its axis
-  pub below : AllLeft (λ p. on h.axis p ≤ℤ on h.axis h.item.point) h.pending l
+  pub below : AllKept (λ p. on h.axis p ≤ℤ on h.axis h.item.point) h.pending l
   -- and the right son's aren't below it
-  pub above : AllLeft (λ p. on h.axis h.item.point ≤ℤ on h.axis p) h.pending r
+  pub above : AllKept (λ p. on h.axis h.item.point ≤ℤ on h.axis p) h.pending r
   -- no number is left twice
   pub once : (n : ℕ) → times n keep_tag (fork h l r) ≤ 1
   pub few : nodes l + nodes r + 1 ≤ 4194304

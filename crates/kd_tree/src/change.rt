@@ -4,7 +4,7 @@ ghost use Rattle.point_geom.specs.Axes.{on};
 ghost use Rattle.node_labels.specs.Labels.{keep_tag};
 ghost use Rattle.map_fold.specs.Contents.{everything, mark};
 ghost use Rattle.kd_tree.specs.Shape.{leaf, levels, nodes, numbers};
-ghost use Rattle.kd_tree.specs.Walk.{AllLeft, tagged, times};
+ghost use Rattle.kd_tree.specs.Walk.{AllKept, tagged, times};
 ghost use Rattle.kd_tree.specs.Sound.{IsSound, IsTopSound};
 ghost use Rattle.kd_tree.specs.Contents.{contents};
 ghost use Rattle.kd_tree.specs.Parts.{contents_of_parts, joined, pushed, with_son};
@@ -149,8 +149,8 @@ impl Tree {
         fork: Fork,
         steps: &mut Steps<L>,
     ) -> Result<Tree, NoMemory>
-        requires below { AllLeft (λ p. on fork.axis p ≤ℤ on fork.axis fork.item.point) keep_tag fork.left }
-        requires above { AllLeft (λ p. on fork.axis fork.item.point ≤ℤ on fork.axis p) keep_tag fork.right }
+        requires below { AllKept (λ p. on fork.axis p ≤ℤ on fork.axis fork.item.point) keep_tag fork.left }
+        requires above { AllKept (λ p. on fork.axis fork.item.point ≤ℤ on fork.axis p) keep_tag fork.right }
         requires once { (n : ℕ) → times n keep_tag (joined fork) ≤ 1 }
         requires low { max (levels fork.left) (levels fork.right) ≤ 511 }
         requires few { nodes fork.left + nodes fork.right ≤ 4194303 }

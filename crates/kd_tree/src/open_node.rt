@@ -5,7 +5,7 @@ ghost use Rattle.std.specs.Arc.{arc_value};
 ghost use Rattle.point_geom.specs.Axes.{on};
 ghost use Rattle.node_labels.specs.Labels.{keep_tag};
 ghost use Rattle.kd_tree.specs.Shape.{leaf, fork, levels, nodes, numbers};
-ghost use Rattle.kd_tree.specs.Walk.{AllLeft, times};
+ghost use Rattle.kd_tree.specs.Walk.{AllKept, times};
 ghost use Rattle.kd_tree.specs.Sound.{IsSound, IsSoundFork};
 ghost use Rattle.kd_tree.specs.Contents.{contents};
 ghost use Rattle.kd_tree.specs.Parts.{contents_of_parts, fork_in, fork_of, joined, pushed};
@@ -89,8 +89,8 @@ impl Tree {
         node: OpenNode,
         steps: &mut Steps<L>,
     ) -> Result<Tree, NoMemory>
-        requires below { AllLeft (λ p. on node.axis p ≤ℤ on node.axis node.item.point) keep_tag node.left }
-        requires above { AllLeft (λ p. on node.axis node.item.point ≤ℤ on node.axis p) keep_tag node.right }
+        requires below { AllKept (λ p. on node.axis p ≤ℤ on node.axis node.item.point) keep_tag node.left }
+        requires above { AllKept (λ p. on node.axis node.item.point ≤ℤ on node.axis p) keep_tag node.right }
         requires once { (n : ℕ) → times n keep_tag (joined (fork_of node)) ≤ 1 }
         requires low { max (levels node.left) (levels node.right) ≤ 511 }
         requires few { nodes node.left + nodes node.right ≤ 4194303 }

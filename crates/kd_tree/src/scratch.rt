@@ -5,7 +5,7 @@ ghost use Rattle.node_labels.specs.Labels.{keep_tag};
 ghost use Rattle.kd_tree.specs.Shape.{levels, nodes, numbers};
 ghost use Rattle.kd_tree.specs.Walk.{walk};
 ghost use Rattle.kd_tree.specs.Contents.{AreDistinct, AreKept, by_number, contents};
-ghost use Rattle.kd_tree.specs.Criteria.{IsCalm};
+ghost use Rattle.kd_tree.specs.Criteria.{AllMeetCriteria};
 ghost use Rattle.kd_tree.specs.Build.{IsBuilt};
 
 use crate::blocks::{Blocks, MOST};
@@ -61,7 +61,7 @@ impl Tree {
         requires few { length (walk keep_tag self) + length more.now ≤ 4194304 }
         ensures shape { IfOk result (λ t. IsBuilt (walk keep_tag self ++ more.now) t) }
         ensures contents { IfOk result (λ t. contents t ≡ by_number (walk keep_tag self ++ more.now)) }
-        ensures calm { IfOk result (λ t. IsCalm 10 t) }
+        ensures calm { IfOk result (λ t. AllMeetCriteria 10 t) }
         ensures numbers { IfOk result (λ t. IsPermutation (map (λ i. i.number) (walk keep_tag self ++ more.now)) (numbers t)) }
         ensures nodes { IfOk result (λ t. nodes t ≡ length (walk keep_tag self ++ more.now)) }
         ensures levels { (n : ℕ) → length (walk keep_tag self ++ more.now) < 2 ^ n → IfOk result (λ t. levels t ≤ n) }

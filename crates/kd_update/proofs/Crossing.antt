@@ -29,7 +29,7 @@ use Rattle.kd_tree.proofs.Numbered.{by_number-filter, by_number-moved, by_number
 use Rattle.kd_update.specs.Put.{goes_left, put_from}
 use Rattle.kd_update.specs.Refresh.{AreAmong}
 use Rattle.kd_update.specs.Scan.{AreLive, IsGrown, IsPiece, MayJoin, numbers_in, put_each}
-use Rattle.kd_update.specs.Update.{IsEven, IsUpdated}
+use Rattle.kd_update.specs.Update.{IsBalancedBelow, IsUpdated}
 use Rattle.kd_update.specs.Several.{AreLargeAt, AreWatched}
 use Rattle.kd_update.specs.Watch.{IsWatched, goes_to, handed, is_keep, son}
 use Rattle.kd_update.specs.declared.watch.Watch.{Watch}
@@ -79,7 +79,7 @@ whole_moved s t is js m k = record { grown = grown_moved s t is js m k.grown; ma
 pub whole_built : (large : ℕ) (s t : Shape) (is : List Item) → nodes s ≡ 0 → IsPiece large s is → IsBuilt (walk keep_tag s ++ is) t → IsPermutation (map (λ i. i.number) (walk keep_tag s ++ is)) (Rattle.kd_tree.specs.Shape.numbers t) → nodes t ≡ length (walk keep_tag s ++ is) → IsWholeGrown s is t
 whole_built large s t is none p b ns n = record { grown = grown_built large s t is p b ns; many = omega (arith, none, n, length-append (walk keep_tag s) is) }
 
-pub whole_put : (i : Item) (axis : Rattle.point_geom.specs.declared.axis.Axis.Axis) (s t : Shape) → i.label ≡ Rattle.node_labels.specs.declared.label.Label.TheVariants.Live → IsUpdated 0 s (put_from i.number i.point axis s) (Rattle.kd_update.specs.Put.IsRouteCalm 0 i.point (put_from i.number i.point axis s)) t → IsWholeGrown s (i ∷ []) t
+pub whole_put : (i : Item) (axis : Rattle.point_geom.specs.declared.axis.Axis.Axis) (s t : Shape) → i.label ≡ Rattle.node_labels.specs.declared.label.Label.TheVariants.Live → IsUpdated 0 s (put_from i.number i.point axis s) (Rattle.kd_update.specs.Put.RebuildsNoneOnRoute 0 i.point (put_from i.number i.point axis s)) t → IsWholeGrown s (i ∷ []) t
 whole_put i axis s t live u =
     let p = put_from i.number i.point axis s in
     record { grown = grown_put 0 i axis s t _ live u; many = omega (arith, ap nodes (u.unrebuilt (route_none i.point p)), nodes-put i.number i.point axis keep_tag s) }
@@ -313,7 +313,7 @@ met_step ps (fork h l0 r0) (i ∷ is) f xs ys l r x d some m b e u v =
 
 -- crossings
 
-pub crossed_free : (large : ℕ) (ps : List (List Side)) (s t : Shape) (is : List Item) → ps ≡ [] → IsGrown s is t → (IsEven large s → IsEven large t) → IsCrossed large ps s is t
+pub crossed_free : (large : ℕ) (ps : List (List Side)) (s t : Shape) (is : List Item) → ps ≡ [] → IsGrown s is t → (IsBalancedBelow large s → IsBalancedBelow large t) → IsCrossed large ps s is t
 crossed_free large ps s t is e k even = subst (λ (qs : List (List Side)). IsCrossed large qs s is t) (sym e) (record { grown = k; met = tt; balance = λ b. even_clear large t (even (clear_even large s b)) })
 
 pub crossed_here : (large : ℕ) (ps : List (List Side)) (s t : Shape) (is : List Item) → AreAllApart ps → is_here ps ≡ true → IsWholeGrown s is t → IsCrossed large ps s is t

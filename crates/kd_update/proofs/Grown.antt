@@ -26,7 +26,7 @@ use Rattle.kd_tree.proofs.Left.{all_left, left_all}
 use Rattle.kd_tree.proofs.Medians.{built_nodes, built_levels, built_walk}
 use Rattle.kd_tree.proofs.Numbered.{counted_in, once_moved}
 use Rattle.kd_update.specs.Refresh.{AreAmong, IsRefresh, RefreshesIfDue}
-use Rattle.kd_update.specs.Update.{IsEven, IsUpdated}
+use Rattle.kd_update.specs.Update.{IsBalancedBelow, IsUpdated}
 use Rattle.kd_update.specs.Put.{goes_left, put_from}
 use Rattle.kd_update.specs.Scan.{AreLive, IsGrown, IsParted, IsPiece, numbers_in}
 use Rattle.kd_update.proofs.Trees.{among_same, among_append, among_fork, forked, some_fork}
@@ -288,16 +288,16 @@ step_grown large s is f xs ys l r t k left right done =
 
 -- evenness
 
-apart_even : (large : ℕ) (s : Shape) (f : Fork) → Some f ≡ pushed s → IsEven large s → IsEven large f.left × IsEven large f.right
+apart_even : (large : ℕ) (s : Shape) (f : Fork) → Some f ≡ pushed s → IsBalancedBelow large s → IsBalancedBelow large f.left × IsBalancedBelow large f.right
 apart_even large leaf f x k = absurd (cc)
-apart_even large (fork h l r) f x k = subst (λ (g : Fork). IsEven large g.left × IsEven large g.right) (sym (some_fork f (forked h l r) x)) (even_sons large h l r k)
+apart_even large (fork h l r) f x k = subst (λ (g : Fork). IsBalancedBelow large g.left × IsBalancedBelow large g.right) (sym (some_fork f (forked h l r) x)) (even_sons large h l r k)
 
-even_due : (large : ℕ) (h : Head) (l r t : Shape) → IsEven large l → IsEven large r → RefreshesIfDue large (fork h l r) t → IsEven large t
-even_due large h l r t left right (inl k) = subst (IsEven large) k.1 ((λ many few. (k.0 many few).0), left, right)
+even_due : (large : ℕ) (h : Head) (l r t : Shape) → IsBalancedBelow large l → IsBalancedBelow large r → RefreshesIfDue large (fork h l r) t → IsBalancedBelow large t
+even_due large h l r t left right (inl k) = subst (IsBalancedBelow large) k.1 ((λ many few. (k.0 many few).0), left, right)
 even_due large h l r t left right (inr k) = calm_even large t k.2
 
-pub step_even : (large : ℕ) (s : Shape) (f : Fork) (l r t : Shape) → Some f ≡ pushed s → (IsEven large f.left → IsEven large l) → (IsEven large f.right → IsEven large r) → RefreshesIfDue large (fork (head f.item f.axis) l r) t
-    → IsEven large s → IsEven large t
+pub step_even : (large : ℕ) (s : Shape) (f : Fork) (l r t : Shape) → Some f ≡ pushed s → (IsBalancedBelow large f.left → IsBalancedBelow large l) → (IsBalancedBelow large f.right → IsBalancedBelow large r) → RefreshesIfDue large (fork (head f.item f.axis) l r) t
+    → IsBalancedBelow large s → IsBalancedBelow large t
 step_even large s f l r t x left right done even =
     let both = apart_even large s f x even in
     even_due large (head f.item f.axis) l r t (left both.0) (right both.1) done

@@ -18,7 +18,7 @@ use Rattle.node_labels.proofs.Laws.{composed-keep_right}
 use Rattle.map_fold.specs.declared.item.Item.{Item}
 use Rattle.map_fold.specs.Contents.{relabelled, marked_item, kept, mark, chosen_by, everything, is_above, is_inside}
 use Rattle.kd_tree.specs.Shape.{Head, Shape, leaf, fork, nodes, levels, numbers}
-use Rattle.kd_tree.specs.Walk.{walk, extent, grown, tagged, AllLeft, times}
+use Rattle.kd_tree.specs.Walk.{walk, extent, grown, tagged, AllKept, times}
 use Rattle.kd_tree.specs.Sound.{IsSound, IsSoundFork}
 use Rattle.kd_tree.specs.Contents.{contents, by_number}
 use Rattle.kd_tree.specs.Parts.{pushed}
@@ -30,9 +30,9 @@ use Rattle.kd_tree.proofs.Extents.{walk_in}
 use Rattle.kd_tree.proofs.Ranges.{IsInRange, ranged_itself, walk_ranged}
 use Rattle.kd_tree.proofs.Held.{walk_kept}
 use Rattle.kd_tree.proofs.Contents.{parts_alike, mark-append, by_number-mark, relabelled-keep, walk-composed, walk-tagged, times_walk}
-use Rattle.kd_update.specs.Mark.{marked_under, marked_shape, is_entered, IsVisitCalm}
-use Rattle.kd_update.specs.Refresh.{IsSpared}
-use Rattle.kd_update.specs.Update.{IsEven, IsUpdated}
+use Rattle.kd_update.specs.Mark.{marked_under, marked_shape, is_entered, RebuildsNoneEntered}
+use Rattle.kd_update.specs.Refresh.{IsNotDue}
+use Rattle.kd_update.specs.Update.{IsBalancedBelow, IsUpdated}
 use Rattle.kd_tree.proofs.Left.{all_left, left_all}
 use Rattle.kd_update.proofs.Trees.{forked, some_fork, walk-tagged_keep}
 use Rattle.kd_update.proofs.Lists.{marked-point, marked-number, own-marked, mark_agree, mark_none, mark_points, mark_counts}
@@ -190,8 +190,8 @@ walk-marked c a p (fork h l r) =
 pub contents-marked : (c : Choice) (a : Tag) (t : Shape) → contents (marked_shape c a t) ≡ mark (contents t) (chosen_by c) a
 contents-marked c a t = ap by_number (walk-marked c a keep_tag t) ∙ by_number-mark (chosen_by c) a (walk keep_tag t)
 
-AllLeft-marked : (P : Place → Type 0) (c : Choice) (a p : Tag) (t : Shape) → AllLeft P p t → AllLeft P keep_tag (marked_under c a p t)
-AllLeft-marked P c a p t k = left_all P keep_tag (marked_under c a p t) (subst (All (λ (i : Item). P i.point)) (sym (walk-marked c a p t)) (mark_points P (chosen_by c) a (walk p t) (all_left P p t k)))
+AllKept-marked : (P : Place → Type 0) (c : Choice) (a p : Tag) (t : Shape) → AllKept P p t → AllKept P keep_tag (marked_under c a p t)
+AllKept-marked P c a p t k = left_all P keep_tag (marked_under c a p t) (subst (All (λ (i : Item). P i.point)) (sym (walk-marked c a p t)) (mark_points P (chosen_by c) a (walk p t) (all_left P p t k)))
 
 times-marked : (n : ℕ) (c : Choice) (a : Tag) (t : Shape) → times n keep_tag (marked_shape c a t) ≤ times n keep_tag t
 times-marked n c a t =
@@ -205,8 +205,8 @@ once-marked c a t k n = omega (arith, times-marked n c a t, k n)
 pub record IsEntered (c : Choice) (a : Tag) (s : Shape) (f : Fork) : Type 0 where
   pub value : fork (head (marked_item (chosen_by c) a f.item) f.axis) (marked_shape c a f.left) (marked_shape c a f.right) ≡ marked_shape c a s
   pub sound : IsSoundFork (head (marked_item (chosen_by c) a f.item) f.axis) (marked_shape c a f.left) (marked_shape c a f.right)
-  pub calm : (large : ℕ) → IsVisitCalm large c (marked_shape c a s) → IsSpared large (fork (head (marked_item (chosen_by c) a f.item) f.axis) (marked_shape c a f.left) (marked_shape c a f.right)) × IsVisitCalm large c (marked_shape c a f.left) × IsVisitCalm large c (marked_shape c a f.right)
-  pub even : (large : ℕ) → IsEven large s → IsEven large f.left × IsEven large f.right
+  pub calm : (large : ℕ) → RebuildsNoneEntered large c (marked_shape c a s) → IsNotDue large (fork (head (marked_item (chosen_by c) a f.item) f.axis) (marked_shape c a f.left) (marked_shape c a f.right)) × RebuildsNoneEntered large c (marked_shape c a f.left) × RebuildsNoneEntered large c (marked_shape c a f.right)
+  pub even : (large : ℕ) → IsBalancedBelow large s → IsBalancedBelow large f.left × IsBalancedBelow large f.right
 
 enters : (c : Choice) (a : Tag) (h : Head) (l r : Shape) → meets c (reach_of h l r) ≡ true → covers c (reach_of h l r) ≡ false → fork (head (marked_item (chosen_by c) a h.item) h.axis) (marked_shape c a (tagged h.pending l)) (marked_shape c a (tagged h.pending r)) ≡ marked_shape c a (fork h l r)
 unfolding marked_under
@@ -231,8 +231,8 @@ reach-entered c a h l r = reaches_alike _ _ _ _
     (extents_alike _ _ _ _ _ _ (marked-point (chosen_by c) a h.item) (extent-marked c a keep_tag (tagged h.pending l) ∙ extent-tagged h.pending l) (extent-marked c a keep_tag (tagged h.pending r) ∙ extent-tagged h.pending r))
     (ranges_alike _ _ _ _ _ _ (marked-number (chosen_by c) a h.item) (range-marked c a keep_tag (tagged h.pending l) ∙ range-tagged h.pending l) (range-marked c a keep_tag (tagged h.pending r) ∙ range-tagged h.pending r))
 
-calm_parts : (large : ℕ) (c : Choice) (h : Head) (l r : Shape) → is_entered c (reach_of h l r) ≡ true → IsVisitCalm large c (fork h l r) → IsSpared large (fork h l r) × IsVisitCalm large c l × IsVisitCalm large c r
-unfolding IsVisitCalm
+calm_parts : (large : ℕ) (c : Choice) (h : Head) (l r : Shape) → is_entered c (reach_of h l r) ≡ true → RebuildsNoneEntered large c (fork h l r) → IsNotDue large (fork h l r) × RebuildsNoneEntered large c l × RebuildsNoneEntered large c r
+unfolding RebuildsNoneEntered
 calm_parts large c h l r e k = k e
 
 entered_fork : (c : Choice) (a : Tag) (h : Head) (l r : Shape) → meets c (reach_of h l r) ≡ true → covers c (reach_of h l r) ≡ false → IsSoundFork h l r → IsEntered c a (fork h l r) (forked h l r)
@@ -242,18 +242,18 @@ entered_fork c a h l r m k s =
     let point = marked-point (chosen_by c) a h.item in
     let ml = marked_shape c a (tagged h.pending l) in
     let mr = marked_shape c a (tagged h.pending r) in
-    let below : AllLeft (λ p. on h.axis p ≤ℤ on h.axis h.item.point) keep_tag ml = rw (marked-tagged c a h.pending l) (AllLeft-marked (λ p. on h.axis p ≤ℤ on h.axis h.item.point) c a h.pending l s.below) in
-    let above : AllLeft (λ p. on h.axis h.item.point ≤ℤ on h.axis p) keep_tag mr = rw (marked-tagged c a h.pending r) (AllLeft-marked (λ p. on h.axis h.item.point ≤ℤ on h.axis p) c a h.pending r s.above) in
+    let below : AllKept (λ p. on h.axis p ≤ℤ on h.axis h.item.point) keep_tag ml = rw (marked-tagged c a h.pending l) (AllKept-marked (λ p. on h.axis p ≤ℤ on h.axis h.item.point) c a h.pending l s.below) in
+    let above : AllKept (λ p. on h.axis h.item.point ≤ℤ on h.axis p) keep_tag mr = rw (marked-tagged c a h.pending r) (AllKept-marked (λ p. on h.axis h.item.point ≤ℤ on h.axis p) c a h.pending r s.above) in
     record {
       value = value;
       sound = record {
-        below = subst (λ (x : Place). AllLeft (λ p. on h.axis p ≤ℤ on h.axis x) keep_tag ml) (sym point) below;
-        above = subst (λ (x : Place). AllLeft (λ p. on h.axis x ≤ℤ on h.axis p) keep_tag mr) (sym point) above;
+        below = subst (λ (x : Place). AllKept (λ p. on h.axis p ≤ℤ on h.axis x) keep_tag ml) (sym point) below;
+        above = subst (λ (x : Place). AllKept (λ p. on h.axis x ≤ℤ on h.axis p) keep_tag mr) (sym point) above;
         once = λ n. subst (λ z. times n keep_tag z ≤ 1) (sym value) (once-marked c a (fork h l r) s.once n);
         few = omega (arith, s.few, nodes-marked c a keep_tag (tagged h.pending l), nodes-marked c a keep_tag (tagged h.pending r), tagged_nodes h.pending l, tagged_nodes h.pending r);
         low = omega (arith, s.low, levels-marked c a keep_tag (tagged h.pending l), levels-marked c a keep_tag (tagged h.pending r), tagged_levels h.pending l, tagged_levels h.pending r);
       };
-      calm = λ large all. calm_parts large c (head i h.axis) ml mr (entered_is c (reach_of (head i h.axis) ml mr) (subst (λ (e : Reach). meets c e ≡ true) (sym (reach-entered c a h l r)) m) (subst (λ (e : Reach). covers c e ≡ false) (sym (reach-entered c a h l r)) k)) (subst (IsVisitCalm large c) (sym value) all);
+      calm = λ large all. calm_parts large c (head i h.axis) ml mr (entered_is c (reach_of (head i h.axis) ml mr) (subst (λ (e : Reach). meets c e ≡ true) (sym (reach-entered c a h l r)) m) (subst (λ (e : Reach). covers c e ≡ false) (sym (reach-entered c a h l r)) k)) (subst (RebuildsNoneEntered large c) (sym value) all);
       even = λ large e. even_sons large h l r e;
     }
 

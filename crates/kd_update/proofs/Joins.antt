@@ -20,7 +20,7 @@ use Rattle.kd_tree.specs.Contents.{AreDistinct, by_number, contents, insert_item
 use Rattle.kd_tree.proofs.Contents.{times_contents}
 use Rattle.kd_tree.proofs.Held.{are_distinct}
 use Rattle.kd_tree.proofs.Numbered.{by_number-moved, by_number_moves, counted_in, insert-put, numbered_from, once_moved}
-use Rattle.kd_update.specs.Update.{IsEven}
+use Rattle.kd_update.specs.Update.{IsBalancedBelow}
 use Rattle.kd_update.specs.Scan.{AreLive, IsGrown, IsPiece, IsPut, MayJoin, live_from, numbers_in, put_each}
 use Rattle.kd_update.proofs.Trees.{among_same}
 use Rattle.kd_update.proofs.Grown.{IsLive, all_first, all_last, distinct_front, live_of}
@@ -92,7 +92,7 @@ pub join_piece : (large : ℕ) (s : Shape) (is : List Item) → MayJoin (content
 join_piece large s is k small short low few = record { live = k.live; distinct = walk_distinct s is k.distinct; small = small; short = short; low = low; few = few }
 
 -- a tree that has grown by them has them put
-pub join_grown : (large : ℕ) (s t : Shape) (is : List Item) → MayJoin (contents s) is → IsGrown s is t → (IsEven large s → IsEven large t) → IsPut large s is t
+pub join_grown : (large : ℕ) (s t : Shape) (is : List Item) → MayJoin (contents s) is → IsGrown s is t → (IsBalancedBelow large s → IsBalancedBelow large t) → IsPut large s is t
 join_grown large s t is k g even =
     let distinct = walk_distinct s is k.distinct in
     record {

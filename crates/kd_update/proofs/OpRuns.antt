@@ -17,7 +17,7 @@ use Rattle.kd_tree.specs.Sound.{IsSound}
 use Rattle.kd_tree.proofs.Held.{by_number-contents, contents_distinct, contents_few}
 use Rattle.kd_tree.proofs.Numbered.{by_number_moves, once_moved}
 use Rattle.kd_update.specs.Refresh.{AreAmong}
-use Rattle.kd_update.specs.Update.{IsEven}
+use Rattle.kd_update.specs.Update.{IsBalancedBelow}
 use Rattle.kd_update.specs.Scan.{IsGrown, IsPiece, MayJoin, numbers_in, put_each}
 use Rattle.kd_update.specs.Replay.{ArePuts, IsPerformed, IsRun, is_put, items_put}
 use Rattle.kd_update.proofs.Grown.{IsLive}
@@ -92,7 +92,7 @@ run_piece large s ops r k =
     join_piece large s (items_put ops) k (omega (arith, same, r.small)) (omega (arith, same, r.short)) r.low (omega (arith, same, r.few))
 
 -- and a tree that has grown by it has its operations done
-pub run_performed : (large : ℕ) (s t : Shape) (ops : List Op) → IsRun large ops s → MayJoin (contents s) (items_put ops) → IsGrown s (items_put ops) t → (IsEven large s → IsEven large t) → IsPerformed large s ops t
+pub run_performed : (large : ℕ) (s t : Shape) (ops : List Op) → IsRun large ops s → MayJoin (contents s) (items_put ops) → IsGrown s (items_put ops) t → (IsBalancedBelow large s → IsBalancedBelow large t) → IsPerformed large s ops t
 run_performed large s t ops r k g even =
     let put = join_grown large s t (items_put ops) k g even in
     record {

@@ -8,7 +8,7 @@ use Rattle.map_fold.proofs.Replays.{numbers_put-append, replay-append}
 use Rattle.kd_tree.specs.Shape.{Shape, levels, nodes, numbers}
 use Rattle.kd_tree.specs.Contents.{contents}
 use Rattle.kd_update.specs.Refresh.{AreAmong}
-use Rattle.kd_update.specs.Update.{IsEven}
+use Rattle.kd_update.specs.Update.{IsBalancedBelow}
 use Rattle.kd_update.specs.Replay.{IsPerformed}
 use Rattle.kd_update.proofs.Trees.{among_same}
 
@@ -41,7 +41,7 @@ performed_then large s t u a b f g = record {
 pub all_performed : {E : Type 0} (large : ℕ) (s : Shape) (ops : List Op) (r : Result Shape E)
     → IfOk r (λ t. contents t ≡ replay (contents s) ops)
     → IfOk r (λ t. AreAmong (numbers t) (numbers_put ops ++ numbers s))
-    → (IsEven large s → IfOk r (λ t. IsEven large t))
+    → (IsBalancedBelow large s → IfOk r (λ t. IsBalancedBelow large t))
     → IfOk r (λ t. levels t ≤ levels s + length (numbers_put ops))
     → IfOk r (λ t. nodes t ≤ nodes s + length (numbers_put ops))
     → IfOk r (λ t. IsPerformed large s ops t)

@@ -16,7 +16,7 @@ use Rattle.node_labels.proofs.Laws.{composed-keep_right}
 use Rattle.map_fold.specs.declared.item.Item.{Item}
 use Rattle.map_fold.specs.Contents.{live_at, put, relabelled, kept}
 use Rattle.kd_tree.specs.Shape.{Head, Shape, leaf, fork, nodes, levels, numbers}
-use Rattle.kd_tree.specs.Walk.{walk, tagged, AllLeft, times}
+use Rattle.kd_tree.specs.Walk.{walk, tagged, AllKept, times}
 use Rattle.kd_tree.specs.Sound.{IsSound, IsSoundFork}
 use Rattle.kd_tree.specs.Contents.{contents}
 use Rattle.kd_tree.specs.Parts.{pushed}
@@ -24,9 +24,9 @@ use Rattle.kd_tree.specs.declared.change.Fork.{Fork}
 use Rattle.kd_tree.proofs.Actions.{tagged_nodes, tagged_levels, tagged_numbers, times-tagged, pushed_sound}
 use Rattle.kd_tree.proofs.Numbered.{by_number_moves, by_number-moved, counted_in, insert-put}
 use Rattle.kd_tree.proofs.Contents.{relabelled-keep, times_walk, once_walk, parts_alike}
-use Rattle.kd_update.specs.Refresh.{AreAmong, IsSpared, RefreshesIfDue}
-use Rattle.kd_update.specs.Update.{IsEven, IsUpdated}
-use Rattle.kd_update.specs.Put.{goes_left, leaf_of, put_under, put_from, IsRouteCalm}
+use Rattle.kd_update.specs.Refresh.{AreAmong, IsNotDue, RefreshesIfDue}
+use Rattle.kd_update.specs.Update.{IsBalancedBelow, IsUpdated}
+use Rattle.kd_update.specs.Put.{goes_left, leaf_of, put_under, put_from, RebuildsNoneOnRoute}
 use Rattle.kd_tree.proofs.Left.{all_left, left_all}
 use Rattle.kd_update.proofs.Trees.{forked, some_fork, walk-tagged_keep, among_same}
 use Rattle.kd_update.proofs.Refresh.{head}
@@ -127,8 +127,8 @@ walk-put n p axis a (fork h l r) =
     (λ _. subst (IsPermutation (live_at n p ∷ walk a (fork h l r))) (parts_alike _ _ _ _ _ _ own (sym (walk-tagged_keep owed l)) refl)
     (moved_right (live_at n p) (kept (relabelled a h.item ∷ [])) (walk owed l) (walk owed r) (walk keep_tag pr) (walk-put n p (next_axis h.axis) owed r)))
 
-AllLeft-put : (P : Place → Type 0) (n : ℕ) (p : Place) (axis : Axis) (a : Tag) (t : Shape) → P p → AllLeft P a t → AllLeft P keep_tag (put_under n p axis a t)
-AllLeft-put P n p axis a t here k =
+AllKept-put : (P : Place → Type 0) (n : ℕ) (p : Place) (axis : Axis) (a : Tag) (t : Shape) → P p → AllKept P a t → AllKept P keep_tag (put_under n p axis a t)
+AllKept-put P n p axis a t here k =
     let F : Item → Type 0 = λ i. P i.point in
     left_all P keep_tag (put_under n p axis a t) (All-permutation F _ _ (walk-put n p axis a t) (All-cons F (live_at n p) (walk a t) here (all_left P a t k)))
 
@@ -171,11 +171,11 @@ pub record IsFree (n : ℕ) (son : Shape) : Type 0 where
 pub record IsOnRoute (n : ℕ) (p : Place) (axis : Axis) (s : Shape) (f : Fork) (l r : Shape) : Type 0 where
   pub value : fork (head f.item f.axis) l r ≡ put_from n p axis s
   pub sound : IsSoundFork (head f.item f.axis) l r
-  pub calm : (large : ℕ) → IsRouteCalm large p (put_from n p axis s) → IsSpared large (fork (head f.item f.axis) l r) × (goes_left f.axis p f.item.point ≡ true → IsRouteCalm large p l) × (goes_left f.axis p f.item.point ≡ false → IsRouteCalm large p r)
-  pub even : (large : ℕ) → IsEven large s → IsEven large f.left × IsEven large f.right
+  pub calm : (large : ℕ) → RebuildsNoneOnRoute large p (put_from n p axis s) → IsNotDue large (fork (head f.item f.axis) l r) × (goes_left f.axis p f.item.point ≡ true → RebuildsNoneOnRoute large p l) × (goes_left f.axis p f.item.point ≡ false → RebuildsNoneOnRoute large p r)
+  pub even : (large : ℕ) → IsBalancedBelow large s → IsBalancedBelow large f.left × IsBalancedBelow large f.right
 
-calm_parts : (large : ℕ) (p : Place) (h : Head) (l r : Shape) → IsRouteCalm large p (fork h l r) → IsSpared large (fork h l r) × (goes_left h.axis p h.item.point ≡ true → IsRouteCalm large p l) × (goes_left h.axis p h.item.point ≡ false → IsRouteCalm large p r)
-unfolding IsRouteCalm
+calm_parts : (large : ℕ) (p : Place) (h : Head) (l r : Shape) → RebuildsNoneOnRoute large p (fork h l r) → IsNotDue large (fork h l r) × (goes_left h.axis p h.item.point ≡ true → RebuildsNoneOnRoute large p l) × (goes_left h.axis p h.item.point ≡ false → RebuildsNoneOnRoute large p r)
+unfolding RebuildsNoneOnRoute
 calm_parts large p h l r k = k
 
 tops_alike : (h : Head) (l r l' r' : Shape) → l ≡ l' → r ≡ r' → fork (head h.item h.axis) l r ≡ fork (record h { item = relabelled keep_tag h.item; pending = keep_tag }) l' r'
@@ -216,13 +216,13 @@ left_fork n p axis h l r e s k =
     record {
       value = value;
       sound = record {
-        below = rw (put-tagged n p next h.pending l) (AllLeft-put P n p next h.pending l (le_of_true (on h.axis p) (on h.axis h.item.point) e) s.0.below);
+        below = rw (put-tagged n p next h.pending l) (AllKept-put P n p next h.pending l (le_of_true (on h.axis p) (on h.axis h.item.point) e) s.0.below);
         above = (pushed_sound h l r s).0.above;
         once = λ m. subst (λ z. times m keep_tag z ≤ 1) (sym value) (once-put n p axis (fork h l r) s.0.once k.new m);
         few = omega (arith, k.few, nodes-put n p next keep_tag (tagged h.pending l), tagged_nodes h.pending l, tagged_nodes h.pending r);
         low = omega (arith, k.low, levels-put n p next keep_tag (tagged h.pending l), tagged_levels h.pending l, tagged_levels h.pending r);
       };
-      calm = λ large all. calm_parts large p (head h.item h.axis) (put_from n p next (tagged h.pending l)) (tagged h.pending r) (subst (IsRouteCalm large p) (sym value) all);
+      calm = λ large all. calm_parts large p (head h.item h.axis) (put_from n p next (tagged h.pending l)) (tagged h.pending r) (subst (RebuildsNoneOnRoute large p) (sym value) all);
       even = λ large k. even_sons large h l r k;
     }
 
@@ -236,12 +236,12 @@ right_fork n p axis h l r e s k =
       value = value;
       sound = record {
         below = (pushed_sound h l r s).0.below;
-        above = rw (put-tagged n p next h.pending r) (AllLeft-put P n p next h.pending r (le_of_false (on h.axis p) (on h.axis h.item.point) e) s.0.above);
+        above = rw (put-tagged n p next h.pending r) (AllKept-put P n p next h.pending r (le_of_false (on h.axis p) (on h.axis h.item.point) e) s.0.above);
         once = λ m. subst (λ z. times m keep_tag z ≤ 1) (sym value) (once-put n p axis (fork h l r) s.0.once k.new m);
         few = omega (arith, k.few, nodes-put n p next keep_tag (tagged h.pending r), tagged_nodes h.pending l, tagged_nodes h.pending r);
         low = omega (arith, k.low, levels-put n p next keep_tag (tagged h.pending r), tagged_levels h.pending l, tagged_levels h.pending r);
       };
-      calm = λ large all. calm_parts large p (head h.item h.axis) (tagged h.pending l) (put_from n p next (tagged h.pending r)) (subst (IsRouteCalm large p) (sym value) all);
+      calm = λ large all. calm_parts large p (head h.item h.axis) (tagged h.pending l) (put_from n p next (tagged h.pending r)) (subst (RebuildsNoneOnRoute large p) (sym value) all);
       even = λ large k. even_sons large h l r k;
     }
 
@@ -274,20 +274,20 @@ updated_leaf large n p axis (fork h l r) C x = absurd (cc)
 
 -- where the point went left
 pub updated_left : (large n : ℕ) (p : Place) (axis : Axis) (s : Shape) (f : Fork) (l t : Shape) → IsOnRoute n p axis s f (put_from n p (next_axis f.axis) f.left) f.right → goes_left f.axis p f.item.point ≡ true
-    → IsUpdated large f.left (put_from n p (next_axis f.axis) f.left) (IsRouteCalm large p (put_from n p (next_axis f.axis) f.left)) l
-    → RefreshesIfDue large (fork (head f.item f.axis) l f.right) t → IsUpdated large s (put_from n p axis s) (IsRouteCalm large p (put_from n p axis s)) t
+    → IsUpdated large f.left (put_from n p (next_axis f.axis) f.left) (RebuildsNoneOnRoute large p (put_from n p (next_axis f.axis) f.left)) l
+    → RefreshesIfDue large (fork (head f.item f.axis) l f.right) t → IsUpdated large s (put_from n p axis s) (RebuildsNoneOnRoute large p (put_from n p axis s)) t
 updated_left large n p axis s f l t k e u done =
     let plain = put_from n p (next_axis f.axis) f.left in
-    subst (λ v. IsUpdated large s v (IsRouteCalm large p (put_from n p axis s)) t) k.value
-    (updated_fork large s f.item f.axis f.left f.right plain f.right l f.right t (IsRouteCalm large p (put_from n p axis s)) (IsRouteCalm large p plain) (Unit {0})
+    subst (λ v. IsUpdated large s v (RebuildsNoneOnRoute large p (put_from n p axis s)) t) k.value
+    (updated_fork large s f.item f.axis f.left f.right plain f.right l f.right t (RebuildsNoneOnRoute large p (put_from n p axis s)) (RebuildsNoneOnRoute large p plain) (Unit {0})
     u (updated_plain large f.right f.right (Unit {0}) (λ v. v)) (k.even large) (λ all. let parts = k.calm large all in (parts.0, parts.1 e, tt)) done)
 
 -- where it went right
 pub updated_right : (large n : ℕ) (p : Place) (axis : Axis) (s : Shape) (f : Fork) (r t : Shape) → IsOnRoute n p axis s f f.left (put_from n p (next_axis f.axis) f.right) → goes_left f.axis p f.item.point ≡ false
-    → IsUpdated large f.right (put_from n p (next_axis f.axis) f.right) (IsRouteCalm large p (put_from n p (next_axis f.axis) f.right)) r
-    → RefreshesIfDue large (fork (head f.item f.axis) f.left r) t → IsUpdated large s (put_from n p axis s) (IsRouteCalm large p (put_from n p axis s)) t
+    → IsUpdated large f.right (put_from n p (next_axis f.axis) f.right) (RebuildsNoneOnRoute large p (put_from n p (next_axis f.axis) f.right)) r
+    → RefreshesIfDue large (fork (head f.item f.axis) f.left r) t → IsUpdated large s (put_from n p axis s) (RebuildsNoneOnRoute large p (put_from n p axis s)) t
 updated_right large n p axis s f r t k e u done =
     let plain = put_from n p (next_axis f.axis) f.right in
-    subst (λ v. IsUpdated large s v (IsRouteCalm large p (put_from n p axis s)) t) k.value
-    (updated_fork large s f.item f.axis f.left f.right f.left plain f.left r t (IsRouteCalm large p (put_from n p axis s)) (Unit {0}) (IsRouteCalm large p plain)
+    subst (λ v. IsUpdated large s v (RebuildsNoneOnRoute large p (put_from n p axis s)) t) k.value
+    (updated_fork large s f.item f.axis f.left f.right f.left plain f.left r t (RebuildsNoneOnRoute large p (put_from n p axis s)) (Unit {0}) (RebuildsNoneOnRoute large p plain)
     (updated_plain large f.left f.left (Unit {0}) (λ v. v)) u (k.even large) (λ all. let parts = k.calm large all in (parts.0, tt, parts.2 e)) done)

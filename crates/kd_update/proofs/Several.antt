@@ -18,11 +18,11 @@ use Rattle.kd_tree.specs.declared.change.Fork.{Fork}
 use Rattle.kd_tree.specs.declared.path.Side.{Side}
 use Rattle.kd_tree.specs.declared.path.Side.TheVariants.{Left, Right}
 use Rattle.map_fold.specs.Contents.{chosen_by, marked_item}
-use Rattle.kd_update.specs.Mark.{marked_shape, IsVisitCalm}
-use Rattle.kd_update.specs.Put.{goes_left, put_from, IsRouteCalm}
-use Rattle.kd_update.specs.Update.{IsEven, IsUpdated}
+use Rattle.kd_update.specs.Mark.{marked_shape, RebuildsNoneEntered}
+use Rattle.kd_update.specs.Put.{goes_left, put_from, RebuildsNoneOnRoute}
+use Rattle.kd_update.specs.Update.{IsBalancedBelow, IsUpdated}
 use Rattle.kd_update.specs.Watch.{IsLargeAt, IsWatched, logged_mark, logged_put}
-use Rattle.kd_update.specs.Several.{IsEvenClear, AreLargeAt, AreSameAt, AreWatched, IsUpdatedClear}
+use Rattle.kd_update.specs.Several.{IsBalancedClear, AreLargeAt, AreSameAt, AreWatched, IsUpdatedClear}
 use Rattle.kd_update.proofs.InBox.{IsEntered, marked_none, marked_missed, marked_covered}
 use Rattle.kd_update.proofs.Route.{IsOnRoute}
 use Rattle.kd_update.proofs.Trees.{forked, some_fork}
@@ -33,15 +33,15 @@ use Rattle.kd_update.proofs.Large.{large_nodes, large_same, large_after, watched
 
 -- without a path
 
-pub even_clear : (large : ℕ) (t : Shape) → IsEven large t → IsEvenClear large [] t
+pub even_clear : (large : ℕ) (t : Shape) → IsBalancedBelow large t → IsBalancedClear large [] t
 even_clear large leaf k = tt
 even_clear large (fork h l r) k = λ _. (k.0, even_clear large l k.1, even_clear large r k.2)
 
-pub clear_even : (large : ℕ) (t : Shape) → IsEvenClear large [] t → IsEven large t
+pub clear_even : (large : ℕ) (t : Shape) → IsBalancedClear large [] t → IsBalancedBelow large t
 clear_even large leaf k = tt
 clear_even large (fork h l r) k = let all = k refl in (all.0, clear_even large l all.1, clear_even large r all.2)
 
-pub even_clear_tagged : (large : ℕ) (ps : List (List Side)) (q : Tag) (t : Shape) → IsEvenClear large ps t → IsEvenClear large ps (tagged q t)
+pub even_clear_tagged : (large : ℕ) (ps : List (List Side)) (q : Tag) (t : Shape) → IsBalancedClear large ps t → IsBalancedClear large ps (tagged q t)
 even_clear_tagged large ps q leaf k = tt
 even_clear_tagged large ps q (fork h l r) k = k
 
@@ -91,11 +91,11 @@ pub some_large : (large : ℕ) (p : List Side) (ps : List (List Side)) (t : Shap
 some_large large p ps t k = large_nodes large p t k.0
 
 -- nothing is built anew
-pub clear_plain : (large : ℕ) (ps : List (List Side)) (old t : Shape) (C : Type 0) → (IsEvenClear large ps old → IsEvenClear large ps t) → IsUpdatedClear large ps old t C t
+pub clear_plain : (large : ℕ) (ps : List (List Side)) (old t : Shape) (C : Type 0) → (IsBalancedClear large ps old → IsBalancedClear large ps t) → IsUpdatedClear large ps old t C t
 clear_plain large ps old t C k = record { refresh = refresh_same t; same = same_itself ps t; unrebuilt = λ _. refl; balance = k }
 
 -- where a path ends here, evenness is asked of nothing
-pub even_here : (large : ℕ) (ps : List (List Side)) (t : Shape) → is_here ps ≡ true → IsEvenClear large ps t
+pub even_here : (large : ℕ) (ps : List (List Side)) (t : Shape) → is_here ps ≡ true → IsBalancedClear large ps t
 even_here large ps leaf e = tt
 even_here large ps (fork h l r) e = λ n. absurd (cc)
 
@@ -110,7 +110,7 @@ clear_none large old plain new C u = record { refresh = u.refresh; same = tt; un
 pub record IsPassedBy (large : ℕ) (ps : List (List Side)) (s : Shape) (f : Fork) : Type 0 where
   pub left : AreLargeAt large (onward Left ps) f.left
   pub right : AreLargeAt large (onward Right ps) f.right
-  pub even : is_here ps ≡ false → IsEvenClear large ps s → IsEvenClear large (onward Left ps) f.left × IsEvenClear large (onward Right ps) f.right
+  pub even : is_here ps ≡ false → IsBalancedClear large ps s → IsBalancedClear large (onward Left ps) f.left × IsBalancedClear large (onward Right ps) f.right
 
 passed_fork : (large : ℕ) (ps : List (List Side)) (h : Head) (l r : Shape) → AreLargeAt large ps (fork h l r) → IsPassedBy large ps (fork h l r) (forked h l r)
 passed_fork large ps h l r k = record {
@@ -127,7 +127,7 @@ passed_by large ps (fork h l r) f x k = subst (λ (g : Fork). IsPassedBy large p
 pub clear_fork : (large : ℕ) (ps : List (List Side)) (old : Shape) (i : Item) (a : Axis) (ol or l r l' r' : Shape) (C Cl Cr : Type 0)
     → is_here ps ≡ false → large ≤ nodes l' + nodes r' + 1
     → IsUpdatedClear large (onward Left ps) ol l Cl l' → IsUpdatedClear large (onward Right ps) or r Cr r'
-    → (IsEvenClear large ps old → IsEvenClear large (onward Left ps) ol × IsEvenClear large (onward Right ps) or)
+    → (IsBalancedClear large ps old → IsBalancedClear large (onward Left ps) ol × IsBalancedClear large (onward Right ps) or)
     → (C → Cl × Cr) → IsUpdatedClear large ps old (fork (head i a) l r) C (fork (head i a) l' r')
 clear_fork large ps old i a ol or l r l' r' C Cl Cr here big u v even calm = record {
   refresh = refresh_fork i a l r l' r' u.refresh v.refresh;
@@ -171,14 +171,14 @@ some_of large (p ∷ ps) t n k = some_large large p ps t k
 
 -- an entered node, above the ends of the paths
 pub marked_joined : (large : ℕ) (c : Choice) (a : Tag) (ps : List (List Side)) (s : Shape) (f : Fork) (l r : Shape) → IsEntered c a s f → Some f ≡ pushed s → AreLargeAt large ps s → is_here ps ≡ false → (ps ≡ [] → ⊥)
-    → IsUpdatedClear large (onward Left ps) f.left (marked_shape c a f.left) (IsVisitCalm large c (marked_shape c a f.left)) l
-    → IsUpdatedClear large (onward Right ps) f.right (marked_shape c a f.right) (IsVisitCalm large c (marked_shape c a f.right)) r
-    → IsUpdatedClear large ps s (marked_shape c a s) (IsVisitCalm large c (marked_shape c a s)) (fork (head (marked_item (chosen_by c) a f.item) f.axis) l r)
+    → IsUpdatedClear large (onward Left ps) f.left (marked_shape c a f.left) (RebuildsNoneEntered large c (marked_shape c a f.left)) l
+    → IsUpdatedClear large (onward Right ps) f.right (marked_shape c a f.right) (RebuildsNoneEntered large c (marked_shape c a f.right)) r
+    → IsUpdatedClear large ps s (marked_shape c a s) (RebuildsNoneEntered large c (marked_shape c a s)) (fork (head (marked_item (chosen_by c) a f.item) f.axis) l r)
 marked_joined large c a ps s f l r w x k here some u v =
     let i = marked_item (chosen_by c) a f.item in
     let ml = marked_shape c a f.left in
     let mr = marked_shape c a f.right in
-    let C = IsVisitCalm large c (marked_shape c a s) in
+    let C = RebuildsNoneEntered large c (marked_shape c a s) in
     let same = same_sons ps (head i f.axis) ml mr l r here u.same v.same in
     let there = subst (AreLargeAt large ps) (sym w.value) (large_all_marked large c a ps s k) in
     let big = some_of large ps (fork (head i f.axis) l r) some (large_all_same large ps (fork (head i f.axis) ml mr) (fork (head i f.axis) l r) same there) in
@@ -188,32 +188,32 @@ marked_joined large c a ps s f l r w x k here some u v =
 -- a node on the route, above the ends of the paths, where the point goes left
 pub put_joined_left : (large n : ℕ) (p : Place) (axis : Axis) (ps : List (List Side)) (s : Shape) (f : Fork) (t : Shape) → IsOnRoute n p axis s f (put_from n p (next_axis f.axis) f.left) f.right → goes_left f.axis p f.item.point ≡ true → Some f ≡ pushed s
     → IsSound s → times n keep_tag s ≡ 0 → nodes s ≤ 4194303 → AreLargeAt large ps s → is_here ps ≡ false → (ps ≡ [] → ⊥)
-    → IsUpdatedClear large (onward Left ps) f.left (put_from n p (next_axis f.axis) f.left) (IsRouteCalm large p (put_from n p (next_axis f.axis) f.left)) t
-    → IsUpdatedClear large ps s (put_from n p axis s) (IsRouteCalm large p (put_from n p axis s)) (fork (head f.item f.axis) t f.right)
+    → IsUpdatedClear large (onward Left ps) f.left (put_from n p (next_axis f.axis) f.left) (RebuildsNoneOnRoute large p (put_from n p (next_axis f.axis) f.left)) t
+    → IsUpdatedClear large ps s (put_from n p axis s) (RebuildsNoneOnRoute large p (put_from n p axis s)) (fork (head f.item f.axis) t f.right)
 put_joined_left large n p axis ps s f t w e x sound none few k here some u =
     let plain = put_from n p (next_axis f.axis) f.left in
-    let C = IsRouteCalm large p (put_from n p axis s) in
+    let C = RebuildsNoneOnRoute large p (put_from n p axis s) in
     let h = head f.item f.axis in
     let same = same_sons ps h plain f.right t f.right here u.same (same_itself (onward Right ps) f.right) in
     let there = subst (AreLargeAt large ps) (sym w.value) (large_all_put large n p axis ps s sound none few k) in
     let big = some_of large ps (fork h t f.right) some (large_all_same large ps (fork h plain f.right) (fork h t f.right) same there) in
     subst (λ v. IsUpdatedClear large ps s v C (fork h t f.right)) w.value
-    (clear_fork large ps s f.item f.axis f.left f.right plain f.right t f.right C (IsRouteCalm large p plain) (Unit {0}) here big u (clear_plain large (onward Right ps) f.right f.right (Unit {0}) (λ v. v)) ((passed_by large ps s f x k).even here) (λ all. let parts = w.calm large all in (parts.1 e, tt)))
+    (clear_fork large ps s f.item f.axis f.left f.right plain f.right t f.right C (RebuildsNoneOnRoute large p plain) (Unit {0}) here big u (clear_plain large (onward Right ps) f.right f.right (Unit {0}) (λ v. v)) ((passed_by large ps s f x k).even here) (λ all. let parts = w.calm large all in (parts.1 e, tt)))
 
 -- a node on the route, above the ends of the paths, where the point goes right
 pub put_joined_right : (large n : ℕ) (p : Place) (axis : Axis) (ps : List (List Side)) (s : Shape) (f : Fork) (t : Shape) → IsOnRoute n p axis s f f.left (put_from n p (next_axis f.axis) f.right) → goes_left f.axis p f.item.point ≡ false → Some f ≡ pushed s
     → IsSound s → times n keep_tag s ≡ 0 → nodes s ≤ 4194303 → AreLargeAt large ps s → is_here ps ≡ false → (ps ≡ [] → ⊥)
-    → IsUpdatedClear large (onward Right ps) f.right (put_from n p (next_axis f.axis) f.right) (IsRouteCalm large p (put_from n p (next_axis f.axis) f.right)) t
-    → IsUpdatedClear large ps s (put_from n p axis s) (IsRouteCalm large p (put_from n p axis s)) (fork (head f.item f.axis) f.left t)
+    → IsUpdatedClear large (onward Right ps) f.right (put_from n p (next_axis f.axis) f.right) (RebuildsNoneOnRoute large p (put_from n p (next_axis f.axis) f.right)) t
+    → IsUpdatedClear large ps s (put_from n p axis s) (RebuildsNoneOnRoute large p (put_from n p axis s)) (fork (head f.item f.axis) f.left t)
 put_joined_right large n p axis ps s f t w e x sound none few k here some u =
     let plain = put_from n p (next_axis f.axis) f.right in
-    let C = IsRouteCalm large p (put_from n p axis s) in
+    let C = RebuildsNoneOnRoute large p (put_from n p axis s) in
     let h = head f.item f.axis in
     let same = same_sons ps h f.left plain f.left t here (same_itself (onward Left ps) f.left) u.same in
     let there = subst (AreLargeAt large ps) (sym w.value) (large_all_put large n p axis ps s sound none few k) in
     let big = some_of large ps (fork h f.left t) some (large_all_same large ps (fork h f.left plain) (fork h f.left t) same there) in
     subst (λ v. IsUpdatedClear large ps s v C (fork h f.left t)) w.value
-    (clear_fork large ps s f.item f.axis f.left f.right f.left plain f.left t C (Unit {0}) (IsRouteCalm large p plain) here big (clear_plain large (onward Left ps) f.left f.left (Unit {0}) (λ v. v)) u ((passed_by large ps s f x k).even here) (λ all. let parts = w.calm large all in (tt, parts.2 e)))
+    (clear_fork large ps s f.item f.axis f.left f.right f.left plain f.left t C (Unit {0}) (RebuildsNoneOnRoute large p plain) here big (clear_plain large (onward Left ps) f.left f.left (Unit {0}) (λ v. v)) u ((passed_by large ps s f x k).even here) (λ all. let parts = w.calm large all in (tt, parts.2 e)))
 
 -- a path that goes on needs a node
 pub nowhere : (large : ℕ) (ps : List (List Side)) (s : Shape) → ◌≡◌ {A = Option Fork} None (pushed s) → AreLargeAt large ps s → is_here ps ≡ false → (ps ≡ [] → ⊥) → ⊥

@@ -12,7 +12,7 @@ use Rattle.node_labels.proofs.Laws.{composed-keep_left}
 use Rattle.map_fold.specs.declared.item.Item.{Item}
 use Rattle.map_fold.specs.Contents.{everything, mark, kept, relabelled}
 use Rattle.kd_tree.specs.Shape.{Head, Shape, leaf, fork, nodes, levels, numbers}
-use Rattle.kd_tree.specs.Walk.{walk, AllLeft, times}
+use Rattle.kd_tree.specs.Walk.{walk, AllKept, times}
 use Rattle.kd_tree.specs.Sound.{IsSound, IsSoundFork, IsTopSound}
 use Rattle.kd_tree.specs.Contents.{by_number, contents}
 use Rattle.kd_tree.specs.Parts.{at, replaced_at, with_son}
@@ -22,11 +22,11 @@ use Rattle.kd_tree.specs.declared.path.Side.TheVariants.{Left, Right}
 use Rattle.kd_tree.proofs.Contents.{walk-composed, by_number-mark, times_walk, once_walk}
 use Rattle.kd_tree.proofs.Held.{contents_few}
 use Rattle.kd_tree.proofs.Numbered.{by_number_moves, by_number-moved}
-use Rattle.kd_update.specs.Refresh.{AreAmong, IsSpared, RefreshesIfDue}
-use Rattle.kd_update.specs.Update.{IsEven}
+use Rattle.kd_update.specs.Refresh.{AreAmong, IsNotDue, RefreshesIfDue}
+use Rattle.kd_update.specs.Update.{IsBalancedBelow}
 use Rattle.kd_update.specs.Watch.{IsLargeAt}
-use Rattle.kd_update.specs.Several.{IsEvenClear, AreLargeAt, AreSameAt}
-use Rattle.kd_update.specs.Replace.{StandsFor, HasRoomAt, IsCalmAbove, IsNoLarger, IsReplaced}
+use Rattle.kd_update.specs.Several.{IsBalancedClear, AreLargeAt, AreSameAt}
+use Rattle.kd_update.specs.Replace.{StandsFor, HasRoomAt, RebuildsNoneAbove, IsNoLarger, IsReplaced}
 use Rattle.kd_tree.proofs.Left.{all_left, left_all}
 use Rattle.kd_update.proofs.Trees.{nodes_below}
 use Rattle.kd_update.proofs.Refresh.{refresh_contents, refreshed_refresh}
@@ -44,7 +44,7 @@ moved_under a s t e =
     let same : by_number (walk a s) ≡ by_number (walk a t) = numbered-walk a s ∙ ap (λ m. mark m everything a) e ∙ sym (numbered-walk a t) in
     IsPermutation-trans _ _ _ (by_number_moves (walk a s)) (subst (λ m. IsPermutation m (walk a t)) (sym same) (IsPermutation-sym _ _ (by_number_moves (walk a t))))
 
-same_left : (P : Place → Type 0) (a : Tag) (s t : Shape) → contents s ≡ contents t → AllLeft P a s → AllLeft P a t
+same_left : (P : Place → Type 0) (a : Tag) (s t : Shape) → contents s ≡ contents t → AllKept P a s → AllKept P a t
 same_left P a s t e k = left_all P a t (All-permutation (λ (i : Item). P i.point) _ _ (moved_under a s t e) (all_left P a s k))
 
 pub same_times : (n : ℕ) (a : Tag) (s t : Shape) → contents s ≡ contents t → times n a t ≡ times n a s
@@ -98,17 +98,17 @@ from_right n r' l r w f m k =
     ]
 
 -- what is even is even outside whatever paths
-pub even_outside : (large : ℕ) (ps : List (List Side)) (t : Shape) → IsEven large t → IsEvenClear large ps t
+pub even_outside : (large : ℕ) (ps : List (List Side)) (t : Shape) → IsBalancedBelow large t → IsBalancedClear large ps t
 even_outside large ps leaf k = tt
 even_outside large ps (fork h l r) k = λ _. (k.0, even_outside large (onward Left ps) l k.1, even_outside large (onward Right ps) r k.2)
 
 -- a node with sons that are even outside the paths, built anew where it is to be
-refreshed_outside : (large : ℕ) (ps : List (List Side)) (h : Head) (l r t : Shape) → RefreshesIfDue large (fork h l r) t → (is_here ps ≡ false → IsEvenClear large (onward Left ps) l × IsEvenClear large (onward Right ps) r) → IsEvenClear large ps t
-refreshed_outside large ps h l r t (inl k) e = subst (IsEvenClear large ps) k.1 (λ here. ((λ many few. (k.0 many few).0), (e here).0, (e here).1))
+refreshed_outside : (large : ℕ) (ps : List (List Side)) (h : Head) (l r t : Shape) → RefreshesIfDue large (fork h l r) t → (is_here ps ≡ false → IsBalancedClear large (onward Left ps) l × IsBalancedClear large (onward Right ps) r) → IsBalancedClear large ps t
+refreshed_outside large ps h l r t (inl k) e = subst (IsBalancedClear large ps) k.1 (λ here. ((λ many few. (k.0 many few).0), (e here).0, (e here).1))
 refreshed_outside large ps h l r t (inr k) e = even_outside large ps t (calm_even large t k.2)
 
 -- a tree that is to be spared stays
-refreshed_spared : (large : ℕ) (s t : Shape) → RefreshesIfDue large s t → IsSpared large s → t ≡ s
+refreshed_spared : (large : ℕ) (s t : Shape) → RefreshesIfDue large s t → IsNotDue large s → t ≡ s
 refreshed_spared large s t (inl k) c = sym k.1
 refreshed_spared large s t (inr k) c = absurd (k.0 c)
 
@@ -127,7 +127,7 @@ replaced_left large path h l r other l' t s u k sound =
       from = λ n c. from_left h.item.number (numbers l') (numbers l) (numbers r) (numbers other) u.from n (f.from n c);
       beside = beside;
       balance = λ ps e o. refreshed_outside large ps h l' r t k (λ here. let all = e here in (u.balance (onward Left ps) all.1 o, all.2));
-      unrebuilt = λ c. let same = u.unrebuilt c.1 in refreshed_spared large _ t k (subst (λ x. IsSpared large (fork h x r)) (sym same) c.0) ∙ ap (λ x. fork h x r) same;
+      unrebuilt = λ c. let same = u.unrebuilt c.1 in refreshed_spared large _ t k (subst (λ x. IsNotDue large (fork h x r)) (sym same) c.0) ∙ ap (λ x. fork h x r) same;
     }
   where
     stays : (p : List Side) → at p (fork h l' r) ≡ at p (fork h l r) → IsLargeAt large p (fork h l r) → at p t ≡ at p (fork h l r)
@@ -148,7 +148,7 @@ replaced_right large path h l r other r' t s u k sound =
       from = λ n c. from_right h.item.number (numbers r') (numbers l) (numbers r) (numbers other) u.from n (f.from n c);
       beside = beside;
       balance = λ ps e o. refreshed_outside large ps h l r' t k (λ here. let all = e here in (all.1, u.balance (onward Right ps) all.2 o));
-      unrebuilt = λ c. let same = u.unrebuilt c.1 in refreshed_spared large _ t k (subst (λ x. IsSpared large (fork h l x)) (sym same) c.0) ∙ ap (λ x. fork h l x) same;
+      unrebuilt = λ c. let same = u.unrebuilt c.1 in refreshed_spared large _ t k (subst (λ x. IsNotDue large (fork h l x)) (sym same) c.0) ∙ ap (λ x. fork h l x) same;
     }
   where
     stays : (p : List Side) → at p (fork h l r') ≡ at p (fork h l r) → IsLargeAt large p (fork h l r) → at p t ≡ at p (fork h l r)
@@ -221,16 +221,16 @@ son_replaced large Right path (fork h l r) other s new u e sound k f g =
     replaced_right large path h l r other new u sound f' g (sound_right large path h l r other new sound k f')
 
 -- what is calm above a path is so in the son
-pub son_calm : (large : ℕ) (side : Side) (path : List Side) (t other s : Shape) → at (side ∷ []) t ≡ Some s → IsCalmAbove large (side ∷ path) (replaced_at (side ∷ path) other t) → IsCalmAbove large path (replaced_at path other s)
+pub son_calm : (large : ℕ) (side : Side) (path : List Side) (t other s : Shape) → at (side ∷ []) t ≡ Some s → RebuildsNoneAbove large (side ∷ path) (replaced_at (side ∷ path) other t) → RebuildsNoneAbove large path (replaced_at path other s)
 son_calm large side path leaf other s e k = absurd (cc)
-son_calm large Left path (fork h l r) other s e k = subst (λ x. IsCalmAbove large path (replaced_at path other x)) (some_shape l s e) k.1
-son_calm large Right path (fork h l r) other s e k = subst (λ x. IsCalmAbove large path (replaced_at path other x)) (some_shape r s e) k.1
+son_calm large Left path (fork h l r) other s e k = subst (λ x. RebuildsNoneAbove large path (replaced_at path other x)) (some_shape l s e) k.1
+son_calm large Right path (fork h l r) other s e k = subst (λ x. RebuildsNoneAbove large path (replaced_at path other x)) (some_shape r s e) k.1
 
 -- and its father is spared
-pub son_spared : (large : ℕ) (side : Side) (path : List Side) (t other s new : Shape) → at (side ∷ []) t ≡ Some s → IsCalmAbove large (side ∷ path) (replaced_at (side ∷ path) other t) → new ≡ replaced_at path other s → IsSpared large (with_son side new t)
+pub son_spared : (large : ℕ) (side : Side) (path : List Side) (t other s new : Shape) → at (side ∷ []) t ≡ Some s → RebuildsNoneAbove large (side ∷ path) (replaced_at (side ∷ path) other t) → new ≡ replaced_at path other s → IsNotDue large (with_son side new t)
 son_spared large side path leaf other s new e k f = absurd (cc)
-son_spared large Left path (fork h l r) other s new e k f = subst (λ x. IsSpared large (fork h x r)) (ap (replaced_at path other) (some_shape l s e) ∙ sym f) k.0
-son_spared large Right path (fork h l r) other s new e k f = subst (λ x. IsSpared large (fork h l x)) (ap (replaced_at path other) (some_shape r s e) ∙ sym f) k.0
+son_spared large Left path (fork h l r) other s new e k f = subst (λ x. IsNotDue large (fork h x r)) (ap (replaced_at path other) (some_shape l s e) ∙ sym f) k.0
+son_spared large Right path (fork h l r) other s new e k f = subst (λ x. IsNotDue large (fork h l x)) (ap (replaced_at path other) (some_shape r s e) ∙ sym f) k.0
 
 -- several paths
 

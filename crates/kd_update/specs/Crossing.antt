@@ -12,7 +12,7 @@ use Rattle.kd_tree.specs.declared.path.Side.TheVariants.{Left, Right}
 use Rattle.kd_update.specs.declared.watch.Watch.{Watch}
 use Rattle.kd_update.specs.Put.{goes_left}
 use Rattle.kd_update.specs.Scan.{IsGrown}
-use Rattle.kd_update.specs.Several.{IsEvenClear}
+use Rattle.kd_update.specs.Several.{IsBalancedClear}
 use Rattle.kd_update.specs.Watch.{goes_to, handed, son}
 
 -- the items put one after the other, as operations
@@ -54,7 +54,7 @@ AreMet (p ∷ ps) is s t = IsMet p is s t × AreMet ps is s t
 pub record IsCrossed (large : ℕ) (ps : List (List Side)) (s : Shape) (is : List Item) (t : Shape) : Type 0 where
   pub grown : IsGrown s is t
   pub met : AreMet ps is s t
-  pub balance : IsEvenClear large ps s → IsEvenClear large ps t
+  pub balance : IsBalancedClear large ps s → IsBalancedClear large ps t
 
 -- Each log has room for the items and two operations more. So, done one by one, none of them would find a log without room for two.
 abbrev pub HaveRoomAtOnce : ℕ → List Watch → Type 0

@@ -6,10 +6,10 @@ use Rattle.kd_tree.specs.Parts.{at, replaced_at}
 use Rattle.kd_tree.specs.Apart.{AreApart}
 use Rattle.kd_tree.specs.declared.path.Side.{Side}
 use Rattle.kd_tree.specs.declared.path.Side.TheVariants.{Left, Right}
-use Rattle.kd_update.specs.Refresh.{AreAmong, IsSpared}
-use Rattle.kd_update.specs.Update.{IsEven}
+use Rattle.kd_update.specs.Refresh.{AreAmong, IsNotDue}
+use Rattle.kd_update.specs.Update.{IsBalancedBelow}
 use Rattle.kd_update.specs.Watch.{IsLargeAt}
-use Rattle.kd_update.specs.Several.{IsEvenClear}
+use Rattle.kd_update.specs.Several.{IsBalancedClear}
 
 -- a subtree stands at the path, and the other tree holds what the subtree by itself holds
 pub record StandsFor (path : List Side) (t other : Shape) : Type 0 where
@@ -23,11 +23,11 @@ pub record HasRoomAt (path : List Side) (other t : Shape) : Type 0 where
   pub few : nodes (replaced_at path other t) ≤ 4194304
 
 -- no node above the path's end is to be built anew
-abbrev pub IsCalmAbove : ℕ → List Side → Shape → Type 0
-IsCalmAbove large [] t = Unit {0}
-IsCalmAbove large (side ∷ path) leaf = Unit {0}
-IsCalmAbove large (Left ∷ path) (fork h l r) = IsSpared large (fork h l r) × IsCalmAbove large path l
-IsCalmAbove large (Right ∷ path) (fork h l r) = IsSpared large (fork h l r) × IsCalmAbove large path r
+abbrev pub RebuildsNoneAbove : ℕ → List Side → Shape → Type 0
+RebuildsNoneAbove large [] t = Unit {0}
+RebuildsNoneAbove large (side ∷ path) leaf = Unit {0}
+RebuildsNoneAbove large (Left ∷ path) (fork h l r) = IsNotDue large (fork h l r) × RebuildsNoneAbove large path l
+RebuildsNoneAbove large (Right ∷ path) (fork h l r) = IsNotDue large (fork h l r) × RebuildsNoneAbove large path r
 
 -- the second tree has no more levels and nodes than the first
 pub record IsNoLarger (s t : Shape) : Type 0 where
@@ -41,5 +41,5 @@ pub record IsReplaced (large : ℕ) (path : List Side) (old other new : Shape) :
   pub size : IsNoLarger (replaced_at path other old) new
   pub from : AreAmong (numbers new) (numbers other ++ numbers old)
   pub beside : (p : List Side) → AreApart path p → IsLargeAt large p old → at p new ≡ at p old
-  pub balance : (ps : List (List Side)) → IsEvenClear large (path ∷ ps) old → IsEven large other → IsEvenClear large ps new
-  pub unrebuilt : IsCalmAbove large path (replaced_at path other old) → new ≡ replaced_at path other old
+  pub balance : (ps : List (List Side)) → IsBalancedClear large (path ∷ ps) old → IsBalancedBelow large other → IsBalancedClear large ps new
+  pub unrebuilt : RebuildsNoneAbove large path (replaced_at path other old) → new ≡ replaced_at path other old

@@ -8,13 +8,13 @@ use Rattle.map_fold.specs.Ops.{numbers_put, replay}
 use Rattle.kd_tree.specs.Shape.{Shape, levels, nodes, numbers}
 use Rattle.kd_tree.specs.Contents.{contents}
 use Rattle.kd_update.specs.Refresh.{AreAmong}
-use Rattle.kd_update.specs.Update.{IsEven}
+use Rattle.kd_update.specs.Update.{IsBalancedBelow}
 
 -- The second tree is the first with the operations done: each point that they put adds a level and a node at most, and it stays even.
 pub record IsPerformed (large : ℕ) (s : Shape) (ops : List Op) (t : Shape) : Type 0 where
   pub held : contents t ≡ replay (contents s) ops
   pub from : AreAmong (numbers t) (numbers_put ops ++ numbers s)
-  pub even : IsEven large s → IsEven large t
+  pub even : IsBalancedBelow large s → IsBalancedBelow large t
   pub low : levels t ≤ levels s + length (numbers_put ops)
   pub few : nodes t ≤ nodes s + length (numbers_put ops)
 

@@ -9,7 +9,7 @@ use Rattle.kd_tree.specs.Shape.{Shape, leaf, fork, levels, nodes, numbers}
 use Rattle.kd_tree.specs.Walk.{walk}
 use Rattle.kd_tree.specs.Contents.{AreDistinct, contents}
 use Rattle.kd_update.specs.Refresh.{AreAmong}
-use Rattle.kd_update.specs.Update.{IsEven}
+use Rattle.kd_update.specs.Update.{IsBalancedBelow}
 use Rattle.kd_update.specs.Put.{goes_left}
 
 -- the items put one after the other
@@ -39,7 +39,7 @@ pub record IsPut (large : ℕ) (s : Shape) (is : List Item) (t : Shape) : Type 0
   pub held : contents t ≡ put_each (contents s) is
   pub from : AreAmong (numbers t) (numbers_in is ++ numbers s)
   pub few : nodes t ≤ nodes s + length is
-  pub even : IsEven large s → IsEven large t
+  pub even : IsBalancedBelow large s → IsBalancedBelow large t
 
 -- The items may be put in one pass: they are fewer than large nodes are, and the tree's bounds aren't near.
 pub record IsPiece (large : ℕ) (s : Shape) (is : List Item) : Type 0 where

@@ -1,26 +1,26 @@
 -- What an update with rebuilding makes of a tree.
 use Rattle.std.specs.Prelude.{◌≡◌, ℕ, ◌+◌, ◌<◌, ◌≤◌}
 use Rattle.kd_tree.specs.Shape.{Shape, leaf, fork, nodes}
-use Rattle.kd_tree.specs.Criteria.{IsBalanced, IsCalm}
+use Rattle.kd_tree.specs.Criteria.{IsBalanced, AllMeetCriteria}
 use Rattle.kd_update.specs.Refresh.{IsRefresh}
 
 -- each node from 10 nodes on, and of fewer than large ones have, meets the balance criterion
-abbrev pub IsEven : ℕ → Shape → Type 0
-IsEven large leaf = Unit {0}
-IsEven large (fork h l r) = (10 ≤ nodes l + nodes r + 1 → nodes l + nodes r + 1 < large → IsBalanced l r) × IsEven large l × IsEven large r
+abbrev pub IsBalancedBelow : ℕ → Shape → Type 0
+IsBalancedBelow large leaf = Unit {0}
+IsBalancedBelow large (fork h l r) = (10 ≤ nodes l + nodes r + 1 → nodes l + nodes r + 1 < large → IsBalanced l r) × IsBalancedBelow large l × IsBalancedBelow large r
 
 -- where the first tree is even, so is the second, from whatever number of nodes on a subtree is large
 abbrev pub KeepsEven : Shape → Shape → Type 0
-KeepsEven s t = (large : ℕ) → IsEven large s → IsEven large t
+KeepsEven s t = (large : ℕ) → IsBalancedBelow large s → IsBalancedBelow large t
 
 -- The new tree is the plain result with some subtrees built anew: none where the fact holds, and enough to stay even.
 pub record IsUpdated (large : ℕ) (old plain : Shape) (Calm : Type 0) (new : Shape) : Type 0 where
   pub refresh : IsRefresh plain new
   pub unrebuilt : Calm → new ≡ plain
-  pub balance : IsEven large old → IsEven large new
+  pub balance : IsBalancedBelow large old → IsBalancedBelow large new
 
 -- The new tree is the old one with subtrees built anew, no node from 10 nodes on breaches a criterion, and without a breach it is the same.
 pub record IsSettled (old new : Shape) : Type 0 where
   pub refresh : IsRefresh old new
-  pub calm : IsCalm 10 new
-  pub unrebuilt : IsCalm 10 old → new ≡ old
+  pub calm : AllMeetCriteria 10 new
+  pub unrebuilt : AllMeetCriteria 10 old → new ≡ old

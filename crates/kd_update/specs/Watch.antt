@@ -26,8 +26,8 @@ pub record IsLargeAt (large : ℕ) (path : List Side) (t : Shape) : Type 0 where
   pub size : large ≤ nodes node
 
 -- a node from 10 nodes on, and of fewer than large ones have, meets the balance criterion
-abbrev pub IsEvenTop : ℕ → Shape → Shape → Type 0
-IsEvenTop large l r = 10 ≤ nodes l + nodes r + 1 → nodes l + nodes r + 1 < large → IsBalanced l r
+abbrev pub IsBalancedTop : ℕ → Shape → Shape → Type 0
+IsBalancedTop large l r = 10 ≤ nodes l + nodes r + 1 → nodes l + nodes r + 1 < large → IsBalanced l r
 
 abbrev pub son : Side → Shape → Shape → Shape
 son Left l r = l

@@ -6,9 +6,9 @@ ghost use Rattle.kd_tree.specs.Shape.{levels, nodes, numbers};
 ghost use Rattle.kd_tree.specs.Walk.{times};
 ghost use Rattle.kd_tree.specs.Contents.{contents};
 ghost use Rattle.kd_update.specs.Refresh.{AreAmong, IsRefresh};
-ghost use Rattle.kd_update.specs.Update.{IsEven, IsUpdated};
+ghost use Rattle.kd_update.specs.Update.{IsBalancedBelow, IsUpdated};
 ghost use Rattle.kd_update.specs.Made.{entered_put};
-ghost use Rattle.kd_update.specs.Put.{IsRouteCalm, goes_left, leaf_of, put_from, put_shape};
+ghost use Rattle.kd_update.specs.Put.{RebuildsNoneOnRoute, goes_left, leaf_of, put_from, put_shape};
 
 use crate::rebuild::rejoined;
 use kd_tree::{Block, OpenNode, Steps, Tree};
@@ -37,14 +37,14 @@ pub fn put<L: Ledger>(
     requires new { times number keep_tag tree ≡ 0 }
     ensures contents { IfOk result (λ t. contents t ≡ put (contents tree) number point) }
     ensures numbers { IfOk result (λ t. AreAmong (numbers t) (number ∷ numbers tree)) }
-    ensures balance { IsEven large tree → IfOk result (λ t. IsEven large t) }
+    ensures balance { IsBalancedBelow large tree → IfOk result (λ t. IsBalancedBelow large t) }
     // The unrebuilt result, with some subtrees built anew.
     ensures refresh { IfOk result (λ t. IsRefresh (put_shape number point tree) t) }
     // Where no node of the route is to be built anew, none is.
-    ensures unrebuilt { IsRouteCalm large point (put_shape number point tree)
+    ensures unrebuilt { RebuildsNoneOnRoute large point (put_shape number point tree)
         → IfOk result (λ t. t ≡ put_shape number point tree) }
     // Then at most so many nodes are made, whatever the call answers.
-    ensures ticks { IsRouteCalm large point (put_shape number point tree)
+    ensures ticks { RebuildsNoneOnRoute large point (put_shape number point tree)
         → steps.new ≤ steps.old + 5 * entered_put point tree + 1 }
 {
     let _size = tree.size();
@@ -71,8 +71,8 @@ pub(crate) fn put_below<L: Ledger>(
     requires few { nodes tree ≤ 4194303 }
     requires new { times item.number keep_tag tree ≡ 0 }
     ensures updated { let plain = put_from item.number item.point axis tree in
-        IfOk result (λ t. IsUpdated large tree plain (IsRouteCalm large item.point plain) t) }
-    ensures ticks { IsRouteCalm large item.point (put_from item.number item.point axis tree)
+        IfOk result (λ t. IsUpdated large tree plain (RebuildsNoneOnRoute large item.point plain) t) }
+    ensures ticks { RebuildsNoneOnRoute large item.point (put_from item.number item.point axis tree)
         → steps.new ≤ steps.old + (3 * entered_put item.point tree + 1) }
 {
     let _size = tree.size();

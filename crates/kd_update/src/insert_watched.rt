@@ -7,8 +7,8 @@ ghost use Rattle.kd_tree.specs.Walk.{times};
 ghost use Rattle.kd_tree.specs.Contents.{contents};
 ghost use Rattle.kd_update.specs.Refresh.{AreAmong, IsRefresh};
 ghost use Rattle.kd_update.specs.Made.{entered_put};
-ghost use Rattle.kd_update.specs.Put.{IsRouteCalm, put_shape};
-ghost use Rattle.kd_update.specs.Several.{AreLargeAt, AreWatched, IsEvenClear};
+ghost use Rattle.kd_update.specs.Put.{RebuildsNoneOnRoute, put_shape};
+ghost use Rattle.kd_update.specs.Several.{AreLargeAt, AreWatched, IsBalancedClear};
 ghost use Rattle.kd_update.specs.Watch.{IsWatched, logged_put};
 ghost use Rattle.kd_update.specs.Watches.{AreExtended, AreFewMore, HaveRoom, paths_in, with_puts};
 
@@ -42,8 +42,8 @@ pub fn put_watched<L: Ledger>(
     ensures contents { IfOk result (λ t. contents t ≡ put (contents tree) number point) }
     ensures numbers { IfOk result (λ t. AreAmong (numbers t) (number ∷ numbers tree)) }
     // Outside the watched subtrees.
-    ensures balance { IsEvenClear large (paths_in watches.old) tree
-        → IfOk result (λ t. IsEvenClear large (paths_in watches.old) t) }
+    ensures balance { IsBalancedClear large (paths_in watches.old) tree
+        → IfOk result (λ t. IsBalancedClear large (paths_in watches.old) t) }
     ensures refresh { IfOk result (λ t. IsRefresh (put_shape number point tree) t) }
     ensures there { IfOk result (λ t. AreLargeAt large (paths_in watches.old) t) }
     // Whatever the call answers.
@@ -53,10 +53,10 @@ pub fn put_watched<L: Ledger>(
     // Of each watched subtree the new tree has what these operations make of the old one's own contents.
     ensures watched { IfOk result (λ t. AreWatched (λ p. IsWatched p tree t (logged_put number point p tree)) (paths_in watches.old)) }
     // Where no node of the route is to be built anew, none is.
-    ensures unrebuilt { IsRouteCalm large point (put_shape number point tree)
+    ensures unrebuilt { RebuildsNoneOnRoute large point (put_shape number point tree)
         → IfOk result (λ t. t ≡ put_shape number point tree) }
     // Then at most so many nodes are made, whatever the call answers.
-    ensures ticks { IsRouteCalm large point (put_shape number point tree)
+    ensures ticks { RebuildsNoneOnRoute large point (put_shape number point tree)
         → steps.new ≤ steps.old + 5 * entered_put point tree + 1 }
 {
     let _size = tree.size();

@@ -4,9 +4,9 @@ ghost use Rattle.map_fold.specs.Contents.{chosen_by, mark, marked_item};
 ghost use Rattle.kd_tree.specs.Shape.{numbers};
 ghost use Rattle.kd_tree.specs.Contents.{contents};
 ghost use Rattle.kd_update.specs.Refresh.{AreAmong, IsRefresh};
-ghost use Rattle.kd_update.specs.Update.{IsEven, IsUpdated};
+ghost use Rattle.kd_update.specs.Update.{IsBalancedBelow, IsUpdated};
 ghost use Rattle.kd_update.specs.Made.{entered_mark, made_mark};
-ghost use Rattle.kd_update.specs.Mark.{IsVisitCalm, marked_shape};
+ghost use Rattle.kd_update.specs.Mark.{RebuildsNoneEntered, marked_shape};
 
 use crate::reach::{covers, meets, reach_of};
 use crate::rebuild::rejoined;
@@ -32,14 +32,14 @@ pub fn marked<L: Ledger>(
 ) -> Result<Tree, NoMemory>
     ensures contents { IfOk result (λ t. contents t ≡ mark (contents tree) (chosen_by choice.now) tag) }
     ensures numbers { IfOk result (λ t. AreAmong (numbers t) (numbers tree)) }
-    ensures balance { IsEven large tree → IfOk result (λ t. IsEven large t) }
+    ensures balance { IsBalancedBelow large tree → IfOk result (λ t. IsBalancedBelow large t) }
     // The unrebuilt result, with some subtrees built anew.
     ensures refresh { IfOk result (λ t. IsRefresh (marked_shape choice.now tag tree) t) }
     // Where no node that was entered is to be built anew, none is.
-    ensures unrebuilt { IsVisitCalm large choice.now (marked_shape choice.now tag tree)
+    ensures unrebuilt { RebuildsNoneEntered large choice.now (marked_shape choice.now tag tree)
         → IfOk result (λ t. t ≡ marked_shape choice.now tag tree) }
     // Then at most so many nodes are made, whatever the call answers.
-    ensures ticks { IsVisitCalm large choice.now (marked_shape choice.now tag tree)
+    ensures ticks { RebuildsNoneEntered large choice.now (marked_shape choice.now tag tree)
         → steps.new ≤ steps.old + 5 * entered_mark choice.now tree + 1 }
 {
     let _size = tree.size();
@@ -56,8 +56,8 @@ pub(crate) fn marked_within<L: Ledger>(
     steps: &mut Steps<L>,
 ) -> Result<Tree, NoMemory>
     ensures updated { let plain = marked_shape choice.now tag tree in
-        IfOk result (λ t. IsUpdated large tree plain (IsVisitCalm large choice.now plain) t) }
-    ensures ticks { IsVisitCalm large choice.now (marked_shape choice.now tag tree)
+        IfOk result (λ t. IsUpdated large tree plain (RebuildsNoneEntered large choice.now plain) t) }
+    ensures ticks { RebuildsNoneEntered large choice.now (marked_shape choice.now tag tree)
         → steps.new ≤ steps.old + made_mark choice.now tree }
 {
     let _size = tree.size();

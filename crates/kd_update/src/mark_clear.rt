@@ -1,7 +1,7 @@
 //! Actions on chosen items, with watched subtrees left as they stand. Nothing here knows what is logged of them.
 ghost use Rattle.std.specs.Prelude.{◌≡◌, ◌+◌, ◌≤◌, IfOk};
 ghost use Rattle.kd_update.specs.Made.{made_mark};
-ghost use Rattle.kd_update.specs.Mark.{IsVisitCalm, marked_shape};
+ghost use Rattle.kd_update.specs.Mark.{RebuildsNoneEntered, marked_shape};
 ghost use Rattle.kd_update.specs.Several.{AreLargeAt, IsUpdatedClear};
 ghost use Rattle.kd_update.specs.Ways.{paths_of};
 
@@ -26,8 +26,8 @@ pub(crate) fn marked_clear<L: Ledger>(
 ) -> Result<Tree, NoMemory>
     requires { AreLargeAt large (paths_of ways.now) tree }
     ensures updated { let plain = marked_shape choice.now tag tree in
-        IfOk result (λ t. IsUpdatedClear large (paths_of ways.now) tree plain (IsVisitCalm large choice.now plain) t) }
-    ensures ticks { IsVisitCalm large choice.now (marked_shape choice.now tag tree)
+        IfOk result (λ t. IsUpdatedClear large (paths_of ways.now) tree plain (RebuildsNoneEntered large choice.now plain) t) }
+    ensures ticks { RebuildsNoneEntered large choice.now (marked_shape choice.now tag tree)
         → steps.new ≤ steps.old + made_mark choice.now tree }
 {
     let _size = tree.size();

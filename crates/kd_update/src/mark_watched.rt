@@ -5,8 +5,8 @@ ghost use Rattle.kd_tree.specs.Shape.{numbers};
 ghost use Rattle.kd_tree.specs.Contents.{contents};
 ghost use Rattle.kd_update.specs.Refresh.{AreAmong, IsRefresh};
 ghost use Rattle.kd_update.specs.Made.{entered_mark};
-ghost use Rattle.kd_update.specs.Mark.{IsVisitCalm, marked_shape};
-ghost use Rattle.kd_update.specs.Several.{AreLargeAt, AreWatched, IsEvenClear};
+ghost use Rattle.kd_update.specs.Mark.{RebuildsNoneEntered, marked_shape};
+ghost use Rattle.kd_update.specs.Several.{AreLargeAt, AreWatched, IsBalancedClear};
 ghost use Rattle.kd_update.specs.Watch.{IsWatched, logged_mark};
 ghost use Rattle.kd_update.specs.Watches.{AreExtended, AreFewMore, HaveRoom, paths_in, with_marks};
 
@@ -36,8 +36,8 @@ pub fn marked_watched<L: Ledger>(
     ensures contents { IfOk result (λ t. contents t ≡ mark (contents tree) (chosen_by choice.now) tag) }
     ensures numbers { IfOk result (λ t. AreAmong (numbers t) (numbers tree)) }
     // Outside the watched subtrees.
-    ensures balance { IsEvenClear large (paths_in watches.old) tree
-        → IfOk result (λ t. IsEvenClear large (paths_in watches.old) t) }
+    ensures balance { IsBalancedClear large (paths_in watches.old) tree
+        → IfOk result (λ t. IsBalancedClear large (paths_in watches.old) t) }
     ensures refresh { IfOk result (λ t. IsRefresh (marked_shape choice.now tag tree) t) }
     ensures there { IfOk result (λ t. AreLargeAt large (paths_in watches.old) t) }
     // Whatever the call answers.
@@ -47,10 +47,10 @@ pub fn marked_watched<L: Ledger>(
     // Of each watched subtree the new tree has what these operations make of the old one's own contents.
     ensures watched { IfOk result (λ t. AreWatched (λ p. IsWatched p tree t (logged_mark choice.now tag p tree)) (paths_in watches.old)) }
     // Where no node that was entered is to be built anew, none is.
-    ensures unrebuilt { IsVisitCalm large choice.now (marked_shape choice.now tag tree)
+    ensures unrebuilt { RebuildsNoneEntered large choice.now (marked_shape choice.now tag tree)
         → IfOk result (λ t. t ≡ marked_shape choice.now tag tree) }
     // Then at most so many nodes are made, whatever the call answers.
-    ensures ticks { IsVisitCalm large choice.now (marked_shape choice.now tag tree)
+    ensures ticks { RebuildsNoneEntered large choice.now (marked_shape choice.now tag tree)
         → steps.new ≤ steps.old + 5 * entered_mark choice.now tree + 1 }
 {
     let _size = tree.size();

@@ -5,7 +5,7 @@ ghost use Rattle.map_fold.specs.Fold.{add_points};
 ghost use Rattle.kd_tree.specs.Shape.{nodes, numbers};
 ghost use Rattle.kd_tree.specs.Contents.{contents};
 ghost use Rattle.kd_update.specs.Refresh.{AreAmong};
-ghost use Rattle.kd_update.specs.Update.{IsEven};
+ghost use Rattle.kd_update.specs.Update.{IsBalancedBelow};
 ghost use Rattle.kd_update.specs.Scan.{live_from, numbers_in};
 
 use crate::put_all;
@@ -30,7 +30,7 @@ pub fn put_points<L: Ledger>(
     requires few { first + length points.now ≤ 4194304 }
     ensures added { IfOk result (λ t. record { items = contents t; next = first + length points.now } ≡ add_points points.now (record { items = contents tree; next = first })) }
     ensures numbers { IfOk result (λ t. AreAmong (numbers t) (numbers_in (live_from first points.now) ++ numbers tree)) }
-    ensures balance { IsEven large tree → IfOk result (λ t. IsEven large t) }
+    ensures balance { IsBalancedBelow large tree → IfOk result (λ t. IsBalancedBelow large t) }
     ensures nodes { IfOk result (λ t. nodes t ≤ nodes tree + length points.now) }
 {
     let items = live_items(alloc, first, points)?;

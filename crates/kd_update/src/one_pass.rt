@@ -3,7 +3,7 @@
 //! bounds of a tree allow it.
 ghost use Rattle.std.specs.Prelude.{◌+◌, ◌<◌, max, length, IfOk};
 ghost use Rattle.kd_tree.specs.Shape.{nodes};
-ghost use Rattle.kd_update.specs.Update.{IsEven};
+ghost use Rattle.kd_update.specs.Update.{IsBalancedBelow};
 ghost use Rattle.kd_update.specs.Scan.{IsGrown, IsPiece};
 
 use crate::insert::put_below;
@@ -28,7 +28,7 @@ pub(crate) fn put_at_once<L: Ledger>(
 ) -> Result<Tree, NoMemory>
     requires { IsPiece large tree items.old }
     ensures grown { IfOk result (λ t. IsGrown tree items.old t) }
-    ensures balance { IfOk result (λ t. IsEven large tree → IsEven large t) }
+    ensures balance { IfOk result (λ t. IsBalancedBelow large tree → IsBalancedBelow large t) }
 {
     let size = tree.size();
     let Some((first, rest)) = items.split_first() else {
@@ -70,7 +70,7 @@ fn built_with<L: Ledger>(
     // No large subtree is built.
     requires small { nodes tree + length items.now < max 2 large }
     ensures grown { IfOk result (λ t. IsGrown tree items.now t) }
-    ensures balance { IfOk result (λ t. IsEven large t) }
+    ensures balance { IfOk result (λ t. IsBalancedBelow large t) }
 {
     tree.built_anew(alloc, items, scratch, steps)
 }

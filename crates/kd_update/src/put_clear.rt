@@ -5,7 +5,7 @@ ghost use Rattle.map_fold.specs.Contents.{live_at};
 ghost use Rattle.kd_tree.specs.Shape.{levels, nodes};
 ghost use Rattle.kd_tree.specs.Walk.{times};
 ghost use Rattle.kd_update.specs.Made.{entered_put};
-ghost use Rattle.kd_update.specs.Put.{IsRouteCalm, put_from};
+ghost use Rattle.kd_update.specs.Put.{RebuildsNoneOnRoute, put_from};
 ghost use Rattle.kd_update.specs.Several.{AreLargeAt, IsUpdatedClear};
 ghost use Rattle.kd_update.specs.Ways.{paths_of};
 
@@ -34,8 +34,8 @@ pub(crate) fn put_clear<L: Ledger>(
     requires new { times item.number keep_tag tree ≡ 0 }
     requires there { AreLargeAt large (paths_of ways.now) tree }
     ensures updated { let plain = put_from item.number item.point axis tree in
-        IfOk result (λ t. IsUpdatedClear large (paths_of ways.now) tree plain (IsRouteCalm large item.point plain) t) }
-    ensures ticks { IsRouteCalm large item.point (put_from item.number item.point axis tree)
+        IfOk result (λ t. IsUpdatedClear large (paths_of ways.now) tree plain (RebuildsNoneOnRoute large item.point plain) t) }
+    ensures ticks { RebuildsNoneOnRoute large item.point (put_from item.number item.point axis tree)
         → steps.new ≤ steps.old + (3 * entered_put item.point tree + 1) }
 {
     let _size = tree.size();

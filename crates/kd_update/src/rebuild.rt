@@ -4,9 +4,9 @@ ghost use Rattle.node_labels.specs.Labels.{keep_tag};
 ghost use Rattle.kd_tree.specs.Shape.{levels, nodes, numbers};
 ghost use Rattle.kd_tree.specs.Sound.{IsSoundFork};
 ghost use Rattle.kd_tree.specs.Contents.{contents};
-ghost use Rattle.kd_tree.specs.Criteria.{IsCalm};
+ghost use Rattle.kd_tree.specs.Criteria.{AllMeetCriteria};
 ghost use Rattle.kd_tree.specs.Parts.{fork_of, joined};
-ghost use Rattle.kd_update.specs.Refresh.{AreAmong, IsRefresh, IsSpared, RefreshesIfDue};
+ghost use Rattle.kd_update.specs.Refresh.{AreAmong, IsRefresh, IsNotDue, RefreshesIfDue};
 
 use kd_tree::{OpenNode, Scratch, Steps, Tree};
 use map_fold::NoMemory;
@@ -26,7 +26,7 @@ pub fn rebuilt<L: Ledger>(alloc: Global, tree: Tree, steps: &mut Steps<L>) -> Re
     ensures contents { IfOk result (λ t. contents t ≡ contents tree) }
     ensures numbers { IfOk result (λ t. AreAmong (numbers t) (numbers tree)) }
     ensures refresh { IfOk result (λ t. IsRefresh tree t) }
-    ensures calm { IfOk result (λ t. IsCalm 10 t) }
+    ensures calm { IfOk result (λ t. AllMeetCriteria 10 t) }
     ensures nodes { IfOk result (λ t. nodes t ≡ length (contents tree)) }
     ensures levels { IfOk result (λ t. levels t ≤ 23) }
     // A node for each item, whatever the call answers.
@@ -47,7 +47,7 @@ pub(crate) fn rejoined<L: Ledger>(
     requires { IsSoundFork (record { item = node.item; axis = node.axis; pending = keep_tag })
         node.left node.right }
     ensures due { IfOk result (λ t. RefreshesIfDue large (joined (fork_of node)) t) }
-    ensures ticks { IsSpared large (joined (fork_of node)) → steps.new ≤ steps.old + 1 }
+    ensures ticks { IsNotDue large (joined (fork_of node)) → steps.new ≤ steps.old + 1 }
 {
     let tree = joined(alloc, node, steps)?;
     refreshed(alloc, tree, large, steps)
@@ -77,7 +77,7 @@ pub(crate) fn refreshed<L: Ledger>(
     steps: &mut Steps<L>,
 ) -> Result<Tree, NoMemory>
     ensures due { IfOk result (λ t. RefreshesIfDue large tree t) }
-    ensures still { IsSpared large tree → steps.new ≡ steps.old }
+    ensures still { IsNotDue large tree → steps.new ≡ steps.old }
 {
     let size = tree.size();
     if size < LEAST || large <= size || !tree.is_breached() {

@@ -2,13 +2,13 @@
 ghost use Rattle.std.specs.Prelude.{◌≡◌, ◌+◌, ◌≤◌, ◌∷◌, ◌++◌, ◌↔◌, [], true, false, length, None, Some, IfOk, IfSome, IsNone};
 ghost use Rattle.kd_tree.specs.Shape.{levels, nodes, numbers};
 ghost use Rattle.kd_tree.specs.Contents.{contents};
-ghost use Rattle.kd_tree.specs.Criteria.{IsCalm};
+ghost use Rattle.kd_tree.specs.Criteria.{AllMeetCriteria};
 ghost use Rattle.kd_tree.specs.Parts.{at, replaced_at};
 ghost use Rattle.kd_tree.specs.Apart.{IsClear};
 ghost use Rattle.kd_update.specs.Refresh.{AreAmong};
-ghost use Rattle.kd_update.specs.Update.{IsEven};
-ghost use Rattle.kd_update.specs.Several.{AreLargeAt, AreSameAt, IsEvenClear};
-ghost use Rattle.kd_update.specs.Replace.{HasRoomAt, IsCalmAbove, IsNoLarger, IsReplaced, StandsFor};
+ghost use Rattle.kd_update.specs.Update.{IsBalancedBelow};
+ghost use Rattle.kd_update.specs.Several.{AreLargeAt, AreSameAt, IsBalancedClear};
+ghost use Rattle.kd_update.specs.Replace.{HasRoomAt, RebuildsNoneAbove, IsNoLarger, IsReplaced, StandsFor};
 
 use crate::Replaced;
 use crate::rebuild::{rebuilt, refreshed};
@@ -39,19 +39,19 @@ pub fn replaced<L: Ledger>(
     ensures contents { IfOk result (λ r. contents r.tree ≡ contents tree) }
     ensures numbers { IfOk result (λ r. AreAmong (numbers r.tree) (numbers with ++ numbers tree)) }
     ensures size { IfOk result (λ r. IsNoLarger (replaced_at path.now with tree) r.tree) }
-    ensures balance { IsEvenClear large (path.now ∷ others.now) tree → IsEven large with
-        → IfOk result (λ r. IsEvenClear large others.now r.tree) }
+    ensures balance { IsBalancedClear large (path.now ∷ others.now) tree → IsBalancedBelow large with
+        → IfOk result (λ r. IsBalancedClear large others.now r.tree) }
     // Built anew exactly where the plain replacement has no room.
     ensures anew { IfOk result (λ r. (r.anew ≡ false) ↔ HasRoomAt path.now with tree) }
-    ensures calm { IfOk result (λ r. r.anew ≡ true → IsCalm 10 r.tree) }
+    ensures calm { IfOk result (λ r. r.anew ≡ true → AllMeetCriteria 10 r.tree) }
     ensures medians { IfOk result (λ r. r.anew ≡ true → nodes r.tree ≡ length (contents tree)) }
     // Otherwise the same subtrees stand at the other paths.
     ensures others { IfOk result (λ r. r.anew ≡ false → AreSameAt others.now r.tree tree) }
     ensures there { IfOk result (λ r. r.anew ≡ false → AreLargeAt large others.now r.tree) }
     // Where there is room, and no node above the path is to be built anew, none is.
-    ensures unrebuilt { HasRoomAt path.now with tree → IsCalmAbove large path.now (replaced_at path.now with tree)
+    ensures unrebuilt { HasRoomAt path.now with tree → RebuildsNoneAbove large path.now (replaced_at path.now with tree)
         → IfOk result (λ r. r.tree ≡ replaced_at path.now with tree) }
-    ensures ticks { HasRoomAt path.now with tree → IsCalmAbove large path.now (replaced_at path.now with tree)
+    ensures ticks { HasRoomAt path.now with tree → RebuildsNoneAbove large path.now (replaced_at path.now with tree)
         → steps.new ≤ steps.old + length path.now }
 {
     let _size = tree.size();
@@ -75,7 +75,7 @@ fn replaced_along<L: Ledger>(
     requires stands { StandsFor sides.now tree with }
     requires room { HasRoomAt sides.now with tree }
     ensures replaced { IfOk result (λ t. IsReplaced large sides.now tree with t) }
-    ensures ticks { IsCalmAbove large sides.now (replaced_at sides.now with tree) → steps.new ≤ steps.old + length sides.now }
+    ensures ticks { RebuildsNoneAbove large sides.now (replaced_at sides.now with tree) → steps.new ≤ steps.old + length sides.now }
 {
     let _size = tree.size();
     let Some((side, rest)) = sides.split_first() else {

@@ -4,7 +4,7 @@ ghost use Rattle.map_fold.specs.Ops.{Fit, numbers_put, perform, replay};
 ghost use Rattle.kd_tree.specs.Shape.{levels, nodes, numbers};
 ghost use Rattle.kd_tree.specs.Contents.{contents};
 ghost use Rattle.kd_update.specs.Refresh.{AreAmong};
-ghost use Rattle.kd_update.specs.Update.{IsEven};
+ghost use Rattle.kd_update.specs.Update.{IsBalancedBelow};
 ghost use Rattle.kd_update.specs.Replay.{IsPerformed, IsRun};
 
 use crate::runs::{most_at_once, put_run};
@@ -22,7 +22,7 @@ pub fn replayed(alloc: Global, tree: Tree, large: u32, ops: &[Op]) -> Result<Tre
     requires fit { Fit (contents tree) ops.now }
     ensures contents { IfOk result (λ t. contents t ≡ replay (contents tree) ops.now) }
     ensures numbers { IfOk result (λ t. AreAmong (numbers t) (numbers_put ops.now ++ numbers tree)) }
-    ensures balance { IsEven large tree → IfOk result (λ t. IsEven large t) }
+    ensures balance { IsBalancedBelow large tree → IfOk result (λ t. IsBalancedBelow large t) }
     // Each point that is put adds a level and a node at most.
     ensures low { IfOk result (λ t. levels t ≤ levels tree + length (numbers_put ops.now)) }
     ensures few { IfOk result (λ t. nodes t ≤ nodes tree + length (numbers_put ops.now)) }
@@ -90,7 +90,7 @@ fn performed<L: Ledger>(
     requires fit { Fit (contents tree) (op.now ∷ []) }
     ensures contents { IfOk result (λ t. contents t ≡ perform (contents tree) op.now) }
     ensures numbers { IfOk result (λ t. AreAmong (numbers t) (numbers_put (op.now ∷ []) ++ numbers tree)) }
-    ensures balance { IsEven large tree → IfOk result (λ t. IsEven large t) }
+    ensures balance { IsBalancedBelow large tree → IfOk result (λ t. IsBalancedBelow large t) }
     ensures low { IfOk result (λ t. levels t ≤ levels tree + length (numbers_put (op.now ∷ []))) }
     ensures few { IfOk result (λ t. nodes t ≤ nodes tree + length (numbers_put (op.now ∷ []))) }
 {

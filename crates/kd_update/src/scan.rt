@@ -3,7 +3,7 @@ ghost use Rattle.std.specs.Prelude.{◌≡◌, ℕ, ◌+◌, ◌<◌, ◌≤◌,
 ghost use Rattle.kd_tree.specs.Shape.{levels, nodes, numbers};
 ghost use Rattle.kd_tree.specs.Contents.{contents};
 ghost use Rattle.kd_update.specs.Refresh.{AreAmong};
-ghost use Rattle.kd_update.specs.Update.{IsEven};
+ghost use Rattle.kd_update.specs.Update.{IsBalancedBelow};
 ghost use Rattle.kd_update.specs.Scan.{IsPut, MayJoin, numbers_in, put_each};
 
 use crate::insert::put_below;
@@ -42,7 +42,7 @@ pub fn put_all<L: Ledger>(
     requires fit { MayJoin (contents tree) items.now }
     ensures contents { IfOk result (λ t. contents t ≡ put_each (contents tree) items.now) }
     ensures numbers { IfOk result (λ t. AreAmong (numbers t) (numbers_in items.now ++ numbers tree)) }
-    ensures balance { IsEven large tree → IfOk result (λ t. IsEven large t) }
+    ensures balance { IsBalancedBelow large tree → IfOk result (λ t. IsBalancedBelow large t) }
     ensures nodes { IfOk result (λ t. nodes t ≤ nodes tree + length items.now) }
 {
     put_in_pieces(alloc, tree, large, items, scratch, steps)

@@ -6,7 +6,7 @@ ghost use Rattle.kd_tree.specs.Contents.{contents};
 ghost use Rattle.kd_tree.specs.Apart.{AreAllApart};
 ghost use Rattle.kd_update.specs.Refresh.{AreAmong};
 ghost use Rattle.kd_update.specs.Scan.{MayJoin, numbers_in, put_each};
-ghost use Rattle.kd_update.specs.Several.{AreLargeAt, AreWatched, IsEvenClear};
+ghost use Rattle.kd_update.specs.Several.{AreLargeAt, AreWatched, IsBalancedClear};
 ghost use Rattle.kd_update.specs.Watch.{IsWatched};
 ghost use Rattle.kd_update.specs.Watches.{AreExtended, paths_in};
 ghost use Rattle.kd_update.specs.Crossing.{AreMore, HaveRoomAtOnce, logged_scan, with_scan};
@@ -48,8 +48,8 @@ pub fn put_all_watched<L: Ledger>(
     ensures nodes { IfOk result (λ t. nodes t ≤ nodes tree + length items.now) }
     ensures levels { IfOk result (λ t. levels t ≤ levels tree + 22) }
     // Outside the watched subtrees.
-    ensures balance { IsEvenClear large (paths_in watches.old) tree
-        → IfOk result (λ t. IsEvenClear large (paths_in watches.old) t) }
+    ensures balance { IsBalancedClear large (paths_in watches.old) tree
+        → IfOk result (λ t. IsBalancedClear large (paths_in watches.old) t) }
     ensures there { IfOk result (λ t. AreLargeAt large (paths_in watches.old) t) }
     // Whatever the call answers.
     ensures begins { AreExtended watches.old watches.new }

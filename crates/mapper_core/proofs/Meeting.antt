@@ -6,7 +6,7 @@ use Rattle.std.proofs.lemmas.List.{take-map}
 use mathlib.Core.List.{IsPrefix}
 use Rattle.map_fold.specs.declared.entry.Entry.{Entry}
 use Rattle.rebuild_core.specs.History.{updates}
-use Rattle.published_map.specs.Marks.{Seen, keep_if, times, IsDistinct, AllOf, callers_of, AllMet, AllGrown, AllMetNow, newcomer_of}
+use Rattle.published_map.specs.Marks.{Seen, keep_if, times, IsDistinct, AllOf, callers_of, AllMet, AllGrown, AllMetNow, seen_by_new}
 use Rattle.scan_log.specs.declared.command.Command.{Command}
 use Rattle.scan_log.specs.declared.command.Command.TheVariants.{Change, Near, Nears, Inside, Ball, Lonely, Clusters, Pose, Sync}
 use Rattle.scan_log.specs.declared.reply.Reply.{Reply}
@@ -269,28 +269,28 @@ standing_sync voxel cs ps rs r s t =
       told = told_append voxel h (λ x. 0) cs rs s.lasts (Sync ∷ []) (r ∷ []) (λ x. n) s.told same;
     }
 
-start_order : (n : ℕ) (ps : List Seen) → ((k : ℕ) → k < length ps → slice_get ps k ≡ Some (newcomer_of (k + n))) → callers_of ps ≡ counted n (length ps)
+start_order : (n : ℕ) (ps : List Seen) → ((k : ℕ) → k < length ps → slice_get ps k ≡ Some (seen_by_new (k + n))) → callers_of ps ≡ counted n (length ps)
 start_order n [] all = refl
 start_order n (p ∷ ps) all =
-    let first : p ≡ newcomer_of (0 + n) = (let e = all 0 (omega arith) in cc (e)) in
+    let first : p ≡ seen_by_new (0 + n) = (let e = all 0 (omega arith) in cc (e)) in
     let caller : p.caller ≡ n = ap (λ z. z.caller) first ∙ omega arith in
-    let rest = start_order (n + 1) ps (λ k lt. all (suc k) (omega arith) ∙ ap (λ z. Some (newcomer_of z)) (omega arith)) in
+    let rest = start_order (n + 1) ps (λ k lt. all (suc k) (omega arith) ∙ ap (λ z. Some (seen_by_new z)) (omega arith)) in
     cc (caller, rest)
 
-start_met : (n : ℕ) (ps : List Seen) → ((k : ℕ) → k < length ps → slice_get ps k ≡ Some (newcomer_of (k + n))) → AllMet [] ps
+start_met : (n : ℕ) (ps : List Seen) → ((k : ℕ) → k < length ps → slice_get ps k ≡ Some (seen_by_new (k + n))) → AllMet [] ps
 start_met n [] all = tt
 start_met n (p ∷ ps) all =
-    let first : p ≡ newcomer_of (0 + n) = (let e = all 0 (omega arith) in cc (e)) in
-    (ap (λ z. z.seen) first, ap (λ z. z.mine) first, start_met (n + 1) ps (λ k lt. all (suc k) (omega arith) ∙ ap (λ z. Some (newcomer_of z)) (omega arith)))
+    let first : p ≡ seen_by_new (0 + n) = (let e = all 0 (omega arith) in cc (e)) in
+    (ap (λ z. z.seen) first, ap (λ z. z.mine) first, start_met (n + 1) ps (λ k lt. all (suc k) (omega arith) ∙ ap (λ z. Some (seen_by_new z)) (omega arith)))
 
-start_done : (n : ℕ) (ps : List Seen) → ((k : ℕ) → k < length ps → slice_get ps k ≡ Some (newcomer_of (k + n))) → AllDone [] ps
+start_done : (n : ℕ) (ps : List Seen) → ((k : ℕ) → k < length ps → slice_get ps k ≡ Some (seen_by_new (k + n))) → AllDone [] ps
 start_done n [] all = tt
 start_done n (p ∷ ps) all =
-    let first : p ≡ newcomer_of (0 + n) = (let e = all 0 (omega arith) in cc (e)) in
-    (ap (λ z. z.mine) first, start_done (n + 1) ps (λ k lt. all (suc k) (omega arith) ∙ ap (λ z. Some (newcomer_of z)) (omega arith)))
+    let first : p ≡ seen_by_new (0 + n) = (let e = all 0 (omega arith) in cc (e)) in
+    (ap (λ z. z.mine) first, start_done (n + 1) ps (λ k lt. all (suc k) (omega arith) ∙ ap (λ z. Some (seen_by_new z)) (omega arith)))
 
 -- newcomers have met
-pub standing_start : (voxel : ℕ) (ps : List Seen) → ((k : ℕ) → k < length ps → slice_get ps k ≡ Some (newcomer_of (k + 1))) → Standing voxel [] ps []
+pub standing_start : (voxel : ℕ) (ps : List Seen) → ((k : ℕ) → k < length ps → slice_get ps k ≡ Some (seen_by_new (k + 1))) → Standing voxel [] ps []
 standing_start voxel ps all =
     record {
       history = [];

@@ -4,7 +4,7 @@ use Rattle.std.specs.List.{AllByRecursion}
 use Rattle.map_fold.specs.declared.entry.Entry.{Entry}
 use Rattle.map_fold.specs.declared.memory.NoMemory.{NoMemory}
 use Rattle.rebuild_core.specs.History.{updates}
-use Rattle.published_map.specs.Marks.{Seen, AllMet, AllOf, callers_of, newcomer_of}
+use Rattle.published_map.specs.Marks.{Seen, AllMet, AllOf, callers_of, seen_by_new}
 use Rattle.scan_log.specs.declared.command.Command.{Command}
 use Rattle.scan_log.specs.declared.command.Command.TheVariants.{Change, Near, Nears, Inside, Ball, Lonely, Clusters, Pose, Sync}
 use Rattle.scan_log.specs.declared.reply.Reply.{Reply}
@@ -120,7 +120,7 @@ AllDone cs (p ∷ ps) = (p.mine ≡ updates_by p.caller cs) × AllDone cs ps
 
 -- so many passes that have seen nothing, of the callers from 1 on
 abbrev pub AreNewcomers : ℕ → List Seen → Type 0
-AreNewcomers n ps = (length ps ≡ n) × ((k : ℕ) → k < length ps → slice_get ps k ≡ Some (newcomer_of (k + 1)))
+AreNewcomers n ps = (length ps ≡ n) × ((k : ℕ) → k < length ps → slice_get ps k ≡ Some (seen_by_new (k + 1)))
 
 -- all callers have met after these commands, with these replies
 pub record Standing (voxel : ℕ) (cs : List Command) (ps : List Seen) (rs : List Reply) : Type 0 where

@@ -36,8 +36,8 @@ Added p q u n =
     × (q.mine ≡ p.mine ++ u ∷ []) × (n ≡ length q.seen)
 
 -- a pass that has seen nothing
-abbrev pub newcomer_of : ℕ → Seen
-newcomer_of c = record { caller = c; seen = []; mine = [] }
+abbrev pub seen_by_new : ℕ → Seen
+seen_by_new c = record { caller = c; seen = []; mine = [] }
 
 abbrev pub keep_if : Bool → Update → List Update → List Update
 keep_if true u us = u ∷ us

@@ -2,7 +2,7 @@
 ghost use Rattle.std.specs.Prelude.{◌≡◌, ◌≤◌, [], length, IfOk, IsOk};
 ghost use Rattle.std.specs.Option.{ForSome};
 ghost use Rattle.published_map.specs.Answers.{box_reply, near_reply};
-ghost use Rattle.published_map.specs.Marks.{Grown, IsMade, newcomer_of};
+ghost use Rattle.published_map.specs.Marks.{Grown, IsMade, seen_by_new};
 ghost use Rattle.published_map.specs.Versions.{IsVersionOf};
 
 use crate::kinds::{MapReader, look};
@@ -55,7 +55,7 @@ impl<L: MapName> Pass<L> {
         requires empty { kept ≡ [] }
         requires part { share.parts ≡ 1 }
         requires amount { share.amount ≡ 0 }
-        ensures { result ≡ newcomer_of caller }
+        ensures { result ≡ seen_by_new caller }
     {
         Pass {
             caller,

@@ -3,7 +3,7 @@ ghost use Rattle.std.specs.Prelude.{◌≡◌, ◌+◌, ◌<◌, ℕ, length, sl
 ghost use Rattle.rebuild_core.specs.Lawful.{IsLawful};
 ghost use Rattle.published_map.specs.Answers.{Updated};
 ghost use Rattle.published_map.specs.Ends.{ended_of};
-ghost use Rattle.published_map.specs.Marks.{newcomer_of, callers_of, IsDistinct, AllMetNow, AllEnded};
+ghost use Rattle.published_map.specs.Marks.{seen_by_new, callers_of, IsDistinct, AllMetNow, AllEnded};
 
 use crate::ended::{Ended, ended_all};
 use crate::locked::Locked;
@@ -42,7 +42,7 @@ impl<L: MapName> Shared<L> {
         requires marks { opened.marks ≡ L.marks }
         requires voxel { opened.voxel ≡ L.voxel }
         ensures passes { IfOk result (λ r. length r.1.items ≡ L.callers) }
-        ensures new { IfOk result (λ r. (k : ℕ) → k < L.callers → slice_get r.1.items k ≡ Some (newcomer_of (k + 1))) }
+        ensures new { IfOk result (λ r. (k : ℕ) → k < L.callers → slice_get r.1.items k ≡ Some (seen_by_new (k + 1))) }
     {
         let Opened {
             state,

@@ -1,7 +1,7 @@
 //! How sharing begins.
 ghost use Rattle.std.specs.Prelude.{◌≡◌, ◌+◌, ◌<◌, ◌≤◌, ℕ, [], length, slice_get, Some, IfOk};
 ghost use Rattle.left_right.specs.Sides.{view};
-ghost use Rattle.published_map.specs.Marks.{newcomer_of};
+ghost use Rattle.published_map.specs.Marks.{seen_by_new};
 
 use crate::kinds::{MapWriter, make_pair, place_reader};
 use crate::mark::{Mark, MarkList};
@@ -51,7 +51,7 @@ fn made_pass<L: MapName>(
     requires empty { writer.now.desk.shown.value ≡ [] }
     requires part { share.parts ≡ 1 }
     requires amount { share.amount ≡ 0 }
-    ensures { IfOk result (λ p. p ≡ newcomer_of caller) }
+    ensures { IfOk result (λ p. p ≡ seen_by_new caller) }
 {
     let reader = place_reader(writer)?;
     let kept = writer.published().again()?;
@@ -70,7 +70,7 @@ pub fn made_passes<L: MapName>(
     requires parts { share.parts ≡ callers }
     requires amount { share.amount ≡ 0 }
     ensures all { IfOk result (λ v. length v.items ≡ callers) }
-    ensures new { IfOk result (λ v. (k : ℕ) → k < callers → slice_get v.items k ≡ Some (newcomer_of (k + 1))) }
+    ensures new { IfOk result (λ v. (k : ℕ) → k < callers → slice_get v.items k ≡ Some (seen_by_new (k + 1))) }
 {
     let mut share = share;
     let mut passes = Vec::new(alloc);

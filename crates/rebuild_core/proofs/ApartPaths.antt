@@ -5,7 +5,7 @@ use Rattle.kd_tree.specs.Shape.{Shape, leaf, fork}
 use Rattle.kd_tree.specs.Apart.{AreAllApart, AreApart, IsClear, is_here, onward}
 use Rattle.kd_tree.specs.declared.path.Side.{Side}
 use Rattle.kd_tree.specs.declared.path.Side.TheVariants.{Left, Right}
-use Rattle.kd_update.specs.Several.{IsEvenClear}
+use Rattle.kd_update.specs.Several.{IsBalancedClear}
 use Rattle.rebuild_core.specs.Parts.{PartAt, paths}
 
 pub apart_sym : (p q : List Side) → AreApart p q → AreApart q p
@@ -82,7 +82,7 @@ none_here ps qs f e = by (is_here ps) refl
     by false h = h
 
 -- what is even outside some paths is so outside more
-pub even_more : (large : ℕ) (ps qs : List (List Side)) (t : Shape) → AreOnesOf ps qs → IsEvenClear large ps t → IsEvenClear large qs t
+pub even_more : (large : ℕ) (ps qs : List (List Side)) (t : Shape) → AreOnesOf ps qs → IsBalancedClear large ps t → IsBalancedClear large qs t
 even_more large ps qs leaf f k = tt
 even_more large ps qs (fork h l r) f k = λ e.
     let all = k (none_here ps qs f e) in (

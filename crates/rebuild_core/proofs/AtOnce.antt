@@ -2,8 +2,8 @@
 use Rattle.std.proofs.Common.{◌≡◌, ℕ, ◌<◌, List, [], ◌∷◌, refl, sym, subst, ◌∙◌}
 use Rattle.std.specs.Prelude.{All}
 use Rattle.kd_tree.specs.Shape.{numbers}
-use Rattle.kd_update.specs.Several.{IsEvenClear}
-use Rattle.kd_update.specs.Update.{IsEven}
+use Rattle.kd_update.specs.Several.{IsBalancedClear}
+use Rattle.kd_update.specs.Update.{IsBalancedBelow}
 use Rattle.kd_update.proofs.Several.{clear_even, even_clear}
 use Rattle.rebuild_core.specs.Draft.{IsDraft, IsDraftLeft, watches_of}
 use Rattle.rebuild_core.specs.declared.work.Work.{Work}
@@ -15,13 +15,13 @@ none_watched [] e = refl
 none_watched (p ∷ ps) e = absurd (cc)
 
 -- where nothing is watched the whole tree is even
-pub free_even : (large next last : ℕ) (ps : List PartAt) (w : Work) → w.watches ≡ [] → IsDraft large next last ps w → IsEven large w.tree
+pub free_even : (large next last : ℕ) (ps : List PartAt) (w : Work) → w.watches ≡ [] → IsDraft large next last ps w → IsBalancedBelow large w.tree
 free_even large next last ps w free d =
     let none = none_watched ps (sym free ∙ d.watched) in
-    clear_even large w.tree (subst (λ (qs : List PartAt). IsEvenClear large (paths qs) w.tree) none d.even)
+    clear_even large w.tree (subst (λ (qs : List PartAt). IsBalancedClear large (paths qs) w.tree) none d.even)
 
 -- and an even tree with numbers below the next is a draft
-pub free_draft : (large next last : ℕ) (ps : List PartAt) (w : Work) → w.watches ≡ [] → All (λ n. n < next) (numbers w.tree) → IsEven large w.tree → IsDraftLeft large next last ps w
+pub free_draft : (large next last : ℕ) (ps : List PartAt) (w : Work) → w.watches ≡ [] → All (λ n. n < next) (numbers w.tree) → IsBalancedBelow large w.tree → IsDraftLeft large next last ps w
 free_draft large next last ps w free below even = (
   [],
   left_none ps,

@@ -1,9 +1,9 @@
 -- Trees in balance.
 use Rattle.std.proofs.Common.{ℕ, ◌<◌, arith}
 use Rattle.kd_tree.specs.Shape.{Shape, leaf, fork, nodes}
-use Rattle.kd_update.specs.Update.{IsEven}
+use Rattle.kd_update.specs.Update.{IsBalancedBelow}
 
 -- a tree of few nodes
-pub small_even : (large : ℕ) (t : Shape) → nodes t < 10 → IsEven large t
+pub small_even : (large : ℕ) (t : Shape) → nodes t < 10 → IsBalancedBelow large t
 small_even large leaf few = tt
 small_even large (fork h l r) few = ((λ many _. absurd (omega (arith, few, many))), small_even large l (omega (arith, few)), small_even large r (omega (arith, few)))

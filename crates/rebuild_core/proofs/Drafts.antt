@@ -10,7 +10,7 @@ use Rattle.map_fold.specs.declared.op.Op.TheVariants.{Mark, Put}
 use Rattle.map_fold.specs.declared.update.Update.TheVariants.{Add}
 use Rattle.kd_tree.specs.Shape.{Shape}
 use Rattle.kd_update.specs.Refresh.{AreAmong}
-use Rattle.rebuild_core.specs.Single.{IsQuiet, entered_nodes, only_mark, only_op}
+use Rattle.rebuild_core.specs.Single.{RebuildsNothing, entered_nodes, only_mark, only_op}
 
 all_among : (P : ℕ → Type 0) (ns ms : List ℕ) → AreAmong ns ms → All P ms → All P ns
 all_among P ns ms f k = All-weaker (λ n. Contains ns n) P (λ n c. All-contains P ms n k (f n c)) ns (All-contains_itself ns)
@@ -48,8 +48,8 @@ pub first_box : (a : Tag) (i : ℕ) (cs : List Bounds) (c : Bounds) (op : Op) �
 first_box a i cs c op cut none only = only_marked a cs (drop (i + 1) cs) c op (sym (ap (λ k. drop k cs) none) ∙ cut) only
 
 -- what is promised of an operation that builds nothing anew, said of equal values
-pub quiet_ticks : (large : ℕ) (o op : Op) (t s : Shape) (m n new : ℕ) → o ≡ op → t ≡ s → m ≡ n → (IsQuiet large o t → new ≤ m + (5 * entered_nodes o t + 1)) → IsQuiet large op s → new ≤ n + (5 * entered_nodes op s + 1)
+pub quiet_ticks : (large : ℕ) (o op : Op) (t s : Shape) (m n new : ℕ) → o ≡ op → t ≡ s → m ≡ n → (RebuildsNothing large o t → new ≤ m + (5 * entered_nodes o t + 1)) → RebuildsNothing large op s → new ≤ n + (5 * entered_nodes op s + 1)
 quiet_ticks large o op t s m n new e f same k =
-    let first : IsQuiet large op t → new ≤ m + (5 * entered_nodes op t + 1) = subst (λ (x : Op). IsQuiet large x t → new ≤ m + (5 * entered_nodes x t + 1)) e k in
-    let second : IsQuiet large op s → new ≤ m + (5 * entered_nodes op s + 1) = subst (λ (x : Shape). IsQuiet large op x → new ≤ m + (5 * entered_nodes op x + 1)) f first in
+    let first : RebuildsNothing large op t → new ≤ m + (5 * entered_nodes op t + 1) = subst (λ (x : Op). RebuildsNothing large x t → new ≤ m + (5 * entered_nodes x t + 1)) e k in
+    let second : RebuildsNothing large op s → new ≤ m + (5 * entered_nodes op s + 1) = subst (λ (x : Shape). RebuildsNothing large op x → new ≤ m + (5 * entered_nodes op x + 1)) f first in
     λ quiet. let h = second quiet in omega (arith, h, same)

@@ -13,7 +13,7 @@ use Rattle.kd_update.specs.declared.watch.Watch.{Watch}
 use Rattle.kd_update.specs.Crossing.{AreMore, HaveRoomAtOnce, logged_scan, with_scan}
 use Rattle.kd_update.specs.Refresh.{AreAmong}
 use Rattle.kd_update.specs.Scan.{live_from, numbers_in}
-use Rattle.kd_update.specs.Several.{AreWatched, IsEvenClear}
+use Rattle.kd_update.specs.Several.{AreWatched, IsBalancedClear}
 use Rattle.kd_update.specs.Watch.{IsWatched}
 use Rattle.kd_update.specs.Watches.{AreExtended, paths_in}
 use Rattle.kd_update.proofs.Crossing.{logged_scan_few, scan_puts}
@@ -49,7 +49,7 @@ live_from_under high next (p ∷ ps) le =
 
 pub draft_scan : (large next last : ℕ) (is : List Item) (w : Work) (u : Shape) (vs : List Watch) (ps : List PartAt) → All (λ i. i.number < next) is → IsDraft large next last ps w
     → HaveRoomAtOnce (length is) w.watches → vs ≡ with_scan is w.tree w.watches
-    → AreAmong (numbers u) (numbers_in is ++ numbers w.tree) → (IsEvenClear large (paths_in w.watches) w.tree → IsEvenClear large (paths_in w.watches) u)
+    → AreAmong (numbers u) (numbers_in is ++ numbers w.tree) → (IsBalancedClear large (paths_in w.watches) w.tree → IsBalancedClear large (paths_in w.watches) u)
     → AreWatched (λ q. IsWatched q w.tree u (logged_scan q is w.tree)) (paths_in w.watches) → IsDraftLeft large next last ps (record { tree = u; watches = vs })
 draft_scan large next last is w u vs ps less d room same among even watched =
     let below : All (λ n. n < next) (numbers_in is ++ numbers w.tree) = All-append (λ n. n < next) (numbers_in is) (numbers w.tree) (All-map (λ n. n < next) (λ (i : Item). i.number) is less) d.below in

@@ -7,10 +7,10 @@ use Rattle.map_fold.specs.declared.update.Update.{Update}
 use Rattle.kd_tree.specs.Shape.{Shape, numbers}
 use Rattle.kd_tree.specs.Sound.{IsSound}
 use Rattle.kd_tree.specs.Contents.{contents}
-use Rattle.kd_tree.specs.Criteria.{IsCalm}
+use Rattle.kd_tree.specs.Criteria.{AllMeetCriteria}
 use Rattle.kd_update.specs.declared.watch.Watch.{Watch}
 use Rattle.kd_update.specs.Refresh.{AreAmong}
-use Rattle.kd_update.specs.Several.{IsEvenClear}
+use Rattle.kd_update.specs.Several.{IsBalancedClear}
 use Rattle.kd_update.specs.Watches.{HaveRoom}
 use Rattle.kd_update.proofs.Several.{even_clear}
 use Rattle.kd_update.proofs.Update.{calm_even}
@@ -20,9 +20,9 @@ use Rattle.rebuild_core.specs.History.{entry_by}
 use Rattle.rebuild_core.specs.Lawful.{IsLawful, StateAt, VersionAt}
 use Rattle.rebuild_core.specs.Logs.{LogPlan, planned_parts}
 use Rattle.rebuild_core.specs.Parts.{AreInSlots, AreLawfulParts, PartAt, paths}
-use Rattle.rebuild_core.specs.Single.{IsQuiet, entered_nodes, only_op, unrebuilt}
+use Rattle.rebuild_core.specs.Single.{RebuildsNothing, entered_nodes, only_op, unrebuilt}
 use Rattle.rebuild_core.specs.StateView.{IsNextOf}
-use Rattle.rebuild_core.specs.Steps.{IsDrafted, IsQuietUpdate, IsSettlePlan, IsUpdatePlan, PlannedAt, entered}
+use Rattle.rebuild_core.specs.Steps.{IsDrafted, IsUnrebuiltUpdate, IsSettlePlan, IsUpdatePlan, PlannedAt, entered}
 use Rattle.rebuild_core.specs.declared.plan.Drafted.{Drafted}
 use Rattle.rebuild_core.proofs.Detached.{left_lawful, left_none}
 use Rattle.rebuild_core.proofs.Drafts.{among_below}
@@ -38,19 +38,19 @@ pub parts_few : (s : StateAt) → IsLawful s → length s.parts ≤ 4
 parts_few s k = omega (arith, slots_few 1 s.parts (omega arith) k.parts.slots)
 
 -- what the work on a copy promises of one operation, the plan promises of the state
-pub plan_shape : (u : Update) (op : Op) (s z : StateAt) (t new : Shape) (ws : List Watch) → s ≡ z → t ≡ s.tree → ws ≡ watches_of s.parts → (only_op s.next u ≡ Some op → HaveRoom ws → IsQuiet s.settings.large op t → new ≡ unrebuilt op t)
-    → IsQuietUpdate u op z → new ≡ unrebuilt op z.tree
+pub plan_shape : (u : Update) (op : Op) (s z : StateAt) (t new : Shape) (ws : List Watch) → s ≡ z → t ≡ s.tree → ws ≡ watches_of s.parts → (only_op s.next u ≡ Some op → HaveRoom ws → RebuildsNothing s.settings.large op t → new ≡ unrebuilt op t)
+    → IsUnrebuiltUpdate u op z → new ≡ unrebuilt op z.tree
 plan_shape u op s z t new ws is same seen k =
-    let here : IsQuietUpdate u op s → new ≡ unrebuilt op s.tree =
-    λ q. subst (λ (x : Shape). IsQuiet s.settings.large op x → new ≡ unrebuilt op x) same (k q.only (subst HaveRoom (sym seen) (watched_room s.parts q.room))) q.quiet in
-    subst (λ (x : StateAt). IsQuietUpdate u op x → new ≡ unrebuilt op x.tree) is here
+    let here : IsUnrebuiltUpdate u op s → new ≡ unrebuilt op s.tree =
+    λ q. subst (λ (x : Shape). RebuildsNothing s.settings.large op x → new ≡ unrebuilt op x) same (k q.only (subst HaveRoom (sym seen) (watched_room s.parts q.room))) q.quiet in
+    subst (λ (x : StateAt). IsUnrebuiltUpdate u op x → new ≡ unrebuilt op x.tree) is here
 
 pub plan_ticks : (u : Update) (op : Op) (s z : StateAt) (t : Shape) (m n new : ℕ) (ws : List Watch) → s ≡ z → t ≡ s.tree → m ≡ n → ws ≡ watches_of s.parts
-    → (only_op s.next u ≡ Some op → HaveRoom ws → IsQuiet s.settings.large op t → new ≤ m + (5 * entered_nodes op t + 1)) → IsQuietUpdate u op z → new ≤ n + (5 * entered_nodes op z.tree + 1)
+    → (only_op s.next u ≡ Some op → HaveRoom ws → RebuildsNothing s.settings.large op t → new ≤ m + (5 * entered_nodes op t + 1)) → IsUnrebuiltUpdate u op z → new ≤ n + (5 * entered_nodes op z.tree + 1)
 plan_ticks u op s z t m n new ws is same start seen k =
-    let here : IsQuietUpdate u op s → new ≤ m + (5 * entered_nodes op s.tree + 1) =
-    λ q. subst (λ (x : Shape). IsQuiet s.settings.large op x → new ≤ m + (5 * entered_nodes op x + 1)) same (k q.only (subst HaveRoom (sym seen) (watched_room s.parts q.room))) q.quiet in
-    let there : IsQuietUpdate u op z → new ≤ m + (5 * entered_nodes op z.tree + 1) = subst (λ (x : StateAt). IsQuietUpdate u op x → new ≤ m + (5 * entered_nodes op x.tree + 1)) is here in
+    let here : IsUnrebuiltUpdate u op s → new ≤ m + (5 * entered_nodes op s.tree + 1) =
+    λ q. subst (λ (x : Shape). RebuildsNothing s.settings.large op x → new ≤ m + (5 * entered_nodes op x + 1)) same (k q.only (subst HaveRoom (sym seen) (watched_room s.parts q.room))) q.quiet in
+    let there : IsUnrebuiltUpdate u op z → new ≤ m + (5 * entered_nodes op z.tree + 1) = subst (λ (x : StateAt). IsUnrebuiltUpdate u op x → new ≤ m + (5 * entered_nodes op x.tree + 1)) is here in
     λ q. let h = there q in omega (arith, h, start)
 
 -- A draft that was worked out from a lawful state makes a lawful state.
@@ -100,7 +100,7 @@ next_of p q s z e f k =
 
 -- A lawful state stays lawful with another tree that holds the same, and with parts that are lawful in that.
 pub held_lawful : (s : StateAt) (t : Shape) (ps : List PartAt) → IsLawful s → IsSound t → contents t ≡ contents s.tree → All (λ n. n < s.next) (numbers t) → AreLawfulParts s.settings.large s.next s.last t ps
-    → IsEvenClear s.settings.large (paths ps) t → IsLawful (record s { tree = t; version = record { tree = t; next = s.next; len = length s.history }; history = s.history ++ []; parts = ps })
+    → IsBalancedClear s.settings.large (paths ps) t → IsLawful (record s { tree = t; version = record { tree = t; next = s.next; len = length s.history }; history = s.history ++ []; parts = ps })
 held_lawful s t ps k sound held below lawful even =
     let one : IsLawful (record s { tree = t; version = record { tree = t; next = s.next; len = length s.history }; parts = ps }) = record {
       sizes = k.sizes;
@@ -119,7 +119,7 @@ held_lawful s t ps k sound held below lawful even =
     subst (λ (h : List Entry). IsLawful (record s { tree = t; version = record { tree = t; next = s.next; len = length s.history }; history = h; parts = ps })) (sym (append-nil s.history)) one
 
 -- the plan of settling
-pub settles : (s z : StateAt) (t : Shape) (ver : VersionAt) (logs : List LogPlan) → IsLawful s → IsSound t → contents t ≡ contents s.tree → AreAmong (numbers t) (numbers s.tree) → IsCalm 10 t → planned_parts logs s.parts ≡ []
+pub settles : (s z : StateAt) (t : Shape) (ver : VersionAt) (logs : List LogPlan) → IsLawful s → IsSound t → contents t ≡ contents s.tree → AreAmong (numbers t) (numbers s.tree) → AllMeetCriteria 10 t → planned_parts logs s.parts ≡ []
     → ver ≡ record { tree = t; next = s.next; len = length s.history } → s ≡ z → IsSettlePlan z (record { tree = t; next = s.next; version = ver; entry = None; logs = logs })
 settles s z t ver logs k sound held from calm none shown is =
     let P : PlannedAt = record { tree = t; next = s.next; version = record { tree = t; next = s.next; len = length s.history }; entry = None; logs = logs } in

@@ -7,16 +7,16 @@ use Rattle.map_fold.specs.declared.op.Op.TheVariants.{Mark, Put}
 use Rattle.map_fold.specs.declared.update.Update.{Update}
 use Rattle.kd_tree.specs.Shape.{Shape, levels, nodes, numbers}
 use Rattle.kd_update.specs.declared.watch.Watch.{Watch}
-use Rattle.kd_update.specs.Several.{IsEvenClear}
+use Rattle.kd_update.specs.Several.{IsBalancedClear}
 use Rattle.kd_update.specs.Watch.{logged_mark, logged_put}
 use Rattle.kd_update.specs.Watches.{HaveRoom, paths_in}
 use Rattle.rebuild_core.specs.Draft.{HasRoomFor, HaveRoomFor, IsDraft, IsDraftLeft, plain_work, watches_of, with_op}
 use Rattle.rebuild_core.specs.Lawful.{IsLawful, StateAt}
 use Rattle.rebuild_core.specs.Logs.{LogPlan, planned_parts}
 use Rattle.rebuild_core.specs.Parts.{AreLawfulParts, AreLeft, PartAt, paths}
-use Rattle.rebuild_core.specs.Single.{IsQuiet, only_op}
+use Rattle.rebuild_core.specs.Single.{RebuildsNothing, only_op}
 use Rattle.rebuild_core.specs.Stays.{HasRoomBeside, HaveLogRoomFor, logged_by, most_ops}
-use Rattle.rebuild_core.specs.Steps.{IsQuietUpdate}
+use Rattle.rebuild_core.specs.Steps.{IsUnrebuiltUpdate}
 use Rattle.rebuild_core.specs.declared.work.Work.{Work}
 use Rattle.rebuild_core.proofs.Detached.{left_logged}
 use Rattle.rebuild_core.proofs.Working.{marks-watched, paths-watched, puts-watched, watched_room}
@@ -35,23 +35,23 @@ watched_room_for n (p ∷ ps) k = (k.0, watched_room_for n ps k.1)
 
 -- what the work on a copy logs of one operation, the plan says of the parts
 pub plan_logged : (u : Update) (op : Op) (s z : StateAt) (t : Shape) (ws : List Watch) (new : Work) (logs : List LogPlan) → s ≡ z → t ≡ s.tree → ws ≡ watches_of s.parts
-    → (only_op s.next u ≡ Some op → HaveRoom ws → IsQuiet s.settings.large op t → new ≡ plain_work op (record { tree = t; watches = ws }))
-    → ((qs : List PartAt) → AreLeft s.parts qs → new.watches ≡ watches_of qs → planned_parts logs s.parts ≡ qs) → IsQuietUpdate u op z → planned_parts logs z.parts ≡ logged_by op z.tree z.parts
+    → (only_op s.next u ≡ Some op → HaveRoom ws → RebuildsNothing s.settings.large op t → new ≡ plain_work op (record { tree = t; watches = ws }))
+    → ((qs : List PartAt) → AreLeft s.parts qs → new.watches ≡ watches_of qs → planned_parts logs s.parts ≡ qs) → IsUnrebuiltUpdate u op z → planned_parts logs z.parts ≡ logged_by op z.tree z.parts
 plan_logged u op s z t ws new logs is same seen k plans =
-    let here : IsQuietUpdate u op s → planned_parts logs s.parts ≡ logged_by op s.tree s.parts = λ q.
-    let quiet : IsQuiet s.settings.large op t = subst (IsQuiet s.settings.large op) (sym same) q.quiet in
+    let here : IsUnrebuiltUpdate u op s → planned_parts logs s.parts ≡ logged_by op s.tree s.parts = λ q.
+    let quiet : RebuildsNothing s.settings.large op t = subst (RebuildsNothing s.settings.large op) (sym same) q.quiet in
     let done = k q.only (subst HaveRoom (sym seen) (watched_room s.parts q.room)) quiet in
     let watches : new.watches ≡ watches_of (logged_by op s.tree s.parts) =
     ap (λ (w : Work). w.watches) done ∙ ap (λ (x : Shape). with_op op x ws) same ∙ ap (λ (xs : List Watch). with_op op s.tree xs) seen ∙ watched_by op s.tree s.parts in
     plans (logged_by op s.tree s.parts) (left_by op s.tree s.parts) watches in
-    subst (λ (x : StateAt). IsQuietUpdate u op x → planned_parts logs x.parts ≡ logged_by op x.tree x.parts) is here
+    subst (λ (x : StateAt). IsUnrebuiltUpdate u op x → planned_parts logs x.parts ≡ logged_by op x.tree x.parts) is here
 
 -- a copy of a lawful state's tree is a draft of its parts
 draft_start : (s : StateAt) (t : Shape) (ws : List Watch) → IsLawful s → t ≡ s.tree → ws ≡ watches_of s.parts → IsDraft s.settings.large s.next s.last s.parts (record { tree = t; watches = ws })
 draft_start s t ws k same seen = record {
   watched = seen;
   parts = subst (λ (x : Shape). AreLawfulParts s.settings.large s.next s.last x s.parts) (sym same) k.parts;
-  even = subst (λ (x : Shape). IsEvenClear s.settings.large (paths s.parts) x) (sym same) k.even;
+  even = subst (λ (x : Shape). IsBalancedClear s.settings.large (paths s.parts) x) (sym same) k.even;
   below = subst (λ (x : Shape). All (λ n. n < s.next) (numbers x)) (sym same) k.below;
 }
 

@@ -10,14 +10,14 @@ use Rattle.map_fold.specs.declared.op.Op.TheVariants.{Mark, Put}
 use Rattle.kd_tree.specs.Shape.{Shape, levels, nodes}
 use Rattle.kd_tree.specs.declared.path.Side.{Side}
 use Rattle.kd_update.specs.declared.watch.Watch.{Watch}
-use Rattle.kd_update.specs.Mark.{IsVisitCalm, marked_shape}
-use Rattle.kd_update.specs.Put.{IsRouteCalm, put_shape}
+use Rattle.kd_update.specs.Mark.{RebuildsNoneEntered, marked_shape}
+use Rattle.kd_update.specs.Put.{RebuildsNoneOnRoute, put_shape}
 use Rattle.kd_update.specs.Refresh.{IsRefresh}
 use Rattle.kd_update.specs.Watches.{AreExtended, AreFewMore, HaveRoom, paths_in, with_marks, with_puts}
 use Rattle.kd_update.proofs.InBox.{levels-marked, nodes-marked}
 use Rattle.kd_update.proofs.Route.{levels-put, nodes-put}
 use Rattle.rebuild_core.specs.Draft.{AreStill, HasRoomFor, HaveRoomFor, IsWorked, plain_work}
-use Rattle.rebuild_core.specs.Single.{IsQuiet}
+use Rattle.rebuild_core.specs.Single.{RebuildsNothing}
 use Rattle.rebuild_core.specs.declared.work.Work.{Work}
 
 -- what is watched
@@ -117,22 +117,22 @@ worked_put n p v w u vs same low few made more most = record {
 
 -- one that builds nothing anew
 
-pub plain_mark : (large : ℕ) (c : Choice) (a : Tag) (v w : Work) (u : Shape) (vs : List Watch) → w ≡ v → (IsVisitCalm large c (marked_shape c a w.tree) → u ≡ marked_shape c a w.tree) → vs ≡ with_marks c a w.tree w.watches
-    → IsQuiet large (Mark c a) v.tree → ◌≡◌ {A = Work} (record { tree = u; watches = vs }) (plain_work (Mark c a) v)
+pub plain_mark : (large : ℕ) (c : Choice) (a : Tag) (v w : Work) (u : Shape) (vs : List Watch) → w ≡ v → (RebuildsNoneEntered large c (marked_shape c a w.tree) → u ≡ marked_shape c a w.tree) → vs ≡ with_marks c a w.tree w.watches
+    → RebuildsNothing large (Mark c a) v.tree → ◌≡◌ {A = Work} (record { tree = u; watches = vs }) (plain_work (Mark c a) v)
 plain_mark large c a v w u vs same made logged quiet =
-    let shape = subst (λ (x : Work). IsVisitCalm large c (marked_shape c a x.tree) → u ≡ marked_shape c a x.tree) same made quiet.calm in
+    let shape = subst (λ (x : Work). RebuildsNoneEntered large c (marked_shape c a x.tree) → u ≡ marked_shape c a x.tree) same made quiet.calm in
     let seen : vs ≡ with_marks c a v.tree v.watches = logged ∙ ap (λ (x : Work). with_marks c a x.tree x.watches) same in
     ap (λ (t : Shape). record { tree = t; watches = vs }) shape ∙ ap (λ (ws : List Watch). record { tree = marked_shape c a v.tree; watches = ws }) seen
 
-pub plain_put : (large n : ℕ) (p : Place) (v w : Work) (u : Shape) (vs : List Watch) → w ≡ v → (IsRouteCalm large p (put_shape n p w.tree) → u ≡ put_shape n p w.tree) → vs ≡ with_puts n p w.tree w.watches
-    → IsQuiet large (Put n p) v.tree → ◌≡◌ {A = Work} (record { tree = u; watches = vs }) (plain_work (Put n p) v)
+pub plain_put : (large n : ℕ) (p : Place) (v w : Work) (u : Shape) (vs : List Watch) → w ≡ v → (RebuildsNoneOnRoute large p (put_shape n p w.tree) → u ≡ put_shape n p w.tree) → vs ≡ with_puts n p w.tree w.watches
+    → RebuildsNothing large (Put n p) v.tree → ◌≡◌ {A = Work} (record { tree = u; watches = vs }) (plain_work (Put n p) v)
 plain_put large n p v w u vs same made logged quiet =
-    let shape = subst (λ (x : Work). IsRouteCalm large p (put_shape n p x.tree) → u ≡ put_shape n p x.tree) same made quiet.calm in
+    let shape = subst (λ (x : Work). RebuildsNoneOnRoute large p (put_shape n p x.tree) → u ≡ put_shape n p x.tree) same made quiet.calm in
     let seen : vs ≡ with_puts n p v.tree v.watches = logged ∙ ap (λ (x : Work). with_puts n p x.tree x.watches) same in
     ap (λ (t : Shape). record { tree = t; watches = vs }) shape ∙ ap (λ (ws : List Watch). record { tree = put_shape n p v.tree; watches = ws }) seen
 
 -- the same said of equal values
-pub plain_same : (large : ℕ) (o op : Op) (v w new : Work) → o ≡ op → v ≡ w → (IsQuiet large o v.tree → new ≡ plain_work o v) → IsQuiet large op w.tree → new ≡ plain_work op w
+pub plain_same : (large : ℕ) (o op : Op) (v w new : Work) → o ≡ op → v ≡ w → (RebuildsNothing large o v.tree → new ≡ plain_work o v) → RebuildsNothing large op w.tree → new ≡ plain_work op w
 plain_same large o op v w new e f k =
-    let first : IsQuiet large op v.tree → new ≡ plain_work op v = subst (λ (x : Op). IsQuiet large x v.tree → new ≡ plain_work x v) e k in
-    subst (λ (x : Work). IsQuiet large op x.tree → new ≡ plain_work op x) f first
+    let first : RebuildsNothing large op v.tree → new ≡ plain_work op v = subst (λ (x : Op). RebuildsNothing large x v.tree → new ≡ plain_work x v) e k in
+    subst (λ (x : Work). RebuildsNothing large op x.tree → new ≡ plain_work op x) f first

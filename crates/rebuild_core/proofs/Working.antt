@@ -15,13 +15,13 @@ use Rattle.kd_tree.specs.Walk.{times}
 use Rattle.kd_tree.specs.Sound.{IsSound}
 use Rattle.kd_tree.specs.Contents.{contents}
 use Rattle.kd_tree.specs.Apart.{IsClear}
-use Rattle.kd_tree.specs.Criteria.{IsCalm}
+use Rattle.kd_tree.specs.Criteria.{AllMeetCriteria}
 use Rattle.kd_tree.specs.Parts.{at, replaced_at}
 use Rattle.kd_tree.specs.declared.path.Side.{Side}
 use Rattle.kd_tree.specs.declared.path.Side.TheVariants.{Left, Right}
 use Rattle.kd_update.specs.declared.watch.Watch.{Watch}
 use Rattle.kd_update.specs.Refresh.{AreAmong}
-use Rattle.kd_update.specs.Several.{AreLargeAt, AreSameAt, AreWatched, IsEvenClear}
+use Rattle.kd_update.specs.Several.{AreLargeAt, AreSameAt, AreWatched, IsBalancedClear}
 use Rattle.kd_update.specs.Watch.{IsLargeAt, IsWatched, logged_mark, logged_put}
 use Rattle.kd_update.specs.Watches.{HaveRoom, paths_in, with_marks, with_puts}
 use Rattle.kd_update.proofs.Large.{some_shape}
@@ -85,26 +85,26 @@ draft_more large next more last ps w le d = record {
 -- operations that are logged
 
 pub draft_logged : (large next last n : ℕ) (F : List Side → List Op) (w : Work) (u : Shape) (vs : List Watch) (ps : List PartAt) → IsDraft large next last ps w → HaveLogRoomOf n ps → vs ≡ watches_of (logged F ps)
-    → All (λ n. n < next) (numbers u) → (IsEvenClear large (paths_in w.watches) w.tree → IsEvenClear large (paths_in w.watches) u) → AreWatched (λ q. IsWatched q w.tree u (F q)) (paths_in w.watches)
+    → All (λ n. n < next) (numbers u) → (IsBalancedClear large (paths_in w.watches) w.tree → IsBalancedClear large (paths_in w.watches) u) → AreWatched (λ q. IsWatched q w.tree u (F q)) (paths_in w.watches)
     → ((q : List Side) → length (F q) ≤ n) → ((q : List Side) → All (λ m. m < next) (numbers_put (F q))) → IsDraftLeft large next last ps (record { tree = u; watches = vs })
 draft_logged large next last n F w u vs ps d room is below even watched few puts =
     let named : paths_in w.watches ≡ paths ps = ap paths_in d.watched ∙ paths-watched ps in
     let seen : AreWatched (λ q. IsWatched q w.tree u (F q)) (paths ps) = subst (AreWatched (λ q. IsWatched q w.tree u (F q))) named watched in
     let each = each_logged large next next last n F w.tree u ps d.parts.each seen room few (omega arith) puts in
-    let outside : IsEvenClear large (paths ps) u = subst (λ (qs : List (List Side)). IsEvenClear large qs u) named (even (subst (λ (qs : List (List Side)). IsEvenClear large qs w.tree) (sym named) d.even)) in (
+    let outside : IsBalancedClear large (paths ps) u = subst (λ (qs : List (List Side)). IsBalancedClear large qs u) named (even (subst (λ (qs : List (List Side)). IsBalancedClear large qs w.tree) (sym named) d.even)) in (
       logged F ps,
       left_logged F ps,
       record {
         watched = is;
         parts = left_lawful large next next last last w.tree u ps (logged F ps) (left_logged F ps) d.parts each;
-        even = subst (λ (qs : List (List Side)). IsEvenClear large qs u) (sym (paths-logged F ps)) outside;
+        even = subst (λ (qs : List (List Side)). IsBalancedClear large qs u) (sym (paths-logged F ps)) outside;
         below = below;
       },
     )
 
 -- an action in a box
 pub draft_marked : (large next last : ℕ) (c : Choice) (a : Tag) (w : Work) (u : Shape) (vs : List Watch) (ps : List PartAt) → IsDraft large next last ps w → HaveRoom w.watches → vs ≡ with_marks c a w.tree w.watches
-    → AreAmong (numbers u) (numbers w.tree) → (IsEvenClear large (paths_in w.watches) w.tree → IsEvenClear large (paths_in w.watches) u)
+    → AreAmong (numbers u) (numbers w.tree) → (IsBalancedClear large (paths_in w.watches) w.tree → IsBalancedClear large (paths_in w.watches) u)
     → AreWatched (λ q. IsWatched q w.tree u (logged_mark c a q w.tree)) (paths_in w.watches) → IsDraftLeft large next last ps (record { tree = u; watches = vs })
 draft_marked large next last c a w u vs ps d room is among even watched =
     draft_logged large next last 2 (λ q. logged_mark c a q w.tree) w u vs ps d (room_of_two ps (room_watched ps (subst HaveRoom d.watched room))) (is ∙ ap (with_marks c a w.tree) d.watched ∙ marks-watched c a w.tree ps) (among_below next (numbers u) (numbers w.tree) among d.below) even watched
@@ -115,7 +115,7 @@ below_put next n ns ms less among below = among_below next ns (n ∷ ms) among (
 
 -- a point
 pub draft_put : (large next last n : ℕ) (p : Place) (w : Work) (u : Shape) (vs : List Watch) (ps : List PartAt) → n < next → IsDraft large next last ps w → HaveRoom w.watches → vs ≡ with_puts n p w.tree w.watches
-    → AreAmong (numbers u) (n ∷ numbers w.tree) → (IsEvenClear large (paths_in w.watches) w.tree → IsEvenClear large (paths_in w.watches) u)
+    → AreAmong (numbers u) (n ∷ numbers w.tree) → (IsBalancedClear large (paths_in w.watches) w.tree → IsBalancedClear large (paths_in w.watches) u)
     → AreWatched (λ q. IsWatched q w.tree u (logged_put n p q w.tree)) (paths_in w.watches) → IsDraftLeft large next last ps (record { tree = u; watches = vs })
 draft_put large next last n p w u vs ps less d room is among even watched =
     draft_logged large next last 2 (λ q. logged_put n p q w.tree) w u vs ps d (room_of_two ps (room_watched ps (subst HaveRoom d.watched room))) (is ∙ ap (with_puts n p w.tree) d.watched ∙ puts-watched n p w.tree ps) (below_put next n (numbers u) (numbers w.tree) less among d.below) even watched
@@ -126,7 +126,7 @@ pub draft_on : (large next last : ℕ) (ps qs : List PartAt) (w : Work) → AreL
 draft_on large next last ps qs w k d = (d.0, left_trans ps qs d.0 k d.1, d.2)
 
 -- nothing more is watched where the whole tree was built anew
-pub draft_anew : (large next last : ℕ) (w : Work) (u : Shape) (ps : List PartAt) → IsDraft large next last ps w → AreAmong (numbers u) (numbers w.tree) → IsCalm 10 u → IsDraftLeft large next last ps (record { tree = u; watches = [] })
+pub draft_anew : (large next last : ℕ) (w : Work) (u : Shape) (ps : List PartAt) → IsDraft large next last ps w → AreAmong (numbers u) (numbers w.tree) → AllMeetCriteria 10 u → IsDraftLeft large next last ps (record { tree = u; watches = [] })
 draft_anew large next last w u ps d among calm = (
   [],
   left_none ps,
@@ -173,7 +173,7 @@ pub record IsWithout (large : ℕ) (ps : List PartAt) (w : Work) (gone : Watch) 
   pub there : IsLargeAt large gone.path w.tree
   pub others : AreLargeAt large (paths_in ws) w.tree
   pub clear : IsClear gone.path (paths_in ws)
-  pub outside : IsEvenClear large (gone.path ∷ paths_in ws) w.tree
+  pub outside : IsBalancedClear large (gone.path ∷ paths_in ws) w.tree
 
 without_at : (large next last : ℕ) (w : Work) (front : List PartAt) (p : PartAt) (back : List PartAt) (gone : Watch) (ws : List Watch) → IsDraft large next last (front ++ p ∷ back) w
     → gone ≡ watch_of p → ws ≡ watches_of (front ++ back) → IsWithout large (front ++ p ∷ back) w gone ws
@@ -190,8 +190,8 @@ without_at large next last w front p back gone ws d is left =
       there = subst (λ (q : List Side). IsLargeAt large q w.tree) (sym path) here.there;
       others = subst (λ (qs : List (List Side)). AreLargeAt large qs w.tree) (sym named) (each_large large next last w.tree (front ++ back) (each_without large next last w.tree front p back d.parts.each));
       clear = subst (λ (q : List Side). IsClear q (paths_in ws)) (sym path) (subst (λ (qs : List (List Side)). IsClear p.path qs) (sym named) (clear_of_others front p back d.parts.apart));
-      outside = subst (λ (q : List Side). IsEvenClear large (q ∷ paths_in ws) w.tree) (sym path)
-          (subst (λ (qs : List (List Side)). IsEvenClear large (p.path ∷ qs) w.tree) (sym named) (even_more large (paths (front ++ p ∷ back)) (p.path ∷ paths (front ++ back)) w.tree (ones_moved front p back) d.even));
+      outside = subst (λ (q : List Side). IsBalancedClear large (q ∷ paths_in ws) w.tree) (sym path)
+          (subst (λ (qs : List (List Side)). IsBalancedClear large (p.path ∷ qs) w.tree) (sym named) (even_more large (paths (front ++ p ∷ back)) (p.path ∷ paths (front ++ back)) w.tree (ones_moved front p back) d.even));
     }
 
 pub without_of : (large next last : ℕ) (ps : List PartAt) (w : Work) (i : ℕ) (gone : Watch) (ws : List Watch) → IsDraft large next last ps w → i < length w.watches → gone ≡ get_or w.watches i gone → ws ≡ remove w.watches i
@@ -207,7 +207,7 @@ without_of large next last ps w i gone ws d below is left =
 
 -- the others are left, where the same stands at their paths
 pub draft_without : (large next last : ℕ) (ps : List PartAt) (w : Work) (gone : Watch) (ws : List Watch) (u : Shape) → IsDraft large next last ps w → IsWithout large ps w gone ws
-    → AreSameAt (paths_in ws) u w.tree → IsEvenClear large (paths_in ws) u → AreAmong (numbers u) (numbers w.tree) → IsDraftLeft large next last ps (record { tree = u; watches = ws })
+    → AreSameAt (paths_in ws) u w.tree → IsBalancedClear large (paths_in ws) u → AreAmong (numbers u) (numbers w.tree) → IsDraftLeft large next last ps (record { tree = u; watches = ws })
 draft_without large next last ps w gone ws u d k same even among =
     let named : paths_in ws ≡ paths (k.front ++ k.back) = ap paths_in k.left ∙ paths-watched (k.front ++ k.back) in
     let lawful : AreLawfulParts large next last w.tree (k.front ++ k.part ∷ k.back) = subst (λ (qs : List PartAt). AreLawfulParts large next last w.tree qs) k.all d.parts in
@@ -218,7 +218,7 @@ draft_without large next last ps w gone ws u d k same even among =
       record {
         watched = k.left;
         parts = left_lawful large next next last last w.tree u (k.front ++ k.part ∷ k.back) (k.front ++ k.back) (left_without k.front k.part k.back) lawful each;
-        even = subst (λ (qs : List (List Side)). IsEvenClear large qs u) named even;
+        even = subst (λ (qs : List (List Side)). IsBalancedClear large qs u) named even;
         below = among_below next (numbers u) (numbers w.tree) among d.below;
       },
     )

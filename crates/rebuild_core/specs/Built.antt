@@ -5,7 +5,7 @@ use Rattle.map_fold.specs.declared.op.Op.{Op}
 use Rattle.map_fold.specs.Ops.{Fit, numbers_put, replay}
 use Rattle.kd_tree.specs.Shape.{Shape, numbers}
 use Rattle.kd_tree.specs.Contents.{contents}
-use Rattle.kd_tree.specs.Criteria.{IsCalm}
+use Rattle.kd_tree.specs.Criteria.{AllMeetCriteria}
 use Rattle.kd_update.specs.Refresh.{AreAmong}
 use Rattle.rebuild_core.specs.Parts.{PartAt, part_of}
 
@@ -37,7 +37,7 @@ pub record IsBuiltOf (j : JobAt) (b : BuiltAt) : Type 0 where
   pub items : b.items ≡ j.items
   pub done : b.done ≡ []
   pub held : contents b.tree ≡ j.items
-  pub calm : IsCalm 10 b.tree
+  pub calm : AllMeetCriteria 10 b.tree
 
 -- the second value is the first, with these operations done too
 pub record IsReplayOf (b : BuiltAt) (ops : List Op) (c : BuiltAt) : Type 0 where

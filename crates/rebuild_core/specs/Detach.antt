@@ -4,7 +4,7 @@ use Rattle.kd_tree.specs.Shape.{Shape}
 use Rattle.kd_tree.specs.Sound.{IsSound}
 use Rattle.kd_tree.specs.Contents.{contents}
 use Rattle.kd_tree.specs.Parts.{at}
-use Rattle.kd_tree.specs.Apart.{IsCalmClear, IsFirstFree}
+use Rattle.kd_tree.specs.Apart.{AllClearMeetCriteria, IsFirstFree}
 use Rattle.kd_tree.specs.declared.path.Side.{Side}
 use Rattle.map_fold.specs.declared.op.Op.{Op}
 use Rattle.rebuild_core.specs.Built.{BuiltAt, IsPartOf, IsStale, JobAt, undone}
@@ -21,7 +21,7 @@ IsDetachedAt None s path = IsFirstFree s.settings.large (paths s.parts) s.tree p
 -- there is no part, and no node that is clear of the parts is to be built anew
 abbrev pub IsNoneToDetach : Option PartAt → StateAt → Type 0
 IsNoneToDetach (Some p) s = ⊥
-IsNoneToDetach None s = IsCalmClear s.settings.large (paths s.parts) s.tree
+IsNoneToDetach None s = AllClearMeetCriteria s.settings.large (paths s.parts) s.tree
 
 -- nothing is detached into the slot: all tickets were given, or there is nothing to be detached
 abbrev pub IsNoDetach : ℕ → StateAt → Type 0

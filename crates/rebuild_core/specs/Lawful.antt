@@ -5,7 +5,7 @@ use Rattle.map_fold.specs.Fold.{MapAt, fold}
 use Rattle.kd_tree.specs.Shape.{Shape, leaf, numbers}
 use Rattle.kd_tree.specs.Sound.{IsSound}
 use Rattle.kd_tree.specs.Contents.{contents}
-use Rattle.kd_update.specs.Several.{IsEvenClear}
+use Rattle.kd_update.specs.Several.{IsBalancedClear}
 use Rattle.map_fold.specs.declared.entry.Entry.{Entry}
 use Rattle.rebuild_core.specs.History.{AreEntries, updates}
 use Rattle.rebuild_core.specs.Parts.{AreLawfulParts, PartAt, paths}
@@ -46,7 +46,7 @@ pub record IsLawful (s : StateAt) : Type 0 where
   pub entries : AreEntries [] s.history
   pub parts : AreLawfulParts s.settings.large s.next s.last s.tree s.parts
   -- outside the parts
-  pub even : IsEvenClear s.settings.large (paths s.parts) s.tree
+  pub even : IsBalancedClear s.settings.large (paths s.parts) s.tree
   -- the version is of the very tree, by its shape, and not only of what that holds
   pub shown : s.version.tree ≡ s.tree
   pub shown_next : s.version.next ≡ s.next

@@ -10,8 +10,8 @@ use Rattle.map_fold.specs.declared.update.Update.{Update}
 use Rattle.map_fold.specs.declared.update.Update.TheVariants.{Add, Thin, Delete, Suspend, Restore, Expire}
 use Rattle.kd_tree.specs.Shape.{Shape, levels, nodes}
 use Rattle.kd_update.specs.Made.{entered_mark, entered_put}
-use Rattle.kd_update.specs.Mark.{IsVisitCalm, marked_shape}
-use Rattle.kd_update.specs.Put.{IsRouteCalm, put_shape}
+use Rattle.kd_update.specs.Mark.{RebuildsNoneEntered, marked_shape}
+use Rattle.kd_update.specs.Put.{RebuildsNoneOnRoute, put_shape}
 
 -- the operation of an action on one box
 abbrev pub only_mark : Tag → List Bounds → Option Op
@@ -36,9 +36,9 @@ unrebuilt (Put n p) t = put_shape n p t
 unrebuilt (Mark c a) t = marked_shape c a t
 
 -- of the unrebuilt tree, no node that the operation enters is to be built anew
-abbrev pub IsCalmFor : ℕ → Op → Shape → Type 0
-IsCalmFor large (Put n p) t = IsRouteCalm large p t
-IsCalmFor large (Mark c a) t = IsVisitCalm large c t
+abbrev pub RebuildsNoneFor : ℕ → Op → Shape → Type 0
+RebuildsNoneFor large (Put n p) t = RebuildsNoneOnRoute large p t
+RebuildsNoneFor large (Mark c a) t = RebuildsNoneEntered large c t
 
 -- how many nodes the operation enters
 abbrev pub entered_nodes : Op → Shape → ℕ
@@ -46,7 +46,7 @@ entered_nodes (Put n p) t = entered_put p t
 entered_nodes (Mark c a) t = entered_mark c t
 
 -- The operation builds nothing anew: there is room in the tree, and no node that is entered is to be built anew.
-pub record IsQuiet (large : ℕ) (op : Op) (t : Shape) : Type 0 where
+pub record RebuildsNothing (large : ℕ) (op : Op) (t : Shape) : Type 0 where
   pub low : levels t < 512
   pub few : nodes t < 4194304
-  pub calm : IsCalmFor large op (unrebuilt op t)
+  pub calm : RebuildsNoneFor large op (unrebuilt op t)

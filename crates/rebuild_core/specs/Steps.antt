@@ -5,8 +5,8 @@ use Rattle.map_fold.specs.declared.op.Op.{Op}
 use Rattle.map_fold.specs.declared.update.Update.{Update}
 use Rattle.kd_tree.specs.Shape.{Shape, numbers}
 use Rattle.kd_tree.specs.Contents.{contents}
-use Rattle.kd_tree.specs.Criteria.{IsCalm}
-use Rattle.kd_update.specs.Several.{IsEvenClear}
+use Rattle.kd_tree.specs.Criteria.{AllMeetCriteria}
+use Rattle.kd_update.specs.Several.{IsBalancedClear}
 use Rattle.map_fold.specs.declared.entry.Entry.{Entry}
 use Rattle.rebuild_core.specs.declared.fault.StateFault.{StateFault}
 use Rattle.rebuild_core.specs.declared.fault.StateFault.TheVariants.{TooManyUpdates, TooManyPoints, NoMemory}
@@ -15,7 +15,7 @@ use Rattle.rebuild_core.specs.Lawful.{IsLawful, StateAt, VersionAt, map_of}
 use Rattle.rebuild_core.specs.Logs.{LogPlan, planned_parts}
 use Rattle.rebuild_core.specs.Parts.{AreLawfulParts, AreLeft, HaveLogRoom, paths}
 use Rattle.rebuild_core.specs.declared.plan.Drafted.{Drafted}
-use Rattle.rebuild_core.specs.Single.{IsQuiet, only_op}
+use Rattle.rebuild_core.specs.Single.{RebuildsNothing, only_op}
 
 -- what a step stores
 pub record PlannedAt : Type 0 where
@@ -49,7 +49,7 @@ pub record IsDrafted (u : Update) (s : StateAt) (d : Drafted) : Type 0 where
   pub stepped : map_of d.tree (s.next + points_in u) ≡ step s.settings.voxel u (map_of s.tree s.next)
   pub left : AreLeft s.parts (planned_parts d.logs.items s.parts)
   pub parts : AreLawfulParts s.settings.large (s.next + points_in u) s.last d.tree (planned_parts d.logs.items s.parts)
-  pub even : IsEvenClear s.settings.large (paths (planned_parts d.logs.items s.parts)) d.tree
+  pub even : IsBalancedClear s.settings.large (paths (planned_parts d.logs.items s.parts)) d.tree
   pub below : All (λ n. n < s.next + points_in u) (numbers d.tree)
 
 -- the plan is that of this caller's update
@@ -68,9 +68,9 @@ pub record IsUpdateStep (caller : ℕ) (u : Update) (s t : StateAt) : Type 0 whe
   pub last : t.last ≡ s.last
 
 -- the update is this one operation, and builds nothing anew
-pub record IsQuietUpdate (u : Update) (op : Op) (s : StateAt) : Type 0 where
+pub record IsUnrebuiltUpdate (u : Update) (op : Op) (s : StateAt) : Type 0 where
   pub only : only_op s.next u ≡ Some op
-  pub quiet : IsQuiet s.settings.large op s.tree
+  pub quiet : RebuildsNothing s.settings.large op s.tree
   pub room : HaveLogRoom s.parts
 
 -- The plan leaves no node from 10 nodes on that breaches a criterion, no part, and what the map holds.
@@ -80,7 +80,7 @@ pub record IsSettlePlan (s : StateAt) (p : PlannedAt) : Type 0 where
   pub next : p.next ≡ s.next
   pub none : p.entry ≡ None
   pub parts : planned_parts p.logs s.parts ≡ []
-  pub calm : IsCalm 10 p.tree
+  pub calm : AllMeetCriteria 10 p.tree
 
 -- the second state is the first, settled
 pub record IsSettleStep (s t : StateAt) : Type 0 where
@@ -90,4 +90,4 @@ pub record IsSettleStep (s t : StateAt) : Type 0 where
   pub history : t.history ≡ s.history
   pub parts : t.parts ≡ []
   pub last : t.last ≡ s.last
-  pub calm : IsCalm 10 t.tree
+  pub calm : AllMeetCriteria 10 t.tree

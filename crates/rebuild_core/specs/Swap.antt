@@ -5,8 +5,8 @@ use Rattle.map_fold.specs.Ops.{numbers_put, replay}
 use Rattle.kd_tree.specs.Shape.{Shape, levels, nodes}
 use Rattle.kd_tree.specs.Contents.{contents}
 use Rattle.kd_tree.specs.Parts.{replaced_at}
-use Rattle.kd_update.specs.Replace.{HasRoomAt, IsCalmAbove}
-use Rattle.kd_update.specs.Update.{IsEven}
+use Rattle.kd_update.specs.Replace.{HasRoomAt, RebuildsNoneAbove}
+use Rattle.kd_update.specs.Update.{IsBalancedBelow}
 use Rattle.rebuild_core.specs.declared.fault.SwapFault.{SwapFault}
 use Rattle.rebuild_core.specs.declared.fault.SwapFault.TheVariants.{Stale, Behind, NoMemory}
 use Rattle.rebuild_core.specs.declared.fault.Unswapped.{Unswapped}
@@ -44,7 +44,7 @@ pub record IsCaughtUp (large : ℕ) (b : BuiltAt) (ops : List Op) (with : Shape)
   pub held : contents with ≡ replay (contents b.tree) ops
   pub low : levels with ≤ levels b.tree + length (numbers_put ops)
   pub few : nodes with ≤ nodes b.tree + length (numbers_put ops)
-  pub same : ops ≡ [] → IsEven large b.tree → with ≡ b.tree
+  pub same : ops ≡ [] → IsBalancedBelow large b.tree → with ≡ b.tree
 
 -- What is left of the parts. The value's tree after the operations that it hasn't done was put in the place of its part's
 -- subtree: then the others stay. Where there was no room for it, none is left.
@@ -74,9 +74,9 @@ pub record IsSwapStep (b : BuiltAt) (s t : StateAt) : Type 0 where
 
 -- The swap builds nothing anew: the value's part has no operation left for it, its tree is even, there is room for it, and no node
 -- above it is to be built anew.
-pub record IsQuietSwap (b : BuiltAt) (p : PartAt) (s : StateAt) : Type 0 where
+pub record IsUnrebuiltSwap (b : BuiltAt) (p : PartAt) (s : StateAt) : Type 0 where
   pub of : IsPartOf b s.parts p
   pub done : undone b p ≡ []
-  pub even : IsEven s.settings.large b.tree
+  pub even : IsBalancedBelow s.settings.large b.tree
   pub room : HasRoomAt p.path b.tree s.tree
-  pub calm : IsCalmAbove s.settings.large p.path (replaced_at p.path b.tree s.tree)
+  pub calm : RebuildsNoneAbove s.settings.large p.path (replaced_at p.path b.tree s.tree)

@@ -4,9 +4,9 @@ ghost use Rattle.map_fold.specs.Contents.{AreContents};
 ghost use Rattle.map_fold.specs.Ops.{Fit, numbers_put, replay};
 ghost use Rattle.kd_tree.specs.Shape.{levels, nodes, numbers};
 ghost use Rattle.kd_tree.specs.Contents.{contents};
-ghost use Rattle.kd_tree.specs.Criteria.{IsCalm};
+ghost use Rattle.kd_tree.specs.Criteria.{AllMeetCriteria};
 ghost use Rattle.kd_update.specs.Refresh.{AreAmong};
-ghost use Rattle.kd_update.specs.Update.{IsEven};
+ghost use Rattle.kd_update.specs.Update.{IsBalancedBelow};
 ghost use Rattle.rebuild_core.specs.Built.{AreNumbersOf, IsLawfulBuilt, IsReplayOf};
 
 use crate::even::is_even;
@@ -31,7 +31,7 @@ pub struct Built {
 
 impl Model for Built {
     ghost use Rattle.rebuild_core.specs.Built.{BuiltAt, IsLawfulBuilt};
-    ghost use Rattle.kd_update.specs.Update.{IsEven};
+    ghost use Rattle.kd_update.specs.Update.{IsBalancedBelow};
 
     ghost Value = { BuiltAt };
 
@@ -44,7 +44,7 @@ impl Model for Built {
 
     ghost use Rattle.map_fold.specs.Contents.{AreContents};
 
-    ghost invariant = { λ b. IsLawfulBuilt (record { ticket = b.ticket; items = b.items.value; done = b.done.items; tree = b.tree }) × IsEven b.large b.tree × AreContents 0 4194304 b.items.value };
+    ghost invariant = { λ b. IsLawfulBuilt (record { ticket = b.ticket; items = b.items.value; done = b.done.items; tree = b.tree }) × IsBalancedBelow b.large b.tree × AreContents 0 4194304 b.items.value };
 }
 
 /// A value on which nothing more was done for want of memory.
@@ -65,7 +65,7 @@ impl Built {
         requires items { AreContents 0 4194304 items.value }
         requires held { contents tree ≡ items.value }
         requires numbers { AreNumbersOf items.value tree }
-        requires calm { IsCalm 10 tree }
+        requires calm { AllMeetCriteria 10 tree }
         ensures { result ≡ record { ticket = ticket; items = items.value; done = []; tree = tree } }
     {
         Built {
@@ -113,7 +113,7 @@ impl Built {
     pub fn replay(self, alloc: Global, large: u32, ops: &[Op]) -> Result<Built, BuiltLeft>
         requires { Fit (contents self.tree) ops.now }
         ensures replayed { IfOk result (IsReplayOf self ops.now) }
-        ensures balance { IfOk result (λ b. IsEven large b.tree) }
+        ensures balance { IfOk result (λ b. IsBalancedBelow large b.tree) }
         ensures left { IfErr result (λ l. l.built ≡ self) }
     {
         match self.replayed_by::<Brand>(alloc, large, ops, Blank::new(1)) {
@@ -127,7 +127,7 @@ impl Built {
     pub fn replay_in_place(self, alloc: Global, large: u32, ops: &[Op]) -> Result<Built, NoMemory>
         requires { Fit (contents self.tree) ops.now }
         ensures replayed { IfOk result (IsReplayOf self ops.now) }
-        ensures balance { IfOk result (λ b. IsEven large b.tree) }
+        ensures balance { IfOk result (λ b. IsBalancedBelow large b.tree) }
     {
         let Built {
             ticket,
@@ -161,7 +161,7 @@ impl Built {
         requires fit { Fit (contents self.now.tree) ops.now }
         ensures contents { IfOk result (λ t. contents t ≡ replay (contents self.now.tree) ops.now) }
         ensures numbers { IfOk result (λ t. AreAmong (numbers t) (numbers_put ops.now ++ numbers self.now.tree)) }
-        ensures balance { IfOk result (λ t. IsEven large t) }
+        ensures balance { IfOk result (λ t. IsBalancedBelow large t) }
     {
         let mut steps: Steps<L> = Steps::new(blank);
         self.caught_up(alloc, large, ops, &mut steps)
@@ -179,12 +179,12 @@ impl Built {
         ensures lawful { IsLawfulBuilt self.now }
         ensures contents { IfOk result (λ t. contents t ≡ replay (contents self.now.tree) ops.now) }
         ensures numbers { IfOk result (λ t. AreAmong (numbers t) (numbers_put ops.now ++ numbers self.now.tree)) }
-        ensures balance { IfOk result (λ t. IsEven large t) }
+        ensures balance { IfOk result (λ t. IsBalancedBelow large t) }
         ensures low { IfOk result (λ t. levels t ≤ levels self.now.tree + length (numbers_put ops.now)) }
         ensures few { IfOk result (λ t. nodes t ≤ nodes self.now.tree + length (numbers_put ops.now)) }
         // An even tree stays where nothing is to be done, and no node is made.
-        ensures same { ops.now ≡ [] → IsEven large self.now.tree → IfOk result (λ t. t ≡ self.now.tree) }
-        ensures still { ops.now ≡ [] → IsEven large self.now.tree → steps.new ≡ steps.old }
+        ensures same { ops.now ≡ [] → IsBalancedBelow large self.now.tree → IfOk result (λ t. t ≡ self.now.tree) }
+        ensures still { ops.now ≡ [] → IsBalancedBelow large self.now.tree → steps.new ≡ steps.old }
     {
         let _done = self.done();
         let twin = self.tree.copy(alloc, steps)?;
@@ -200,9 +200,9 @@ impl Built {
         requires fit { Fit (contents self.tree) ops.now }
         requires replayed { contents tree ≡ replay (contents self.tree) ops.now }
         requires numbers { AreAmong (numbers tree) (numbers_put ops.now ++ numbers self.tree) }
-        requires even { IsEven large tree }
+        requires even { IsBalancedBelow large tree }
         ensures replayed { IfOk result (IsReplayOf self ops.now) }
-        ensures balance { IfOk result (λ b. IsEven large b.tree) }
+        ensures balance { IfOk result (λ b. IsBalancedBelow large b.tree) }
         ensures left { IfErr result (λ l. l.built ≡ self) }
     {
         let mut built = self;
@@ -229,11 +229,11 @@ fn replayed_from<L: Ledger>(
     requires name { blank.name ≡ L.name }
     requires parts { blank.parts ≡ L.parts }
     requires some { blank.parts ≡ 1 }
-    requires even { IsEven made_with tree }
+    requires even { IsBalancedBelow made_with tree }
     requires fit { Fit (contents tree) ops.now }
     ensures contents { IfOk result (λ t. contents t ≡ replay (contents tree) ops.now) }
     ensures numbers { IfOk result (λ t. AreAmong (numbers t) (numbers_put ops.now ++ numbers tree)) }
-    ensures balance { IfOk result (λ t. IsEven large t) }
+    ensures balance { IfOk result (λ t. IsBalancedBelow large t) }
 {
     let mut steps: Steps<L> = Steps::new(blank);
     let tree = evened(alloc, tree, made_with, large, &mut steps)?;
@@ -248,14 +248,14 @@ fn evened<L: Ledger>(
     large: u32,
     steps: &mut Steps<L>,
 ) -> Result<Tree, NoMemory>
-    requires { IsEven made_with tree }
+    requires { IsBalancedBelow made_with tree }
     ensures contents { IfOk result (λ t. contents t ≡ contents tree) }
     ensures numbers { IfOk result (λ t. AreAmong (numbers t) (numbers tree)) }
-    ensures balance { IfOk result (λ t. IsEven large t) }
+    ensures balance { IfOk result (λ t. IsBalancedBelow large t) }
     ensures low { IfOk result (λ t. levels t ≤ levels tree) }
     ensures few { IfOk result (λ t. nodes t ≤ nodes tree) }
-    ensures same { IsEven large tree → IfOk result (λ t. t ≡ tree) }
-    ensures still { IsEven large tree → steps.new ≡ steps.old }
+    ensures same { IsBalancedBelow large tree → IfOk result (λ t. t ≡ tree) }
+    ensures still { IsBalancedBelow large tree → steps.new ≡ steps.old }
 {
     if made_with == large {
         return Ok(tree);

@@ -13,7 +13,7 @@ ghost use Rattle.rebuild_core.specs.Lawful.{map_of};
 ghost use Rattle.rebuild_core.specs.Draft.{HasRoomFor, IsDraft, IsDraftLeft, IsWork, IsWorked, plain_work};
 ghost use Rattle.rebuild_core.specs.OnePoint.{IsTurnedAway};
 ghost use Rattle.rebuild_core.specs.Parts.{PartAt};
-ghost use Rattle.rebuild_core.specs.Single.{IsQuiet, entered_nodes, only_mark, only_op};
+ghost use Rattle.rebuild_core.specs.Single.{RebuildsNothing, entered_nodes, only_mark, only_op};
 ghost use Rattle.rebuild_core.specs.Stays.{most_ops};
 
 use crate::scan::SCAN;
@@ -41,9 +41,9 @@ pub(crate) fn changed<L: Ledger>(
     ensures draft { (last : ℕ) (ps : List PartAt) → IsDraft settings.now.large next last ps work
         → IfOk result (IsDraftLeft settings.now.large (next + points_in update.now) last ps) }
     ensures kept { HasRoomFor (points_in update.now) (most_ops update.now) work → IfOk result (λ w. paths_in w.watches ≡ paths_in work.watches) }
-    ensures unrebuilt { (op : Op) → only_op next update.now ≡ Some op → HaveRoom work.watches → IsQuiet settings.now.large op work.tree
+    ensures unrebuilt { (op : Op) → only_op next update.now ≡ Some op → HaveRoom work.watches → RebuildsNothing settings.now.large op work.tree
         → IfOk result (λ w. w ≡ plain_work op work) }
-    ensures ticks { (op : Op) → only_op next update.now ≡ Some op → HaveRoom work.watches → IsQuiet settings.now.large op work.tree
+    ensures ticks { (op : Op) → only_op next update.now ≡ Some op → HaveRoom work.watches → RebuildsNothing settings.now.large op work.tree
         → steps.new ≤ steps.old + (5 * entered_nodes op work.tree + 1) }
     ensures turned_away { (p : Place) → update.now ≡ Update.Thin (p ∷ []) → IsTurnedAway settings.now.voxel (map_of work.tree next) p
         → IfOk result (λ w. w.tree ≡ work.tree) }
@@ -76,9 +76,9 @@ fn added<L: Ledger>(
     ensures draft { (last : ℕ) (ps : List PartAt) → IsDraft large next last ps work
         → IfOk result (IsDraftLeft large (next + length points.now) last ps) }
     ensures kept { HasRoomFor (length points.now) (length points.now) work → IfOk result (λ w. paths_in w.watches ≡ paths_in work.watches) }
-    ensures unrebuilt { (op : Op) → only_op next (Update.Add points.now) ≡ Some op → HaveRoom work.watches → IsQuiet large op work.tree
+    ensures unrebuilt { (op : Op) → only_op next (Update.Add points.now) ≡ Some op → HaveRoom work.watches → RebuildsNothing large op work.tree
         → IfOk result (λ w. w ≡ plain_work op work) }
-    ensures ticks { (op : Op) → only_op next (Update.Add points.now) ≡ Some op → HaveRoom work.watches → IsQuiet large op work.tree
+    ensures ticks { (op : Op) → only_op next (Update.Add points.now) ≡ Some op → HaveRoom work.watches → RebuildsNothing large op work.tree
         → steps.new ≤ steps.old + (5 * entered_nodes op work.tree + 1) }
 {
     if points.len() >= SCAN {
@@ -109,9 +109,9 @@ pub(crate) fn added_one<L: Ledger>(
     ensures draft { (last : ℕ) (ps : List PartAt) → IsDraft large next last ps work
         → IfOk result (IsDraftLeft large (next + 1) last ps) }
     ensures worked { IfOk result (IsWorked 1 1 work) }
-    ensures unrebuilt { HaveRoom work.watches → IsQuiet large (Put next point) work.tree
+    ensures unrebuilt { HaveRoom work.watches → RebuildsNothing large (Put next point) work.tree
         → IfOk result (λ w. w ≡ plain_work (Put next point) work) }
-    ensures ticks { HaveRoom work.watches → IsQuiet large (Put next point) work.tree
+    ensures ticks { HaveRoom work.watches → RebuildsNothing large (Put next point) work.tree
         → steps.new ≤ steps.old + (5 * entered_nodes (Put next point) work.tree + 1) }
 {
     let _size = work.tree.size();
@@ -132,9 +132,9 @@ fn marked_each<L: Ledger>(
     ensures draft { (last : ℕ) (ps : List PartAt) → IsDraft large next last ps work
         → IfOk result (IsDraftLeft large next last ps) }
     ensures kept { HasRoomFor 0 (length boxes.now) work → IfOk result (λ w. paths_in w.watches ≡ paths_in work.watches) }
-    ensures unrebuilt { (op : Op) → only_mark tag boxes.now ≡ Some op → HaveRoom work.watches → IsQuiet large op work.tree
+    ensures unrebuilt { (op : Op) → only_mark tag boxes.now ≡ Some op → HaveRoom work.watches → RebuildsNothing large op work.tree
         → IfOk result (λ w. w ≡ plain_work op work) }
-    ensures ticks { (op : Op) → only_mark tag boxes.now ≡ Some op → HaveRoom work.watches → IsQuiet large op work.tree
+    ensures ticks { (op : Op) → only_mark tag boxes.now ≡ Some op → HaveRoom work.watches → RebuildsNothing large op work.tree
         → steps.new ≤ steps.old + (5 * entered_nodes op work.tree + 1) }
 {
     let mut work = work;
@@ -158,9 +158,9 @@ fn expired<L: Ledger>(
     ensures draft { (last : ℕ) (ps : List PartAt) → IsDraft large next last ps work
         → IfOk result (IsDraftLeft large next last ps) }
     ensures kept { HasRoomFor 0 1 work → IfOk result (λ w. paths_in w.watches ≡ paths_in work.watches) }
-    ensures unrebuilt { HaveRoom work.watches → IsQuiet large (Mark (below_number number) delete_tag) work.tree
+    ensures unrebuilt { HaveRoom work.watches → RebuildsNothing large (Mark (below_number number) delete_tag) work.tree
         → IfOk result (λ w. w ≡ plain_work (Mark (below_number number) delete_tag) work) }
-    ensures ticks { HaveRoom work.watches → IsQuiet large (Mark (below_number number) delete_tag) work.tree
+    ensures ticks { HaveRoom work.watches → RebuildsNothing large (Mark (below_number number) delete_tag) work.tree
         → steps.new ≤ steps.old + (5 * entered_nodes (Mark (below_number number) delete_tag) work.tree + 1) }
 {
     work.marked(alloc, large, &Choice::below(number), Tag::DELETE, steps)

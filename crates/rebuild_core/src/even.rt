@@ -1,14 +1,14 @@
 //! Whether trees are in balance.
 ghost use Rattle.std.specs.Prelude.{◌≡◌, ◌↔◌, true};
 ghost use Rattle.kd_tree.specs.Criteria.{IsBalanced};
-ghost use Rattle.kd_update.specs.Update.{IsEven};
+ghost use Rattle.kd_update.specs.Update.{IsBalancedBelow};
 
 use kd_tree::Tree;
 
 // Whether each node of 10 nodes and more, and fewer than these, meets the balance criterion. A subtree of fewer nodes isn't
 // looked into.
 pub(crate) fn is_even(tree: &Tree, large: u32) -> bool
-    ensures { result ≡ true ↔ IsEven large tree.now }
+    ensures { result ≡ true ↔ IsBalancedBelow large tree.now }
 {
     let size = tree.size();
     if size < 10 {

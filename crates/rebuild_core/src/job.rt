@@ -1,7 +1,7 @@
 //! Detached subtrees, handed out to be built anew. Nothing here knows the state that they come from.
 ghost use Rattle.std.specs.Prelude.{◌≡◌, IfErr, IfOk};
 ghost use Rattle.kd_tree.specs.Contents.{contents};
-ghost use Rattle.kd_tree.specs.Criteria.{IsCalm};
+ghost use Rattle.kd_tree.specs.Criteria.{AllMeetCriteria};
 ghost use Rattle.rebuild_core.specs.Built.{AreNumbersOf, IsBuiltOf};
 
 use crate::{Built, Holding};
@@ -80,7 +80,7 @@ impl Job {
         requires parts { blank.parts ≡ L.parts }
         requires some { blank.parts ≡ 1 }
         ensures contents { IfOk result (λ t. contents t ≡ self.now.items) }
-        ensures calm { IfOk result (λ t. IsCalm 10 t) }
+        ensures calm { IfOk result (λ t. AllMeetCriteria 10 t) }
         ensures numbers { IfOk result (λ t. AreNumbersOf self.now.items t) }
     {
         let mut steps: Steps<L> = Steps::new(blank);

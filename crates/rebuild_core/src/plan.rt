@@ -8,7 +8,7 @@ ghost use Rattle.rebuild_core.specs.Logs.{planned_parts};
 ghost use Rattle.rebuild_core.specs.Parts.{paths};
 ghost use Rattle.rebuild_core.specs.Single.{entered_nodes, unrebuilt};
 ghost use Rattle.rebuild_core.specs.Stays.{HasRoomBeside, logged_by};
-ghost use Rattle.rebuild_core.specs.Steps.{HasRoom, IsDrafted, IsFault, IsQuietUpdate, IsSettlePlan, IsSettleStep, IsUpdatePlan, IsUpdateStep};
+ghost use Rattle.rebuild_core.specs.Steps.{HasRoom, IsDrafted, IsFault, IsUnrebuiltUpdate, IsSettlePlan, IsSettleStep, IsUpdatePlan, IsUpdateStep};
 
 use crate::draft::changed;
 use crate::logs::{PartLog, forgotten, logs_of};
@@ -62,13 +62,13 @@ impl MapState {
         // No part is forgotten where neither the tree nor a log can be full before an operation. Of one operation that builds
         // nothing anew each part logs exactly what that is to it.
         ensures kept { HasRoomBeside update self.old.state → OnOk result (paths self.new.state.parts ≡ paths self.old.state.parts) }
-        ensures logged { (op : Op) → IsQuietUpdate update op self.old.state
+        ensures logged { (op : Op) → IsUnrebuiltUpdate update op self.old.state
             → OnOk result (self.new.state.parts ≡ logged_by op self.old.state.tree self.old.state.parts) }
 
         // An update of one operation that builds nothing anew makes at most so many nodes, whatever the call answers.
-        ensures unrebuilt { (op : Op) → IsQuietUpdate update op self.old.state
+        ensures unrebuilt { (op : Op) → IsUnrebuiltUpdate update op self.old.state
             → OnOk result (self.new.state.tree ≡ unrebuilt op self.old.state.tree) }
-        ensures ticks { (op : Op) → IsQuietUpdate update op self.old.state
+        ensures ticks { (op : Op) → IsUnrebuiltUpdate update op self.old.state
             → steps.new ≤ steps.old + (5 * entered_nodes op self.old.state.tree + 1) }
 
         // What is left where one point thins its voxel, said without the way it is made. One that is turned away makes no node.
@@ -102,11 +102,11 @@ impl MapState {
         // As of `update`.
         ensures kept { HasRoomBeside update self.old.state
             → IfOk result (λ p. paths (planned_parts p.logs self.old.state.parts) ≡ paths self.old.state.parts) }
-        ensures logged { (op : Op) → IsQuietUpdate update op self.old.state
+        ensures logged { (op : Op) → IsUnrebuiltUpdate update op self.old.state
             → IfOk result (λ p. planned_parts p.logs self.old.state.parts ≡ logged_by op self.old.state.tree self.old.state.parts) }
-        ensures unrebuilt { (op : Op) → IsQuietUpdate update op self.old.state
+        ensures unrebuilt { (op : Op) → IsUnrebuiltUpdate update op self.old.state
             → IfOk result (λ p. p.tree ≡ unrebuilt op self.old.state.tree) }
-        ensures ticks { (op : Op) → IsQuietUpdate update op self.old.state
+        ensures ticks { (op : Op) → IsUnrebuiltUpdate update op self.old.state
             → steps.new ≤ steps.old + (5 * entered_nodes op self.old.state.tree + 1) }
         ensures thinned { (p : Place) → update ≡ Update.Thin (p ∷ []) → IfOk result (λ q. IsThinnedFrom self.old.state p q.tree) }
         ensures turned_away { (p : Place) → update ≡ Update.Thin (p ∷ []) → IsTurnedAwayFrom self.old.state p
@@ -140,11 +140,11 @@ impl MapState {
         // As of `update`.
         ensures kept { HasRoomBeside update self.old.state
             → IfOk result (λ p. paths (planned_parts p.logs self.old.state.parts) ≡ paths self.old.state.parts) }
-        ensures logged { (op : Op) → IsQuietUpdate update op self.old.state
+        ensures logged { (op : Op) → IsUnrebuiltUpdate update op self.old.state
             → IfOk result (λ p. planned_parts p.logs self.old.state.parts ≡ logged_by op self.old.state.tree self.old.state.parts) }
-        ensures unrebuilt { (op : Op) → IsQuietUpdate update op self.old.state
+        ensures unrebuilt { (op : Op) → IsUnrebuiltUpdate update op self.old.state
             → IfOk result (λ p. p.tree ≡ unrebuilt op self.old.state.tree) }
-        ensures ticks { (op : Op) → IsQuietUpdate update op self.old.state
+        ensures ticks { (op : Op) → IsUnrebuiltUpdate update op self.old.state
             → steps.new ≤ steps.old + (5 * entered_nodes op self.old.state.tree + 1) }
         ensures thinned { (p : Place) → update ≡ Update.Thin (p ∷ []) → IfOk result (λ q. IsThinnedFrom self.old.state p q.tree) }
         ensures turned_away { (p : Place) → update ≡ Update.Thin (p ∷ []) → IsTurnedAwayFrom self.old.state p
@@ -192,11 +192,11 @@ impl MapState {
         ensures drafted { IfOk result (IsDrafted update.now self.now.state) }
         ensures kept { HasRoomBeside update.now self.now.state
             → IfOk result (λ d. paths (planned_parts d.logs.items self.now.state.parts) ≡ paths self.now.state.parts) }
-        ensures logged { (op : Op) → IsQuietUpdate update.now op self.now.state
+        ensures logged { (op : Op) → IsUnrebuiltUpdate update.now op self.now.state
             → IfOk result (λ d. planned_parts d.logs.items self.now.state.parts ≡ logged_by op self.now.state.tree self.now.state.parts) }
-        ensures unrebuilt { (op : Op) → IsQuietUpdate update.now op self.now.state
+        ensures unrebuilt { (op : Op) → IsUnrebuiltUpdate update.now op self.now.state
             → IfOk result (λ d. d.tree ≡ unrebuilt op self.now.state.tree) }
-        ensures ticks { (op : Op) → IsQuietUpdate update.now op self.now.state
+        ensures ticks { (op : Op) → IsUnrebuiltUpdate update.now op self.now.state
             → steps.new ≤ steps.old + (5 * entered_nodes op self.now.state.tree + 1) }
         ensures turned_away { (p : Place) → update.now ≡ Update.Thin (p ∷ []) → IsTurnedAwayFrom self.now.state p
             → IfOk result (λ d. d.tree ≡ self.now.state.tree) }

@@ -6,7 +6,7 @@ ghost use Rattle.kd_tree.specs.Parts.{replaced_at};
 ghost use Rattle.rebuild_core.specs.Built.{IsPartOf, undone};
 ghost use Rattle.rebuild_core.specs.Desk.{IsUnswappedCause};
 ghost use Rattle.rebuild_core.specs.Parts.{AreItemsOf, PartAt};
-ghost use Rattle.rebuild_core.specs.Swap.{IsNear, IsQuietSwap, IsSwapFault, IsSwapPlan, IsSwapStep, IsUnswapped, MaySwap};
+ghost use Rattle.rebuild_core.specs.Swap.{IsNear, IsUnrebuiltSwap, IsSwapFault, IsSwapPlan, IsSwapStep, IsUnswapped, MaySwap};
 
 use crate::logs::forgotten_for;
 use crate::part::{Part, others_of};
@@ -58,9 +58,9 @@ impl MapState {
         ensures left { IfErr result (λ l. l.built ≡ built) }
 
         // A swap that builds nothing anew makes at most a node for each side of the path, whatever the call answers.
-        ensures unrebuilt { (p : PartAt) → IsQuietSwap built p self.old.state
+        ensures unrebuilt { (p : PartAt) → IsUnrebuiltSwap built p self.old.state
             → OnOk result (self.new.state.tree ≡ replaced_at p.path built.tree self.old.state.tree) }
-        ensures ticks { (p : PartAt) → IsQuietSwap built p self.old.state → steps.new ≤ steps.old + length p.path }
+        ensures ticks { (p : PartAt) → IsUnrebuiltSwap built p self.old.state → steps.new ≤ steps.old + length p.path }
     {
         match self.plan_swap(alloc, &built, force, steps) {
             Err(fault) => Err(SwapLeft { built, fault }),
@@ -87,9 +87,9 @@ impl MapState {
         ensures refused { IfErr result (IsSwapFault built.now force self.old.state) }
 
         // As of `swap`.
-        ensures unrebuilt { (p : PartAt) → IsQuietSwap built.now p self.old.state
+        ensures unrebuilt { (p : PartAt) → IsUnrebuiltSwap built.now p self.old.state
             → IfOk result (λ x. x.tree ≡ replaced_at p.path built.now.tree self.old.state.tree) }
-        ensures ticks { (p : PartAt) → IsQuietSwap built.now p self.old.state → steps.new ≤ steps.old + length p.path }
+        ensures ticks { (p : PartAt) → IsUnrebuiltSwap built.now p self.old.state → steps.new ≤ steps.old + length p.path }
     {
         let Some(part) = self.part_built(built) else {
             return Err(SwapFault::Stale {
@@ -123,9 +123,9 @@ impl MapState {
         ensures cause { IfErr result (IsUnswappedCause built.now) }
 
         // As of `swap`.
-        ensures unrebuilt { (p : PartAt) → IsQuietSwap built.now p self.now.state
+        ensures unrebuilt { (p : PartAt) → IsUnrebuiltSwap built.now p self.now.state
             → IfOk result (λ x. x.tree ≡ replaced_at p.path built.now.tree self.now.state.tree) }
-        ensures ticks { (p : PartAt) → IsQuietSwap built.now p self.now.state → steps.new ≤ steps.old + length p.path }
+        ensures ticks { (p : PartAt) → IsUnrebuiltSwap built.now p self.now.state → steps.new ≤ steps.old + length p.path }
     {
         let Some(part) = self.part_known(built) else {
             return Err(Unswapped::Stale {
@@ -157,9 +157,9 @@ impl MapState {
         requires undone { ops.now ≡ undone built.now part.now }
         requires fit { Fit (contents built.now.tree) ops.now }
         ensures planned { IfOk result (IsSwapPlan built.now self.now.state) }
-        ensures unrebuilt { IsQuietSwap built.now part.now self.now.state
+        ensures unrebuilt { IsUnrebuiltSwap built.now part.now self.now.state
             → IfOk result (λ x. x.tree ≡ replaced_at part.now.path built.now.tree self.now.state.tree) }
-        ensures ticks { IsQuietSwap built.now part.now self.now.state → steps.new ≤ steps.old + length part.now.path }
+        ensures ticks { IsUnrebuiltSwap built.now part.now self.now.state → steps.new ≤ steps.old + length part.now.path }
     {
         let large = self.settings.large();
         let parts = self.parts.as_slice();

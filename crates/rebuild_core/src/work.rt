@@ -9,7 +9,7 @@ ghost use Rattle.kd_tree.specs.Contents.{contents};
 ghost use Rattle.kd_update.specs.Watches.{HaveRoom, paths_in};
 ghost use Rattle.rebuild_core.specs.Draft.{IsDraft, IsDraftLeft, IsWork, IsWorked, plain_work};
 ghost use Rattle.rebuild_core.specs.Parts.{PartAt};
-ghost use Rattle.rebuild_core.specs.Single.{IsQuiet, entered_nodes};
+ghost use Rattle.rebuild_core.specs.Single.{RebuildsNothing, entered_nodes};
 
 use kd_tree::{Path, Steps, Tree};
 use kd_update::{Replaced, Watch, Watches, marked_watched, put_watched, rebuilt, replaced};
@@ -40,9 +40,9 @@ impl Work {
         ensures draft { (next last : ℕ) (ps : List PartAt) → IsDraft large next last ps self
             → IfOk result (IsDraftLeft large next last ps) }
         ensures worked { IfOk result (IsWorked 0 1 self) }
-        ensures unrebuilt { HaveRoom self.watches → IsQuiet large (Mark choice.now tag) self.tree
+        ensures unrebuilt { HaveRoom self.watches → RebuildsNothing large (Mark choice.now tag) self.tree
             → IfOk result (λ w. w ≡ plain_work (Mark choice.now tag) self) }
-        ensures ticks { HaveRoom self.watches → IsQuiet large (Mark choice.now tag) self.tree
+        ensures ticks { HaveRoom self.watches → RebuildsNothing large (Mark choice.now tag) self.tree
             → steps.new ≤ steps.old + (5 * entered_nodes (Mark choice.now tag) self.tree + 1) }
     {
         let work = self.without_full(alloc, large, steps)?;
@@ -67,9 +67,9 @@ impl Work {
         ensures draft { (next last : ℕ) (ps : List PartAt) → number < next → IsDraft large next last ps self
             → IfOk result (IsDraftLeft large next last ps) }
         ensures worked { IfOk result (IsWorked 1 1 self) }
-        ensures unrebuilt { HaveRoom self.watches → IsQuiet large (Put number point) self.tree
+        ensures unrebuilt { HaveRoom self.watches → RebuildsNothing large (Put number point) self.tree
             → IfOk result (λ w. w ≡ plain_work (Put number point) self) }
-        ensures ticks { HaveRoom self.watches → IsQuiet large (Put number point) self.tree
+        ensures ticks { HaveRoom self.watches → RebuildsNothing large (Put number point) self.tree
             → steps.new ≤ steps.old + (5 * entered_nodes (Put number point) self.tree + 1) }
     {
         let work = self.roomy(alloc, large, steps)?;

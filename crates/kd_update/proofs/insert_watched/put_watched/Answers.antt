@@ -8,8 +8,8 @@ use Rattle.kd_tree.specs.Contents.{contents}
 use Rattle.kd_tree.specs.declared.path.Side.{Side}
 use Rattle.kd_tree.proofs.Actions.{sound_once}
 use Rattle.kd_update.specs.Refresh.{AreAmong}
-use Rattle.kd_update.specs.Put.{IsRouteCalm, put_shape}
-use Rattle.kd_update.specs.Several.{AreLargeAt, AreWatched, IsEvenClear, IsUpdatedClear}
+use Rattle.kd_update.specs.Put.{RebuildsNoneOnRoute, put_shape}
+use Rattle.kd_update.specs.Several.{AreLargeAt, AreWatched, IsBalancedClear, IsUpdatedClear}
 use Rattle.kd_update.specs.Watch.{IsWatched, logged_put}
 use Rattle.kd_update.specs.Watches.{paths_in}
 use Rattle.kd_update.specs.Ways.{paths_of}
@@ -29,7 +29,7 @@ returns-clause-contents g c =
     let ways : paths_of c.of-ways.result ≡ paths_in c.args.watches.now = c.of-ways.ensures ∙ ap paths_in c.as_slice.ensures.value ∙ same_paths c.args.watches.now c.log_puts.new.watches c.log_puts.ensures.begins in
     let ps = paths_in c.args.watches.now in
     let plain = put_shape c.args.number c.args.point c.args.tree in
-    let C = IsRouteCalm c.args.large c.args.point plain in
+    let C = RebuildsNoneOnRoute c.args.large c.args.point plain in
     IfOk-weaker c.put_clear.result _ (λ t. contents t ≡ put (contents c.args.tree) c.args.number c.args.point)
     (λ t k. let u = subst (λ (qs : List (List Side)). IsUpdatedClear c.args.large qs c.args.tree plain C t) ways k in refresh_contents plain t (once-put c.args.number c.args.point X c.args.tree (sound_once c.args.tree c.size-size.ensures.sound) c.requires.new) u.refresh ∙ contents-put c.args.number c.args.point X c.args.tree (sound_once c.args.tree c.size-size.ensures.sound) c.requires.new) c.put_clear.ensures.updated
 
@@ -38,7 +38,7 @@ returns-clause-numbers g c =
     let ways : paths_of c.of-ways.result ≡ paths_in c.args.watches.now = c.of-ways.ensures ∙ ap paths_in c.as_slice.ensures.value ∙ same_paths c.args.watches.now c.log_puts.new.watches c.log_puts.ensures.begins in
     let ps = paths_in c.args.watches.now in
     let plain = put_shape c.args.number c.args.point c.args.tree in
-    let C = IsRouteCalm c.args.large c.args.point plain in
+    let C = RebuildsNoneOnRoute c.args.large c.args.point plain in
     IfOk-weaker c.put_clear.result _ (λ t. AreAmong (numbers t) (c.args.number ∷ numbers c.args.tree))
     (λ t k n m. let u = subst (λ (qs : List (List Side)). IsUpdatedClear c.args.large qs c.args.tree plain C t) ways k in numbers-put c.args.number c.args.point X keep_tag c.args.tree n (u.refresh.from n m)) c.put_clear.ensures.updated
 
@@ -47,7 +47,7 @@ returns-clause-there g c =
     let ways : paths_of c.of-ways.result ≡ paths_in c.args.watches.now = c.of-ways.ensures ∙ ap paths_in c.as_slice.ensures.value ∙ same_paths c.args.watches.now c.log_puts.new.watches c.log_puts.ensures.begins in
     let ps = paths_in c.args.watches.now in
     let plain = put_shape c.args.number c.args.point c.args.tree in
-    let C = IsRouteCalm c.args.large c.args.point plain in
+    let C = RebuildsNoneOnRoute c.args.large c.args.point plain in
     IfOk-weaker c.put_clear.result _ (λ t. AreLargeAt c.args.large ps t)
     (λ t k. let u = subst (λ (qs : List (List Side)). IsUpdatedClear c.args.large qs c.args.tree plain C t) ways k in large_all_same c.args.large ps plain t u.same (large_all_put c.args.large c.args.number c.args.point X ps c.args.tree c.size-size.ensures.sound c.requires.new (omega (arith, c.requires.few)) c.requires.there)) c.put_clear.ensures.updated
 
@@ -56,7 +56,7 @@ returns-clause-watched g c =
     let ways : paths_of c.of-ways.result ≡ paths_in c.args.watches.now = c.of-ways.ensures ∙ ap paths_in c.as_slice.ensures.value ∙ same_paths c.args.watches.now c.log_puts.new.watches c.log_puts.ensures.begins in
     let ps = paths_in c.args.watches.now in
     let plain = put_shape c.args.number c.args.point c.args.tree in
-    let C = IsRouteCalm c.args.large c.args.point plain in
+    let C = RebuildsNoneOnRoute c.args.large c.args.point plain in
     IfOk-weaker c.put_clear.result _ (λ t. AreWatched (λ p. IsWatched p c.args.tree t (logged_put c.args.number c.args.point p c.args.tree)) ps)
     (λ t k. let u = subst (λ (qs : List (List Side)). IsUpdatedClear c.args.large qs c.args.tree plain C t) ways k in all_watched-put c.args.large c.args.number c.args.point X ps c.args.tree t c.size-size.ensures.sound c.requires.new (omega (arith, c.requires.few)) c.requires.there u.same) c.put_clear.ensures.updated
 
@@ -65,6 +65,6 @@ returns-clause-balance g c = λ even.
     let ways : paths_of c.of-ways.result ≡ paths_in c.args.watches.now = c.of-ways.ensures ∙ ap paths_in c.as_slice.ensures.value ∙ same_paths c.args.watches.now c.log_puts.new.watches c.log_puts.ensures.begins in
     let ps = paths_in c.args.watches.now in
     let plain = put_shape c.args.number c.args.point c.args.tree in
-    let C = IsRouteCalm c.args.large c.args.point plain in
-    IfOk-weaker c.put_clear.result _ (λ t. IsEvenClear c.args.large ps t)
+    let C = RebuildsNoneOnRoute c.args.large c.args.point plain in
+    IfOk-weaker c.put_clear.result _ (λ t. IsBalancedClear c.args.large ps t)
     (λ t k. let u = subst (λ (qs : List (List Side)). IsUpdatedClear c.args.large qs c.args.tree plain C t) ways k in u.balance even) c.put_clear.ensures.updated

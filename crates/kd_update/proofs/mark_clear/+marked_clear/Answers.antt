@@ -7,7 +7,7 @@ use Rattle.kd_tree.specs.Apart.{onward}
 use Rattle.kd_tree.specs.declared.path.Side.{Side}
 use Rattle.kd_tree.specs.declared.path.Side.TheVariants.{Left, Right}
 use Rattle.kd_tree.specs.Parts.{fork_in, fork_of}
-use Rattle.kd_update.specs.Mark.{IsVisitCalm, marked_shape}
+use Rattle.kd_update.specs.Mark.{RebuildsNoneEntered, marked_shape}
 use Rattle.kd_update.specs.Several.{AreLargeAt, IsUpdatedClear}
 use Rattle.kd_update.specs.Ways.{paths_of}
 use Rattle.kd_update.proofs.InBox.{entered_all}
@@ -22,27 +22,27 @@ use Rattle.kd_update.proofs.mark_clear.+marked_clear.Goals as goal
 pub returns-then-is_empty-clause-updated : goal.returns-then-is_empty-clause-updated
 returns-then-is_empty-clause-updated g t c =
     let none = none_of (paths_of c.args.ways.now) (sym c.is_empty.ensures ∙ c.if-is_empty.true) in
-    IfOk-weaker c.marked_within.result _ (λ u. IsUpdatedClear c.args.large (paths_of c.args.ways.now) c.args.tree (marked_shape c.args.choice.now c.args.tag c.args.tree) (IsVisitCalm c.args.large c.args.choice.now (marked_shape c.args.choice.now c.args.tag c.args.tree)) u)
-    (λ u k. subst (λ (ps : List (List Side)). IsUpdatedClear c.args.large ps c.args.tree (marked_shape c.args.choice.now c.args.tag c.args.tree) (IsVisitCalm c.args.large c.args.choice.now (marked_shape c.args.choice.now c.args.tag c.args.tree)) u) (sym none) (clear_none c.args.large c.args.tree (marked_shape c.args.choice.now c.args.tag c.args.tree) u (IsVisitCalm c.args.large c.args.choice.now (marked_shape c.args.choice.now c.args.tag c.args.tree)) k)) c.marked_within.ensures.updated
+    IfOk-weaker c.marked_within.result _ (λ u. IsUpdatedClear c.args.large (paths_of c.args.ways.now) c.args.tree (marked_shape c.args.choice.now c.args.tag c.args.tree) (RebuildsNoneEntered c.args.large c.args.choice.now (marked_shape c.args.choice.now c.args.tag c.args.tree)) u)
+    (λ u k. subst (λ (ps : List (List Side)). IsUpdatedClear c.args.large ps c.args.tree (marked_shape c.args.choice.now c.args.tag c.args.tree) (RebuildsNoneEntered c.args.large c.args.choice.now (marked_shape c.args.choice.now c.args.tag c.args.tree)) u) (sym none) (clear_none c.args.large c.args.tree (marked_shape c.args.choice.now c.args.tag c.args.tree) u (RebuildsNoneEntered c.args.large c.args.choice.now (marked_shape c.args.choice.now c.args.tag c.args.tree)) k)) c.marked_within.ensures.updated
 
 pub returns-then-is_here-clause-updated : goal.returns-then-is_here-clause-updated
 returns-then-is_here-clause-updated g t c =
-    IfOk-weaker c.marked_within-then-is_here.result _ (λ u. IsUpdatedClear c.args.large (paths_of c.args.ways.now) c.args.tree (marked_shape c.args.choice.now c.args.tag c.args.tree) (IsVisitCalm c.args.large c.args.choice.now (marked_shape c.args.choice.now c.args.tag c.args.tree)) u)
-    (λ u k. clear_here c.args.large (paths_of c.args.ways.now) c.args.tree (marked_shape c.args.choice.now c.args.tag c.args.tree) u (IsVisitCalm c.args.large c.args.choice.now (marked_shape c.args.choice.now c.args.tag c.args.tree)) (sym c.is_here.ensures ∙ c.if-is_here.true) (k.unrebuilt (calm_none c.args.choice.now (marked_shape c.args.choice.now c.args.tag c.args.tree)))) c.marked_within-then-is_here.ensures.updated
+    IfOk-weaker c.marked_within-then-is_here.result _ (λ u. IsUpdatedClear c.args.large (paths_of c.args.ways.now) c.args.tree (marked_shape c.args.choice.now c.args.tag c.args.tree) (RebuildsNoneEntered c.args.large c.args.choice.now (marked_shape c.args.choice.now c.args.tag c.args.tree)) u)
+    (λ u k. clear_here c.args.large (paths_of c.args.ways.now) c.args.tree (marked_shape c.args.choice.now c.args.tag c.args.tree) u (RebuildsNoneEntered c.args.large c.args.choice.now (marked_shape c.args.choice.now c.args.tag c.args.tree)) (sym c.is_here.ensures ∙ c.if-is_here.true) (k.unrebuilt (calm_none c.args.choice.now (marked_shape c.args.choice.now c.args.tag c.args.tree)))) c.marked_within-then-is_here.ensures.updated
 
 pub returns-then-is_here-clause-ticks : goal.returns-then-is_here-clause-ticks
 returns-then-is_here-clause-ticks g t c = λ calm. c.marked_within-then-is_here.ensures.ticks (calm_none c.args.choice.now (marked_shape c.args.choice.now c.args.tag c.args.tree))
 
 pub returns-in_default-clause-updated : goal.returns-in_default-clause-updated
-returns-in_default-clause-updated g t c = clear_none_there c.args.large c.args.choice.now c.args.tag (paths_of c.args.ways.now) c.args.tree (IsVisitCalm c.args.large c.args.choice.now (marked_shape c.args.choice.now c.args.tag c.args.tree)) (sym c.in_default.is ∙ c.reach_of.ensures)
+returns-in_default-clause-updated g t c = clear_none_there c.args.large c.args.choice.now c.args.tag (paths_of c.args.ways.now) c.args.tree (RebuildsNoneEntered c.args.large c.args.choice.now (marked_shape c.args.choice.now c.args.tag c.args.tree)) (sym c.in_default.is ∙ c.reach_of.ensures)
 
 pub returns-then-not-meets-clause-updated : goal.returns-then-not-meets-clause-updated
-returns-then-not-meets-clause-updated g t c = clear_missed c.args.large c.args.choice.now c.args.tag (paths_of c.args.ways.now) c.args.tree (IsVisitCalm c.args.large c.args.choice.now (marked_shape c.args.choice.now c.args.tag c.args.tree)) c.in-Some.reach (sym c.in-Some.is ∙ c.reach_of.ensures) (sym c.meets.ensures ∙ c.if-not-meets.true)
+returns-then-not-meets-clause-updated g t c = clear_missed c.args.large c.args.choice.now c.args.tag (paths_of c.args.ways.now) c.args.tree (RebuildsNoneEntered c.args.large c.args.choice.now (marked_shape c.args.choice.now c.args.tag c.args.tree)) c.in-Some.reach (sym c.in-Some.is ∙ c.reach_of.ensures) (sym c.meets.ensures ∙ c.if-not-meets.true)
 
 pub returns-then-covers-clause-updated : goal.returns-then-covers-clause-updated
 returns-then-covers-clause-updated g t c =
-    let done = clear_covered c.args.large c.args.choice.now c.args.tag (paths_of c.args.ways.now) c.args.tree (IsVisitCalm c.args.large c.args.choice.now (marked_shape c.args.choice.now c.args.tag c.args.tree)) c.in-Some.reach (sym c.in-Some.is ∙ c.reach_of.ensures) (sym c.meets.ensures ∙ c.if-not-meets.false) (sym c.covers.ensures ∙ c.if-covers.true) in
-    IfOk-weaker c.tagged.result _ _ (λ u e. subst (IsUpdatedClear c.args.large (paths_of c.args.ways.now) c.args.tree (marked_shape c.args.choice.now c.args.tag c.args.tree) (IsVisitCalm c.args.large c.args.choice.now (marked_shape c.args.choice.now c.args.tag c.args.tree))) (sym e) done) c.tagged.ensures.shape
+    let done = clear_covered c.args.large c.args.choice.now c.args.tag (paths_of c.args.ways.now) c.args.tree (RebuildsNoneEntered c.args.large c.args.choice.now (marked_shape c.args.choice.now c.args.tag c.args.tree)) c.in-Some.reach (sym c.in-Some.is ∙ c.reach_of.ensures) (sym c.meets.ensures ∙ c.if-not-meets.false) (sym c.covers.ensures ∙ c.if-covers.true) in
+    IfOk-weaker c.tagged.result _ _ (λ u e. subst (IsUpdatedClear c.args.large (paths_of c.args.ways.now) c.args.tree (marked_shape c.args.choice.now c.args.tag c.args.tree) (RebuildsNoneEntered c.args.large c.args.choice.now (marked_shape c.args.choice.now c.args.tag c.args.tree))) (sym e) done) c.tagged.ensures.shape
 
 pub returns-then-covers-clause-ticks : goal.returns-then-covers-clause-ticks
 returns-then-covers-clause-ticks g t c = λ calm.
@@ -115,8 +115,8 @@ returns-clause-updated g t c =
     let rights : paths_of c.onward-rights.result ≡ onward Right (paths_of c.args.ways.now) = c.onward-rights.ensures in
     let ml = marked_shape c.args.choice.now c.args.tag f.left in
     let mr = marked_shape c.args.choice.now c.args.tag f.right in
-    let u = subst (λ (ps : List (List Side)). IsUpdatedClear c.args.large ps f.left ml (IsVisitCalm c.args.large c.args.choice.now ml) c.in_ok-left.left) lefts c.in_ok-left.ensures.updated in
-    let v = subst (λ (ps : List (List Side)). IsUpdatedClear c.args.large ps f.right mr (IsVisitCalm c.args.large c.args.choice.now mr) c.in_ok-right.right) rights c.in_ok-right.ensures.updated in
+    let u = subst (λ (ps : List (List Side)). IsUpdatedClear c.args.large ps f.left ml (RebuildsNoneEntered c.args.large c.args.choice.now ml) c.in_ok-left.left) lefts c.in_ok-left.ensures.updated in
+    let v = subst (λ (ps : List (List Side)). IsUpdatedClear c.args.large ps f.right mr (RebuildsNoneEntered c.args.large c.args.choice.now mr) c.in_ok-right.right) rights c.in_ok-right.ensures.updated in
     let done = marked_joined c.args.large c.args.choice.now c.args.tag (paths_of c.args.ways.now) c.args.tree f c.in_ok-left.left c.in_ok-right.right w y c.requires (sym c.is_here.ensures ∙ c.if-is_here.false) (some_of (paths_of c.args.ways.now) (sym c.is_empty.ensures ∙ c.if-is_empty.false)) u v in
-    let made = subst (λ (j : Item). IsUpdatedClear c.args.large (paths_of c.args.ways.now) c.args.tree (marked_shape c.args.choice.now c.args.tag c.args.tree) (IsVisitCalm c.args.large c.args.choice.now (marked_shape c.args.choice.now c.args.tag c.args.tree)) (fork (head j f.axis) c.in_ok-left.left c.in_ok-right.right)) (sym c.marked_item-item.ensures) done in
-    IfOk-weaker c.joined.result _ (λ z. IsUpdatedClear c.args.large (paths_of c.args.ways.now) c.args.tree (marked_shape c.args.choice.now c.args.tag c.args.tree) (IsVisitCalm c.args.large c.args.choice.now (marked_shape c.args.choice.now c.args.tag c.args.tree)) z) (λ z e. subst (IsUpdatedClear c.args.large (paths_of c.args.ways.now) c.args.tree (marked_shape c.args.choice.now c.args.tag c.args.tree) (IsVisitCalm c.args.large c.args.choice.now (marked_shape c.args.choice.now c.args.tag c.args.tree))) (sym e) made) c.joined.ensures.shape
+    let made = subst (λ (j : Item). IsUpdatedClear c.args.large (paths_of c.args.ways.now) c.args.tree (marked_shape c.args.choice.now c.args.tag c.args.tree) (RebuildsNoneEntered c.args.large c.args.choice.now (marked_shape c.args.choice.now c.args.tag c.args.tree)) (fork (head j f.axis) c.in_ok-left.left c.in_ok-right.right)) (sym c.marked_item-item.ensures) done in
+    IfOk-weaker c.joined.result _ (λ z. IsUpdatedClear c.args.large (paths_of c.args.ways.now) c.args.tree (marked_shape c.args.choice.now c.args.tag c.args.tree) (RebuildsNoneEntered c.args.large c.args.choice.now (marked_shape c.args.choice.now c.args.tag c.args.tree)) z) (λ z e. subst (IsUpdatedClear c.args.large (paths_of c.args.ways.now) c.args.tree (marked_shape c.args.choice.now c.args.tag c.args.tree) (RebuildsNoneEntered c.args.large c.args.choice.now (marked_shape c.args.choice.now c.args.tag c.args.tree))) (sym e) made) c.joined.ensures.shape

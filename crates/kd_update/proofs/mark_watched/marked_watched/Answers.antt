@@ -7,8 +7,8 @@ use Rattle.kd_tree.specs.Contents.{contents}
 use Rattle.kd_tree.specs.declared.path.Side.{Side}
 use Rattle.kd_tree.proofs.Actions.{sound_once}
 use Rattle.kd_update.specs.Refresh.{AreAmong}
-use Rattle.kd_update.specs.Mark.{IsVisitCalm, marked_shape}
-use Rattle.kd_update.specs.Several.{AreLargeAt, AreWatched, IsEvenClear, IsUpdatedClear}
+use Rattle.kd_update.specs.Mark.{RebuildsNoneEntered, marked_shape}
+use Rattle.kd_update.specs.Several.{AreLargeAt, AreWatched, IsBalancedClear, IsUpdatedClear}
 use Rattle.kd_update.specs.Watch.{IsWatched, logged_mark}
 use Rattle.kd_update.specs.Watches.{paths_in}
 use Rattle.kd_update.specs.Ways.{paths_of}
@@ -29,7 +29,7 @@ returns-clause-contents g c =
     let ways : paths_of c.of-ways.result ≡ paths_in c.args.watches.now = c.of-ways.ensures ∙ ap paths_in c.as_slice.ensures.value ∙ same_paths c.args.watches.now c.log_marks.new.watches c.log_marks.ensures.begins in
     let ps = paths_in c.args.watches.now in
     let plain = marked_shape c.args.choice.now c.args.tag c.args.tree in
-    let C = IsVisitCalm c.args.large c.args.choice.now plain in
+    let C = RebuildsNoneEntered c.args.large c.args.choice.now plain in
     IfOk-weaker c.marked_clear.result _ (λ t. contents t ≡ mark (contents c.args.tree) (chosen_by c.args.choice.now) c.args.tag)
     (λ t k. let u = subst (λ (qs : List (List Side)). IsUpdatedClear c.args.large qs c.args.tree plain C t) ways k in refresh_contents plain t (once-marked c.args.choice.now c.args.tag c.args.tree (sound_once c.args.tree c.size-size.ensures.sound)) u.refresh ∙ contents-marked c.args.choice.now c.args.tag c.args.tree) c.marked_clear.ensures.updated
 
@@ -38,7 +38,7 @@ returns-clause-numbers g c =
     let ways : paths_of c.of-ways.result ≡ paths_in c.args.watches.now = c.of-ways.ensures ∙ ap paths_in c.as_slice.ensures.value ∙ same_paths c.args.watches.now c.log_marks.new.watches c.log_marks.ensures.begins in
     let ps = paths_in c.args.watches.now in
     let plain = marked_shape c.args.choice.now c.args.tag c.args.tree in
-    let C = IsVisitCalm c.args.large c.args.choice.now plain in
+    let C = RebuildsNoneEntered c.args.large c.args.choice.now plain in
     IfOk-weaker c.marked_clear.result _ (λ t. AreAmong (numbers t) (numbers c.args.tree))
     (λ t k. let u = subst (λ (qs : List (List Side)). IsUpdatedClear c.args.large qs c.args.tree plain C t) ways k in subst (AreAmong (numbers t)) (numbers-marked c.args.choice.now c.args.tag keep_tag c.args.tree) u.refresh.from) c.marked_clear.ensures.updated
 
@@ -47,7 +47,7 @@ returns-clause-there g c =
     let ways : paths_of c.of-ways.result ≡ paths_in c.args.watches.now = c.of-ways.ensures ∙ ap paths_in c.as_slice.ensures.value ∙ same_paths c.args.watches.now c.log_marks.new.watches c.log_marks.ensures.begins in
     let ps = paths_in c.args.watches.now in
     let plain = marked_shape c.args.choice.now c.args.tag c.args.tree in
-    let C = IsVisitCalm c.args.large c.args.choice.now plain in
+    let C = RebuildsNoneEntered c.args.large c.args.choice.now plain in
     IfOk-weaker c.marked_clear.result _ (λ t. AreLargeAt c.args.large ps t)
     (λ t k. let u = subst (λ (qs : List (List Side)). IsUpdatedClear c.args.large qs c.args.tree plain C t) ways k in large_all_same c.args.large ps plain t u.same (large_all_marked c.args.large c.args.choice.now c.args.tag ps c.args.tree c.requires.there)) c.marked_clear.ensures.updated
 
@@ -56,7 +56,7 @@ returns-clause-watched g c =
     let ways : paths_of c.of-ways.result ≡ paths_in c.args.watches.now = c.of-ways.ensures ∙ ap paths_in c.as_slice.ensures.value ∙ same_paths c.args.watches.now c.log_marks.new.watches c.log_marks.ensures.begins in
     let ps = paths_in c.args.watches.now in
     let plain = marked_shape c.args.choice.now c.args.tag c.args.tree in
-    let C = IsVisitCalm c.args.large c.args.choice.now plain in
+    let C = RebuildsNoneEntered c.args.large c.args.choice.now plain in
     IfOk-weaker c.marked_clear.result _ (λ t. AreWatched (λ p. IsWatched p c.args.tree t (logged_mark c.args.choice.now c.args.tag p c.args.tree)) ps)
     (λ t k. let u = subst (λ (qs : List (List Side)). IsUpdatedClear c.args.large qs c.args.tree plain C t) ways k in all_watched-mark c.args.large c.args.choice.now c.args.tag ps c.args.tree t c.requires.there u.same) c.marked_clear.ensures.updated
 
@@ -65,8 +65,8 @@ returns-clause-balance g c = λ even.
     let ways : paths_of c.of-ways.result ≡ paths_in c.args.watches.now = c.of-ways.ensures ∙ ap paths_in c.as_slice.ensures.value ∙ same_paths c.args.watches.now c.log_marks.new.watches c.log_marks.ensures.begins in
     let ps = paths_in c.args.watches.now in
     let plain = marked_shape c.args.choice.now c.args.tag c.args.tree in
-    let C = IsVisitCalm c.args.large c.args.choice.now plain in
-    IfOk-weaker c.marked_clear.result _ (λ t. IsEvenClear c.args.large ps t)
+    let C = RebuildsNoneEntered c.args.large c.args.choice.now plain in
+    IfOk-weaker c.marked_clear.result _ (λ t. IsBalancedClear c.args.large ps t)
     (λ t k. let u = subst (λ (qs : List (List Side)). IsUpdatedClear c.args.large qs c.args.tree plain C t) ways k in u.balance even) c.marked_clear.ensures.updated
 
 pub returns-clause-ticks : goal.returns-clause-ticks

@@ -7,7 +7,7 @@ use Rattle.std.proofs.lemmas.List.Elements.{All-head}
 use Rattle.node_labels.specs.declared.label.Label.TheVariants.{Live}
 use Rattle.map_fold.specs.declared.item.Item.{Item}
 use Rattle.kd_tree.specs.Parts.{fork_in, fork_of}
-use Rattle.kd_update.specs.Update.{IsEven}
+use Rattle.kd_update.specs.Update.{IsBalancedBelow}
 use Rattle.kd_update.specs.Scan.{AreLive, IsGrown}
 use Rattle.kd_update.proofs.Trees.{pushed_smaller}
 use Rattle.kd_update.proofs.Grown.{grown_moved, grown_none, grown_put, piece_moved, piece_new, step_at, step_pieces, step_sound, step_grown, step_even}
@@ -73,5 +73,5 @@ returns-clause-grown g t c =
 
 pub returns-clause-balance : goal.returns-clause-balance
 returns-clause-balance g t c =
-    IfOk-weaker c.rejoined.result _ (λ v. IsEven c.args.large c.args.tree → IsEven c.args.large v)
+    IfOk-weaker c.rejoined.result _ (λ v. IsBalancedBelow c.args.large c.args.tree → IsBalancedBelow c.args.large v)
     (λ v done even. step_even c.args.large c.args.tree (fork_of c.in-Some-2.node) c.in_ok-left.left c.in_ok-right.right v (ap fork_in (sym c.in-Some-2.is) ∙ c.in_ok-node.ensures.parts) c.in_ok-left.ensures.balance c.in_ok-right.ensures.balance done even) c.rejoined.ensures.due

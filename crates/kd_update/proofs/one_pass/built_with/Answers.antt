@@ -3,7 +3,7 @@ use Rattle.std.proofs.lemmas.Result.{IfOk-weaker}
 use Rattle.node_labels.specs.Labels.{keep_tag}
 use Rattle.kd_tree.proofs.Held.{walk_few}
 use Rattle.kd_update.specs.Scan.{IsGrown}
-use Rattle.kd_update.specs.Update.{IsEven}
+use Rattle.kd_update.specs.Update.{IsBalancedBelow}
 use Rattle.kd_update.proofs.Grown.{grown_built, live_kept}
 use Rattle.kd_update.proofs.Results.{ok_both}
 use Rattle.kd_update.proofs.Update.{calm_even}
@@ -22,4 +22,4 @@ returns-clause-grown g c =
     ok_both c.built_anew.result _ _ (λ t. IsGrown s is t) (λ t b ns. grown_built c.args.large s t is c.requires.piece b ns) c.built_anew.ensures.shape c.built_anew.ensures.numbers
 
 pub returns-clause-balance : goal.returns-clause-balance
-returns-clause-balance g c = IfOk-weaker c.built_anew.result _ (λ t. IsEven c.args.large t) (λ t calm. calm_even c.args.large t calm) c.built_anew.ensures.calm
+returns-clause-balance g c = IfOk-weaker c.built_anew.result _ (λ t. IsBalancedBelow c.args.large t) (λ t calm. calm_even c.args.large t calm) c.built_anew.ensures.calm

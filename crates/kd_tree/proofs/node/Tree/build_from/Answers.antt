@@ -4,7 +4,7 @@ use Rattle.std.proofs.lemmas.Result.{IfOk-weaker}
 use Rattle.map_fold.specs.declared.item.Item.{Item}
 use Rattle.kd_tree.specs.Shape.{levels, nodes, numbers}
 use Rattle.kd_tree.specs.Contents.{by_number, contents}
-use Rattle.kd_tree.specs.Criteria.{IsCalm}
+use Rattle.kd_tree.specs.Criteria.{AllMeetCriteria}
 use Rattle.kd_tree.specs.Build.{IsBuilt}
 use Rattle.kd_tree.proofs.Medians.{built_calm, built_levels, built_nodes, built_numbers, contents-built}
 use Rattle.kd_tree.proofs.node.Tree.build_from.Goals as goal
@@ -22,7 +22,7 @@ returns-clause-contents g c =
 pub returns-clause-calm : goal.returns-clause-calm
 returns-clause-calm g c =
     let xs = c.args.items.items in
-    IfOk-weaker c.built.result (IsBuilt xs) (λ t. IsCalm 10 t) (λ t k. built_calm t xs k c.requires.kept) (of_items g c)
+    IfOk-weaker c.built.result (IsBuilt xs) (λ t. AllMeetCriteria 10 t) (λ t k. built_calm t xs k c.requires.kept) (of_items g c)
 
 pub returns-clause-numbers : goal.returns-clause-numbers
 returns-clause-numbers g c =

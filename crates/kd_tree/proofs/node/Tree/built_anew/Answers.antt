@@ -7,7 +7,7 @@ use Rattle.map_fold.specs.declared.item.Item.{Item}
 use Rattle.kd_tree.specs.Shape.{Shape, levels, nodes, numbers}
 use Rattle.kd_tree.specs.Walk.{walk}
 use Rattle.kd_tree.specs.Contents.{AreKept, by_number, contents}
-use Rattle.kd_tree.specs.Criteria.{IsCalm}
+use Rattle.kd_tree.specs.Criteria.{AllMeetCriteria}
 use Rattle.kd_tree.specs.Build.{IsBuilt}
 use Rattle.kd_tree.proofs.Medians.{built_calm, built_levels, built_nodes, built_numbers, contents-built}
 use Rattle.kd_tree.proofs.Held.{walk_kept}
@@ -44,7 +44,7 @@ returns-clause-contents g c =
 pub returns-clause-calm : goal.returns-clause-calm
 returns-clause-calm g c =
     let xs = walk keep_tag c.args.self ++ c.args.more.now in
-    IfOk-weaker c.built_in.result (IsBuilt xs) (λ t. IsCalm 10 t)
+    IfOk-weaker c.built_in.result (IsBuilt xs) (λ t. AllMeetCriteria 10 t)
     (λ t k. built_calm t xs k (kept_with c.args.self c.args.more.now c.requires.kept)) (of_items g (goal.at.returns-clause-calm g c).After-built_in)
 
 pub returns-clause-numbers : goal.returns-clause-numbers

@@ -8,7 +8,7 @@ use Rattle.kd_tree.specs.Apart.{IsClear}
 use Rattle.kd_tree.specs.declared.path.Side.{Side}
 use Rattle.kd_update.specs.Refresh.{AreAmong}
 use Rattle.kd_update.specs.Replace.{HasRoomAt, StandsFor}
-use Rattle.kd_update.specs.Several.{AreLargeAt, AreSameAt, IsEvenClear}
+use Rattle.kd_update.specs.Several.{AreLargeAt, AreSameAt, IsBalancedClear}
 use Rattle.rebuild_core.specs.Built.{undone}
 use Rattle.rebuild_core.specs.Swap.{IsCaughtUp}
 use Rattle.rebuild_core.specs.Lawful.{IsLawful, Stored, VersionAt}
@@ -86,12 +86,12 @@ returns-clause-planned g c =
     let room : (anew ≡ false) ↔ HasRoomAt p.path with s.tree =
     subst (λ (q : List Side). (anew ≡ false) ↔ HasRoomAt q with s.tree) path (subst (λ (x : Shape). (anew ≡ false) ↔ HasRoomAt c.part.inside.path with x) tree c.in_ok-tree-2.ensures.anew) in
     let outside = swap_outside s b p lawful c.requires.of in
-    let outside_here : IsEvenClear c.large-large.result (c.part.inside.path ∷ c.as_slice.result.now) c.in_ok-tree.tree =
-    subst (λ n. IsEvenClear n (c.part.inside.path ∷ c.as_slice.result.now) c.in_ok-tree.tree) (sym large)
-    (subst (λ (q : List Side). IsEvenClear s.settings.large (q ∷ c.as_slice.result.now) c.in_ok-tree.tree) (sym path)
-    (subst (λ (qs : List (List Side)). IsEvenClear s.settings.large (p.path ∷ qs) c.in_ok-tree.tree) (sym others) (subst (λ (x : Shape). IsEvenClear s.settings.large (p.path ∷ paths (without b.ticket s.parts)) x) (sym tree) outside))) in
-    let even : IsEvenClear s.settings.large (paths (without b.ticket s.parts)) t =
-    subst (λ n. IsEvenClear n (paths (without b.ticket s.parts)) t) large (subst (λ (qs : List (List Side)). IsEvenClear c.large-large.result qs t) others (c.in_ok-tree-2.ensures.balance outside_here c.in_ok-with.ensures.balance)) in
+    let outside_here : IsBalancedClear c.large-large.result (c.part.inside.path ∷ c.as_slice.result.now) c.in_ok-tree.tree =
+    subst (λ n. IsBalancedClear n (c.part.inside.path ∷ c.as_slice.result.now) c.in_ok-tree.tree) (sym large)
+    (subst (λ (q : List Side). IsBalancedClear s.settings.large (q ∷ c.as_slice.result.now) c.in_ok-tree.tree) (sym path)
+    (subst (λ (qs : List (List Side)). IsBalancedClear s.settings.large (p.path ∷ qs) c.in_ok-tree.tree) (sym others) (subst (λ (x : Shape). IsBalancedClear s.settings.large (p.path ∷ paths (without b.ticket s.parts)) x) (sym tree) outside))) in
+    let even : IsBalancedClear s.settings.large (paths (without b.ticket s.parts)) t =
+    subst (λ n. IsBalancedClear n (paths (without b.ticket s.parts)) t) large (subst (λ (qs : List (List Side)). IsBalancedClear c.large-large.result qs t) others (c.in_ok-tree-2.ensures.balance outside_here c.in_ok-with.ensures.balance)) in
     let same : anew ≡ false → AreSameAt (paths (without b.ticket s.parts)) t s.tree =
     λ e. subst (λ (qs : List (List Side)). AreSameAt qs t s.tree) others (subst (λ (x : Shape). AreSameAt c.as_slice.result.now t x) tree (c.in_ok-tree-2.ensures.others e)) in
     let V : ℕ → ℕ → VersionAt = λ n m. record { tree = t; next = n; len = m } in

@@ -4,7 +4,7 @@ use Rattle.kd_tree.specs.Apart.{IsClear}
 use Rattle.kd_tree.specs.declared.path.Side.{Side}
 use Rattle.kd_update.specs.declared.watch.Watch.{Watch}
 use Rattle.kd_update.specs.Refresh.{AreAmong}
-use Rattle.kd_update.specs.Several.{AreLargeAt, AreSameAt, IsEvenClear}
+use Rattle.kd_update.specs.Several.{AreLargeAt, AreSameAt, IsBalancedClear}
 use Rattle.kd_update.specs.Watches.{paths_in}
 use Rattle.kd_update.proofs.StandsFor.{replaced_nodes}
 use Rattle.kd_update.proofs.Update.{calm_even}
@@ -70,8 +70,8 @@ returns-clause-draft g c = λ next last ps d.
     let others : c.as_slice-2.result.now ≡ paths_in ws = c.as_slice-2.ensures.value ∙ c.in_ok-others.ensures ∙ ap paths_in c.as_slice.ensures.value in
     let of_node : AreAmong (numbers with) (numbers node) = subst (λ (s : Shape). AreAmong (numbers with) (numbers s)) c.in_ok-node.ensures.shape c.in_ok-with.ensures.numbers in
     let among = among_part (numbers u) (numbers with) (numbers node) (numbers t) c.in_ok-tree.ensures.numbers of_node (at_numbers c.remove-path.result.path t node c.in-Some.ensures.some) in
-    let outside = subst (λ (qs : List (List Side)). IsEvenClear c.args.large (c.remove-path.result.path ∷ qs) t) (sym others) k.outside in
-    let even = subst (λ (qs : List (List Side)). IsEvenClear c.args.large qs u) others (c.in_ok-tree.ensures.balance outside (calm_even c.args.large with c.in_ok-with.ensures.calm)) in
+    let outside = subst (λ (qs : List (List Side)). IsBalancedClear c.args.large (c.remove-path.result.path ∷ qs) t) (sym others) k.outside in
+    let even = subst (λ (qs : List (List Side)). IsBalancedClear c.args.large qs u) others (c.in_ok-tree.ensures.balance outside (calm_even c.args.large with c.in_ok-with.ensures.calm)) in
     let same = subst (λ (qs : List (List Side)). AreSameAt qs u t) others (c.in_ok-tree.ensures.others c.if-anew.false) in
     draft_without c.args.large next last ps c.args.self c.remove-path.result ws u d k same even among
 
