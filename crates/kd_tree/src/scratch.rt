@@ -16,7 +16,7 @@ use map_fold::{Item, NoMemory, Tag};
 use std::alloc::Global;
 use std::sync::ledger::Ledger;
 
-/// Memory for new nodes, and for building anew. What it holds between two calls means nothing.
+/// Memory for new nodes, and for rebuilding. What it holds between two calls means nothing.
 #[derive(Debug, Drop)]
 pub struct Scratch {
     items: Vec<Item>,
@@ -49,7 +49,7 @@ impl Tree {
     /// Fewer than 8,192 new nodes are made in the memory of old ones that nobody else holds, as far as that goes; what is left
     /// over is the scratch's until it is used or let go with it. More are made in fresh memory, for which a second list is taken
     /// meanwhile. Where memory is wanting, the tree is let go.
-    pub fn built_anew<L: Ledger>(
+    pub fn rebuilt_with<L: Ledger>(
         self,
         alloc: Global,
         more: &[Item],

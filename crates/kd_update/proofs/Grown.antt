@@ -1,4 +1,4 @@
--- Trees with more items than before, some subtrees built anew.
+-- Trees with more items than before, some subtrees rebuilt.
 use Rattle.std.proofs.Common.{◌≡◌, ℕ, ◌+◌, ◌≤◌, ◌≤ℤ◌, true, false, cond, inl, inr, refl, ap, sym, subst, arith, List, [], ◌∷◌, ◌++◌, Some, map, length, take, drop, length-append, append_assoc}
 use Rattle.std.specs.Prelude.{All, Contains, IsPermutation, ◌==◌}
 use Rattle.std.proofs.lemmas.List.{map-append, take-append-drop, append-nil, get_or_append_left, get_or-append-add}

@@ -90,7 +90,7 @@ same_itself (p ∷ ps) t = (refl, same_itself ps t)
 pub some_large : (large : ℕ) (p : List Side) (ps : List (List Side)) (t : Shape) → AreLargeAt large (p ∷ ps) t → large ≤ nodes t
 some_large large p ps t k = large_nodes large p t k.0
 
--- nothing is built anew
+-- nothing is rebuilt
 pub clear_plain : (large : ℕ) (ps : List (List Side)) (old t : Shape) (C : Type 0) → (IsBalancedClear large ps old → IsBalancedClear large ps t) → IsUpdatedClear large ps old t C t
 clear_plain large ps old t C k = record { refresh = refresh_same t; same = same_itself ps t; unrebuilt = λ _. refl; balance = k }
 

@@ -102,7 +102,7 @@ pub even_outside : (large : ℕ) (ps : List (List Side)) (t : Shape) → IsBalan
 even_outside large ps leaf k = tt
 even_outside large ps (fork h l r) k = λ _. (k.0, even_outside large (onward Left ps) l k.1, even_outside large (onward Right ps) r k.2)
 
--- a node with sons that are even outside the paths, built anew where it is to be
+-- a node with sons that are even outside the paths, rebuilt where it is to be
 refreshed_outside : (large : ℕ) (ps : List (List Side)) (h : Head) (l r t : Shape) → RefreshesIfDue large (fork h l r) t → (is_here ps ≡ false → IsBalancedClear large (onward Left ps) l × IsBalancedClear large (onward Right ps) r) → IsBalancedClear large ps t
 refreshed_outside large ps h l r t (inl k) e = subst (IsBalancedClear large ps) k.1 (λ here. ((λ many few. (k.0 many few).0), (e here).0, (e here).1))
 refreshed_outside large ps h l r t (inr k) e = even_outside large ps t (calm_even large t k.2)
@@ -116,7 +116,7 @@ refreshed_spared large s t (inr k) c = absurd (k.0 c)
 large_spared : (large : ℕ) (p : List Side) (s t : Shape) → RefreshesIfDue large s t → IsLargeAt large p s → t ≡ s
 large_spared large p s t k big = refreshed_spared large s t k (λ many few. absurd (omega (arith, few, large_nodes large p s big)))
 
--- what was done in a son, and then the father built anew where he is to be
+-- what was done in a son, and then the father rebuilt where he is to be
 replaced_left : (large : ℕ) (path : List Side) (h : Head) (l r other l' t : Shape) → IsSound (fork h l r) → IsReplaced large path l other l' → RefreshesIfDue large (fork h l' r) t → IsSoundFork h l' r
     → IsReplaced large (Left ∷ path) (fork h l r) other t
 replaced_left large path h l r other l' t s u k sound =
@@ -209,7 +209,7 @@ son_sound large side path leaf other s new e sound k u = absurd (cc)
 son_sound large Left path (fork h l r) other s new e sound k u = sound_left large path h l r other new sound k (subst (λ x. IsReplaced large path x other new) (sym (some_shape l s e)) u)
 son_sound large Right path (fork h l r) other s new e sound k u = sound_right large path h l r other new sound k (subst (λ x. IsReplaced large path x other new) (sym (some_shape r s e)) u)
 
--- and where it is built anew if it is to be, the whole is replaced
+-- and where it is rebuilt if it is to be, the whole is replaced
 pub son_replaced : (large : ℕ) (side : Side) (path : List Side) (t other s new u : Shape) → at (side ∷ []) t ≡ Some s → IsSound t → HasRoomAt (side ∷ path) other t → IsReplaced large path s other new
     → RefreshesIfDue large (with_son side new t) u → IsReplaced large (side ∷ path) t other u
 son_replaced large side path leaf other s new u e sound k f g = absurd (cc)

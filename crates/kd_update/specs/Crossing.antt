@@ -50,7 +50,7 @@ abbrev pub AreMet : List (List Side) → List Item → Shape → Shape → Type 
 AreMet [] is s t = Unit {0}
 AreMet (p ∷ ps) is s t = IsMet p is s t × AreMet ps is s t
 
--- The new tree is the old one with the items, some subtrees built anew, none of them above a path, at its end or below it.
+-- The new tree is the old one with the items, some subtrees rebuilt, none of them above a path, at its end or below it.
 pub record IsCrossed (large : ℕ) (ps : List (List Side)) (s : Shape) (is : List Item) (t : Shape) : Type 0 where
   pub grown : IsGrown s is t
   pub met : AreMet ps is s t

@@ -22,7 +22,7 @@ pub record HasRoomAt (path : List Side) (other t : Shape) : Type 0 where
   pub low : levels (replaced_at path other t) ≤ 512
   pub few : nodes (replaced_at path other t) ≤ 4194304
 
--- no node above the path's end is to be built anew
+-- no node above the path's end is to be rebuilt
 abbrev pub RebuildsNoneAbove : ℕ → List Side → Shape → Type 0
 RebuildsNoneAbove large [] t = Unit {0}
 RebuildsNoneAbove large (side ∷ path) leaf = Unit {0}
@@ -34,7 +34,7 @@ pub record IsNoLarger (s t : Shape) : Type 0 where
   pub few : nodes t ≤ nodes s
   pub low : levels t ≤ levels s
 
--- The new tree is the old one with the other at the path, and some nodes above it built anew: none that has a large subtree
+-- The new tree is the old one with the other at the path, and some nodes above it rebuilt: none that has a large subtree
 -- beside the path, none at all where none is to be, and enough to stay even.
 pub record IsReplaced (large : ℕ) (path : List Side) (old other new : Shape) : Type 0 where
   pub held : contents new ≡ contents old

@@ -13,13 +13,13 @@ IsBalancedBelow large (fork h l r) = (10 ≤ nodes l + nodes r + 1 → nodes l +
 abbrev pub KeepsEven : Shape → Shape → Type 0
 KeepsEven s t = (large : ℕ) → IsBalancedBelow large s → IsBalancedBelow large t
 
--- The new tree is the plain result with some subtrees built anew: none where the fact holds, and enough to stay even.
+-- The new tree is the plain result with some subtrees rebuilt: none where the fact holds, and enough to stay even.
 pub record IsUpdated (large : ℕ) (old plain : Shape) (Calm : Type 0) (new : Shape) : Type 0 where
   pub refresh : IsRefresh plain new
   pub unrebuilt : Calm → new ≡ plain
   pub balance : IsBalancedBelow large old → IsBalancedBelow large new
 
--- The new tree is the old one with subtrees built anew, no node from 10 nodes on breaches a criterion, and without a breach it is the same.
+-- The new tree is the old one with subtrees rebuilt, no node from 10 nodes on breaches a criterion, and without a breach it is the same.
 pub record IsSettled (old new : Shape) : Type 0 where
   pub refresh : IsRefresh old new
   pub calm : AllMeetCriteria 10 new

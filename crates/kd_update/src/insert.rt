@@ -21,8 +21,8 @@ use std::sync::ledger::Ledger;
 ///
 /// The point goes left where its coordinate on a node's axis is smaller than the node's, and else right. The new leaf's
 /// axis is the next one after its father's, and X in the empty tree. On the way out each node of the route that has from 10
-/// nodes on, and fewer than `large`, is built anew where it breaches a criterion; but for that only nodes on the route and
-/// their sons are made. Where one is built anew, no clause says which: that is what the code does. Where memory is wanting,
+/// nodes on, and fewer than `large`, is rebuilt where it breaches a criterion; but for that only nodes on the route and
+/// their sons are made. Where one is rebuilt, no clause says which: that is what the code does. Where memory is wanting,
 /// the tree is let go.
 pub fn put<L: Ledger>(
     alloc: Global,
@@ -38,9 +38,9 @@ pub fn put<L: Ledger>(
     ensures contents { IfOk result (λ t. contents t ≡ put (contents tree) number point) }
     ensures numbers { IfOk result (λ t. AreAmong (numbers t) (number ∷ numbers tree)) }
     ensures balance { IsBalancedBelow large tree → IfOk result (λ t. IsBalancedBelow large t) }
-    // The unrebuilt result, with some subtrees built anew.
+    // The unrebuilt result, with some subtrees rebuilt.
     ensures refresh { IfOk result (λ t. IsRefresh (put_shape number point tree) t) }
-    // Where no node of the route is to be built anew, none is.
+    // Where no node of the route is to be rebuilt, none is.
     ensures unrebuilt { RebuildsNoneOnRoute large point (put_shape number point tree)
         → IfOk result (λ t. t ≡ put_shape number point tree) }
     // Then at most so many nodes are made, whatever the call answers.

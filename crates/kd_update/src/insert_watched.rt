@@ -22,7 +22,7 @@ use point_geom::{Axis, Point};
 use std::alloc::Global;
 use std::sync::ledger::Ledger;
 
-/// `put`, while the subtrees at the watches' paths are watched: no node above one, at its top or in it is built anew, and what
+/// `put`, while the subtrees at the watches' paths are watched: no node above one, at its top or in it is rebuilt, and what
 /// it meets is put at the end of its log. With no watch it is `put`. Where memory is wanting, the tree is let go, and logs may
 /// have grown.
 pub fn put_watched<L: Ledger>(
@@ -52,7 +52,7 @@ pub fn put_watched<L: Ledger>(
     ensures logged { OnOk result (watches.new ≡ with_puts number point tree watches.old) }
     // Of each watched subtree the new tree has what these operations make of the old one's own contents.
     ensures watched { IfOk result (λ t. AreWatched (λ p. IsWatched p tree t (logged_put number point p tree)) (paths_in watches.old)) }
-    // Where no node of the route is to be built anew, none is.
+    // Where no node of the route is to be rebuilt, none is.
     ensures unrebuilt { RebuildsNoneOnRoute large point (put_shape number point tree)
         → IfOk result (λ t. t ≡ put_shape number point tree) }
     // Then at most so many nodes are made, whatever the call answers.

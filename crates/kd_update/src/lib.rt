@@ -1,5 +1,5 @@
-//! Changes of a k-d tree: points put in, actions done in boxes, and subtrees built anew where they have lost their balance.
-//! While such a subtree is built anew elsewhere, it is watched here: what it meets is logged.
+//! Changes of a k-d tree: points put in, actions done in boxes, and subtrees rebuilt where they have lost their balance.
+//! While such a subtree is rebuilt elsewhere, it is watched here: what it meets is logged.
 #![tactic(auto)]
 
 mod insert;

@@ -17,7 +17,7 @@ use std::sync::ledger::Ledger;
 
 /// The tree after this action on each of its items that the choice chooses.
 ///
-/// On the way out each node that was entered, and has from 10 nodes on and fewer than `large`, is built anew where it
+/// On the way out each node that was entered, and has from 10 nodes on and fewer than `large`, is rebuilt where it
 /// breaches a criterion. A node is entered where it is neither covered nor missed, and its father is entered. The choice
 /// covers a node where the box, if there is one, covers its extent, and its greatest number is below the bound, if there is one. It
 /// misses a node where the box doesn't meet its extent, or its least number isn't below the bound.
@@ -33,9 +33,9 @@ pub fn marked<L: Ledger>(
     ensures contents { IfOk result (λ t. contents t ≡ mark (contents tree) (chosen_by choice.now) tag) }
     ensures numbers { IfOk result (λ t. AreAmong (numbers t) (numbers tree)) }
     ensures balance { IsBalancedBelow large tree → IfOk result (λ t. IsBalancedBelow large t) }
-    // The unrebuilt result, with some subtrees built anew.
+    // The unrebuilt result, with some subtrees rebuilt.
     ensures refresh { IfOk result (λ t. IsRefresh (marked_shape choice.now tag tree) t) }
-    // Where no node that was entered is to be built anew, none is.
+    // Where no node that was entered is to be rebuilt, none is.
     ensures unrebuilt { RebuildsNoneEntered large choice.now (marked_shape choice.now tag tree)
         → IfOk result (λ t. t ≡ marked_shape choice.now tag tree) }
     // Then at most so many nodes are made, whatever the call answers.

@@ -14,7 +14,7 @@ use map_fold::{Choice, NoMemory, Tag};
 use std::alloc::Global;
 use std::sync::ledger::Ledger;
 
-// `marked`, by shape, where nothing is built anew above the ends of the ways, at them or below them.
+// `marked`, by shape, where nothing is rebuilt above the ends of the ways, at them or below them.
 pub(crate) fn marked_clear<L: Ledger>(
     alloc: Global,
     tree: Tree,

@@ -19,7 +19,7 @@ use map_fold::{Choice, NoMemory, Tag};
 use std::alloc::Global;
 use std::sync::ledger::Ledger;
 
-/// `marked`, while the subtrees at the watches' paths are watched: no node above one, at its top or in it is built anew, and
+/// `marked`, while the subtrees at the watches' paths are watched: no node above one, at its top or in it is rebuilt, and
 /// what it meets is put at the end of its log. With no watch it is `marked`. Where memory is wanting, the tree is let go, and
 /// logs may have grown.
 pub fn marked_watched<L: Ledger>(
@@ -46,7 +46,7 @@ pub fn marked_watched<L: Ledger>(
     ensures logged { OnOk result (watches.new ≡ with_marks choice.now tag tree watches.old) }
     // Of each watched subtree the new tree has what these operations make of the old one's own contents.
     ensures watched { IfOk result (λ t. AreWatched (λ p. IsWatched p tree t (logged_mark choice.now tag p tree)) (paths_in watches.old)) }
-    // Where no node that was entered is to be built anew, none is.
+    // Where no node that was entered is to be rebuilt, none is.
     ensures unrebuilt { RebuildsNoneEntered large choice.now (marked_shape choice.now tag tree)
         → IfOk result (λ t. t ≡ marked_shape choice.now tag tree) }
     // Then at most so many nodes are made, whatever the call answers.

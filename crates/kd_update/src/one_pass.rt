@@ -1,5 +1,5 @@
 //! Many points put into a tree in one pass: they are parted at each node that they meet, a node of their routes is made anew
-//! once, and a subtree that is due is built anew with its points at once, at the topmost node. Nothing here knows whether the
+//! once, and a subtree that is due is rebuilt with its points at once, at the topmost node. Nothing here knows whether the
 //! bounds of a tree allow it.
 ghost use Rattle.std.specs.Prelude.{◌+◌, ◌<◌, max, length, IfOk};
 ghost use Rattle.kd_tree.specs.Shape.{nodes};
@@ -72,5 +72,5 @@ fn built_with<L: Ledger>(
     ensures grown { IfOk result (λ t. IsGrown tree items.now t) }
     ensures balance { IfOk result (λ t. IsBalancedBelow large t) }
 {
-    tree.built_anew(alloc, items, scratch, steps)
+    tree.rebuilt_with(alloc, items, scratch, steps)
 }

@@ -10,7 +10,7 @@ use kd_tree::Tree;
 use map_fold::Item;
 use point_geom::{Axis, Point};
 
-// How many of the items go left of the top: they are moved to the front. None where the tree is to be built anew with the
+// How many of the items go left of the top: they are moved to the front. None where the tree is to be rebuilt with the
 // items: it has no node, or its top would breach a criterion with so many more nodes on its sides.
 pub(crate) fn parted(tree: &Tree, large: u32, items: &mut [Item]) -> Option<usize>
     requires few { nodes tree.now + length items.old ≤ 4194304 }
@@ -32,7 +32,7 @@ pub(crate) fn parted(tree: &Tree, large: u32, items: &mut [Item]) -> Option<usiz
     Some(count)
 }
 
-// Whether the top would have to be built anew if its sons had so many nodes, with as many dropped ones as now.
+// Whether the top would have to be rebuilt if its sons had so many nodes, with as many dropped ones as now.
 fn is_due(tree: &Tree, large: u32, left: u32, right: u32) -> bool
     requires { left + right + 1 ≤ 4194304 }
     ensures { result ≡ true → left + right + 1 < large }

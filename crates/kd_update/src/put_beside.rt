@@ -18,7 +18,7 @@ use point_geom::Axis;
 use std::alloc::Global;
 use std::sync::ledger::Ledger;
 
-// `put_at_once`, where nothing is built anew above the ends of the ways, at them or below them.
+// `put_at_once`, where nothing is rebuilt above the ends of the ways, at them or below them.
 pub(crate) fn put_beside<L: Ledger>(
     alloc: Global,
     tree: Tree,
@@ -67,7 +67,7 @@ pub(crate) fn put_beside<L: Ledger>(
     joined(alloc, node, steps)
 }
 
-// The tree with the items put, and none of its nodes built anew: only where it has no node are they built by medians.
+// The tree with the items put, and none of its nodes rebuilt: only where it has no node are they built by medians.
 fn put_within<L: Ledger>(
     alloc: Global,
     tree: Tree,
@@ -88,7 +88,7 @@ fn put_within<L: Ledger>(
             let block = scratch.block();
             return put_below(alloc, tree, NEVER, *first, axis, block, steps);
         }
-        return tree.built_anew(alloc, items, scratch, steps);
+        return tree.rebuilt_with(alloc, items, scratch, steps);
     }
     let Some(node) = tree.take_apart(alloc, steps)? else {
         return Ok(Tree::empty());

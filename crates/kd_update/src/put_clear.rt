@@ -18,7 +18,7 @@ use point_geom::Axis;
 use std::alloc::Global;
 use std::sync::ledger::Ledger;
 
-// `put`, by shape, where nothing is built anew above the ends of the ways, at them or below them.
+// `put`, by shape, where nothing is rebuilt above the ends of the ways, at them or below them.
 pub(crate) fn put_clear<L: Ledger>(
     alloc: Global,
     tree: Tree,

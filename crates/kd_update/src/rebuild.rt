@@ -1,4 +1,4 @@
-//! Building anew, by medians. Only `rebuilt` builds, and nothing here knows why a tree was changed.
+//! Rebuilding, by medians. Only `rebuilt` builds, and nothing here knows why a tree was changed.
 ghost use Rattle.std.specs.Prelude.{◌≡◌, ◌+◌, ◌≤◌, IfOk, length};
 ghost use Rattle.node_labels.specs.Labels.{keep_tag};
 ghost use Rattle.kd_tree.specs.Shape.{levels, nodes, numbers};
@@ -13,13 +13,13 @@ use map_fold::NoMemory;
 use std::alloc::Global;
 use std::sync::ledger::Ledger;
 
-/// A node of fewer nodes is never built anew for itself.
+/// A node of fewer nodes is never rebuilt for itself.
 pub(crate) const LEAST: u32 = 10;
 
-/// No node has fewer than so many nodes: with this for `large`, none is built anew.
+/// No node has fewer than so many nodes: with this for `large`, none is rebuilt.
 pub(crate) const NEVER: u32 = 0;
 
-/// What is left in the tree, built anew by medians. n nodes take time in the order of n log n. The new ones are
+/// What is left in the tree, rebuilt by medians. n nodes take time in the order of n log n. The new ones are
 /// made in the memory of the old ones that nobody else holds, and beside these only a list of the items and one of that
 /// memory are needed. Where memory is wanting, the tree is let go.
 pub fn rebuilt<L: Ledger>(alloc: Global, tree: Tree, steps: &mut Steps<L>) -> Result<Tree, NoMemory>
@@ -33,10 +33,10 @@ pub fn rebuilt<L: Ledger>(alloc: Global, tree: Tree, steps: &mut Steps<L>) -> Re
     ensures ticks { steps.new ≤ steps.old + length (contents tree) }
 {
     let _size = tree.size();
-    tree.built_anew(alloc, &[], &mut Scratch::new(alloc), steps)
+    tree.rebuilt_with(alloc, &[], &mut Scratch::new(alloc), steps)
 }
 
-// The joined parts, built anew where they are to be.
+// The joined parts, rebuilt where they are to be.
 #[inline]
 pub(crate) fn rejoined<L: Ledger>(
     alloc: Global,
@@ -68,7 +68,7 @@ pub(crate) fn joined<L: Ledger>(
     Tree::put_together(alloc, node, steps)
 }
 
-// The tree, built anew where it has from 10 nodes on, and fewer than `large`, and its top breaches a criterion.
+// The tree, rebuilt where it has from 10 nodes on, and fewer than `large`, and its top breaches a criterion.
 #[inline]
 pub(crate) fn refreshed<L: Ledger>(
     alloc: Global,

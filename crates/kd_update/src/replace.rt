@@ -21,8 +21,8 @@ use std::sync::ledger::Ledger;
 /// are watched.
 ///
 /// Nothing is pushed down. On the way out each node above the path that has from 10 nodes on, and fewer than `large`, is
-/// built anew where it breaches a criterion. Where there would be more than 512 levels or 4,194,304 nodes, the whole tree is
-/// built anew by medians. Where memory is wanting, both trees are let go. No run reads the other paths: a clause says what
+/// rebuilt where it breaches a criterion. Where there would be more than 512 levels or 4,194,304 nodes, the whole tree is
+/// rebuilt by medians. Where memory is wanting, both trees are let go. No run reads the other paths: a clause says what
 /// stays there.
 pub fn replaced<L: Ledger>(
     alloc: Global,
@@ -41,14 +41,14 @@ pub fn replaced<L: Ledger>(
     ensures size { IfOk result (λ r. IsNoLarger (replaced_at path.now with tree) r.tree) }
     ensures balance { IsBalancedClear large (path.now ∷ others.now) tree → IsBalancedBelow large with
         → IfOk result (λ r. IsBalancedClear large others.now r.tree) }
-    // Built anew exactly where the plain replacement has no room.
+    // Rebuilt exactly where the plain replacement has no room.
     ensures anew { IfOk result (λ r. (r.anew ≡ false) ↔ HasRoomAt path.now with tree) }
     ensures calm { IfOk result (λ r. r.anew ≡ true → AllMeetCriteria 10 r.tree) }
     ensures medians { IfOk result (λ r. r.anew ≡ true → nodes r.tree ≡ length (contents tree)) }
     // Otherwise the same subtrees stand at the other paths.
     ensures others { IfOk result (λ r. r.anew ≡ false → AreSameAt others.now r.tree tree) }
     ensures there { IfOk result (λ r. r.anew ≡ false → AreLargeAt large others.now r.tree) }
-    // Where there is room, and no node above the path is to be built anew, none is.
+    // Where there is room, and no node above the path is to be rebuilt, none is.
     ensures unrebuilt { HasRoomAt path.now with tree → RebuildsNoneAbove large path.now (replaced_at path.now with tree)
         → IfOk result (λ r. r.tree ≡ replaced_at path.now with tree) }
     ensures ticks { HasRoomAt path.now with tree → RebuildsNoneAbove large path.now (replaced_at path.now with tree)

@@ -5,6 +5,6 @@ use kd_tree::Tree;
 #[derive(Debug, Drop)]
 pub struct Replaced {
     pub tree: Tree,
-    /// Whether the whole tree was built anew by medians, for want of room.
+    /// Whether the whole tree was rebuilt by medians, for want of room.
     pub anew: bool,
 }

@@ -11,7 +11,7 @@ use map_fold::NoMemory;
 use std::alloc::Global;
 use std::sync::ledger::Ledger;
 
-/// The tree, with room for one more point: where it has 512 levels or 4,194,304 nodes, what is left in it is built anew.
+/// The tree, with room for one more point: where it has 512 levels or 4,194,304 nodes, what is left in it is rebuilt.
 /// Where memory is wanting, the tree is let go.
 pub fn roomy<L: Ledger>(alloc: Global, tree: Tree, steps: &mut Steps<L>) -> Result<Tree, NoMemory>
     requires { length (contents tree) < 4194304 }
@@ -21,7 +21,7 @@ pub fn roomy<L: Ledger>(alloc: Global, tree: Tree, steps: &mut Steps<L>) -> Resu
     ensures refresh { IfOk result (λ t. IsRefresh tree t) }
     ensures low { IfOk result (λ t. levels t < 512) }
     ensures few { IfOk result (λ t. nodes t < 4194304) }
-    // Where there is room, nothing is built anew.
+    // Where there is room, nothing is rebuilt.
     ensures unrebuilt { levels tree < 512 → nodes tree < 4194304 → IfOk result (λ t. t ≡ tree) }
     ensures still { levels tree < 512 → nodes tree < 4194304 → steps.new ≡ steps.old }
     // And else a node for each item at most, whatever the call answers.

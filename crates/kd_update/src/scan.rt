@@ -26,9 +26,9 @@ pub(crate) const MOST: u32 = 4_194_304;
 /// The tree with these items put: each of them is live, and its number isn't held.
 ///
 /// The items are put in passes of fewer than `large`. In a pass each node that they meet is made anew once, however many of
-/// them meet it, and a subtree of fewer than `large` nodes that would breach a criterion is built anew with them at once. Near
-/// the bounds of a tree they are put one by one, and once it is full, so that it has to be built anew anyway, it is built with
-/// all that are left: so a scan builds it anew at most once, however its points lie. The contents are those of `put`, done in
+/// them meet it, and a subtree of fewer than `large` nodes that would breach a criterion is rebuilt with them at once. Near
+/// the bounds of a tree they are put one by one, and once it is full, so that it has to be rebuilt anyway, it is built with
+/// all that are left: so a scan rebuilds it at most once, however its points lie. The contents are those of `put`, done in
 /// turn; where nodes stand isn't. New nodes are made in the memory of the scratch, as far as that goes. Where memory is wanting,
 /// the tree is let go.
 pub fn put_all<L: Ledger>(
@@ -98,7 +98,7 @@ fn built_with_rest<L: Ledger>(
     requires some { 1 ≤ nodes tree + levels tree }
     ensures { (large : ℕ) → IfOk result (λ t. IsPut large tree items.now t) }
 {
-    tree.built_anew(alloc, items, scratch, steps)
+    tree.rebuilt_with(alloc, items, scratch, steps)
 }
 
 // Fewer items than large nodes are: in one pass if there is room.

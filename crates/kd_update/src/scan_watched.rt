@@ -23,7 +23,7 @@ use std::sync::ledger::Ledger;
 
 /// The tree with these items put in one pass, while the subtrees at the watches' paths are watched.
 ///
-/// No node above a watched subtree, at its top or in it is built anew. At the end of its log comes what the last node above it owes,
+/// No node above a watched subtree, at its top or in it is rebuilt. At the end of its log comes what the last node above it owes,
 /// where one item comes there at least, and then each item that comes to it, in the order of the list. Elsewhere it is a pass of
 /// `put_all`. Where memory is wanting, the tree is let go, and logs may have grown.
 pub fn put_all_watched<L: Ledger>(

@@ -9,7 +9,7 @@ use map_fold::{Choice, NoMemory, Points, Tag};
 use std::alloc::Global;
 use std::sync::ledger::Ledger;
 
-/// A million: the update itself builds anew whatever lost its balance, since nothing here works beside it. The plain tree
+/// A million: the update itself rebuilds whatever lost its balance, since nothing here works beside it. The plain tree
 /// does the same.
 pub const LARGE: u32 = 1_000_000;
 

@@ -21,8 +21,8 @@
 //! - `readers`: a shared map grows so to N points, and then Q readers, from 1 to 7, ask it beside a writer that adds a hundred scans more;
 //! - `paced`: the same, but the writer sleeps for 50 milliseconds before each scan;
 //! - `steady`: a shared map grows so to N points, and then takes 300 scans more, one every 10 milliseconds, beside a reader that asks
-//!   without a pause, while Q workers, 1 or 2, build large subtrees anew; `thinning` is the same, but scans are thinned;
-//! - `inline`, `unhelped`: as `steady`, but the updates build everything anew, or nobody builds large subtrees anew; Q has no meaning;
+//!   without a pause, while Q workers, 1 or 2, rebuild large subtrees; `thinning` is the same, but scans are thinned;
+//! - `inline`, `unhelped`: as `steady`, but the updates rebuild everything, or nobody rebuilds large subtrees; Q has no meaning;
 //! - `waiting`: a state has a detached subtree that has met Q operations, and takes a thousand updates of one point, which are told.
 //!
 //! The work's checksum goes to standard output, the microseconds that it took to standard error; of readers the queries a second,

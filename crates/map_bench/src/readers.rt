@@ -1,5 +1,5 @@
 //! Readers beside a writer, each on a thread of its own: they ask a map that is shared, while more scans are added to it. The
-//! map builds uneven subtrees anew in its updates, and no worker stands beside it.
+//! map rebuilds uneven subtrees in its updates, and no worker stands beside it.
 ghost use Rattle.std.specs.Prelude.{◌≡◌, ◌≤◌};
 
 pub mod plan;

@@ -1,4 +1,4 @@
-//! A robot's map: the state of a map that one thread keeps. Large subtrees that became uneven can be detached, built anew and
+//! A robot's map: the state of a map that one thread keeps. Large subtrees that became uneven can be detached, rebuilt and
 //! swapped in by calls of their own.
 use crate::course::Scan;
 use crate::stop::Stop;
@@ -79,7 +79,7 @@ impl Robot {
         Ok(())
     }
 
-    /// Detaches a subtree that is to be built anew, if there is one.
+    /// Detaches a subtree that is to be rebuilt, if there is one.
     pub fn detach(&mut self, alloc: Global) -> Result<Option<Job>, Stop> {
         Ok(self.state.detach(alloc, 1)?)
     }
@@ -89,7 +89,7 @@ impl Robot {
         self.state.part(1).map_or(0, |part| part.logged)
     }
 
-    /// Builds a detached subtree anew.
+    /// Rebuilds a detached subtree.
     pub fn build(&self, alloc: Global, job: Job) -> Result<Built, Stop> {
         job.build(alloc, self.state.settings().large())
             .map_err(|_left| Stop::NoMemory)

@@ -1,5 +1,5 @@
 //! How steady a shared map is: scans come every ten milliseconds, beside a reader that asks without a pause, and beside those who
-//! build uneven subtrees anew.
+//! rebuild uneven subtrees.
 ghost use Rattle.std.specs.Prelude.{◌≡◌};
 
 pub mod builders;

@@ -1,4 +1,4 @@
-//! The works that thin. The map is a state, which holds its last version, and builds uneven subtrees anew in its updates.
+//! The works that thin. The map is a state, which holds its last version, and rebuilds uneven subtrees in its updates.
 use crate::course::{Scan, scans};
 use crate::draws::Draws;
 use crate::grown::LARGE;

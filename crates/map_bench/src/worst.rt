@@ -1,4 +1,4 @@
-//! Large scans, whose points lie as badly as they may: no scan builds the tree anew more than once.
+//! Large scans, whose points lie as badly as they may: no scan rebuilds the tree more than once.
 use crate::course::{Lie, lying};
 use crate::draws::Draws;
 use crate::robot::Robot;
@@ -14,7 +14,7 @@ use std::time::{Clock, Instant};
 // As many points as one update may have.
 const MOST: u32 = 262_144;
 
-/// So many points are added in as few updates as may be, where subtrees from `large` nodes on aren't built anew.
+/// So many points are added in as few updates as may be, where subtrees from `large` nodes on aren't rebuilt.
 pub fn add<L: Ledger>(
     rt: &impl Clock,
     alloc: Global,

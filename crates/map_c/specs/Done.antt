@@ -1,4 +1,4 @@
--- A subtree that was built anew, as a handle holds it.
+-- A subtree that was rebuilt, as a handle holds it.
 use Rattle.std.specs.Prelude.{ℕ, List}
 use Rattle.map_fold.specs.declared.op.Op.{Op}
 use Rattle.rebuild_core.specs.Built.{BuiltAt}

@@ -1,4 +1,4 @@
-//! Detached subtrees, built anew and brought up to date. Nothing here asks the map.
+//! Detached subtrees, rebuilt and brought up to date. Nothing here asks the map.
 ghost use Rattle.std.specs.Prelude.{◌≡◌, ◌≢◌, IfErr, None, OnErr, OnOk, Some};
 ghost use Rattle.map_c.specs.Building.{IsBuildRefusal, IsBuilt, IsReplayRefusal, IsReplayed};
 ghost use Rattle.map_c.specs.Status.{code, done};

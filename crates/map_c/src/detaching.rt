@@ -11,7 +11,7 @@ use crate::work::Work;
 use std::alloc::Global;
 
 /// Gives out the subtree of the slot, from 1 to 4: the one that was given out under it before, or else the first large one that
-/// is to be built anew.
+/// is to be rebuilt.
 #[unsafe(no_mangle)]
 pub extern "C" fn corv_map_detach(
     alloc: Global,

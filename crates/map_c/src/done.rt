@@ -1,9 +1,9 @@
-//! Subtrees that were built anew.
+//! Subtrees that were rebuilt.
 use map_fold::Ops;
 use rebuild_core::Built;
 use std::marker::Model;
 
-/// A subtree that was built anew, for a map with this `large`, and the operations that are to be done on it next, which fit it.
+/// A subtree that was rebuilt, for a map with this `large`, and the operations that are to be done on it next, which fit it.
 #[derive(Drop)]
 pub struct Done {
     pub built: Built,

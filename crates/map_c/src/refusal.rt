@@ -27,7 +27,7 @@ pub enum Refusal {
     BadBox,
     TooManyUpdates,
     TooManyPoints,
-    /// No subtree is to be built anew.
+    /// No subtree is to be rebuilt.
     NothingToDetach,
     /// The built subtree's place is there no more.
     Stale,

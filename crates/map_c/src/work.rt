@@ -1,7 +1,7 @@
-//! Subtrees that are to be built anew.
+//! Subtrees that are to be rebuilt.
 use rebuild_core::Job;
 
-/// A subtree that is to be built anew, for a map with this `large`.
+/// A subtree that is to be rebuilt, for a map with this `large`.
 #[derive(Drop)]
 pub struct Work {
     pub job: Job,

@@ -19,7 +19,7 @@ fn a_rising_row_that_fills_all_levels_is_found_whole(rt: HostRuntime) -> Result<
         add_row(alloc, &mut state, &[x])?;
         most_levels = state.version().tree().levels().max(most_levels);
     }
-    // No tree is higher, so this one was built anew on the way.
+    // No tree is higher, so this one was rebuilt on the way.
     same(&rt, "the most levels", most_levels, 512);
     for (x, want) in [(4_000, 4_000), (3_999, 3_999), (1, 1), (0, 0)] {
         same(&rt, "points", count_below(&state, x)?, want);

@@ -91,7 +91,7 @@ fn updated<L: Ledger>(
     }
 }
 
-// Looks after the tree when a change was made: a large subtree that breaches a criterion is taken out, built anew and put back.
+// Looks after the tree when a change was made: a large subtree that breaches a criterion is taken out, rebuilt and put back.
 fn tended(alloc: Global, state: &mut MapState) -> Result<(), NoMemory>
     ensures { OnOk result (IsTended state.old.state state.new.state) }
 {

@@ -154,7 +154,7 @@ fn two_workers_build_beside_each_other(rt: HostRuntime) -> Result<(), Fail> {
 }
 
 // The first build, of the whole tree, is held until the second begins. Nothing beside the whole tree can be built, so the barrier
-// has built it anew itself.
+// has rebuilt it itself.
 #[test]
 fn a_barrier_does_not_wait_for_a_build(rt: HostRuntime) -> Result<(), Fail> {
     let alloc = rt.alloc();

@@ -1,4 +1,4 @@
-//! A bounded list of operations: what a subtree met while it was being built anew elsewhere.
+//! A bounded list of operations: what a subtree met while it was being rebuilt elsewhere.
 #![tactic(auto)]
 
 mod block;

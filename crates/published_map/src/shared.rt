@@ -103,7 +103,7 @@ impl<L: MapName> Shared<L> {
         done
     }
 
-    /// Builds anew what breaches a criterion, as `MapState::settle` does, and publishes the version.
+    /// Rebuilds what breaches a criterion, as `MapState::settle` does, and publishes the version.
     pub fn settle<R: Wait>(&self, rt: &R, alloc: Global) -> Result<(), NoMemory> {
         let mut locked = self.lock.lock(rt);
         let (former, holdings) = (locked.version(), locked.holdings());

@@ -47,7 +47,7 @@ first_point next n i ps p op cut none same only = ap (λ k. Put k p) same ∙ on
 pub first_box : (a : Tag) (i : ℕ) (cs : List Bounds) (c : Bounds) (op : Op) → drop i cs ≡ c ∷ drop (i + 1) cs → i ≡ 0 → only_mark a cs ≡ Some op → Mark (inside_box c) a ≡ op
 first_box a i cs c op cut none only = only_marked a cs (drop (i + 1) cs) c op (sym (ap (λ k. drop k cs) none) ∙ cut) only
 
--- what is promised of an operation that builds nothing anew, said of equal values
+-- what is promised of an operation that rebuilds nothing, said of equal values
 pub quiet_ticks : (large : ℕ) (o op : Op) (t s : Shape) (m n new : ℕ) → o ≡ op → t ≡ s → m ≡ n → (RebuildsNothing large o t → new ≤ m + (5 * entered_nodes o t + 1)) → RebuildsNothing large op s → new ≤ n + (5 * entered_nodes op s + 1)
 quiet_ticks large o op t s m n new e f same k =
     let first : RebuildsNothing large op t → new ≤ m + (5 * entered_nodes op t + 1) = subst (λ (x : Op). RebuildsNothing large x t → new ≤ m + (5 * entered_nodes x t + 1)) e k in

@@ -115,7 +115,7 @@ worked_put n p v w u vs same low few made more most = record {
   still = λ r. subst (λ (x : Work). AreStill 1 x.watches vs) (same (omega (arith, r.low)) (omega (arith, r.few)) (room_one v.watches r.logs)) (still_of w.watches vs more most);
 }
 
--- one that builds nothing anew
+-- one that rebuilds nothing
 
 pub plain_mark : (large : ℕ) (c : Choice) (a : Tag) (v w : Work) (u : Shape) (vs : List Watch) → w ≡ v → (RebuildsNoneEntered large c (marked_shape c a w.tree) → u ≡ marked_shape c a w.tree) → vs ≡ with_marks c a w.tree w.watches
     → RebuildsNothing large (Mark c a) v.tree → ◌≡◌ {A = Work} (record { tree = u; watches = vs }) (plain_work (Mark c a) v)

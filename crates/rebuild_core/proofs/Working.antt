@@ -125,7 +125,7 @@ draft_put large next last n p w u vs ps less d room is among even watched =
 pub draft_on : (large next last : ℕ) (ps qs : List PartAt) (w : Work) → AreLeft ps qs → IsDraftLeft large next last qs w → IsDraftLeft large next last ps w
 draft_on large next last ps qs w k d = (d.0, left_trans ps qs d.0 k d.1, d.2)
 
--- nothing more is watched where the whole tree was built anew
+-- nothing more is watched where the whole tree was rebuilt
 pub draft_anew : (large next last : ℕ) (w : Work) (u : Shape) (ps : List PartAt) → IsDraft large next last ps w → AreAmong (numbers u) (numbers w.tree) → AllMeetCriteria 10 u → IsDraftLeft large next last ps (record { tree = u; watches = [] })
 draft_anew large next last w u ps d among calm = (
   [],

@@ -1,4 +1,4 @@
--- Detached subtrees that are built anew elsewhere, and what their parts have met meanwhile.
+-- Detached subtrees that are rebuilt elsewhere, and what their parts have met meanwhile.
 use Rattle.std.specs.Prelude.{◌≡◌, ℕ, ◌++◌, List, [], length, map, take, drop, Some}
 use Rattle.map_fold.specs.declared.item.Item.{Item}
 use Rattle.map_fold.specs.declared.op.Op.{Op}

@@ -18,7 +18,7 @@ abbrev pub IsDetachedAt : Option PartAt → StateAt → List Side → Type 0
 IsDetachedAt (Some p) s path = path ≡ p.path
 IsDetachedAt None s path = IsFirstFree s.settings.large (paths s.parts) s.tree path
 
--- there is no part, and no node that is clear of the parts is to be built anew
+-- there is no part, and no node that is clear of the parts is to be rebuilt
 abbrev pub IsNoneToDetach : Option PartAt → StateAt → Type 0
 IsNoneToDetach (Some p) s = ⊥
 IsNoneToDetach None s = AllClearMeetCriteria s.settings.large (paths s.parts) s.tree

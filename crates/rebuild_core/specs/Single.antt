@@ -1,4 +1,4 @@
--- Updates of one operation, and what they make of a tree where nothing is built anew.
+-- Updates of one operation, and what they make of a tree where nothing is rebuilt.
 use Rattle.std.specs.Prelude.{ℕ, ◌<◌, List, [], ◌∷◌, Option, Some, None}
 use Rattle.point_geom.specs.Place.{Bounds}
 use Rattle.node_labels.specs.Labels.{delete_tag, suspend_tag, restore_tag}
@@ -30,12 +30,12 @@ only_op next (Suspend cs) = only_mark suspend_tag cs
 only_op next (Restore cs) = only_mark restore_tag cs
 only_op next (Expire n) = Some (Mark (below_number n) delete_tag)
 
--- the tree after the operation, where nothing is built anew
+-- the tree after the operation, where nothing is rebuilt
 abbrev pub unrebuilt : Op → Shape → Shape
 unrebuilt (Put n p) t = put_shape n p t
 unrebuilt (Mark c a) t = marked_shape c a t
 
--- of the unrebuilt tree, no node that the operation enters is to be built anew
+-- of the unrebuilt tree, no node that the operation enters is to be rebuilt
 abbrev pub RebuildsNoneFor : ℕ → Op → Shape → Type 0
 RebuildsNoneFor large (Put n p) t = RebuildsNoneOnRoute large p t
 RebuildsNoneFor large (Mark c a) t = RebuildsNoneEntered large c t
@@ -45,7 +45,7 @@ abbrev pub entered_nodes : Op → Shape → ℕ
 entered_nodes (Put n p) t = entered_put p t
 entered_nodes (Mark c a) t = entered_mark c t
 
--- The operation builds nothing anew: there is room in the tree, and no node that is entered is to be built anew.
+-- The operation rebuilds nothing: there is room in the tree, and no node that is entered is to be rebuilt.
 pub record RebuildsNothing (large : ℕ) (op : Op) (t : Shape) : Type 0 where
   pub low : levels t < 512
   pub few : nodes t < 4194304

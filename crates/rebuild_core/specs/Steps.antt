@@ -67,7 +67,7 @@ pub record IsUpdateStep (caller : ℕ) (u : Update) (s t : StateAt) : Type 0 whe
   pub parts : AreLeft s.parts t.parts
   pub last : t.last ≡ s.last
 
--- the update is this one operation, and builds nothing anew
+-- the update is this one operation, and rebuilds nothing
 pub record IsUnrebuiltUpdate (u : Update) (op : Op) (s : StateAt) : Type 0 where
   pub only : only_op s.next u ≡ Some op
   pub quiet : RebuildsNothing s.settings.large op s.tree

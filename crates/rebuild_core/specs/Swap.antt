@@ -72,8 +72,8 @@ pub record IsSwapStep (b : BuiltAt) (s t : StateAt) : Type 0 where
   pub parts : IsLeftBySwap b s t.parts
   pub last : t.last ≡ s.last
 
--- The swap builds nothing anew: the value's part has no operation left for it, its tree is even, there is room for it, and no node
--- above it is to be built anew.
+-- The swap rebuilds nothing: the value's part has no operation left for it, its tree is even, there is room for it, and no node
+-- above it is to be rebuilt.
 pub record IsUnrebuiltSwap (b : BuiltAt) (p : PartAt) (s : StateAt) : Type 0 where
   pub of : IsPartOf b s.parts p
   pub done : undone b p ≡ []

@@ -1,4 +1,4 @@
-//! Detached subtrees that were built anew, and are brought up to date. Nothing here knows the state that they come from.
+//! Detached subtrees that were rebuilt, and are brought up to date. Nothing here knows the state that they come from.
 ghost use Rattle.std.specs.Prelude.{◌≡◌, ◌+◌, ◌≤◌, [], ◌++◌, length, IfErr, IfOk};
 ghost use Rattle.map_fold.specs.Contents.{AreContents};
 ghost use Rattle.map_fold.specs.Ops.{Fit, numbers_put, replay};
@@ -108,7 +108,7 @@ impl Built {
     }
 
     /// The value with these operations done too, one after the other, as `replayed` does them. Where its tree is out of balance
-    /// for this `large`, since it was built with another, it is built anew by medians before. Where memory is wanting, the value
+    /// for this `large`, since it was built with another, it is rebuilt by medians before. Where memory is wanting, the value
     /// is handed back as it was.
     pub fn replay(self, alloc: Global, large: u32, ops: &[Op]) -> Result<Built, BuiltLeft>
         requires { Fit (contents self.tree) ops.now }
@@ -167,7 +167,7 @@ impl Built {
         self.caught_up(alloc, large, ops, &mut steps)
     }
 
-    // The tree after the operations. It is even for this `large`, for which it is built anew before where it isn't.
+    // The tree after the operations. It is even for this `large`, for which it is rebuilt before where it isn't.
     pub(crate) fn caught_up<L: Ledger>(
         &self,
         alloc: Global,
@@ -240,7 +240,7 @@ fn replayed_from<L: Ledger>(
     replayed(alloc, tree, large, ops)
 }
 
-// The tree, built anew where it isn't even for this `large`. Only where it was made with another is it looked at.
+// The tree, rebuilt where it isn't even for this `large`. Only where it was made with another is it looked at.
 fn evened<L: Ledger>(
     alloc: Global,
     tree: Tree,

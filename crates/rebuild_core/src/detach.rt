@@ -1,4 +1,4 @@
-//! Subtrees, detached to be built anew elsewhere, and what they have met since.
+//! Subtrees, detached to be rebuilt elsewhere, and what they have met since.
 ghost use Rattle.std.specs.Prelude.{◌≡◌, ◌+◌, ◌<◌, ◌≤◌, ◌↔◌, true, length, slice_set, Some, IfErr, IfOk, IfSome, IsNone, OnErr, OnOk};
 ghost use Rattle.std.specs.List.{insert};
 ghost use Rattle.map_fold.specs.Ops.{Fit};

@@ -1,4 +1,4 @@
-//! Detached subtrees, handed out to be built anew. Nothing here knows the state that they come from.
+//! Detached subtrees, handed out to be rebuilt. Nothing here knows the state that they come from.
 ghost use Rattle.std.specs.Prelude.{◌≡◌, IfErr, IfOk};
 ghost use Rattle.kd_tree.specs.Contents.{contents};
 ghost use Rattle.kd_tree.specs.Criteria.{AllMeetCriteria};

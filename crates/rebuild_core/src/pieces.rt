@@ -44,7 +44,7 @@ impl Work {
         self.put_in_pieces(alloc, large, items, scratch, steps)
     }
 
-    // The same where nothing is watched: a full tree is built anew with all that is left.
+    // The same where nothing is watched: a full tree is rebuilt with all that is left.
     fn put_free<L: Ledger>(
         self,
         alloc: Global,

@@ -38,9 +38,9 @@ impl MapState {
     /// update. The time is that of the update's operations on the tree, and of copying the logs of detached subtrees: nothing
     /// walks the tree or the history.
     ///
-    /// What crosses a detached subtree is logged for it, and no node above it, at its top or in it is built anew. Before a
-    /// point is put into a full tree, the whole tree is built anew and all detached subtrees are forgotten; otherwise, before
-    /// each operation, those whose logs have no room for two operations are built anew where they stand, and forgotten.
+    /// What crosses a detached subtree is logged for it, and no node above it, at its top or in it is rebuilt. Before a
+    /// point is put into a full tree, the whole tree is rebuilt and all detached subtrees are forgotten; otherwise, before
+    /// each operation, those whose logs have no room for two operations are rebuilt where they stand, and forgotten.
     /// Points of one update may be put at once: then both rules apply before them all, with their number in place of one where
     /// room in logs and nodes is asked for, and with the tree's levels as they are before.
     pub fn update<L: Ledger>(
@@ -65,7 +65,7 @@ impl MapState {
         ensures logged { (op : Op) → IsUnrebuiltUpdate update op self.old.state
             → OnOk result (self.new.state.parts ≡ logged_by op self.old.state.tree self.old.state.parts) }
 
-        // An update of one operation that builds nothing anew makes at most so many nodes, whatever the call answers.
+        // An update of one operation that rebuilds nothing makes at most so many nodes, whatever the call answers.
         ensures unrebuilt { (op : Op) → IsUnrebuiltUpdate update op self.old.state
             → OnOk result (self.new.state.tree ≡ unrebuilt op self.old.state.tree) }
         ensures ticks { (op : Op) → IsUnrebuiltUpdate update op self.old.state
@@ -213,7 +213,7 @@ impl MapState {
         Ok(Drafted { tree, logs })
     }
 
-    /// Builds anew what breaches a criterion, however large, as `settled` does, and forgets all detached subtrees. What the map
+    /// Rebuilds what breaches a criterion, however large, as `settled` does, and forgets all detached subtrees. What the map
     /// holds stays.
     pub fn settle(&mut self, alloc: Global) -> Result<(), NoMemory>
         ensures settled { OnOk result (IsSettleStep self.old.state self.new.state) }

@@ -42,7 +42,7 @@ impl Snapshot {
         self.holding.again()
     }
 
-    /// The job of building the subtree anew. n items take time in the order of n log n, since they are sorted by number. Where
+    /// The job of rebuilding the subtree. n items take time in the order of n log n, since they are sorted by number. Where
     /// memory is wanting, the snapshot is handed back.
     pub fn job(self, alloc: Global) -> Result<Job, SnapshotLeft>
         ensures job { IfOk result (λ j. j ≡ self) }

@@ -37,11 +37,11 @@ pub struct Late {
 impl MapState {
     /// Puts the built value's tree in the place of its detached subtree, after the operations that the value hasn't done, and
     /// forgets that subtree. What the map holds stays. The time is that of these operations, of comparing the items, and of the
-    /// nodes above the subtree: it is not built anew, unless the value was made with another `large` and is out of balance. Where
-    /// operations are left, or a node above is to be built anew, no clause says so: that is what the code does.
+    /// nodes above the subtree: it is not rebuilt, unless the value was made with another `large` and is out of balance. Where
+    /// operations are left, or a node above is to be rebuilt, no clause says so: that is what the code does.
     ///
     /// Without force it is refused where more than 64 operations are left. Where the tree would have more than 512 levels or
-    /// 4,194,304 nodes, the whole tree is built anew and all detached subtrees are forgotten.
+    /// 4,194,304 nodes, the whole tree is rebuilt and all detached subtrees are forgotten.
     pub fn swap<L: Ledger>(
         &mut self,
         alloc: Global,
@@ -57,7 +57,7 @@ impl MapState {
         ensures spare { self.new.spare ≡ self.old.spare }
         ensures left { IfErr result (λ l. l.built ≡ built) }
 
-        // A swap that builds nothing anew makes at most a node for each side of the path, whatever the call answers.
+        // A swap that rebuilds nothing makes at most a node for each side of the path, whatever the call answers.
         ensures unrebuilt { (p : PartAt) → IsUnrebuiltSwap built p self.old.state
             → OnOk result (self.new.state.tree ≡ replaced_at p.path built.tree self.old.state.tree) }
         ensures ticks { (p : PartAt) → IsUnrebuiltSwap built p self.old.state → steps.new ≤ steps.old + length p.path }

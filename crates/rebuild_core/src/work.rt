@@ -51,7 +51,7 @@ impl Work {
         Ok(Work { tree, watches })
     }
 
-    // The work after the point was put under the number. A full tree is built anew before.
+    // The work after the point was put under the number. A full tree is rebuilt before.
     pub(crate) fn put<L: Ledger>(
         self,
         alloc: Global,
@@ -111,7 +111,7 @@ impl Work {
         })
     }
 
-    // The work without the subtrees whose logs have no room for two operations: each is built anew where it stands, in order.
+    // The work without the subtrees whose logs have no room for two operations: each is rebuilt where it stands, in order.
     fn without_full<L: Ledger>(
         self,
         alloc: Global,
@@ -135,8 +135,8 @@ impl Work {
         work.without_full(alloc, large, steps)
     }
 
-    // The work without the subtree that is watched at this place of the list: it is built anew where it stands. Where there
-    // is no room for that, the whole tree is built anew and nothing more is watched.
+    // The work without the subtree that is watched at this place of the list: it is rebuilt where it stands. Where there
+    // is no room for that, the whole tree is rebuilt and nothing more is watched.
     fn without<L: Ledger>(
         self,
         alloc: Global,

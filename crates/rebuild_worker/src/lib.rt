@@ -1,4 +1,4 @@
-//! The worker, which builds detached subtrees anew beside the callers; the bell that wakes it; where tests hold up threads; and a
+//! The worker, which rebuilds detached subtrees beside the callers; the bell that wakes it; where tests hold up threads; and a
 //! map for tests that refuses on demand.
 #![tactic(auto)]
 

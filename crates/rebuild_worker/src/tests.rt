@@ -13,7 +13,7 @@ use std::marker::Brand;
 use std::sync::ledger::{Blank, Ledger};
 use std::test::Fail;
 
-// A map of 40 points in a row, whose whole tree is to be built anew.
+// A map of 40 points in a row, whose whole tree is to be rebuilt.
 fn with_forty(alloc: Global) -> Result<MapState, Fail> {
     let mut state = MapState::new(alloc, Settings::new(200, 16))?;
     let mut xs = Vec::new(alloc);
@@ -24,7 +24,7 @@ fn with_forty(alloc: Global) -> Result<MapState, Fail> {
     Ok(state)
 }
 
-// A map whose two sons, but not their father, are to be built anew.
+// A map whose two sons, but not their father, are to be rebuilt.
 fn with_two_breaches(alloc: Global) -> Result<MapState, Fail> {
     let mut state = with_forty(alloc)?;
     state.settle(alloc)?;

@@ -24,7 +24,7 @@ const FIRST: u32 = 2;
 // after the other no fewer are ever left.
 const SCAN: u32 = 2_560;
 
-/// Works until it is told to end, as worker 1 or 2: it looks for subtrees to be built anew in two slots, 1 and 2 or 3 and 4, builds
+/// Works until it is told to end, as worker 1 or 2: it looks for subtrees to be rebuilt in two slots, 1 and 2 or 3 and 4, builds
 /// them, and swaps them in. Where there is none, or memory was wanting, it sleeps until its bell rings. It looks whether it was told
 /// to end before each round, so a round that was begun is done whole. `large` is best that of the map's settings.
 ///

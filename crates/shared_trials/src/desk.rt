@@ -35,7 +35,7 @@ fn left(answer: Result<(), SwapLeft>) -> Result<SwapLeft, Fail> {
     }
 }
 
-// The points from 1 to 40 are built anew while more are added, of which 64 are few enough.
+// The points from 1 to 40 are rebuilt while more are added, of which 64 are few enough.
 struct AddedMeanwhile {
     last: i64,
 }

@@ -43,7 +43,7 @@ fn busy<L: MapName, R: Wait + Abort>(
     Some(())
 }
 
-// Builds a subtree anew that is out of balance, if there is one, and swaps it in unless it was forgotten meanwhile.
+// Rebuilds a subtree that is out of balance, if there is one, and swaps it in unless it was forgotten meanwhile.
 fn rebuilt<L: MapName, R: Wait>(rt: &R, alloc: Global, shared: &Shared<L>, slot: u8) -> Option<()>
     requires slot_from { 1 ≤ slot }
     requires slot_to { slot ≤ 4 }

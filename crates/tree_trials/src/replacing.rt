@@ -61,14 +61,14 @@ fn a_subtree_that_is_too_deep_has_the_whole_tree_built_anew(rt: HostRuntime) -> 
     Ok(())
 }
 
-// The subtree that starts there is replaced by a deeper one, in a tree built anew or in the old one.
+// The subtree that starts there is replaced by a deeper one, in a tree rebuilt or in the old one.
 fn is_replaced(rt: &impl Abort, alloc: Global, start: i64, anew: bool) -> Result<(), Fail> {
     let tree = chain(rt, alloc, 400, 0)?;
     let with = chain(rt, alloc, 400, start)?;
     let held = tree.flatten(alloc)?;
     let path = right(start)?;
     let done = put_in::<Brand>(alloc, tree, 0, &path, with, &[], Blank::new(1))?;
-    same(rt, "built anew", done.anew, anew);
+    same(rt, "rebuilt", done.anew, anew);
     holds_all(rt, alloc, &done.tree, held.as_slice())?;
     let levels = if anew { 9 } else { start.saturating_add(400) };
     same(rt, "levels", i64::from(done.tree.levels()), levels);
@@ -103,7 +103,7 @@ fn what_stands_at_another_path_stays(rt: HostRuntime) -> Result<(), Fail> {
     let right = Path::root().down(Side::Right);
     let held = held_at(alloc, &tree, &right)?;
     let done = put_left(alloc, tree, with)?;
-    holds(&rt, "not built anew", !done.anew);
+    holds(&rt, "not rebuilt", !done.anew);
     is_line(&rt, &done.tree, &left, 33)?;
     is_line(&rt, &done.tree, &right, 32)?;
     let still_held = held_at(alloc, &done.tree, &right)?;

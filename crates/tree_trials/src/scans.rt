@@ -149,7 +149,7 @@ fn row(alloc: Global, from: i64, to: i64) -> Result<Vec<Point>, Fail> {
     Ok(points)
 }
 
-// Where nothing is built anew, a rising row has a level for each point, and scans go on.
+// Where nothing is rebuilt, a rising row has a level for each point, and scans go on.
 #[test]
 fn a_deep_tree_takes_scans_too(rt: HostRuntime) -> Result<(), Fail> {
     let alloc = rt.alloc();

@@ -1,4 +1,4 @@
-//! Trees that are built anew in one scratch.
+//! Trees that are rebuilt in one scratch.
 ghost use Rattle.std.specs.Prelude.{◌≡◌, ◌<◌, true};
 ghost use Rattle.std.specs.List.{AllByRecursion};
 
@@ -27,7 +27,7 @@ fn all_below(items: &[Item], n: u32) -> bool
     }
 }
 
-// The tree built anew with a live item more, whose number is 100.
+// The tree rebuilt with a live item more, whose number is 100.
 fn with_hundredth<L: Ledger>(
     alloc: Global,
     tree: Tree,
@@ -40,7 +40,7 @@ fn with_hundredth<L: Ledger>(
         return Err(Fail::new("a number from 100 on"));
     }
     let more = [item(100, 101)?];
-    Ok(tree.built_anew(alloc, &more, scratch, steps)?)
+    Ok(tree.rebuilt_with(alloc, &more, scratch, steps)?)
 }
 
 // The counts of a tree: live items, suspended ones, dropped ones.
@@ -49,7 +49,7 @@ fn counts(tree: &Tree) -> (u32, u32, u32) {
     (counts.live, counts.suspended, counts.dropped)
 }
 
-fn built_anew<L: Ledger>(rt: &impl Abort, alloc: Global, blank: Blank) -> Result<(), Fail>
+fn rebuilt_with<L: Ledger>(rt: &impl Abort, alloc: Global, blank: Blank) -> Result<(), Fail>
     requires name { blank.name ≡ L.name }
     requires parts { blank.parts ≡ L.parts }
     requires one { blank.parts ≡ 1 }
@@ -93,5 +93,5 @@ fn built_anew<L: Ledger>(rt: &impl Abort, alloc: Global, blank: Blank) -> Result
 
 #[test]
 fn trees_built_anew_hold_what_was_left_and_the_new_items(rt: HostRuntime) -> Result<(), Fail> {
-    built_anew::<Brand>(&rt, rt.alloc(), Blank::new(1))
+    rebuilt_with::<Brand>(&rt, rt.alloc(), Blank::new(1))
 }

@@ -1,4 +1,4 @@
-//! Who builds uneven subtrees anew.
+//! Who rebuilds uneven subtrees.
 use crate::stop::Stop;
 use crate::{grown, robot};
 use map_fold::Settings;
@@ -6,7 +6,7 @@ use map_fold::Settings;
 // Half a metre, where scans are thinned.
 const VOXEL: u32 = 500;
 
-/// Who builds uneven subtrees anew.
+/// Who rebuilds uneven subtrees.
 #[derive(Clone, Copy, Debug, PartialEq, Eq)]
 pub enum Builders {
     /// The updates, as soon as a subtree is uneven.

@@ -9,17 +9,17 @@ use Rattle.kd_update.proofs.Results.{ok_both}
 use Rattle.kd_update.proofs.Update.{calm_even}
 use Rattle.kd_update.proofs.one_pass.built_with.Goals as goal
 
-pub built_anew-requires-clause-kept : goal.built_anew-requires-clause-kept
-built_anew-requires-clause-kept g c = live_kept c.args.items.now c.requires.piece.live
+pub rebuilt_with-requires-clause-kept : goal.rebuilt_with-requires-clause-kept
+rebuilt_with-requires-clause-kept g c = live_kept c.args.items.now c.requires.piece.live
 
-pub built_anew-requires-clause-few : goal.built_anew-requires-clause-few
-built_anew-requires-clause-few g c = omega (arith, walk_few keep_tag c.args.tree, c.requires.piece.few)
+pub rebuilt_with-requires-clause-few : goal.rebuilt_with-requires-clause-few
+rebuilt_with-requires-clause-few g c = omega (arith, walk_few keep_tag c.args.tree, c.requires.piece.few)
 
 pub returns-clause-grown : goal.returns-clause-grown
 returns-clause-grown g c =
     let s = c.args.tree in
     let is = c.args.items.now in
-    ok_both c.built_anew.result _ _ (λ t. IsGrown s is t) (λ t b ns. grown_built c.args.large s t is c.requires.piece b ns) c.built_anew.ensures.shape c.built_anew.ensures.numbers
+    ok_both c.rebuilt_with.result _ _ (λ t. IsGrown s is t) (λ t b ns. grown_built c.args.large s t is c.requires.piece b ns) c.rebuilt_with.ensures.shape c.rebuilt_with.ensures.numbers
 
 pub returns-clause-balance : goal.returns-clause-balance
-returns-clause-balance g c = IfOk-weaker c.built_anew.result _ (λ t. IsBalancedBelow c.args.large t) (λ t calm. calm_even c.args.large t calm) c.built_anew.ensures.calm
+returns-clause-balance g c = IfOk-weaker c.rebuilt_with.result _ (λ t. IsBalancedBelow c.args.large t) (λ t calm. calm_even c.args.large t calm) c.rebuilt_with.ensures.calm

@@ -51,7 +51,7 @@ returns-then-size-eq0 g t c =
     let s = c.args.tree in
     let is = c.args.items.now in
     let none : nodes s ≡ 0 = sym c.size-size.ensures.value ∙ c.if-size-eq0.true in
-    ok_three c.built_anew.result _ _ _ (λ v. IsWholeGrown s is v) (λ v b ns n. whole_built c.requires.0 s v is none c.requires.1 b ns n) c.built_anew.ensures.shape c.built_anew.ensures.numbers c.built_anew.ensures.nodes
+    ok_three c.rebuilt_with.result _ _ _ (λ v. IsWholeGrown s is v) (λ v b ns n. whole_built c.requires.0 s v is none c.requires.1 b ns n) c.rebuilt_with.ensures.shape c.rebuilt_with.ensures.numbers c.rebuilt_with.ensures.nodes
 
 pub joined-requires : goal.joined-requires
 joined-requires g t c =

@@ -17,37 +17,37 @@ use Rattle.kd_update.proofs.Refresh.{built_refresh}
 use Rattle.kd_update.proofs.Results.{ok_both}
 use Rattle.kd_update.specs.Refresh.{AreAmong, IsRefresh}
 use Rattle.kd_update.proofs.rebuild.rebuilt.Goals as goal
-use Rattle.kd_update.proofs.rebuild.rebuilt.Goals.{After-built_anew}
+use Rattle.kd_update.proofs.rebuild.rebuilt.Goals.{After-rebuilt_with}
 
 -- nothing is added to what is left
 alone : (s : Shape) → walk keep_tag s ++ [] ≡ walk keep_tag s
 alone s = append-nil (walk keep_tag s)
 
-pub built_anew-requires-clause-distinct : goal.built_anew-requires-clause-distinct
-built_anew-requires-clause-distinct g c = subst AreDistinct (sym (alone c.args.tree)) (once_walk c.args.tree (sound_once c.args.tree c.size-size.ensures.sound))
+pub rebuilt_with-requires-clause-distinct : goal.rebuilt_with-requires-clause-distinct
+rebuilt_with-requires-clause-distinct g c = subst AreDistinct (sym (alone c.args.tree)) (once_walk c.args.tree (sound_once c.args.tree c.size-size.ensures.sound))
 
-pub built_anew-requires-clause-few : goal.built_anew-requires-clause-few
-built_anew-requires-clause-few g c = omega (arith, walk_few keep_tag c.args.tree, c.size-size.ensures.value, c.size-size.ensures.few)
+pub rebuilt_with-requires-clause-few : goal.rebuilt_with-requires-clause-few
+rebuilt_with-requires-clause-few g c = omega (arith, walk_few keep_tag c.args.tree, c.size-size.ensures.value, c.size-size.ensures.few)
 
-refresh : (g : _) (c : After-built_anew g) → IfOk c.built_anew.result (IsRefresh c.args.tree)
+refresh : (g : _) (c : After-rebuilt_with g) → IfOk c.rebuilt_with.result (IsRefresh c.args.tree)
 refresh g c =
     let s = c.args.tree in
-    let same = subst (λ (xs : List Item). IfOk c.built_anew.result (λ t. IsBuilt xs t)) (alone s) c.built_anew.ensures.shape in
-    let all = subst (λ (xs : List Item). IfOk c.built_anew.result (λ t. IsPermutation (map (λ (i : Item). i.number) xs) (numbers t))) (alone s) c.built_anew.ensures.numbers in
-    ok_both c.built_anew.result _ _ (IsRefresh s) (λ t b ns. built_refresh s t b ns) same all
+    let same = subst (λ (xs : List Item). IfOk c.rebuilt_with.result (λ t. IsBuilt xs t)) (alone s) c.rebuilt_with.ensures.shape in
+    let all = subst (λ (xs : List Item). IfOk c.rebuilt_with.result (λ t. IsPermutation (map (λ (i : Item). i.number) xs) (numbers t))) (alone s) c.rebuilt_with.ensures.numbers in
+    ok_both c.rebuilt_with.result _ _ (IsRefresh s) (λ t b ns. built_refresh s t b ns) same all
 
 pub returns-clause-refresh : goal.returns-clause-refresh
-returns-clause-refresh g c = refresh g (goal.at.returns-clause-refresh g c).After-built_anew
+returns-clause-refresh g c = refresh g (goal.at.returns-clause-refresh g c).After-rebuilt_with
 
 pub returns-clause-numbers : goal.returns-clause-numbers
-returns-clause-numbers g c = IfOk-weaker c.built_anew.result _ (λ t. AreAmong (numbers t) (numbers c.args.tree)) (λ t r. r.from) (refresh g (goal.at.returns-clause-numbers g c).After-built_anew)
+returns-clause-numbers g c = IfOk-weaker c.rebuilt_with.result _ (λ t. AreAmong (numbers t) (numbers c.args.tree)) (λ t r. r.from) (refresh g (goal.at.returns-clause-numbers g c).After-rebuilt_with)
 
 -- as many items as the contents have
 as_many : (s : Shape) → length (walk keep_tag s ++ []) ≡ length (contents s)
 as_many s = ap length (alone s) ∙ sym (length_permutation (walk keep_tag s) (contents s) (by_number_moves (walk keep_tag s)))
 
 pub returns-clause-nodes : goal.returns-clause-nodes
-returns-clause-nodes g c = IfOk-weaker c.built_anew.result _ (λ t. nodes t ≡ length (contents c.args.tree)) (λ t e. e ∙ as_many c.args.tree) c.built_anew.ensures.nodes
+returns-clause-nodes g c = IfOk-weaker c.rebuilt_with.result _ (λ t. nodes t ≡ length (contents c.args.tree)) (λ t e. e ∙ as_many c.args.tree) c.rebuilt_with.ensures.nodes
 
 pub returns-clause-ticks : goal.returns-clause-ticks
-returns-clause-ticks g c = omega (arith, as_many c.args.tree, c.built_anew.ensures.ticks)
+returns-clause-ticks g c = omega (arith, as_many c.args.tree, c.rebuilt_with.ensures.ticks)

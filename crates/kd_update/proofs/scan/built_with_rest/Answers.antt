@@ -8,19 +8,19 @@ use Rattle.kd_update.proofs.Results.{ok_both}
 use Rattle.kd_update.proofs.Update.{calm_even}
 use Rattle.kd_update.proofs.scan.built_with_rest.Goals as goal
 
-pub built_anew-requires-clause-kept : goal.built_anew-requires-clause-kept
-built_anew-requires-clause-kept g c = live_kept c.args.items.now c.requires.fit.live
+pub rebuilt_with-requires-clause-kept : goal.rebuilt_with-requires-clause-kept
+rebuilt_with-requires-clause-kept g c = live_kept c.args.items.now c.requires.fit.live
 
-pub built_anew-requires-clause-few : goal.built_anew-requires-clause-few
-built_anew-requires-clause-few g c = omega (arith, contents_size c.args.tree, c.requires.fit.room)
+pub rebuilt_with-requires-clause-few : goal.rebuilt_with-requires-clause-few
+rebuilt_with-requires-clause-few g c = omega (arith, contents_size c.args.tree, c.requires.fit.room)
 
-pub built_anew-requires-clause-distinct : goal.built_anew-requires-clause-distinct
-built_anew-requires-clause-distinct g c = walk_distinct c.args.tree c.args.items.now c.requires.fit.distinct
+pub rebuilt_with-requires-clause-distinct : goal.rebuilt_with-requires-clause-distinct
+rebuilt_with-requires-clause-distinct g c = walk_distinct c.args.tree c.args.items.now c.requires.fit.distinct
 
 pub returns : goal.returns
 returns g c = λ large.
     let s = c.args.tree in
     let is = c.args.items.now in
     let few : length (walk keep_tag s) + length is ≤ 4194304 = omega (arith, contents_size s, c.requires.fit.room) in
-    let built = ok_both c.built_anew.result _ _ (λ t. IsGrown s is t) (λ t b ns. grown_anew s t is c.requires.fit.live few c.requires.some b ns) c.built_anew.ensures.shape c.built_anew.ensures.numbers in
-    ok_both c.built_anew.result _ _ (λ t. IsPut large s is t) (λ t k calm. join_grown large s t is c.requires.fit k (λ even. calm_even large t calm)) built c.built_anew.ensures.calm
+    let built = ok_both c.rebuilt_with.result _ _ (λ t. IsGrown s is t) (λ t b ns. grown_anew s t is c.requires.fit.live few c.requires.some b ns) c.rebuilt_with.ensures.shape c.rebuilt_with.ensures.numbers in
+    ok_both c.rebuilt_with.result _ _ (λ t. IsPut large s is t) (λ t k calm. join_grown large s t is c.requires.fit k (λ even. calm_even large t calm)) built c.rebuilt_with.ensures.calm

@@ -31,12 +31,12 @@ joins t i fit e f =
 few : (t : Shape) → AreContents 0 100 (contents t) → length (walk keep_tag t) ≤ 100
 few t fit = omega (arith, contents_length 0 100 (contents t) (omega arith) fit, length_permutation (walk keep_tag t) (contents t) (by_number_moves (walk keep_tag t)))
 
-pub built_anew-requires-clause-distinct : goal.built_anew-requires-clause-distinct
-built_anew-requires-clause-distinct g c =
+pub rebuilt_with-requires-clause-distinct : goal.rebuilt_with-requires-clause-distinct
+rebuilt_with-requires-clause-distinct g c =
     let all = subst (λ (xs : List Item). AllByRecursion (λ (i : Item). i.number < 100) xs) (c.as_slice.ensures ∙ c.in_ok-items.ensures) (c.all_below.ensures c.if-not-all_below.false) in
     joins c.args.tree c.in_ok-item.field-0 (below c.args.tree c.size-size.ensures.sound all) c.in_ok-item.ensures.number c.in_ok-item.ensures.live
 
-pub built_anew-requires-clause-few : goal.built_anew-requires-clause-few
-built_anew-requires-clause-few g c =
+pub rebuilt_with-requires-clause-few : goal.rebuilt_with-requires-clause-few
+rebuilt_with-requires-clause-few g c =
     let all = subst (λ (xs : List Item). AllByRecursion (λ (i : Item). i.number < 100) xs) (c.as_slice.ensures ∙ c.in_ok-items.ensures) (c.all_below.ensures c.if-not-all_below.false) in
     omega (arith, few c.args.tree (below c.args.tree c.size-size.ensures.sound all))

@@ -11,8 +11,8 @@ use Rattle.kd_tree.specs.Criteria.{AllMeetCriteria}
 use Rattle.kd_tree.specs.Build.{IsBuilt}
 use Rattle.kd_tree.proofs.Medians.{built_calm, built_levels, built_nodes, built_numbers, contents-built}
 use Rattle.kd_tree.proofs.Held.{walk_kept}
-use Rattle.kd_tree.proofs.node.Tree.built_anew.Goals as goal
-use Rattle.kd_tree.proofs.node.Tree.built_anew.Goals.{After-built_in}
+use Rattle.kd_tree.proofs.node.Tree.rebuilt_with.Goals as goal
+use Rattle.kd_tree.proofs.node.Tree.rebuilt_with.Goals.{After-built_in}
 
 kept_with : (s : Shape) (more : List Item) → AreKept more → AreKept (walk keep_tag s ++ more)
 kept_with s more k = All-append (λ (i : Item). is_dropped i.label ≡ false) (walk keep_tag s) more (walk_kept keep_tag s) k
