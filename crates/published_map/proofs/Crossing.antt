@@ -50,7 +50,7 @@ use Rattle.point_geom.proofs.cuboid.Corner.TheSendSync as s35
 use Rattle.point_geom.proofs.cuboid.Cuboid.TheSendSync as s36
 use Rattle.point_geom.proofs.extent.Extent.TheSendSync as s37
 use Rattle.point_geom.proofs.point.Point.TheSendSync as s38
-use Rattle.published_map.proofs.mark.Law.TheSendSync as s39
+use Rattle.published_map.proofs.mark.MarkRule.TheSendSync as s39
 use Rattle.published_map.proofs.mark.Mark.TheSendSync as s40
 use Rattle.published_map.proofs.mark.MarkList.TheSendSync as s41
 use Rattle.published_map.proofs.rule.Follows.TheSendSync as s42

@@ -33,7 +33,7 @@ pub record IsOpened (callers : ℕ) (history : List Entry) : Type 0 where
   pub none : history ≡ []
 
 -- Under the lock the published version is that of the stored history, which the writer knows, and all updates are counted. The
--- purse has no part, and so nothing.
+-- audit_share has no part, and so nothing.
 pub record IsWhole (known shown history : List Entry) (total parts amount : ℕ) : Type 0 where
   pub writer : known ≡ history
   pub published : shown ≡ history

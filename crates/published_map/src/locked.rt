@@ -33,7 +33,7 @@ where
     pub(crate) marks: MarkList,
     pub(crate) book: Book<L>,
     // It has no part, and lends itself to an audit.
-    pub(crate) purse: Share<L>,
+    pub(crate) audit_share: Share<L>,
     // The version before the published one. The next step writes over the last other copy of it, the one on the side that readers
     // don't take, and would free it under the lock.
     pub(crate) former: Option<Arc<Version>>,
@@ -68,7 +68,7 @@ where
 
     ghost view = { λ s. s.state };
 
-    ghost invariant = { λ s. (s.marks ≡ L.marks) × (s.state.state.settings.voxel ≡ L.voxel) × IsWhole (seat_view s.writer.desk.place) s.writer.desk.shown.value s.state.state.history s.book.total s.purse.parts s.purse.amount × AreTrueOf s.state.state s.holds.items };
+    ghost invariant = { λ s. (s.marks ≡ L.marks) × (s.state.state.settings.voxel ≡ L.voxel) × IsWhole (seat_view s.writer.desk.place) s.writer.desk.shown.value s.state.state.history s.book.total s.audit_share.parts s.audit_share.amount × AreTrueOf s.state.state s.holds.items };
 }
 
 impl<L: MapName> Locked<L> {

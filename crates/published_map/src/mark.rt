@@ -2,7 +2,7 @@
 ghost use Rattle.std.specs.Prelude.{◌≡◌, true, IfSome};
 
 use crate::name::MapName;
-use crate::story::Story;
+use crate::story::ShownHistory;
 use logbook::{Gain, Offer, Plain, Play, Rule, Seen, Start, Word};
 use std::marker::{Model, PhantomData};
 
@@ -10,9 +10,9 @@ use std::marker::{Model, PhantomData};
 const MOST_MARKS: u64 = 1 << 62;
 
 /// The word of a book is the number of its entries. An entry is a page: what a mark is of.
-pub struct Law;
+pub struct MarkRule;
 
-impl Rule<Story, u64> for Law {
+impl Rule<ShownHistory, u64> for MarkRule {
     ghost use Rattle.std.specs.Prelude.{[]};
     ghost use base.Fml.{ftrue};
     ghost use Rattle.published_map.specs.Book.{IsKept};
@@ -31,24 +31,24 @@ impl Rule<Story, u64> for Law {
 }
 
 /// Callers trade nothing.
-pub struct Nothing;
+pub struct NoTrade;
 
-impl Gain<Story, u64> for Nothing {
+impl Gain<ShownHistory, u64> for NoTrade {
     ghost use base.Fml.{ftrue};
 
     ghost after = { λ names about answer. ftrue };
 }
 
 /// A step that adds an entry.
-pub struct Add;
+pub struct Append;
 
-impl Play<Story, u64> for Add {
+impl Play<ShownHistory, u64> for Append {
     ghost use Rattle.published_map.specs.Book.{Adds};
 
     ghost then = { Adds };
 }
 
-impl Plain<Story, Story, u64> for Add {
+impl Plain<ShownHistory, ShownHistory, u64> for Append {
     ghost use Rattle.std.specs.Prelude.{None};
 
     ghost ask = { λ story. story };
@@ -59,9 +59,9 @@ impl Plain<Story, Story, u64> for Add {
 /// All marks of one map. Contracts see the book that they stand in.
 #[derive(Drop)]
 pub struct MarkList {
-    word: Word<Story, u64, Law>,
+    word: Word<ShownHistory, u64, MarkRule>,
     number: u64,
-    seen: Seen<Story, u64, Law>,
+    seen: Seen<ShownHistory, u64, MarkRule>,
 }
 
 impl Model for MarkList {
@@ -92,7 +92,7 @@ impl MarkList {
 #[derive(Drop)]
 pub struct Mark<L: MapName> {
     number: u64,
-    seen: Seen<Story, u64, Law>,
+    seen: Seen<ShownHistory, u64, MarkRule>,
     name: PhantomData<L>,
 }
 
@@ -109,7 +109,7 @@ impl<L: MapName> Model for Mark<L> {
 
 impl<L: MapName> Mark<L> {
     /// A new number, for this page. `None` where another step came between, which the lock excludes, but no clause says so.
-    pub fn of(marks: &mut MarkList, story: &Story) -> Option<Mark<L>>
+    pub fn of(marks: &mut MarkList, story: &ShownHistory) -> Option<Mark<L>>
         requires { marks.old ≡ L.marks }
         ensures same { marks.new ≡ marks.old }
         ensures mark { IfSome result (λ m. m ≡ story.now) }
@@ -117,14 +117,14 @@ impl<L: MapName> Mark<L> {
         if marks.number >= MOST_MARKS {
             return None;
         }
-        let mut offer: Offer<Story, u64, Law, Nothing> = marks
+        let mut offer: Offer<ShownHistory, u64, MarkRule, NoTrade> = marks
             .seen
-            .plain::<Nothing, Story, Add>(story);
+            .plain::<NoTrade, ShownHistory, Append>(story);
         let mut pen = marks.seen.no_pen();
         let number = marks.number;
         let found = marks
             .word
-            .compare_exchange::<Add, Nothing>(
+            .compare_exchange::<Append, NoTrade>(
                 number,
                 number + 1,
                 &mut marks.seen,

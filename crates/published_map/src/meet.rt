@@ -20,7 +20,7 @@ pub fn meet<L: MapName, R: Wait>(rt: &R, locked: &mut Locked<L>, passes: &mut [P
     ensures none_else { AllOf (callers_of passes.new) locked.old.state.history }
 {
     give_all(rt, locked, passes);
-    audit_from(&mut locked.book, passes, &mut locked.purse);
+    audit_from(&mut locked.book, passes, &mut locked.audit_share);
 }
 
 /// The same for passes that are not used any more.

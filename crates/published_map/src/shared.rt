@@ -51,7 +51,7 @@ impl<L: MapName> Shared<L> {
         } = opened;
         let writer = opened_pair(alloc, &state, &mut marks, callers)?;
         let (book, mut share) = blank.open::<L>();
-        let purse = share.empty();
+        let audit_share = share.empty();
         match made_passes(alloc, &writer, share, callers) {
             Ok(passes) => {
                 let lock = Mutex::new(Locked {
@@ -59,7 +59,7 @@ impl<L: MapName> Shared<L> {
                     writer,
                     marks,
                     book,
-                    purse,
+                    audit_share,
                     former: None,
                     by_update: false,
                     left: None,
@@ -153,7 +153,7 @@ impl<L: MapName> Shared<L> {
             writer,
             marks: _marks,
             book: _book,
-            purse: _purse,
+            audit_share: _purse,
             former: _former,
             by_update: _by_update,
             left: _left,
@@ -173,7 +173,7 @@ impl<L: MapName> Shared<L> {
             writer,
             marks: _marks,
             book: _book,
-            purse: _purse,
+            audit_share: _purse,
             former: _former,
             by_update: _by_update,
             left: _left,

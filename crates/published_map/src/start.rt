@@ -8,7 +8,7 @@ use crate::mark::{Mark, MarkList};
 use crate::name::MapName;
 use crate::pass::Pass;
 use crate::shown::Shown;
-use crate::story::Story;
+use crate::story::ShownHistory;
 use map_fold::{Entry, NoMemory};
 use rebuild_core::MapState;
 use std::alloc::Global;
@@ -32,7 +32,7 @@ pub fn opened_pair<L: MapName>(
 {
     let none: Option<Entry> = None;
     let _history = state.history();
-    let Some(mark) = Mark::of(marks, &Story::of(state, &none)) else {
+    let Some(mark) = Mark::of(marks, &ShownHistory::of(state, &none)) else {
         return Err(NoMemory);
     };
     let first = Shown::new(Arc::try_clone(state.version())?, mark);

@@ -11,7 +11,7 @@ use crate::kinds::{MapReader, MapWriter, look, show};
 use crate::mark::{Mark, MarkList};
 use crate::name::MapName;
 use crate::shown::Shown;
-use crate::story::Story;
+use crate::story::ShownHistory;
 use map_fold::NoMemory;
 use rebuild_core::{MapState, Planned};
 use std::sync::{Arc, Wait};
@@ -29,7 +29,7 @@ fn shown_by<L: MapName>(
     ensures shown { IfOk result (λ s. s ≡ history_after planned.now state.now.state) }
 {
     let version = Arc::try_clone(planned.version())?;
-    let Some(mark) = Mark::of(marks, &Story::of(state, planned.entry())) else {
+    let Some(mark) = Mark::of(marks, &ShownHistory::of(state, planned.entry())) else {
         return Err(NoMemory);
     };
     Ok(Shown::new(version, mark))

@@ -13,7 +13,7 @@ use crate::mark::Mark;
 use crate::name::MapName;
 use crate::plans::plan_swap_or_log;
 use crate::shown::Shown;
-use crate::story::Story;
+use crate::story::ShownHistory;
 use map_fold::{NoMemory, Ops};
 use rebuild_core::{Built, Holding, LogAsk, Snapshot, Unswapped, Version};
 use std::alloc::Global;
@@ -45,7 +45,7 @@ impl<L: MapName> Locked<L> {
         let Some(snapshot) = self.state.snapshot(alloc, slot)? else {
             return Ok(None);
         };
-        let Some(mark) = Mark::of(&mut self.marks, &Story::of_subtree(&snapshot)) else {
+        let Some(mark) = Mark::of(&mut self.marks, &ShownHistory::of_subtree(&snapshot)) else {
             return Err(NoMemory);
         };
         let hold = Hold::new(slot, snapshot.ticket(), mark.again());
