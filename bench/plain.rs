@@ -1,7 +1,7 @@
 // A straightforward incremental k-d tree in plain Rust, to be measured beside map_bench: the same words, points, works and
 // checksums. Build with `rustc -O`. It admits the same coordinates, so its squared distances have 128 bits, and keeps an
 // intensity with each point. It is changed in place and holds no versions, so `held` is here the work of `scans`, and it
-// builds everything anew in place, so `longest` has one figure here.
+// rebuilds everything in place, so `longest` has one figure here.
 //
 // Built with `--cfg shared`, its nodes are shared by versions as ours are, and the version before each scan is held while the scan is
 // taken in, in `held`, `thin` and `odometry`: what a version costs in plain Rust.
@@ -95,7 +95,7 @@ impl Node {
         }
     }
 
-    // Whether the node is to be built anew once so many more stand on its left and on its right.
+    // Whether the node is to be rebuilt once so many more stand on its left and on its right.
     fn is_due(&self, large: u32, left: u32, right: u32) -> bool {
         let size = |tree: &Tree| tree.as_ref().map_or(0, |son| son.size);
         let (left, right) = (size(&self.left) + left, size(&self.right) + right);
@@ -208,7 +208,7 @@ fn parted(node: &Node, items: &mut [Item]) -> usize {
     count
 }
 
-// Puts the items in one pass: they are parted at each node that they meet, and what would breach is built anew with them.
+// Puts the items in one pass: they are parted at each node that they meet, and what would breach is rebuilt with them.
 fn put_all(tree: Tree, large: u32, items: &mut [Item], axis: usize) -> Tree {
     if let [] | [_] = items {
         return items.iter().fold(tree, |tree, item| put(tree, large, *item, axis));
@@ -369,7 +369,7 @@ impl Draws {
 
 const POINTS_OF_SCAN: u32 = 2_000;
 
-// As in map_bench: the update itself builds anew whatever lost its balance.
+// As in map_bench: the update itself rebuilds whatever lost its balance.
 const LARGE: u32 = 1_000_000;
 
 fn with(sum: u64, number: u32, dist2: u128) -> u64 {

@@ -1,5 +1,5 @@
 // How steady the plain tree is behind a lock that readers share: scans come every ten milliseconds, beside a reader that asks
-// without a pause, as in map_bench. Uneven subtrees are built anew either in the updates, or the larger ones by a thread beside
+// without a pause, as in map_bench. Uneven subtrees are rebuilt either in the updates, or the larger ones by a thread beside
 // them. That thread lists a subtree under the lock and builds it outside. Meanwhile what is done to the subtree is written down.
 // The thread does it to what it built, and puts that in the subtree's place under the lock.
 use super::{Cuboid, DELETE, Draws, Item, KEEP, Map, POINTS_OF_SCAN, Tree};
@@ -53,7 +53,7 @@ enum Op {
     Mark(Cuboid, [u8; 2]),
 }
 
-// A subtree that is being built anew: which son to take at each node on the way to it, and what was done to it since.
+// A subtree that is being rebuilt: which son to take at each node on the way to it, and what was done to it since.
 struct Detached {
     rights: Vec<bool>,
     log: Vec<Op>,
@@ -62,7 +62,7 @@ struct Detached {
 // What is behind the lock.
 struct Kept {
     map: Map,
-    // The updates build subtrees of fewer nodes anew.
+    // The updates rebuild subtrees of fewer nodes.
     large: u32,
     detached: Option<Detached>,
 }
@@ -116,7 +116,7 @@ impl Kept {
     }
 }
 
-// Puts the items in one pass. No node above the detached subtree is built anew, and what comes into the subtree is written down.
+// Puts the items in one pass. No node above the detached subtree is rebuilt, and what comes into the subtree is written down.
 fn put_beside(tree: Tree, large: u32, rights: &[bool], items: &mut [Item], axis: usize, log: &mut Vec<Op>) -> Tree {
     if items.is_empty() {
         return tree;
@@ -246,7 +246,7 @@ impl Shared {
     }
 }
 
-// What the thread asked for that builds subtrees anew.
+// What the thread asked for that rebuilds subtrees.
 #[derive(Default)]
 struct Turns {
     detach: Times,
@@ -254,7 +254,7 @@ struct Turns {
     log: Times,
 }
 
-// Builds uneven subtrees anew until no further update comes. It sleeps where there is none.
+// Rebuilds uneven subtrees until no further update comes. It sleeps where there is none.
 fn rebuild(shared: &Shared, large: u32) -> Turns {
     let mut turns = Turns::default();
     while !shared.is_over.load(Ordering::SeqCst) {

@@ -78,11 +78,11 @@ A map grows by scans of 2,000 points to so many. Then it takes 300 scans more, o
 after each tenth what is left is deleted. Beside it a reader, on a thread of its own, asks for the 5 nearest points all over the map
 without a pause.
 
-two_workers   ours: subtrees from 1,500 nodes on are built anew by two workers, each on a thread of its own
+two_workers   ours: subtrees from 1,500 nodes on are rebuilt by two workers, each on a thread of its own
 one_worker    the same with one worker
-inline        ours, without workers: the updates build uneven subtrees anew, up to 1,000,000 nodes
+inline        ours, without workers: the updates rebuild uneven subtrees, up to 1,000,000 nodes
 unhelped      ours, without workers: nobody builds subtrees from 1,500 nodes on anew
-plain_inline  the plain tree, whose updates build uneven subtrees anew, up to 1,000,000 nodes
+plain_inline  the plain tree, whose updates rebuild uneven subtrees, up to 1,000,000 nodes
 plain_thread  the plain tree: subtrees from 1,500 nodes on are listed under the lock by a thread, built outside, brought up to date
               outside until nothing is left to be done, and put in under the lock
 

@@ -1,6 +1,6 @@
 #!/usr/bin/env bash
 # How long the worst scans take, beside scans of drawn points: as many points an update as there may be, in rising order or all
-# at one place, where subtrees of 16, 1,500 or 1,000,000 nodes and more aren't built anew. Nanoseconds a point, and the ratio to
+# at one place, where subtrees of 16, 1,500 or 1,000,000 nodes and more aren't rebuilt. Nanoseconds a point, and the ratio to
 # drawn points.
 #
 #   bench/worst.sh [PROGRAM]

@@ -23,9 +23,9 @@ extern "C" {
 typedef struct { void *at; bool full; } corv_map;
 /* What a map held when the view was made. */
 typedef struct { void *at; bool full; } corv_view;
-/* A subtree of a map, given out to be built anew. */
+/* A subtree of a map, given out to be rebuilt. */
 typedef struct { void *at; bool full; } corv_job;
-/* That subtree, built anew. */
+/* That subtree, rebuilt. */
 typedef struct { void *at; bool full; } corv_built;
 
 /* Each number of a place is from -1,099,511,627,776 to 1,099,511,627,776. */
@@ -52,7 +52,7 @@ enum {
     CORV_BAD_BOX = 7,           /* a number of a box is out of range, or one of hi is below that of lo */
     CORV_TOO_MANY_UPDATES = 8,  /* the map has 1,048,576 updates */
     CORV_TOO_MANY_POINTS = 9,   /* more than 4,194,304 points would have been submitted */
-    CORV_NOTHING_TO_DETACH = 10, /* no subtree is to be built anew */
+    CORV_NOTHING_TO_DETACH = 10, /* no subtree is to be rebuilt */
     CORV_STALE = 11,            /* the built subtree's place in the map is there no more */
     CORV_BEHIND = 12            /* more than 64 operations are left to be done on the built subtree */
 };
@@ -108,14 +108,14 @@ int32_t corv_view_count(corv_view *view, const corv_box *box, uint32_t *live);
 int32_t corv_view_inside(corv_view *view, const corv_box *box, uint32_t most, corv_item *items, size_t room, size_t *count);
 int32_t corv_view_totals(corv_view *view, corv_totals *totals);
 
-/* Large subtrees are built anew beside the updates, on threads of the caller's: detach (in the map's thread), build (in any, while
+/* Large subtrees are rebuilt beside the updates, on threads of the caller's: detach (in the map's thread), build (in any, while
  * the map goes on), swap (in the map's thread). Where a swap answers BEHIND: replay (in any thread), and swap again. Nothing of it
  * changes what the map holds. */
 /* Gives out the subtree of the slot, from 1 to 4: the one that was given out under it before and is not yet swapped in, which makes
- * that one stale, or else the first large one that is to be built anew. EMPTY (the map), FULL (the job), BAD_NUMBER,
+ * that one stale, or else the first large one that is to be rebuilt. EMPTY (the map), FULL (the job), BAD_NUMBER,
  * NOTHING_TO_DETACH, NO_MEMORY. */
 int32_t corv_map_detach(corv_map *map, uint32_t slot, corv_job *job);
-/* Builds the subtree anew, and leaves the job empty. EMPTY (the job), FULL (the built subtree), NO_MEMORY. */
+/* Rebuilds the subtree, and leaves the job empty. EMPTY (the job), FULL (the built subtree), NO_MEMORY. */
 int32_t corv_job_build(corv_job *job, corv_built *built);
 void corv_job_free(corv_job *job);
 /* Does on the built subtree the operations that the last swap that answered BEHIND put beside it, if there are any. EMPTY, NO_MEMORY. */

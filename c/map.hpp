@@ -231,7 +231,7 @@ private:
     View() = default;
 };
 
-/// A subtree, built anew, to be swapped in.
+/// A subtree, rebuilt, to be swapped in.
 class Built {
 public:
     /// Does what the last swap that was behind put beside it. In any thread.
@@ -244,7 +244,7 @@ private:
     detail::Owned<corv_built, corv_built_free> handle_;
 };
 
-/// A subtree that is given out, to be built anew.
+/// A subtree that is given out, to be rebuilt.
 class Job {
 public:
     /// Builds it, in any thread, and leaves the job empty.
@@ -289,7 +289,7 @@ public:
         return view;
     }
 
-    /// Gives out a large subtree to be built anew, if there is one, in a slot from 1 to 4. What the slot gave out before, and isn't
+    /// Gives out a large subtree to be rebuilt, if there is one, in a slot from 1 to 4. What the slot gave out before, and isn't
     /// swapped in yet, is given out once more, and what was built of it is stale.
     std::optional<Job> detach(std::uint32_t slot) {
         Job job;

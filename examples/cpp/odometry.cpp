@@ -1,5 +1,5 @@
 // Odometry's turn on the map. Of each scan the points are first asked for what is nearest to them in the map, from which odometry would
-// work out where the robot is, and then the scan is taken into the map. Meanwhile a second thread builds anew what got uneven in it.
+// work out where the robot is, and then the scan is taken into the map. Meanwhile a second thread rebuilds what got uneven in it.
 //
 //     odometry < LOG > TRANSCRIPT
 //
@@ -15,7 +15,7 @@
 
 using Clock = std::chrono::steady_clock;
 
-// What is built anew beside the scans, one subtree at a time. It changes how fast the map answers, and never what.
+// What is rebuilt beside the scans, one subtree at a time. It changes how fast the map answers, and never what.
 class Rebuild {
 public:
     explicit Rebuild(corv::Map &map) : map_(map) {}
