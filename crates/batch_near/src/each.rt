@@ -1,7 +1,8 @@
 //! The nearest live points of each place of a list.
-ghost use Rattle.std.specs.Prelude.{◌≡◌, ◌≤◌, ◌<◌, length, slice_index_or, IfOk};
-ghost use Rattle.point_geom.specs.Place.{Place};
+ghost use Rattle.std.specs.Prelude.{◌≡◌, ◌≤◌, ◌<◌, ◌+◌, length, IfOk};
 ghost use Rattle.std.specs.Option.{ForSome};
+ghost use Rattle.std.specs.Thread.{IsSync};
+ghost use Rattle.batch_near.specs.Slabs.{slab_of, AreFilled};
 ghost use Rattle.map_fold.specs.Answers.{nearest};
 ghost use Rattle.kd_tree.specs.Contents.{contents};
 ghost use Rattle.map_fold.specs.Answers.{nearest_each};
@@ -11,6 +12,7 @@ use kd_tree::Tree;
 use map_fold::{HitLists, Hits, NoMemory, Points};
 use point_geom::Point;
 use rayon::prelude::*;
+use rayon::{current_num_threads, join_mut};
 use std::alloc::Global;
 use std::thread::Threads;
 
@@ -19,6 +21,11 @@ const LEAST_PIECE: usize = 128;
 
 // So many hits stand in a list itself.
 const INLINE: u32 = 16;
+
+// A slab is so wide, in millimetres of x, and the same comes again after so many of them.
+const WIDTH: u64 = 2_048;
+
+const SLABS: u64 = 32;
 
 /// For each query, in order, what `nearest` answers for it on this tree: the first k live points by distance, within the greatest
 /// distance, in millimetres, where one is given. The queries are split among as many threads as there are processors, in pieces of
@@ -62,17 +69,106 @@ fn in_place<R: Threads + Sync>(
     ensures { IfOk result (λ lists. lists.items ≡ nearest_each (contents tree.now) k queries.now within) }
 {
     let mut lists = empty_lists(alloc, queries.len())?;
-    par_for_each_mut(
+    let pieces = (queries.len() / LEAST_PIECE).clamp(1, current_num_threads(rt));
+    fill(
         rt,
+        alloc,
+        tree,
+        k,
+        within,
+        pieces,
+        queries,
         lists.as_mut_slice(),
-        move |place: usize, list: &mut Hits|
-            requires { (place < length queries.now) × (1 ≤ k) × (k ≤ 16) × ForSome within (λ r. r ≤ 4398046511104) }
-            ensures { (d : Place) → list.exit.now ≡ nearest (contents tree.entry.now) k (slice_index_or queries.entry.now place d) within }
-        {
-            *list = nearest(alloc, tree, k, &queries[place], within).unwrap();
-        },
     );
     Ok(lists)
+}
+
+// Each piece but the last goes to a thread of its own. The thread that calls begins them all, since one that is begun takes
+// its time before it could begin another.
+fn fill<R: Threads + Sync>(
+    rt: &R,
+    alloc: Global,
+    tree: &Tree,
+    k: u32,
+    within: Option<u64>,
+    pieces: usize,
+    queries: &[Point],
+    lists: &mut [Hits],
+)
+    requires k_from { 1 ≤ k }
+    requires k_to { k ≤ 16 }
+    requires within_to { ForSome within (λ r. r ≤ 4398046511104) }
+    requires len { length lists.old ≡ length queries.now }
+    ensures { lists.new ≡ nearest_each (contents tree.now) k queries.now within }
+{
+    if pieces < 2 {
+        fill_piece(alloc, tree, k, within, queries, lists);
+        return;
+    }
+    let piece = queries.len() / pieces;
+    let (these, others) = queries.split_at(piece);
+    let (first, rest) = lists.split_at_mut(piece);
+    join_mut(
+        rt,
+        &mut ||
+            requires { (1 ≤ k) × (k ≤ 16) × ForSome within (λ r. r ≤ 4398046511104) × (length first.now ≡ length these.now) }
+            ensures { first.exit.now ≡ nearest_each (contents tree.entry.now) k these.entry.now within }
+        { fill_piece(alloc, tree, k, within, these, first) },
+        &mut ||
+            requires { IsSync R.row × (1 ≤ k) × (k ≤ 16) × ForSome within (λ r. r ≤ 4398046511104) × (2 ≤ pieces) × (length rest.now ≡ length others.now) }
+            ensures { rest.exit.now ≡ nearest_each (contents tree.entry.now) k others.entry.now within }
+        { fill(rt, alloc, tree, k, within, pieces - 1, others, rest) },
+    );
+}
+
+// Slab by slab: of what a search reads, most is then still at hand from those before it.
+fn fill_piece(
+    alloc: Global,
+    tree: &Tree,
+    k: u32,
+    within: Option<u64>,
+    queries: &[Point],
+    lists: &mut [Hits],
+)
+    requires k_from { 1 ≤ k }
+    requires k_to { k ≤ 16 }
+    requires within_to { ForSome within (λ r. r ≤ 4398046511104) }
+    requires len { length lists.old ≡ length queries.now }
+    ensures { lists.new ≡ nearest_each (contents tree.now) k queries.now within }
+{
+    for slab in 0..SLABS {
+        fill_slab(alloc, tree, k, within, slab, queries, lists);
+    }
+}
+
+fn fill_slab(
+    alloc: Global,
+    tree: &Tree,
+    k: u32,
+    within: Option<u64>,
+    slab: u64,
+    queries: &[Point],
+    lists: &mut [Hits],
+)
+    requires k_from { 1 ≤ k }
+    requires k_to { k ≤ 16 }
+    requires within_to { ForSome within (λ r. r ≤ 4398046511104) }
+    requires len { length lists.old ≡ length queries.now }
+    requires filled { AreFilled (λ q. nearest (contents tree.now) k q within) slab queries.now lists.old }
+    ensures { AreFilled (λ q. nearest (contents tree.now) k q within) (slab + 1) queries.now lists.new }
+{
+    for place in 0..queries.len() {
+        let query = &queries[place];
+        if slab_of(query) == slab {
+            lists[place] = nearest(alloc, tree, k, query, within).unwrap();
+        }
+    }
+}
+
+fn slab_of(query: &Point) -> u64
+    ensures { result ≡ slab_of query.now }
+{
+    query.x().cast_unsigned() / WIDTH % SLABS
 }
 
 fn empty_lists(alloc: Global, count: usize) -> Result<Vec<Hits>, NoMemory>
