@@ -8,7 +8,7 @@ use crate::mark::Mark;
 use crate::name::MapName;
 use crate::shared::Shared;
 use map_fold::{NoMemory, Ops};
-use rebuild_core::{Built, Desk, Job, Late, LogAsk, SwapFault, SwapLeft, Unswapped};
+use rebuild_core::{Built, Desk, Job, Late, LogAsk, SwapFault, SwapLeft};
 use std::alloc::Global;
 use std::sync::{MutexGuard, Wait};
 
@@ -45,6 +45,7 @@ impl<L: MapName> Desk for Shared<L> {
         ops
     }
 
+    /// The operations are done on a copy of the value, which shares its nodes: so each node that they touch is copied.
     fn swap<R: Wait>(
         &self,
         rt: &R,
@@ -53,10 +54,10 @@ impl<L: MapName> Desk for Shared<L> {
         force: bool,
     ) -> Result<(), SwapLeft> {
         let most = if force { MOST_LOGGED } else { FEW };
-        match self.swap_within(rt, alloc, &built, most) {
+        match self.swap_copy(rt, alloc, &built, most) {
             Ok(()) => Ok(()),
-            Err(fault) => {
-                let fault = counted(&built, force, fault);
+            Err(late) => {
+                let fault = counted(&built, force, late);
                 Err(SwapLeft { built, fault })
             }
         }
@@ -69,10 +70,7 @@ impl<L: MapName> Desk for Shared<L> {
         built: Built,
         most: u32,
     ) -> Result<(), Late> {
-        match self.swap_within(rt, alloc, &built, most) {
-            Ok(()) => Ok(()),
-            Err(fault) => Err(Late { built, fault }),
-        }
+        self.swap_within(rt, alloc, built, most)
     }
 }
 
@@ -91,26 +89,39 @@ impl<L: MapName> Shared<L> {
         drop(spent);
     }
 
+    // Swaps a copy of the value in, where it is at most so many operations behind.
+    fn swap_copy<R: Wait>(
+        &self,
+        rt: &R,
+        alloc: Global,
+        built: &Built,
+        most: u32,
+    ) -> Result<(), Late>
+        ensures { IfErr result (IsLateCause built.now most) }
+    {
+        let twin = built.again(alloc)?;
+        self.swap_within(rt, alloc, twin, most)
+    }
+
     // Swaps the value in, where it is at most so many operations behind. The first turn takes hold of what the subtree of its
     // ticket held, which is compared after it.
     fn swap_within<R: Wait>(
         &self,
         rt: &R,
         alloc: Global,
-        built: &Built,
+        built: Built,
         most: u32,
-    ) -> Result<(), Unswapped>
-        ensures { IfErr result (IsLateCause built.now most) }
+    ) -> Result<(), Late>
+        ensures { IfErr result (IsLateCause built most) }
     {
-        let ticket = built.ticket();
         let locked = self.lock.lock(rt);
-        let held = locked.held(ticket);
+        let held = locked.held(built.ticket());
         MutexGuard::unlock(locked);
         let Some((holding, mark)) = held? else {
-            return Err(Unswapped::Stale { ticket });
+            return Err(Late::Stale { built });
         };
-        if !holding.is_of(built) {
-            return Err(Unswapped::Stale { ticket });
+        if !holding.is_of(&built) {
+            return Err(Late::Stale { built });
         }
         self.swap_known(rt, alloc, built, &mark, most)
     }
@@ -120,12 +131,12 @@ impl<L: MapName> Shared<L> {
         &self,
         rt: &R,
         alloc: Global,
-        built: &Built,
+        built: Built,
         mark: &Mark<L>,
         most: u32,
-    ) -> Result<(), Unswapped>
-        requires { mark.now.items ≡ built.now.items }
-        ensures { IfErr result (IsLateCause built.now most) }
+    ) -> Result<(), Late>
+        requires { mark.now.items ≡ built.items }
+        ensures { IfErr result (IsLateCause built most) }
     {
         let mut locked = self.lock.lock(rt);
         let (left, holdings) = (locked.leave(), locked.holdings());
@@ -138,16 +149,17 @@ impl<L: MapName> Shared<L> {
     }
 }
 
-// The same fault, with the number of the operations that are left.
-fn counted(built: &Built, force: bool, fault: Unswapped) -> SwapFault
-    requires { IsLateCause built.now (most_done force) fault }
+// The same cause, with the number of the operations that are left.
+fn counted(built: &Built, force: bool, late: Late) -> SwapFault
+    requires { IsLateCause built.now (most_done force) late }
     ensures { IsSwapCause built.now force result }
 {
-    let _ticket = built.ticket();
-    match fault {
-        Unswapped::Stale { ticket } => SwapFault::Stale { ticket },
-        Unswapped::NoMemory => SwapFault::NoMemory,
-        Unswapped::Behind { ops } => SwapFault::Behind {
+    match late {
+        Late::Stale { .. } => SwapFault::Stale {
+            ticket: built.ticket(),
+        },
+        Late::NoMemory => SwapFault::NoMemory,
+        Late::Behind { ops, .. } => SwapFault::Behind {
             left: ops.len() as u32,
         },
     }

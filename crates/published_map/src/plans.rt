@@ -7,7 +7,7 @@ ghost use Rattle.published_map.specs.Late.{IsLateCause};
 
 use kd_tree::Steps;
 use map_fold::Update;
-use rebuild_core::{Built, MapState, Planned, StateFault, Unswapped};
+use rebuild_core::{Built, Late, MapState, Planned, StateFault};
 use std::alloc::Global;
 use std::marker::Brand;
 use std::sync::ledger::{Blank, Ledger};
@@ -52,16 +52,16 @@ fn update_counted<C: Ledger>(
     state.plan_update(alloc, caller, update, &mut steps)
 }
 
-// The plan of a swap, or the operations that the value lacks.
+// The plan of a swap, or the value with the operations that it lacks.
 pub(crate) fn plan_swap_or_log(
     alloc: Global,
     state: &MapState,
-    built: &Built,
+    built: Built,
     most: u32,
-) -> Result<Planned, Unswapped>
-    requires known { AreItemsOf built.now.ticket built.now.items state.now.state.parts }
-    ensures planned { IfOk result (IsSwapPlan built.now state.now.state) }
-    ensures late { IfErr result (IsLateCause built.now most) }
+) -> Result<Planned, Late>
+    requires known { AreItemsOf built.ticket built.items state.now.state.parts }
+    ensures planned { IfOk result (IsSwapPlan built state.now.state) }
+    ensures late { IfErr result (IsLateCause built most) }
 {
     near_counted::<Brand>(alloc, state, built, most, Blank::new(1))
 }
@@ -69,16 +69,16 @@ pub(crate) fn plan_swap_or_log(
 fn near_counted<C: Ledger>(
     alloc: Global,
     state: &MapState,
-    built: &Built,
+    built: Built,
     most: u32,
     blank: Blank,
-) -> Result<Planned, Unswapped>
+) -> Result<Planned, Late>
     requires name { blank.name ≡ C.name }
     requires parts { blank.parts ≡ C.parts }
     requires some { 0 < blank.parts }
-    requires known { AreItemsOf built.now.ticket built.now.items state.now.state.parts }
-    ensures planned { IfOk result (IsSwapPlan built.now state.now.state) }
-    ensures late { IfErr result (IsLateCause built.now most) }
+    requires known { AreItemsOf built.ticket built.items state.now.state.parts }
+    ensures planned { IfOk result (IsSwapPlan built state.now.state) }
+    ensures late { IfErr result (IsLateCause built most) }
 {
     let _history = state.history();
     let mut steps: Steps<C> = Steps::new(blank);

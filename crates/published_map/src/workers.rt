@@ -15,7 +15,7 @@ use crate::plans::plan_swap_or_log;
 use crate::shown::Shown;
 use crate::story::ShownHistory;
 use map_fold::{NoMemory, Ops};
-use rebuild_core::{Built, Holding, LogAsk, Snapshot, Unswapped, Version};
+use rebuild_core::{Built, Holding, Late, LogAsk, Snapshot, Version};
 use std::alloc::Global;
 use std::sync::{Arc, Wait};
 
@@ -89,24 +89,22 @@ impl<L: MapName> Locked<L> {
     }
 
     /// One turn of the lock that swaps the value in, where it is at most so many operations behind. It was built of what the mark
-    /// is of.
+    /// is of. What comes back is to be let go of after the lock was given back.
     pub fn swap<R: Wait>(
         &mut self,
         rt: &R,
         alloc: Global,
-        built: &Built,
+        built: Built,
         mark: &Mark<L>,
         most: u32,
-    ) -> Result<(), Unswapped>
-        requires { mark.now.items ≡ built.now.items }
+    ) -> Result<(), Late>
+        requires { mark.now.items ≡ built.items }
         ensures history { self.new.state.history ≡ self.old.state.history }
 
-        ensures refused { IfErr result (IsLateCause built.now most) }
+        ensures refused { IfErr result (IsLateCause built most) }
     {
         if !self.is_known(built.ticket(), mark) {
-            return Err(Unswapped::Stale {
-                ticket: built.ticket(),
-            });
+            return Err(Late::Stale { built });
         }
         let planned = plan_swap_or_log(alloc, &self.state, built, most)?;
         self.step(rt, planned)?;

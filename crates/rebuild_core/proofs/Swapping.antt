@@ -3,8 +3,9 @@ use Rattle.std.proofs.Common.{◌≡◌, ℕ, ◌+◌, ◌<◌, Bool, true, fals
 use Rattle.std.specs.Prelude.{All, Contains, ◌↔◌}
 use Rattle.std.proofs.lemmas.List.Elements.{All-append, All-cons, All-contains, All-contains_itself, All-nil, All-weaker, Contains-append_cases, Contains-append_left, Contains-append_right}
 use Rattle.map_fold.specs.declared.item.Item.{Item}
+use Rattle.map_fold.specs.declared.op.Op.{Op}
 use Rattle.map_fold.specs.Contents.{AreContents}
-use Rattle.map_fold.specs.Ops.{numbers_put, replay}
+use Rattle.map_fold.specs.Ops.{Fit, numbers_put, replay}
 use Rattle.map_fold.proofs.Replays.{numbers_put-append}
 use Rattle.kd_tree.specs.Shape.{Shape, numbers}
 use Rattle.kd_tree.specs.Sound.{IsSound}
@@ -16,7 +17,7 @@ use Rattle.kd_update.specs.Replace.{HasRoomAt, StandsFor}
 use Rattle.kd_update.specs.Several.{AreLargeAt, AreSameAt, IsBalancedClear}
 use Rattle.kd_update.proofs.Several.{even_clear}
 use Rattle.kd_update.proofs.Update.{calm_even}
-use Rattle.rebuild_core.specs.Built.{BuiltAt, IsLawfulBuilt, IsPartOf, undone}
+use Rattle.rebuild_core.specs.Built.{BuiltAt, IsLawfulBuilt, IsPartOf, IsTreeOf, undone}
 use Rattle.rebuild_core.specs.Lawful.{IsLawful, StateAt, VersionAt}
 use Rattle.rebuild_core.specs.Logs.{LogPlan, planned_parts}
 use Rattle.rebuild_core.specs.Parts.{AreEachLawful, AreLawfulParts, AreLeft, PartAt, paths, without}
@@ -26,7 +27,7 @@ use Rattle.rebuild_core.proofs.ApartPaths.{clear_of_others, even_more, ones_move
 use Rattle.rebuild_core.proofs.Detached.{each_large, each_same, each_without, left_lawful, left_none, left_without}
 use Rattle.rebuild_core.proofs.OtherParts.{IsAmongOthers, part_among}
 use Rattle.rebuild_core.proofs.Plans.{held_lawful}
-use Rattle.rebuild_core.proofs.Replaying.{built_part, log_parts, undone_same}
+use Rattle.rebuild_core.proofs.Replaying.{built_part, log_parts, undone_fit, undone_same}
 
 -- the value's part among the others
 among : (s : StateAt) (b : BuiltAt) (p : PartAt) → IsPartOf b s.parts p → IsAmongOthers b.ticket s.parts p
@@ -35,6 +36,17 @@ among s b p o = part_among b.ticket s.parts p o.found
 -- what was caught up stands for the part's subtree
 pub swap_stands : (s : StateAt) (b : BuiltAt) (p : PartAt) (with : Shape) → IsLawful s → IsLawfulBuilt b → IsPartOf b s.parts p → contents with ≡ replay (contents b.tree) (undone b p) → StandsFor p.path s.tree with
 swap_stands s b p with k h o held = let there = (built_part s b p k o).there in record { node = there.node; there = there.there; same = held ∙ undone_same s b p k h o }
+
+-- what a value hasn't done fits its tree
+pub swap_fit : (s : StateAt) (b : BuiltAt) (p : PartAt) (t : Shape) (ops : List Op) → IsLawful s → IsTreeOf b p s.parts t ops → Fit (contents t) ops
+swap_fit s b p t ops k r = subst (λ (os : List Op). Fit (contents t) os) (sym r.undone) (subst (λ (x : Shape). Fit (contents x) (undone b p)) r.tree (undone_fit s b p k r.lawful r.of))
+
+-- a value's tree that was caught up
+pub swap_caught : (large : ℕ) (b : BuiltAt) (p : PartAt) (ps : List PartAt) (t with : Shape) (ops : List Op) → IsTreeOf b p ps t ops → IsCaughtUp large (record b { tree = t }) ops with → IsCaughtUp large b (undone b p) with
+swap_caught large b p ps t with ops r k = subst (λ (os : List Op). IsCaughtUp large b os with) r.undone (subst (λ (x : Shape). IsCaughtUp large (record b { tree = x }) ops with) (sym r.tree) k)
+
+pub swap_among : (b : BuiltAt) (p : PartAt) (ps : List PartAt) (t with : Shape) (ops : List Op) → IsTreeOf b p ps t ops → AreAmong (numbers with) (numbers_put ops ++ numbers t) → AreAmong (numbers with) (numbers_put (undone b p) ++ numbers b.tree)
+swap_among b p ps t with ops r k = subst (λ (os : List Op). AreAmong (numbers with) (numbers_put os ++ numbers b.tree)) r.undone (subst (λ (x : Shape). AreAmong (numbers with) (numbers_put ops ++ numbers x)) (sym r.tree) k)
 
 -- the other parts
 swap_each : (s : StateAt) (b : BuiltAt) (p : PartAt) → IsLawful s → IsPartOf b s.parts p → AreEachLawful s.settings.large s.next s.last s.tree (without b.ticket s.parts)

@@ -59,3 +59,10 @@ IsStale b ps = (p : PartAt) → IsPartOf b ps p → ⊥
 -- the operations of the part's log that the value hasn't done
 abbrev pub undone : BuiltAt → PartAt → List Op
 undone b p = drop (length b.done) p.log
+
+-- the tree is that of a value of this part, and these are the operations that the value hasn't done
+pub record IsTreeOf (b : BuiltAt) (p : PartAt) (ps : List PartAt) (t : Shape) (ops : List Op) : Type 0 where
+  pub of : IsPartOf b ps p
+  pub lawful : IsLawfulBuilt b
+  pub tree : b.tree ≡ t
+  pub undone : ops ≡ undone b p

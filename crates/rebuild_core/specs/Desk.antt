@@ -7,8 +7,8 @@ use Rattle.rebuild_core.specs.declared.fault.LogAsk.{LogAsk}
 use Rattle.rebuild_core.specs.declared.fault.LogAsk.TheVariants as ask_of
 use Rattle.rebuild_core.specs.declared.fault.SwapFault.{SwapFault}
 use Rattle.rebuild_core.specs.declared.fault.SwapFault.TheVariants as fault_of
-use Rattle.rebuild_core.specs.declared.fault.Unswapped.{Unswapped}
-use Rattle.rebuild_core.specs.declared.fault.Unswapped.TheVariants as unswapped_of
+use Rattle.rebuild_core.specs.declared.swap.Late.{Late}
+use Rattle.rebuild_core.specs.declared.swap.Late.TheVariants as late_of
 
 -- a stale value's ticket is told
 abbrev pub IsAskCause : BuiltAt → LogAsk → Type 0
@@ -21,8 +21,8 @@ IsSwapCause b force (fault_of.Stale ticket) = ticket ≡ b.ticket
 IsSwapCause b force (fault_of.Behind left) = (force ≡ false) × (64 < left)
 IsSwapCause b force fault_of.NoMemory = ⊤
 
--- and what a value that is behind is told can be done on its tree
-abbrev pub IsUnswappedCause : BuiltAt → Unswapped → Type 0
-IsUnswappedCause b (unswapped_of.Stale ticket) = ticket ≡ b.ticket
-IsUnswappedCause b (unswapped_of.Behind ops) = Fit (contents b.tree) ops
-IsUnswappedCause b unswapped_of.NoMemory = ⊤
+-- and one that is handed back is the value that was handed in: what it is told that it hasn't done can be done on its tree
+abbrev pub IsHandedBack : BuiltAt → Late → Type 0
+IsHandedBack b (late_of.Stale built) = built ≡ b
+IsHandedBack b (late_of.Behind built ops) = (built ≡ b) × Fit (contents b.tree) ops
+IsHandedBack b late_of.NoMemory = ⊤

@@ -1,7 +1,7 @@
 -- What swapping a built subtree in does to a state.
 use Rattle.std.specs.Prelude.{◌≡◌, ℕ, ◌+◌, ◌<◌, ◌≤◌, ◌⊎◌, Bool, false, List, [], length, None}
 use Rattle.map_fold.specs.declared.op.Op.{Op}
-use Rattle.map_fold.specs.Ops.{numbers_put, replay}
+use Rattle.map_fold.specs.Ops.{Fit, numbers_put, replay}
 use Rattle.kd_tree.specs.Shape.{Shape, levels, nodes}
 use Rattle.kd_tree.specs.Contents.{contents}
 use Rattle.kd_tree.specs.Parts.{replaced_at}
@@ -9,8 +9,8 @@ use Rattle.kd_update.specs.Replace.{HasRoomAt, RebuildsNoneAbove}
 use Rattle.kd_update.specs.Update.{IsBalancedBelow}
 use Rattle.rebuild_core.specs.declared.fault.SwapFault.{SwapFault}
 use Rattle.rebuild_core.specs.declared.fault.SwapFault.TheVariants.{Stale, Behind, NoMemory}
-use Rattle.rebuild_core.specs.declared.fault.Unswapped.{Unswapped}
-use Rattle.rebuild_core.specs.declared.fault.Unswapped.TheVariants as unswapped_of
+use Rattle.rebuild_core.specs.declared.swap.Late.{Late}
+use Rattle.rebuild_core.specs.declared.swap.Late.TheVariants as late_of
 use Rattle.rebuild_core.specs.Built.{BuiltAt, IsPartOf, IsStale, undone}
 use Rattle.rebuild_core.specs.Detach.{IsLogAfter}
 use Rattle.rebuild_core.specs.Lawful.{IsLawful, StateAt}
@@ -32,11 +32,12 @@ IsSwapFault b force s NoMemory = MaySwap b force s
 abbrev pub IsNear : BuiltAt → ℕ → StateAt → Type 0
 IsNear b most s = (p : PartAt) × IsPartOf b s.parts p × (length (undone b p) ≤ most)
 
--- why a value isn't swapped in where at most so many operations are done: one that is further behind is told which
-abbrev pub IsUnswapped : BuiltAt → ℕ → StateAt → Unswapped → Type 0
-IsUnswapped b most s (unswapped_of.Stale ticket) = (ticket ≡ b.ticket) × IsStale b s.parts
-IsUnswapped b most s (unswapped_of.Behind ops) = IsLogAfter b s ops × (most < length ops)
-IsUnswapped b most s unswapped_of.NoMemory = (p : PartAt) × IsPartOf b s.parts p
+-- Why a value isn't swapped in where at most so many operations are done. It is handed back, and where it is further behind with the
+-- operations that it hasn't done. A value for which memory was wanting is of a part.
+abbrev pub IsLate : BuiltAt → ℕ → StateAt → Late → Type 0
+IsLate b most s (late_of.Stale built) = (built ≡ b) × IsStale b s.parts
+IsLate b most s (late_of.Behind built ops) = (built ≡ b) × Fit (contents b.tree) ops × IsLogAfter b s ops × (most < length ops)
+IsLate b most s late_of.NoMemory = (p : PartAt) × IsPartOf b s.parts p
 
 -- The tree is the value's after these operations: each point that they put adds a level and a node at most. It is the value's own
 -- where there is none, and that is even.

@@ -10,6 +10,7 @@ ghost use Rattle.kd_update.specs.Update.{IsBalancedBelow};
 ghost use Rattle.rebuild_core.specs.Built.{AreNumbersOf, IsLawfulBuilt, IsReplayOf};
 
 use crate::even::is_even;
+use crate::holding::twin_by;
 use kd_tree::{Steps, Tree};
 use kd_update::{rebuilt, replayed};
 use map_fold::{Item, Items, NoMemory, Op};
@@ -107,6 +108,23 @@ impl Built {
         &self.tree
     }
 
+    /// The same value once more. Its list and its nodes are shared, and what is done on it is copied.
+    pub fn again(&self, alloc: Global) -> Result<Built, NoMemory>
+        ensures { IfOk result (λ b. b ≡ self.now) }
+    {
+        let items = Arc::try_clone(&self.items)?;
+        let mut done = Vec::new(alloc);
+        done.extend_from_slice(self.done.as_slice())?;
+        let tree = twin_by::<Brand>(alloc, &self.tree, Blank::new(1))?;
+        Ok(Built {
+            ticket: self.ticket,
+            items,
+            done,
+            tree,
+            large: self.large,
+        })
+    }
+
     /// The value with these operations done too, one after the other, as `replayed` does them. Where its tree is out of balance
     /// for this `large`, since it was built with another, it is rebuilt by medians before. Where memory is wanting, the value
     /// is handed back as it was.
@@ -164,35 +182,8 @@ impl Built {
         ensures balance { IfOk result (λ t. IsBalancedBelow large t) }
     {
         let mut steps: Steps<L> = Steps::new(blank);
-        self.caught_up(alloc, large, ops, &mut steps)
-    }
-
-    // The tree after the operations. It is even for this `large`, for which it is rebuilt before where it isn't.
-    pub(crate) fn caught_up<L: Ledger>(
-        &self,
-        alloc: Global,
-        large: u32,
-        ops: &[Op],
-        steps: &mut Steps<L>,
-    ) -> Result<Tree, NoMemory>
-        requires fit { Fit (contents self.now.tree) ops.now }
-        ensures lawful { IsLawfulBuilt self.now }
-        ensures contents { IfOk result (λ t. contents t ≡ replay (contents self.now.tree) ops.now) }
-        ensures numbers { IfOk result (λ t. AreAmong (numbers t) (numbers_put ops.now ++ numbers self.now.tree)) }
-        ensures balance { IfOk result (λ t. IsBalancedBelow large t) }
-        ensures low { IfOk result (λ t. levels t ≤ levels self.now.tree + length (numbers_put ops.now)) }
-        ensures few { IfOk result (λ t. nodes t ≤ nodes self.now.tree + length (numbers_put ops.now)) }
-        // An even tree stays where nothing is to be done, and no node is made.
-        ensures same { ops.now ≡ [] → IsBalancedBelow large self.now.tree → IfOk result (λ t. t ≡ self.now.tree) }
-        ensures still { ops.now ≡ [] → IsBalancedBelow large self.now.tree → steps.new ≡ steps.old }
-    {
-        let _done = self.done();
-        let twin = self.tree.copy(alloc, steps)?;
-        let tree = evened(alloc, twin, self.large, large, steps)?;
-        if ops.is_empty() {
-            return Ok(tree);
-        }
-        replayed(alloc, tree, large, ops)
+        let twin = self.tree.copy(alloc, &mut steps)?;
+        caught_up(alloc, twin, self.large, large, ops, &mut steps)
     }
 
     // The value with this tree, in which the operations are done.
@@ -236,7 +227,33 @@ fn replayed_from<L: Ledger>(
     ensures balance { IfOk result (λ t. IsBalancedBelow large t) }
 {
     let mut steps: Steps<L> = Steps::new(blank);
-    let tree = evened(alloc, tree, made_with, large, &mut steps)?;
+    caught_up(alloc, tree, made_with, large, ops, &mut steps)
+}
+
+// The tree after the operations. It is even for this `large`, for which it is rebuilt before where it isn't.
+pub(crate) fn caught_up<L: Ledger>(
+    alloc: Global,
+    tree: Tree,
+    made_with: u32,
+    large: u32,
+    ops: &[Op],
+    steps: &mut Steps<L>,
+) -> Result<Tree, NoMemory>
+    requires even { IsBalancedBelow made_with tree }
+    requires fit { Fit (contents tree) ops.now }
+    ensures contents { IfOk result (λ t. contents t ≡ replay (contents tree) ops.now) }
+    ensures numbers { IfOk result (λ t. AreAmong (numbers t) (numbers_put ops.now ++ numbers tree)) }
+    ensures balance { IfOk result (λ t. IsBalancedBelow large t) }
+    ensures low { IfOk result (λ t. levels t ≤ levels tree + length (numbers_put ops.now)) }
+    ensures few { IfOk result (λ t. nodes t ≤ nodes tree + length (numbers_put ops.now)) }
+    // An even tree stays where nothing is to be done, and no node is made.
+    ensures same { ops.now ≡ [] → IsBalancedBelow large tree → IfOk result (λ t. t ≡ tree) }
+    ensures still { ops.now ≡ [] → IsBalancedBelow large tree → steps.new ≡ steps.old }
+{
+    let tree = evened(alloc, tree, made_with, large, steps)?;
+    if ops.is_empty() {
+        return Ok(tree);
+    }
     replayed(alloc, tree, large, ops)
 }
 

@@ -2,9 +2,9 @@
 ghost use Rattle.std.specs.Prelude.{◌≡◌, ◌≤◌, IfErr, IfOk, IfSome};
 ghost use Rattle.map_fold.specs.Ops.{Fit};
 ghost use Rattle.kd_tree.specs.Contents.{contents};
-ghost use Rattle.rebuild_core.specs.Desk.{IsAskCause, IsSwapCause, IsUnswappedCause};
+ghost use Rattle.rebuild_core.specs.Desk.{IsAskCause, IsHandedBack, IsSwapCause};
 
-use crate::{Built, Job, Late, LogAsk, SwapFault, SwapLeft, Unswapped};
+use crate::{Built, Job, Late, LogAsk, SwapFault, SwapLeft};
 use map_fold::{NoMemory, Ops};
 use std::alloc::Global;
 use std::sync::Wait;
@@ -34,11 +34,12 @@ pub trait Desk {
         ensures left { IfErr result (λ l. l.built ≡ built) }
         ensures refused { IfErr result (λ l. IsSwapCause built force l.fault) };
 
-    /// Swaps a built value in that is at most so many operations behind, or answers those that it hasn't done, as
-    /// `MapState::plan_swap_or_log` does. A refused value comes back as it was.
+    /// Swaps a built value in that is at most so many operations behind, as `MapState::plan_swap_or_log` does. One that is stale
+    /// or further behind comes back as it was, and where memory is wanting the value is let go of.
     ///
     /// By itself it asks `swap` without force and then `log_after`, which are two steps, and does as many operations as `swap`
-    /// does, whatever is asked for. A map that can do it in one step compares the value's items once.
+    /// does, whatever is asked for. A map that can do it in one step compares the value's items once, and may do the operations
+    /// in the value's own nodes.
     fn swap_or_log<R: Wait>(
         &self,
         rt: &R,
@@ -46,22 +47,20 @@ pub trait Desk {
         built: Built,
         _most: u32,
     ) -> Result<(), Late>
-        ensures left { IfErr result (λ l. l.built ≡ built) }
-        ensures refused { IfErr result (λ l. IsUnswappedCause built l.fault) }
+        ensures refused { IfErr result (IsHandedBack built) }
     {
         let SwapLeft { built, fault } = match self.swap(rt, alloc, built, false) {
             Ok(()) => return Ok(()),
             Err(left) => left,
         };
-        let fault = match fault {
-            SwapFault::Stale { ticket } => Unswapped::Stale { ticket },
-            SwapFault::NoMemory => Unswapped::NoMemory,
+        match fault {
+            SwapFault::Stale { .. } => Err(Late::Stale { built }),
+            SwapFault::NoMemory => Err(Late::NoMemory),
             SwapFault::Behind { .. } => match self.log_after(rt, alloc, &built) {
-                Ok(ops) => Unswapped::Behind { ops },
-                Err(LogAsk::Stale { ticket }) => Unswapped::Stale { ticket },
-                Err(LogAsk::NoMemory) => Unswapped::NoMemory,
+                Ok(ops) => Err(Late::Behind { built, ops }),
+                Err(LogAsk::Stale { .. }) => Err(Late::Stale { built }),
+                Err(LogAsk::NoMemory) => Err(Late::NoMemory),
             },
-        };
-        Err(Late { built, fault })
+        }
     }
 }

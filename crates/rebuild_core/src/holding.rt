@@ -103,7 +103,7 @@ impl Holding {
 }
 
 // A tree with the same nodes, with a counter that nothing looks at.
-fn twin_by<L: Ledger>(alloc: Global, tree: &Tree, blank: Blank) -> Result<Tree, NoMemory>
+pub(crate) fn twin_by<L: Ledger>(alloc: Global, tree: &Tree, blank: Blank) -> Result<Tree, NoMemory>
     requires name { blank.name ≡ L.name }
     requires parts { blank.parts ≡ L.parts }
     requires some { blank.parts ≡ 1 }

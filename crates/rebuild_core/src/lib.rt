@@ -31,7 +31,7 @@ mod work;
 
 pub use built::{Built, BuiltLeft};
 pub use desk::Desk;
-pub use fault::{LogAsk, StateFault, SwapFault, Unswapped};
+pub use fault::{LogAsk, StateFault, SwapFault};
 pub use holding::Holding;
 pub use job::{Job, JobLeft};
 pub use part::PartInfo;

@@ -1,5 +1,5 @@
 //! What refusals say to people.
-use crate::{LogAsk, StateFault, SwapFault, Unswapped};
+use crate::{Late, LogAsk, StateFault, SwapFault};
 use std::fmt::{Display, Error, Formatter, Write};
 
 impl Display for StateFault {
@@ -38,12 +38,12 @@ impl Display for SwapFault {
     }
 }
 
-impl Display for Unswapped {
+impl Display for Late {
     fn fmt<W: Write>(&self, f: &mut Formatter<W>) -> Result<(), Error> {
         match self {
-            Unswapped::Stale { ticket } => stale(f, *ticket),
-            Unswapped::Behind { ops } => behind(f, ops.len()),
-            Unswapped::NoMemory => f.write_str("no memory"),
+            Late::Stale { built } => stale(f, built.ticket()),
+            Late::Behind { ops, .. } => behind(f, ops.len()),
+            Late::NoMemory => f.write_str("no memory"),
         }
     }
 }

@@ -1,17 +1,16 @@
 //! Built subtrees, swapped in.
 ghost use Rattle.std.specs.Prelude.{◌≡◌, ◌+◌, ◌≤◌, length, IfErr, IfOk, OnErr, OnOk};
-ghost use Rattle.map_fold.specs.Ops.{Fit};
-ghost use Rattle.kd_tree.specs.Contents.{contents};
 ghost use Rattle.kd_tree.specs.Parts.{replaced_at};
-ghost use Rattle.rebuild_core.specs.Built.{IsPartOf, undone};
-ghost use Rattle.rebuild_core.specs.Desk.{IsUnswappedCause};
+ghost use Rattle.kd_update.specs.Update.{IsBalancedBelow};
+ghost use Rattle.rebuild_core.specs.Built.{BuiltAt, IsTreeOf};
 ghost use Rattle.rebuild_core.specs.Parts.{AreItemsOf, PartAt};
-ghost use Rattle.rebuild_core.specs.Swap.{IsNear, IsUnrebuiltSwap, IsSwapFault, IsSwapPlan, IsSwapStep, IsUnswapped, MaySwap};
+ghost use Rattle.rebuild_core.specs.Swap.{IsLate, IsNear, IsUnrebuiltSwap, IsSwapFault, IsSwapPlan, IsSwapStep, MaySwap};
 
+use crate::built::caught_up;
 use crate::logs::forgotten_for;
 use crate::part::{Part, others_of};
-use crate::{Built, MapState, Planned, SwapFault, Unswapped, Version};
-use kd_tree::Steps;
+use crate::{Built, MapState, Planned, SwapFault, Version};
+use kd_tree::{Steps, Tree};
 use kd_update::{Replaced, replaced};
 use map_fold::{NoMemory, Op, Ops};
 use std::alloc::Global;
@@ -27,11 +26,26 @@ pub struct SwapLeft {
     pub fault: SwapFault,
 }
 
-/// The same, with what the value lacks where it is behind.
+/// Why a value isn't swapped in that may be so many operations behind. But for want of memory it is handed back as it was.
 #[derive(Debug, Drop)]
-pub struct Late {
-    pub built: Built,
-    pub fault: Unswapped,
+pub enum Late {
+    /// No detached subtree has the value's ticket and items, and a log that begins with what the value has done.
+    Stale { built: Built },
+    /// It hasn't done these operations, which are more than are to be done in the swap.
+    Behind { built: Built, ops: Ops },
+    /// The value was let go of.
+    NoMemory,
+}
+
+impl From<NoMemory> for Late {
+    ghost use Rattle.std.specs.Prelude.{◌≡◌};
+    ghost use Rattle.rebuild_core.specs.declared.swap.Late.TheVariants.{NoMemory};
+
+    ghost from_gives = { λ none late. late ≡ NoMemory };
+
+    fn from(_none: NoMemory) -> Late {
+        Late::NoMemory
+    }
 }
 
 impl MapState {
@@ -102,68 +116,74 @@ impl MapState {
             return Err(SwapFault::Behind { left });
         }
         let ops = part.log.after(alloc, done)?;
-        let planned = self.swapped(alloc, built, part, ops.as_slice(), steps)?;
+        let _done = built.done();
+        let twin = built.tree.copy(alloc, steps)?;
+        let planned = self.swapped(alloc, part, twin, built.large, ops.as_slice(), steps)?;
         Ok(planned)
     }
 
-    /// Works out the swap of a value that is at most so many operations behind. One that is further behind is answered the
-    /// operations that it hasn't done. No items are compared: `Holding::is_of` does that, of what `holding` hands out.
+    /// Works out the swap of a value that is at most so many operations behind. They are done in the value's own nodes, so that
+    /// none is copied that nobody else has. A value that is further behind is handed back, with the operations that it hasn't
+    /// done. No items are compared: `Holding::is_of` does that, of what `holding` hands out.
     pub fn plan_swap_or_log<L: Ledger>(
         &self,
         alloc: Global,
-        built: &Built,
+        built: Built,
         most: u32,
         steps: &mut Steps<L>,
-    ) -> Result<Planned, Unswapped>
-        requires known { AreItemsOf built.now.ticket built.now.items self.now.state.parts }
-        ensures planned { IfOk result (IsSwapPlan built.now self.now.state) }
-        ensures near { OnOk result (IsNear built.now most self.now.state) }
+    ) -> Result<Planned, Late>
+        requires known { AreItemsOf built.ticket built.items self.now.state.parts }
+        ensures planned { IfOk result (IsSwapPlan built self.now.state) }
+        ensures near { OnOk result (IsNear built most self.now.state) }
 
-        ensures refused { IfErr result (IsUnswapped built.now most self.now.state) }
-        ensures cause { IfErr result (IsUnswappedCause built.now) }
+        ensures refused { IfErr result (IsLate built most self.now.state) }
 
         // As of `swap`.
-        ensures unrebuilt { (p : PartAt) → IsUnrebuiltSwap built.now p self.now.state
-            → IfOk result (λ x. x.tree ≡ replaced_at p.path built.now.tree self.now.state.tree) }
-        ensures ticks { (p : PartAt) → IsUnrebuiltSwap built.now p self.now.state → steps.new ≤ steps.old + length p.path }
+        ensures unrebuilt { (p : PartAt) → IsUnrebuiltSwap built p self.now.state
+            → IfOk result (λ x. x.tree ≡ replaced_at p.path built.tree self.now.state.tree) }
+        ensures ticks { (p : PartAt) → IsUnrebuiltSwap built p self.now.state → steps.new ≤ steps.old + length p.path }
     {
-        let Some(part) = self.part_known(built) else {
-            return Err(Unswapped::Stale {
-                ticket: built.ticket,
-            });
+        let Some(part) = self.part_known(&built) else {
+            return Err(Late::Stale { built });
         };
         let done = built.done.len() as u32;
         let left = part.log.len() - done;
         let ops = part.log.after(alloc, done)?;
         if most < left {
-            return Err(Unswapped::Behind {
+            return Err(Late::Behind {
+                built,
                 ops: Ops::from(ops),
             });
         }
-        let planned = self.swapped(alloc, built, part, ops.as_slice(), steps)?;
+        let _done = built.done();
+        let Built { tree, large, .. } = built;
+        let planned = self.swapped(alloc, part, tree, large, ops.as_slice(), steps)?;
         Ok(planned)
     }
 
-    // The plan, where the value is of this part, and these are the operations that it hasn't done.
+    // The plan, where this is the tree of a value of the part, which is even for the `large` that it was made with, and these are the
+    // operations that the value hasn't done.
     fn swapped<L: Ledger>(
         &self,
         alloc: Global,
-        built: &Built,
         part: &Part,
+        tree: Tree,
+        made_with: u32,
         ops: &[Op],
         steps: &mut Steps<L>,
     ) -> Result<Planned, NoMemory>
-        requires of { IsPartOf built.now self.now.state.parts part.now }
-        requires undone { ops.now ≡ undone built.now part.now }
-        requires fit { Fit (contents built.now.tree) ops.now }
-        ensures planned { IfOk result (IsSwapPlan built.now self.now.state) }
-        ensures unrebuilt { IsUnrebuiltSwap built.now part.now self.now.state
-            → IfOk result (λ x. x.tree ≡ replaced_at part.now.path built.now.tree self.now.state.tree) }
-        ensures ticks { IsUnrebuiltSwap built.now part.now self.now.state → steps.new ≤ steps.old + length part.now.path }
+        requires of { (b : BuiltAt) × IsTreeOf b part.now self.now.state.parts tree ops.now }
+        requires even { IsBalancedBelow made_with tree }
+        ensures planned { (b : BuiltAt) → IsTreeOf b part.now self.now.state.parts tree ops.now
+            → IfOk result (IsSwapPlan b self.now.state) }
+        ensures unrebuilt { (b : BuiltAt) → IsTreeOf b part.now self.now.state.parts tree ops.now → IsUnrebuiltSwap b part.now self.now.state
+            → IfOk result (λ x. x.tree ≡ replaced_at part.now.path b.tree self.now.state.tree) }
+        ensures ticks { (b : BuiltAt) → IsTreeOf b part.now self.now.state.parts tree ops.now → IsUnrebuiltSwap b part.now self.now.state
+            → steps.new ≤ steps.old + length part.now.path }
     {
         let large = self.settings.large();
         let parts = self.parts.as_slice();
-        let with = built.caught_up(alloc, large, ops, steps)?;
+        let with = caught_up(alloc, tree, made_with, large, ops, steps)?;
         let others = others_of(alloc, parts, part.ticket)?;
         let tree = self.tree.copy(alloc, steps)?;
         let Replaced { tree, anew } = replaced(

@@ -7,7 +7,7 @@ ghost use Rattle.rebuild_worker.specs.declared.worker.Round.TheVariants.{Idle, O
 use crate::bell::Rest;
 use crate::gate::Gate;
 use map_fold::NoMemory;
-use rebuild_core::{Built, Desk, Job, Late, SwapFault, SwapLeft, Unswapped};
+use rebuild_core::{Built, Desk, Job, Late, SwapFault, SwapLeft};
 use std::alloc::Global;
 use std::sync::Wait;
 
@@ -148,17 +148,14 @@ impl<'a, D: Desk, G: Gate> Worker<'a, D, G> {
     fn catch_up<R: Wait>(&self, rt: &R, built: Built, most: u32) -> Result<Option<Built>, NoMemory>
         ensures { IfOk result (λ o. IfSome o (λ b. (ops : List Op) × IsReplayOf built ops b)) }
     {
-        let Late { built, fault } = match self.desk.swap_or_log(rt, self.alloc, built, most) {
-            Ok(()) => return Ok(None),
-            Err(late) => late,
-        };
-        let ops = match fault {
-            Unswapped::Stale { .. } => return Ok(None),
-            Unswapped::NoMemory => return Err(NoMemory),
-            Unswapped::Behind { ops } => ops,
-        };
-        let replayed = built.replay_in_place(self.alloc, self.large, ops.as_slice())?;
-        Ok(Some(replayed))
+        match self.desk.swap_or_log(rt, self.alloc, built, most) {
+            Ok(()) | Err(Late::Stale { .. }) => Ok(None),
+            Err(Late::NoMemory) => Err(NoMemory),
+            Err(Late::Behind { built, ops }) => {
+                let replayed = built.replay_in_place(self.alloc, self.large, ops.as_slice())?;
+                Ok(Some(replayed))
+            }
+        }
     }
 
     // Swaps the value in, however far it is behind. A stale one is dropped.

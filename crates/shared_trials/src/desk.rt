@@ -8,7 +8,7 @@ use kd_search::nearest;
 use map_fold::Op;
 use point_geom::Point;
 use published_map::{Ended, MapName, Pass, Shared};
-use rebuild_core::{Built, Desk, Job, Late, LogAsk, MapState, SwapFault, SwapLeft, Unswapped};
+use rebuild_core::{Built, Desk, Job, Late, LogAsk, MapState, SwapFault, SwapLeft};
 use std::alloc::Global;
 use std::process::Abort;
 use std::sync::{Mutex, Wait};
@@ -179,11 +179,8 @@ impl<R: Wait + Abort> Trial<R> for ToldMeanwhile {
         updated(rt, alloc, shared, passes, 0, row(alloc, 1, 41)?)?;
         let built = first(rt, alloc, shared)?;
         updated(rt, alloc, shared, passes, 0, row(alloc, 41, 106)?)?;
-        let Err(Late { built, fault }) = shared.swap_or_log(rt, alloc, built, 64) else {
-            return Err(Fail::new("it was swapped in"));
-        };
-        let Unswapped::Behind { ops } = fault else {
-            return Err(Fail::new("the value is of the part"));
+        let Err(Late::Behind { built, ops }) = shared.swap_or_log(rt, alloc, built, 64) else {
+            return Err(Fail::new("it isn't told what it lacks"));
         };
         let built = replayed(rt, alloc, built, ops.as_slice())?;
         let is_done = shared.swap_or_log(rt, alloc, built, 0).is_ok();
@@ -216,11 +213,10 @@ fn refuse<L: MapName, R: Wait + Abort>(
     lent: Built,
 ) -> Result<(), Fail> {
     let own = first(rt, alloc, shared)?;
-    let Err(Late { built, fault }) = shared.swap_or_log(rt, alloc, lent, 64) else {
-        return Err(Fail::new("it was swapped in"));
+    let Err(Late::Stale { built }) = shared.swap_or_log(rt, alloc, lent, 64) else {
+        return Err(Fail::new("the lent value isn't stale"));
     };
-    let is_stale = matches!(&fault, Unswapped::Stale { ticket: 1 });
-    holds(rt, "the lent value is stale", is_stale);
+    same(rt, "its ticket", built.ticket(), 1);
     let SwapLeft { built: _, fault } = left(shared.swap(rt, alloc, built, true))?;
     same(rt, "the fault", fault, SwapFault::Stale { ticket: 1 });
     is_swapped(rt, alloc, shared, own);

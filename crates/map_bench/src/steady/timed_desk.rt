@@ -2,7 +2,7 @@
 use super::plan::Plan;
 use super::times::Times;
 use map_fold::{NoMemory, Ops};
-use rebuild_core::{Built, Desk, Job, Late, LogAsk, SwapLeft, Unswapped};
+use rebuild_core::{Built, Desk, Job, Late, LogAsk, SwapLeft};
 use std::alloc::Global;
 use std::io;
 use std::sync::{Mutex, Wait};
@@ -126,17 +126,10 @@ impl<'a, D: Desk, C: Clock> Desk for TimedDesk<'a, D, C> {
         let begun = Instant::now(self.clock);
         let done = self.desk.swap_or_log(rt, alloc, built, most);
         let call = match &done {
-            Ok(()) => Call::Swap,
-            Err(late) => call_of(&late.fault),
+            Err(Late::Behind { .. }) => Call::Log,
+            _ => Call::Swap,
         };
         self.keep(rt, call, begun);
         done
-    }
-}
-
-fn call_of(fault: &Unswapped) -> Call {
-    match fault {
-        Unswapped::Behind { .. } => Call::Log,
-        Unswapped::Stale { .. } | Unswapped::NoMemory => Call::Swap,
     }
 }
