@@ -1,4 +1,4 @@
--- The order in which the places of a piece are searched.
+-- The order in which the places of a piece are searched. Cited by private functions alone.
 use Rattle.std.specs.Prelude.{◌≡◌, ℕ, ◌/◌, ◌%◌, ◌<◌, List, [], length, get_or}
 use Rattle.std.specs.Int.{cast_unsigned, w64}
 use Rattle.point_geom.specs.Place.{Place}

@@ -30,7 +30,7 @@ const SLABS: u64 = 32;
 /// For each query, in order, what `nearest` answers for it on this tree: the first k live points by distance, within the greatest
 /// distance, in millimetres, where one is given. The queries are split among as many threads as there are processors, in pieces of
 /// 128 or more; what no thread can be made for is searched by the thread that calls. Up to k 16 no more memory is taken than the
-/// lists have. Above, where it is wanting in one piece, the others are searched to their ends, and no list is given; and while the
+/// lists have. Above, where it runs out in one piece, the others are searched to their ends, and no list is given; and while the
 /// lists of the pieces are joined, they take about twice their memory, but for what a list holds outside itself.
 pub fn nearest_each<R: Threads + Sync>(
     rt: &R,

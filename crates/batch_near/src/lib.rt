@@ -4,7 +4,5 @@
 #![tactic(auto)]
 
 mod each;
-#[cfg(test)]
-mod tests;
 
 pub use each::nearest_each;

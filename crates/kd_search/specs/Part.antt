@@ -1,4 +1,4 @@
--- A subtree, with the action that it owes from above.
+-- A subtree, with the action that it owes from above. Cited by private functions alone.
 use Rattle.std.specs.Prelude.{◌≡◌, ℕ, ◌+◌, ◌≤◌, List, [], ◌∷◌, ◌++◌}
 use Rattle.map_fold.specs.declared.item.Item.{Item}
 use Rattle.map_fold.specs.Contents.{kept}
@@ -7,6 +7,7 @@ use Rattle.kd_tree.specs.Walk.{walk}
 use Rattle.kd_search.specs.Points.{AreBelow, AreAbove}
 use Rattle.kd_search.specs.declared.part.Part.{Part}
 use Rattle.kd_search.specs.declared.part.PartTop.{PartTop}
+use Rattle.kd_tree.specs.declared.limits.TheConstants.{MAX_NODES}
 
 -- the items that are left in it, node first
 abbrev pub items_of : Part → List Item
@@ -22,4 +23,4 @@ pub record IsTopOf (p : Part) (t : PartTop) : Type 0 where
   pub below : AreBelow t.axis t.item.point (items_of t.left)
   pub above : AreAbove t.axis t.item.point (items_of t.right)
   pub nodes : nodes_of p ≡ nodes_of t.left + nodes_of t.right + 1
-  pub few : nodes_of p ≤ 4194304
+  pub few : nodes_of p ≤ MAX_NODES

@@ -1,4 +1,4 @@
--- The sons of a node, as they lie round a point.
+-- The sons of a node, as they lie round a point. Cited by private functions alone.
 use Rattle.std.specs.Prelude.{◌≡◌, ◌≤ℤ◌, ◌⊎◌, List, ◌++◌}
 use Rattle.point_geom.specs.Place.{Place}
 use Rattle.point_geom.specs.Axes.{on}

@@ -8,8 +8,6 @@ mod near;
 mod part;
 mod rivals;
 mod sides;
-#[cfg(test)]
-mod tests;
 
 pub use best::best_in;
 pub use count::count_in;

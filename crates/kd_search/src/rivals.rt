@@ -7,7 +7,7 @@ ghost use Rattle.kd_tree.specs.Walk.{walk};
 ghost use Rattle.kd_search.specs.Best.{best_from, best_inside, IsBest};
 
 use crate::part::live;
-use kd_tree::Tree;
+use kd_tree::{MAX_NODES, Tree};
 use map_fold::{Item, Tag};
 use point_geom::Cuboid;
 
@@ -41,7 +41,7 @@ pub fn rivals_in(tree: &Tree, c: &Cuboid) -> Rivals
 // Adds what is live in the cuboid of a tree that owes this action.
 #[cycle(rivals)]
 fn add_from(tree: &Tree, owed: Tag, c: &Cuboid, found: &mut Rivals)
-    requires { found.old.count + nodes tree.now ≤ 4194304 }
+    requires { found.old.count + nodes tree.now ≤ MAX_NODES }
     ensures best { found.new.best ≡ best_from c.now found.old.best (inside_all (walk owed tree.now) c.now) }
     ensures count { found.new.count ≡ found.old.count + count (walk owed tree.now) c.now }
     ensures few { found.new.count ≤ found.old.count + nodes tree.now }
@@ -58,7 +58,7 @@ fn add_from(tree: &Tree, owed: Tag, c: &Cuboid, found: &mut Rivals)
 #[cycle(rivals)]
 #[inline(never)]
 fn add_under(tree: &Tree, owed: Tag, c: &Cuboid, found: &mut Rivals)
-    requires { found.old.count + nodes tree.now ≤ 4194304 }
+    requires { found.old.count + nodes tree.now ≤ MAX_NODES }
     ensures best { found.new.best ≡ best_from c.now found.old.best (inside_all (walk owed tree.now) c.now) }
     ensures count { found.new.count ≡ found.old.count + count (walk owed tree.now) c.now }
     ensures few { found.new.count ≤ found.old.count + nodes tree.now }
@@ -81,7 +81,7 @@ fn add_under(tree: &Tree, owed: Tag, c: &Cuboid, found: &mut Rivals)
 
 // Adds the item, if it is live in the cuboid.
 fn add(item: &Item, c: &Cuboid, found: &mut Rivals)
-    requires { found.old.count < 4194304 }
+    requires { found.old.count < MAX_NODES }
     ensures best { found.new.best ≡ best_from c.now found.old.best (inside_all (item.now ∷ []) c.now) }
     ensures count { found.new.count ≡ found.old.count + count (item.now ∷ []) c.now }
     ensures few { found.new.count ≤ found.old.count + 1 }

@@ -4,6 +4,7 @@ use Rattle.point_geom.specs.Axes.{on}
 use Rattle.node_labels.specs.Labels.{keep_tag}
 use Rattle.kd_tree.specs.Shape.{Head, Shape, leaf, fork, nodes, levels}
 use Rattle.kd_tree.specs.Walk.{AllKept, times}
+use Rattle.kd_tree.specs.declared.limits.TheConstants.{MAX_NODES, MAX_LEVELS}
 
 -- what holds of a node and its sons
 pub record IsSoundFork (h : Head) (l r : Shape) : Type 0 where
@@ -13,8 +14,8 @@ pub record IsSoundFork (h : Head) (l r : Shape) : Type 0 where
   pub above : AllKept (λ p. on h.axis h.item.point ≤ℤ on h.axis p) h.pending r
   -- no number is left twice
   pub once : (n : ℕ) → times n keep_tag (fork h l r) ≤ 1
-  pub few : nodes l + nodes r + 1 ≤ 4194304
-  pub low : max (levels l) (levels r) + 1 ≤ 512
+  pub few : nodes l + nodes r + 1 ≤ MAX_NODES
+  pub low : max (levels l) (levels r) + 1 ≤ MAX_LEVELS
 
 abbrev pub IsSound : Shape → Type 0
 IsSound leaf = Unit {0}

@@ -6,7 +6,7 @@ use std::alloc::Global;
 // So many blocks are kept at the most: 1 MB.
 pub(crate) const MOST: usize = 8_192;
 
-// The memory of old nodes, and trees that are let go. These are taken apart node by node, as memory is wanted: so a node is written
+// The memory of old nodes, and trees that are dropped. These are taken apart node by node, as memory is wanted: so a node is written
 // just after it was read, while the processor has it at hand.
 #[derive(Debug, Drop)]
 pub(crate) struct Blocks {
@@ -22,7 +22,7 @@ impl Blocks {
         }
     }
 
-    // Keeps the block, or lets it go where so many are kept.
+    // Keeps the block, or drops it where so many are kept.
     pub(crate) fn push(&mut self, block: Block) -> Result<(), NoMemory> {
         if self.ready.len() < MOST {
             self.ready.push(block)?;
@@ -30,7 +30,7 @@ impl Blocks {
         Ok(())
     }
 
-    // Takes in a tree in the place of what is left of those before it, which is let go.
+    // Takes in a tree in the place of what is left of those before it, which is dropped.
     pub(crate) fn take_in(&mut self, tree: Tree) {
         self.trees.clear();
         keep(&mut self.trees, tree)
@@ -46,7 +46,7 @@ impl Blocks {
 }
 
 // The memory of the top node of the last of these trees whose top nobody else holds. Its sons take its place, and those behind it are
-// let go.
+// dropped.
 fn next_of(trees: &mut Vec<Tree>) -> Block {
     while let Some(tree) = trees.pop() {
         if let Ok(node) = tree.opened_if_own() {
@@ -58,7 +58,7 @@ fn next_of(trees: &mut Vec<Tree>) -> Block {
     Block::none()
 }
 
-// One more tree, if it has a node. Where memory is wanting, it is let go.
+// One more tree, if it has a node. Where memory runs out, it is dropped.
 fn keep(trees: &mut Vec<Tree>, tree: Tree) {
     if tree.is_empty() {
         return;

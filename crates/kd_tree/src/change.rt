@@ -1,5 +1,5 @@
 //! Changes at the top of a tree. An action on all of a tree is done to its top alone, which owes it to its sons.
-ghost use Rattle.std.specs.Prelude.{◌≡◌, ℕ, ◌+◌, ◌≤◌, ◌≤ℤ◌, ◌∷◌, ◌++◌, max, IfOk, IfSome, IsNone, ◌↔◌};
+ghost use Rattle.std.specs.Prelude.{◌≡◌, ℕ, ◌+◌, ◌<◌, ◌≤◌, ◌≤ℤ◌, ◌∷◌, ◌++◌, max, IfOk, IfSome, IsNone, ◌↔◌};
 ghost use Rattle.point_geom.specs.Axes.{on};
 ghost use Rattle.node_labels.specs.Labels.{keep_tag};
 ghost use Rattle.map_fold.specs.Contents.{everything, mark};
@@ -10,7 +10,7 @@ ghost use Rattle.kd_tree.specs.Contents.{contents};
 ghost use Rattle.kd_tree.specs.Parts.{contents_of_parts, joined, pushed, with_son};
 
 use crate::open_node::{Block, OpenNode, Opened};
-use crate::{Side, Steps, Tree};
+use crate::{MAX_LEVELS, MAX_NODES, Side, Steps, Tree};
 use map_fold::{Item, NoMemory, Tag};
 use point_geom::Axis;
 use std::alloc::Global;
@@ -26,7 +26,7 @@ pub struct Fork {
 }
 
 impl Tree {
-    /// The tree after this action on all its items. Where memory is wanting, the tree is let go.
+    /// The tree after this action on all its items. Where memory runs out, the tree is dropped.
     #[inline(always)]
     pub fn tagged<L: Ledger>(
         self,
@@ -76,7 +76,7 @@ impl Tree {
         }
     }
 
-    /// The tree taken apart at its top node, if it has one. Where memory is wanting, the tree is let go.
+    /// The tree taken apart at its top node, if it has one. Where memory runs out, the tree is dropped.
     pub fn push_down<L: Ledger>(
         self,
         alloc: Global,
@@ -102,8 +102,8 @@ impl Tree {
     }
 
     /// The tree with this son in the place of the one on this side. The top node's item, axis, pending action and other son
-    /// stay, and the new son owes the pending action as the old one did. A tree without a node stays so. Where memory is
-    /// wanting, both trees are let go.
+    /// stay, and the new son owes the pending action as the old one did. A tree without a node stays so. Where memory runs
+    /// out, both trees are dropped.
     pub fn with_son<L: Ledger>(
         self,
         alloc: Global,
@@ -143,7 +143,7 @@ impl Tree {
         }
     }
 
-    /// Joins the parts to a tree with nothing pending at its top. Where memory is wanting, the parts are let go.
+    /// Joins the parts to a tree with nothing pending at its top. Where memory runs out, the parts are dropped.
     pub fn pull_up<L: Ledger>(
         alloc: Global,
         fork: Fork,
@@ -152,8 +152,8 @@ impl Tree {
         requires below { AllKept (λ p. on fork.axis p ≤ℤ on fork.axis fork.item.point) keep_tag fork.left }
         requires above { AllKept (λ p. on fork.axis fork.item.point ≤ℤ on fork.axis p) keep_tag fork.right }
         requires once { (n : ℕ) → times n keep_tag (joined fork) ≤ 1 }
-        requires low { max (levels fork.left) (levels fork.right) ≤ 511 }
-        requires few { nodes fork.left + nodes fork.right ≤ 4194303 }
+        requires low { max (levels fork.left) (levels fork.right) < MAX_LEVELS }
+        requires few { nodes fork.left + nodes fork.right < MAX_NODES }
         ensures shape { IfOk result (λ t. t ≡ joined fork) }
         ensures contents { IfOk result (λ t. contents t ≡ contents_of_parts fork) }
         ensures numbers { IfOk result (λ t. numbers t ≡ fork.item.number ∷ (numbers fork.left ++ numbers fork.right)) }

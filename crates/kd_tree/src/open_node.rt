@@ -1,6 +1,6 @@
 //! Nodes taken apart and put together. Only this file and `twin` know that a node is shared: the block of one that nobody else
 //! holds is kept meanwhile, and takes the node that is made of the parts. A shared node is never written.
-ghost use Rattle.std.specs.Prelude.{◌≡◌, ℕ, ◌+◌, ◌≤◌, ◌≤ℤ◌, ◌∷◌, ◌++◌, max, Some, IfOk, IfErr, IfSome, IsNone, ◌↔◌};
+ghost use Rattle.std.specs.Prelude.{◌≡◌, ℕ, ◌+◌, ◌<◌, ◌≤◌, ◌≤ℤ◌, ◌∷◌, ◌++◌, max, Some, IfOk, IfErr, IfSome, IsNone, ◌↔◌};
 ghost use Rattle.std.specs.Arc.{arc_value};
 ghost use Rattle.point_geom.specs.Axes.{on};
 ghost use Rattle.node_labels.specs.Labels.{keep_tag};
@@ -12,7 +12,7 @@ ghost use Rattle.kd_tree.specs.Parts.{contents_of_parts, fork_in, fork_of, joine
 ghost use Rattle.kd_tree.specs.View.{IsKeptAt, IsOpened, IsTakenOf, shape_at, top_of};
 
 use crate::node::{Node, Root};
-use crate::{Scratch, Steps, Tree};
+use crate::{MAX_LEVELS, MAX_NODES, Scratch, Steps, Tree};
 use map_fold::{Item, NoMemory, Tag};
 use point_geom::Axis;
 use std::alloc::Global;
@@ -50,7 +50,7 @@ pub(crate) struct Opened {
 
 impl Tree {
     /// The tree taken apart at its top node, if it has one, as `push_down` does. Where nobody else holds the node, its memory is
-    /// kept. Where memory is wanting, the tree is let go.
+    /// kept. Where memory runs out, the tree is dropped.
     #[inline(always)]
     pub fn take_apart<L: Ledger>(
         self,
@@ -82,7 +82,7 @@ impl Tree {
     }
 
     /// Joins the parts to a tree with nothing pending at its top, as `pull_up` does. Where memory was kept, the node is made in
-    /// it. Where memory is wanting, the parts are let go.
+    /// it. Where memory runs out, the parts are dropped.
     #[inline(always)]
     pub fn put_together<L: Ledger>(
         alloc: Global,
@@ -92,8 +92,8 @@ impl Tree {
         requires below { AllKept (λ p. on node.axis p ≤ℤ on node.axis node.item.point) keep_tag node.left }
         requires above { AllKept (λ p. on node.axis node.item.point ≤ℤ on node.axis p) keep_tag node.right }
         requires once { (n : ℕ) → times n keep_tag (joined (fork_of node)) ≤ 1 }
-        requires low { max (levels node.left) (levels node.right) ≤ 511 }
-        requires few { nodes node.left + nodes node.right ≤ 4194303 }
+        requires low { max (levels node.left) (levels node.right) < MAX_LEVELS }
+        requires few { nodes node.left + nodes node.right < MAX_NODES }
         ensures shape { IfOk result (λ t. t ≡ joined (fork_of node)) }
         ensures contents { IfOk result (λ t. contents t ≡ contents_of_parts (fork_of node)) }
         ensures numbers { IfOk result (λ t. numbers t ≡ node.item.number ∷ (numbers node.left ++ numbers node.right)) }

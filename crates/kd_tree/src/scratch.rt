@@ -11,7 +11,7 @@ ghost use Rattle.kd_tree.specs.Build.{IsBuilt};
 use crate::blocks::{Blocks, MOST};
 use crate::build::built;
 use crate::flatten::{gather_owed, push_kept};
-use crate::{Block, Steps, Tree};
+use crate::{Block, MAX_NODES, Steps, Tree};
 use map_fold::{Item, NoMemory, Tag};
 use std::alloc::Global;
 use std::sync::ledger::Ledger;
@@ -32,8 +32,8 @@ impl Scratch {
         }
     }
 
-    /// Takes in a tree that its owner lets go, for the memory of the nodes that nobody else holds. What is left of the tree before it
-    /// is let go.
+    /// Takes in a tree that its owner drops, for the memory of the nodes that nobody else holds. What is left of the tree before it
+    /// is dropped.
     pub fn take_in(&mut self, tree: Tree) {
         self.blocks.take_in(tree)
     }
@@ -47,8 +47,8 @@ impl Scratch {
 impl Tree {
     /// What is left of the tree and these items, built by medians as `build` does it. The list of them all is the scratch's.
     /// Fewer than 8,192 new nodes are made in the memory of old ones that nobody else holds, as far as that goes; what is left
-    /// over is the scratch's until it is used or let go with it. More are made in fresh memory, for which a second list is taken
-    /// meanwhile. Where memory is wanting, the tree is let go.
+    /// over is the scratch's until it is used or dropped with it. More are made in fresh memory, for which a second list is taken
+    /// meanwhile. Where memory runs out, the tree is dropped.
     pub fn rebuilt_with<L: Ledger>(
         self,
         alloc: Global,
@@ -58,10 +58,10 @@ impl Tree {
     ) -> Result<Tree, NoMemory>
         requires kept { AreKept more.now }
         requires distinct { AreDistinct (walk keep_tag self ++ more.now) }
-        requires few { length (walk keep_tag self) + length more.now ≤ 4194304 }
+        requires few { length (walk keep_tag self) + length more.now ≤ MAX_NODES }
         ensures shape { IfOk result (λ t. IsBuilt (walk keep_tag self ++ more.now) t) }
         ensures contents { IfOk result (λ t. contents t ≡ by_number (walk keep_tag self ++ more.now)) }
-        ensures calm { IfOk result (λ t. AllMeetCriteria 10 t) }
+        ensures criteria { IfOk result (λ t. AllMeetCriteria 10 t) }
         ensures numbers { IfOk result (λ t. IsPermutation (map (λ i. i.number) (walk keep_tag self ++ more.now)) (numbers t)) }
         ensures nodes { IfOk result (λ t. nodes t ≡ length (walk keep_tag self ++ more.now)) }
         ensures levels { (n : ℕ) → length (walk keep_tag self ++ more.now) < 2 ^ n → IfOk result (λ t. levels t ≤ n) }
@@ -85,7 +85,7 @@ impl Tree {
 }
 
 // Moves the items. Few nodes are made in these blocks, while there are any. Many are made in fresh memory, where they lie side by
-// side: what was let go in small pieces, glibc joins when it is asked for a large one, as it is for the list in `build`.
+// side: what was dropped in small pieces, glibc joins when it is asked for a large one, as it is for the list in `build`.
 fn built_in<L: Ledger>(
     alloc: Global,
     items: &mut [Item],
@@ -94,7 +94,7 @@ fn built_in<L: Ledger>(
 ) -> Result<Tree, NoMemory>
     requires kept { AreKept items.old }
     requires distinct { AreDistinct items.old }
-    requires few { length items.old ≤ 4194304 }
+    requires few { length items.old ≤ MAX_NODES }
     ensures shape { IfOk result (λ t. IsBuilt items.old t) }
     ensures once { OnOk result (steps.new ≡ steps.old + length items.old) }
     ensures ticks { steps.new ≤ steps.old + length items.old }

@@ -1,5 +1,5 @@
 -- Scans that are put while subtrees are watched.
-use Rattle.std.proofs.Common.{◌≡◌, ℕ, ◌+◌, ◌≤◌, Bool, true, false, not, cond, inl, inr, refl, ap, ◌∙◌, sym, subst, arith, List, [], ◌∷◌, ◌++◌, None, Some, map, length, take, drop, length-append, append_assoc}
+use Rattle.std.proofs.Common.{◌≡◌, ℕ, ◌+◌, ◌≤◌, Bool, true, false, not, cond, inl, refl, ap, ◌∙◌, sym, subst, arith, List, [], ◌∷◌, ◌++◌, Some, map, length, take, drop, length-append, append_assoc}
 use Rattle.std.specs.Prelude.{All, IsPermutation, count_by, filter, ◌==◌}
 use Rattle.std.proofs.lemmas.Bool.{cond_both, eq-eqb}
 use Rattle.std.proofs.lemmas.List.{take-append-drop, append-nil}
@@ -36,14 +36,14 @@ use Rattle.kd_update.specs.declared.watch.Watch.{Watch}
 use Rattle.node_labels.specs.declared.tag.Tag.{Tag}
 use Rattle.map_fold.specs.declared.op.Op.TheVariants.{Mark}
 use Rattle.kd_update.specs.Crossing.{AreMet, AreMore, IsCrossed, IsMet, IsWholeGrown, going, logged_scan, puts_of}
-use Rattle.kd_update.proofs.Calm.{apart, route_none}
+use Rattle.kd_update.proofs.Criteria.{apart, route_none}
 use Rattle.kd_update.proofs.Grown.{GoBeside, IsLive, IsStep, distinct_back, distinct_front, grown_built, grown_moved, grown_none, grown_put, step_grown}
-use Rattle.kd_update.proofs.Joins.{by_number-put_each, contents_size, put_new, walk_distinct}
+use Rattle.kd_update.proofs.Joins.{by_number-put_each, put_new, walk_distinct}
 use Rattle.kd_update.proofs.Refresh.{head}
 use Rattle.kd_update.proofs.Route.{nodes-put}
 use Rattle.kd_update.proofs.Large.{large_after}
 use Rattle.kd_update.proofs.Logged.{handed_puts}
-use Rattle.kd_update.proofs.Several.{clear_even, even_clear, even_here, passed_by, some_of}
+use Rattle.kd_update.proofs.Several.{clear_balanced, balanced_clear, balanced_here, passed_by, some_of}
 use Rattle.kd_update.proofs.Trees.{forked, some_fork, walk-tagged_keep}
 use Rattle.kd_update.proofs.Watched.{at-tagged, watched_handed, watched_left, watched_right, watched_same}
 
@@ -314,13 +314,13 @@ met_step ps (fork h l0 r0) (i ∷ is) f xs ys l r x d some m b e u v =
 -- crossings
 
 pub crossed_free : (large : ℕ) (ps : List (List Side)) (s t : Shape) (is : List Item) → ps ≡ [] → IsGrown s is t → (IsBalancedBelow large s → IsBalancedBelow large t) → IsCrossed large ps s is t
-crossed_free large ps s t is e k even = subst (λ (qs : List (List Side)). IsCrossed large qs s is t) (sym e) (record { grown = k; met = tt; balance = λ b. even_clear large t (even (clear_even large s b)) })
+crossed_free large ps s t is e k balanced = subst (λ (qs : List (List Side)). IsCrossed large qs s is t) (sym e) (record { grown = k; met = tt; balance = λ b. balanced_clear large t (balanced (clear_balanced large s b)) })
 
 pub crossed_here : (large : ℕ) (ps : List (List Side)) (s t : Shape) (is : List Item) → AreAllApart ps → is_here ps ≡ true → IsWholeGrown s is t → IsCrossed large ps s is t
 crossed_here large ps s t is a e k = record {
   grown = k.grown;
   met = subst (λ (qs : List (List Side)). AreMet qs is s t) (sym (here_alone ps a e)) (k, tt);
-  balance = λ _. even_here large ps t e;
+  balance = λ _. balanced_here large ps t e;
 }
 
 pub crossed_none : (large : ℕ) (ps : List (List Side)) (s : Shape) (is : List Item) → is ≡ [] → is_here ps ≡ false → IsCrossed large ps s is s
@@ -335,7 +335,7 @@ crossed_step large ps s is f xs ys l r x k p there here any some u v =
     record {
       grown = step_grown 0 s is f xs ys l r new k u.grown v.grown (inl ((λ many few. absurd (omega (arith, few))), refl));
       met = met;
-      balance = λ e. let both = (passed_by large ps s f x there).even here e in λ _. ((λ many few. absurd (omega (arith, few, big))), u.balance both.0, v.balance both.1);
+      balance = λ e. let both = (passed_by large ps s f x there).balanced here e in λ _. ((λ many few. absurd (omega (arith, few, big))), u.balance both.0, v.balance both.1);
     }
 
 pub crossed_contents : (s t : Shape) (is : List Item) → MayJoin (contents s) is → IsGrown s is t → contents t ≡ put_each (contents s) is

@@ -31,8 +31,8 @@ use Rattle.kd_update.specs.Put.{goes_left, put_from}
 use Rattle.kd_update.specs.Scan.{AreLive, IsGrown, IsParted, IsPiece, numbers_in}
 use Rattle.kd_update.proofs.Trees.{among_same, among_append, among_fork, forked, some_fork}
 use Rattle.kd_update.proofs.Refresh.{head, refreshed_refresh}
-use Rattle.kd_update.proofs.Update.{calm_even, even_sons}
-use Rattle.kd_update.proofs.Calm.{IsApart, apart}
+use Rattle.kd_update.proofs.Update.{criteria_balanced, balanced_sons}
+use Rattle.kd_update.proofs.Criteria.{IsApart, apart}
 use Rattle.kd_update.proofs.Route.{le_of_true, le_of_false, walk-put, nodes-put, levels-put, numbers-put}
 
 -- lists
@@ -286,18 +286,18 @@ step_grown large s is f xs ys l r t k left right done =
     (grown_after s (fork (head f.item f.axis) f.left f.right) t (xs ++ ys) k.apart.refresh
     (grown_then (fork (head f.item f.axis) f.left f.right) (fork (head f.item f.axis) l r) t (xs ++ ys) (grown_fork f.item f.axis f.left f.right l r xs ys left right) (refreshed_refresh large (fork (head f.item f.axis) l r) t done)))
 
--- evenness
+-- balance
 
-apart_even : (large : ℕ) (s : Shape) (f : Fork) → Some f ≡ pushed s → IsBalancedBelow large s → IsBalancedBelow large f.left × IsBalancedBelow large f.right
-apart_even large leaf f x k = absurd (cc)
-apart_even large (fork h l r) f x k = subst (λ (g : Fork). IsBalancedBelow large g.left × IsBalancedBelow large g.right) (sym (some_fork f (forked h l r) x)) (even_sons large h l r k)
+apart_balanced : (large : ℕ) (s : Shape) (f : Fork) → Some f ≡ pushed s → IsBalancedBelow large s → IsBalancedBelow large f.left × IsBalancedBelow large f.right
+apart_balanced large leaf f x k = absurd (cc)
+apart_balanced large (fork h l r) f x k = subst (λ (g : Fork). IsBalancedBelow large g.left × IsBalancedBelow large g.right) (sym (some_fork f (forked h l r) x)) (balanced_sons large h l r k)
 
-even_due : (large : ℕ) (h : Head) (l r t : Shape) → IsBalancedBelow large l → IsBalancedBelow large r → RefreshesIfDue large (fork h l r) t → IsBalancedBelow large t
-even_due large h l r t left right (inl k) = subst (IsBalancedBelow large) k.1 ((λ many few. (k.0 many few).0), left, right)
-even_due large h l r t left right (inr k) = calm_even large t k.2
+balanced_due : (large : ℕ) (h : Head) (l r t : Shape) → IsBalancedBelow large l → IsBalancedBelow large r → RefreshesIfDue large (fork h l r) t → IsBalancedBelow large t
+balanced_due large h l r t left right (inl k) = subst (IsBalancedBelow large) k.1 ((λ many few. (k.0 many few).0), left, right)
+balanced_due large h l r t left right (inr k) = criteria_balanced large t k.2
 
-pub step_even : (large : ℕ) (s : Shape) (f : Fork) (l r t : Shape) → Some f ≡ pushed s → (IsBalancedBelow large f.left → IsBalancedBelow large l) → (IsBalancedBelow large f.right → IsBalancedBelow large r) → RefreshesIfDue large (fork (head f.item f.axis) l r) t
+pub step_balanced : (large : ℕ) (s : Shape) (f : Fork) (l r t : Shape) → Some f ≡ pushed s → (IsBalancedBelow large f.left → IsBalancedBelow large l) → (IsBalancedBelow large f.right → IsBalancedBelow large r) → RefreshesIfDue large (fork (head f.item f.axis) l r) t
     → IsBalancedBelow large s → IsBalancedBelow large t
-step_even large s f l r t x left right done even =
-    let both = apart_even large s f x even in
-    even_due large (head f.item f.axis) l r t (left both.0) (right both.1) done
+step_balanced large s f l r t x left right done balanced =
+    let both = apart_balanced large s f x balanced in
+    balanced_due large (head f.item f.axis) l r t (left both.0) (right both.1) done

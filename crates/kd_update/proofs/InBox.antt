@@ -37,7 +37,7 @@ use Rattle.kd_tree.proofs.Left.{all_left, left_all}
 use Rattle.kd_update.proofs.Trees.{forked, some_fork, walk-tagged_keep}
 use Rattle.kd_update.proofs.Lists.{marked-point, marked-number, own-marked, mark_agree, mark_none, mark_points, mark_counts}
 use Rattle.kd_update.proofs.Refresh.{head}
-use Rattle.kd_update.proofs.Update.{even_sons, even_tagged, updated_plain}
+use Rattle.kd_update.proofs.Update.{balanced_sons, balanced_tagged, updated_plain}
 
 -- an action on chosen items after one on all
 pub marked-tagged : (c : Choice) (a p : Tag) (t : Shape) → marked_under c a keep_tag (tagged p t) ≡ marked_under c a p t
@@ -205,8 +205,8 @@ once-marked c a t k n = omega (arith, times-marked n c a t, k n)
 pub record IsEntered (c : Choice) (a : Tag) (s : Shape) (f : Fork) : Type 0 where
   pub value : fork (head (marked_item (chosen_by c) a f.item) f.axis) (marked_shape c a f.left) (marked_shape c a f.right) ≡ marked_shape c a s
   pub sound : IsSoundFork (head (marked_item (chosen_by c) a f.item) f.axis) (marked_shape c a f.left) (marked_shape c a f.right)
-  pub calm : (large : ℕ) → RebuildsNoneEntered large c (marked_shape c a s) → IsNotDue large (fork (head (marked_item (chosen_by c) a f.item) f.axis) (marked_shape c a f.left) (marked_shape c a f.right)) × RebuildsNoneEntered large c (marked_shape c a f.left) × RebuildsNoneEntered large c (marked_shape c a f.right)
-  pub even : (large : ℕ) → IsBalancedBelow large s → IsBalancedBelow large f.left × IsBalancedBelow large f.right
+  pub criteria : (large : ℕ) → RebuildsNoneEntered large c (marked_shape c a s) → IsNotDue large (fork (head (marked_item (chosen_by c) a f.item) f.axis) (marked_shape c a f.left) (marked_shape c a f.right)) × RebuildsNoneEntered large c (marked_shape c a f.left) × RebuildsNoneEntered large c (marked_shape c a f.right)
+  pub balanced : (large : ℕ) → IsBalancedBelow large s → IsBalancedBelow large f.left × IsBalancedBelow large f.right
 
 enters : (c : Choice) (a : Tag) (h : Head) (l r : Shape) → meets c (reach_of h l r) ≡ true → covers c (reach_of h l r) ≡ false → fork (head (marked_item (chosen_by c) a h.item) h.axis) (marked_shape c a (tagged h.pending l)) (marked_shape c a (tagged h.pending r)) ≡ marked_shape c a (fork h l r)
 unfolding marked_under
@@ -231,9 +231,9 @@ reach-entered c a h l r = reaches_alike _ _ _ _
     (extents_alike _ _ _ _ _ _ (marked-point (chosen_by c) a h.item) (extent-marked c a keep_tag (tagged h.pending l) ∙ extent-tagged h.pending l) (extent-marked c a keep_tag (tagged h.pending r) ∙ extent-tagged h.pending r))
     (ranges_alike _ _ _ _ _ _ (marked-number (chosen_by c) a h.item) (range-marked c a keep_tag (tagged h.pending l) ∙ range-tagged h.pending l) (range-marked c a keep_tag (tagged h.pending r) ∙ range-tagged h.pending r))
 
-calm_parts : (large : ℕ) (c : Choice) (h : Head) (l r : Shape) → is_entered c (reach_of h l r) ≡ true → RebuildsNoneEntered large c (fork h l r) → IsNotDue large (fork h l r) × RebuildsNoneEntered large c l × RebuildsNoneEntered large c r
+criteria_parts : (large : ℕ) (c : Choice) (h : Head) (l r : Shape) → is_entered c (reach_of h l r) ≡ true → RebuildsNoneEntered large c (fork h l r) → IsNotDue large (fork h l r) × RebuildsNoneEntered large c l × RebuildsNoneEntered large c r
 unfolding RebuildsNoneEntered
-calm_parts large c h l r e k = k e
+criteria_parts large c h l r e k = k e
 
 entered_fork : (c : Choice) (a : Tag) (h : Head) (l r : Shape) → meets c (reach_of h l r) ≡ true → covers c (reach_of h l r) ≡ false → IsSoundFork h l r → IsEntered c a (fork h l r) (forked h l r)
 entered_fork c a h l r m k s =
@@ -253,8 +253,8 @@ entered_fork c a h l r m k s =
         few = omega (arith, s.few, nodes-marked c a keep_tag (tagged h.pending l), nodes-marked c a keep_tag (tagged h.pending r), tagged_nodes h.pending l, tagged_nodes h.pending r);
         low = omega (arith, s.low, levels-marked c a keep_tag (tagged h.pending l), levels-marked c a keep_tag (tagged h.pending r), tagged_levels h.pending l, tagged_levels h.pending r);
       };
-      calm = λ large all. calm_parts large c (head i h.axis) ml mr (entered_is c (reach_of (head i h.axis) ml mr) (subst (λ (e : Reach). meets c e ≡ true) (sym (reach-entered c a h l r)) m) (subst (λ (e : Reach). covers c e ≡ false) (sym (reach-entered c a h l r)) k)) (subst (RebuildsNoneEntered large c) (sym value) all);
-      even = λ large e. even_sons large h l r e;
+      criteria = λ large all. criteria_parts large c (head i h.axis) ml mr (entered_is c (reach_of (head i h.axis) ml mr) (subst (λ (e : Reach). meets c e ≡ true) (sym (reach-entered c a h l r)) m) (subst (λ (e : Reach). covers c e ≡ false) (sym (reach-entered c a h l r)) k)) (subst (RebuildsNoneEntered large c) (sym value) all);
+      balanced = λ large e. balanced_sons large h l r e;
     }
 
 some_reach : (a b : Reach) → ◌≡◌ {A = Option Reach} (Some a) (Some b) → a ≡ b
@@ -296,4 +296,4 @@ updated_missed large c a s C e x m = subst (λ t. IsUpdated large s t C s) (mark
 
 -- what it covers has the action done to it
 pub updated_covered : (large : ℕ) (c : Choice) (a : Tag) (s : Shape) (C : Type 0) (e : Reach) → Some e ≡ reach s → meets c e ≡ true → covers c e ≡ true → IsUpdated large s (marked_shape c a s) C (tagged a s)
-updated_covered large c a s C e x m k = subst (λ t. IsUpdated large s t C (tagged a s)) (marked_covered c a s e x m k) (updated_plain large s (tagged a s) C (even_tagged large a s))
+updated_covered large c a s C e x m k = subst (λ t. IsUpdated large s t C (tagged a s)) (marked_covered c a s e x m k) (updated_plain large s (tagged a s) C (balanced_tagged large a s))

@@ -58,7 +58,7 @@ by_number-put_each xs (i ∷ is) d k =
 -- a tree with items put
 
 pub put_none : (large : ℕ) (s : Shape) → IsPut large s [] s
-put_none large s = record { held = refl; from = among_same (numbers s); few = omega arith; even = λ k. k }
+put_none large s = record { held = refl; from = among_same (numbers s); few = omega arith; balanced = λ k. k }
 
 pub put_then : (large : ℕ) (s t u : Shape) (xs ys : List Item) → IsPut large s xs t → IsPut large t ys u → IsPut large s (xs ++ ys) u
 put_then large s t u xs ys f g = record {
@@ -71,7 +71,7 @@ put_then large s t u xs ys f g = record {
     ]
   ]);
   few = omega (arith, f.few, g.few, length-append xs ys);
-  even = λ k. g.even (f.even k);
+  balanced = λ k. g.balanced (f.balanced k);
 }
   where
     a : List ℕ
@@ -93,13 +93,13 @@ join_piece large s is k small short low few = record { live = k.live; distinct =
 
 -- a tree that has grown by them has them put
 pub join_grown : (large : ℕ) (s t : Shape) (is : List Item) → MayJoin (contents s) is → IsGrown s is t → (IsBalancedBelow large s → IsBalancedBelow large t) → IsPut large s is t
-join_grown large s t is k g even =
+join_grown large s t is k g balanced =
     let distinct = walk_distinct s is k.distinct in
     record {
       held = sym (by_number-moved (walk keep_tag s ++ is) (walk keep_tag t) g.same distinct) ∙ by_number-put_each (walk keep_tag s) is distinct k.live;
       from = λ n c. Contains-permutation _ _ n (IsPermutation-append_comm (numbers s) (numbers_in is)) (g.from n c);
       few = g.few;
-      even = even;
+      balanced = balanced;
     }
 
 pub join_first : (m xs ys : List Item) → MayJoin m (xs ++ ys) → MayJoin m xs

@@ -1,4 +1,4 @@
-pub mod Calm
+pub mod Criteria
 pub mod Crossing
 pub mod Grown
 pub mod InBox

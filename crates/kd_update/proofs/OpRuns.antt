@@ -93,12 +93,12 @@ run_piece large s ops r k =
 
 -- and a tree that has grown by it has its operations done
 pub run_performed : (large : ℕ) (s t : Shape) (ops : List Op) → IsRun large ops s → MayJoin (contents s) (items_put ops) → IsGrown s (items_put ops) t → (IsBalancedBelow large s → IsBalancedBelow large t) → IsPerformed large s ops t
-run_performed large s t ops r k g even =
-    let put = join_grown large s t (items_put ops) k g even in
+run_performed large s t ops r k g balanced =
+    let put = join_grown large s t (items_put ops) k g balanced in
     record {
       held = put.held ∙ sym (replay-put_each (contents s) ops r.puts);
       from = subst (λ ns. AreAmong (numbers t) (ns ++ numbers s)) (sym (numbers_put-items ops)) put.from;
-      even = even;
+      balanced = balanced;
       low = omega (arith, g.low, r.many, puts-length ops r.puts);
       few = omega (arith, g.few, items_put-length ops);
     }

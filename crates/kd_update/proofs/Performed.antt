@@ -13,7 +13,7 @@ use Rattle.kd_update.specs.Replay.{IsPerformed}
 use Rattle.kd_update.proofs.Trees.{among_same}
 
 pub performed_none : (large : ℕ) (s : Shape) → IsPerformed large s [] s
-performed_none large s = record { held = refl; from = among_same (numbers s); even = λ k. k; low = omega arith; few = omega arith }
+performed_none large s = record { held = refl; from = among_same (numbers s); balanced = λ k. k; low = omega arith; few = omega arith }
 
 puts-append : (a b : List Op) → length (numbers_put (a ++ b)) ≡ length (numbers_put a) + length (numbers_put b)
 puts-append a b = ap length (numbers_put-append a b) ∙ length-append (numbers_put a) (numbers_put b)
@@ -32,7 +32,7 @@ pub performed_then : (large : ℕ) (s t u : Shape) (a b : List Op) → IsPerform
 performed_then large s t u a b f g = record {
   held = g.held ∙ ap (λ m. replay m b) f.held ∙ sym (replay-append (contents s) a b);
   from = subst (λ ns. AreAmong (numbers u) (ns ++ numbers s)) (sym (numbers_put-append a b)) (among_then (numbers_put a) (numbers_put b) (numbers s) (numbers t) (numbers u) f.from g.from);
-  even = λ k. g.even (f.even k);
+  balanced = λ k. g.balanced (f.balanced k);
   low = omega (arith, f.low, g.low, puts-append a b);
   few = omega (arith, f.few, g.few, puts-append a b);
 }
@@ -45,5 +45,5 @@ pub all_performed : {E : Type 0} (large : ℕ) (s : Shape) (ops : List Op) (r : 
     → IfOk r (λ t. levels t ≤ levels s + length (numbers_put ops))
     → IfOk r (λ t. nodes t ≤ nodes s + length (numbers_put ops))
     → IfOk r (λ t. IsPerformed large s ops t)
-all_performed large s ops (Ok t) held from even low few = record { held = held; from = from; even = even; low = low; few = few }
-all_performed large s ops (Err e) held from even low few = tt
+all_performed large s ops (Ok t) held from balanced low few = record { held = held; from = from; balanced = balanced; low = low; few = few }
+all_performed large s ops (Err e) held from balanced low few = tt

@@ -1,5 +1,5 @@
 -- A tree with one more point, without rebuilding.
-use Rattle.std.proofs.Common.{◌≡◌, ℕ, ℤ, ◌+◌, ◌≤◌, ◌≤ℤ◌, max, true, false, cond, refl, ap, ◌∙◌, sym, arith, subst, Option, Some, None, List, [], ◌∷◌, ◌++◌, inl, inr}
+use Rattle.std.proofs.Common.{◌≡◌, ℕ, ℤ, ◌+◌, ◌≤◌, ◌<◌, ◌≤ℤ◌, max, true, false, cond, refl, ap, ◌∙◌, sym, arith, subst, Option, Some, None, List, [], ◌∷◌, ◌++◌, inl, inr}
 use Rattle.std.specs.Prelude.{count_by, int_lt, IsPermutation, ◌==◌}
 use Rattle.std.proofs.lemmas.Bool.{cond_both, cond-true, cond-false}
 use Rattle.std.proofs.lemmas.Bool.Decides.{nat_tests}
@@ -30,7 +30,7 @@ use Rattle.kd_update.specs.Put.{goes_left, leaf_of, put_under, put_from, Rebuild
 use Rattle.kd_tree.proofs.Left.{all_left, left_all}
 use Rattle.kd_update.proofs.Trees.{forked, some_fork, walk-tagged_keep, among_same}
 use Rattle.kd_update.proofs.Refresh.{head}
-use Rattle.kd_update.proofs.Update.{even_sons, updated_plain, updated_fork}
+use Rattle.kd_update.proofs.Update.{balanced_sons, updated_plain, updated_fork}
 
 -- a put after an action on all
 pub put-tagged : (n : ℕ) (p : Place) (axis : Axis) (a : Tag) (t : Shape) → put_under n p axis keep_tag (tagged a t) ≡ put_under n p axis a t
@@ -163,20 +163,20 @@ le_of_false a b h = grind (arith, ints)
 
 -- the point may go on to this son
 pub record IsFree (n : ℕ) (son : Shape) : Type 0 where
-  pub low : levels son ≤ 511
-  pub few : nodes son ≤ 4194303
+  pub low : levels son < 512
+  pub few : nodes son < 4194304
   pub new : times n keep_tag son ≡ 0
 
 -- what holds where the top of s, which is taken apart to f, is made anew with the sons l and r
 pub record IsOnRoute (n : ℕ) (p : Place) (axis : Axis) (s : Shape) (f : Fork) (l r : Shape) : Type 0 where
   pub value : fork (head f.item f.axis) l r ≡ put_from n p axis s
   pub sound : IsSoundFork (head f.item f.axis) l r
-  pub calm : (large : ℕ) → RebuildsNoneOnRoute large p (put_from n p axis s) → IsNotDue large (fork (head f.item f.axis) l r) × (goes_left f.axis p f.item.point ≡ true → RebuildsNoneOnRoute large p l) × (goes_left f.axis p f.item.point ≡ false → RebuildsNoneOnRoute large p r)
-  pub even : (large : ℕ) → IsBalancedBelow large s → IsBalancedBelow large f.left × IsBalancedBelow large f.right
+  pub criteria : (large : ℕ) → RebuildsNoneOnRoute large p (put_from n p axis s) → IsNotDue large (fork (head f.item f.axis) l r) × (goes_left f.axis p f.item.point ≡ true → RebuildsNoneOnRoute large p l) × (goes_left f.axis p f.item.point ≡ false → RebuildsNoneOnRoute large p r)
+  pub balanced : (large : ℕ) → IsBalancedBelow large s → IsBalancedBelow large f.left × IsBalancedBelow large f.right
 
-calm_parts : (large : ℕ) (p : Place) (h : Head) (l r : Shape) → RebuildsNoneOnRoute large p (fork h l r) → IsNotDue large (fork h l r) × (goes_left h.axis p h.item.point ≡ true → RebuildsNoneOnRoute large p l) × (goes_left h.axis p h.item.point ≡ false → RebuildsNoneOnRoute large p r)
+criteria_parts : (large : ℕ) (p : Place) (h : Head) (l r : Shape) → RebuildsNoneOnRoute large p (fork h l r) → IsNotDue large (fork h l r) × (goes_left h.axis p h.item.point ≡ true → RebuildsNoneOnRoute large p l) × (goes_left h.axis p h.item.point ≡ false → RebuildsNoneOnRoute large p r)
 unfolding RebuildsNoneOnRoute
-calm_parts large p h l r k = k
+criteria_parts large p h l r k = k
 
 tops_alike : (h : Head) (l r l' r' : Shape) → l ≡ l' → r ≡ r' → fork (head h.item h.axis) l r ≡ fork (record h { item = relabelled keep_tag h.item; pending = keep_tag }) l' r'
 tops_alike h l r l' r' f g = ap (λ i. fork (head i h.axis) l r) (sym (relabelled-keep h.item)) ∙ ap (λ x. fork (head (relabelled keep_tag h.item) h.axis) x r) f ∙ ap (λ x. fork (head (relabelled keep_tag h.item) h.axis) l' x) g
@@ -222,8 +222,8 @@ left_fork n p axis h l r e s k =
         few = omega (arith, k.few, nodes-put n p next keep_tag (tagged h.pending l), tagged_nodes h.pending l, tagged_nodes h.pending r);
         low = omega (arith, k.low, levels-put n p next keep_tag (tagged h.pending l), tagged_levels h.pending l, tagged_levels h.pending r);
       };
-      calm = λ large all. calm_parts large p (head h.item h.axis) (put_from n p next (tagged h.pending l)) (tagged h.pending r) (subst (RebuildsNoneOnRoute large p) (sym value) all);
-      even = λ large k. even_sons large h l r k;
+      criteria = λ large all. criteria_parts large p (head h.item h.axis) (put_from n p next (tagged h.pending l)) (tagged h.pending r) (subst (RebuildsNoneOnRoute large p) (sym value) all);
+      balanced = λ large k. balanced_sons large h l r k;
     }
 
 right_fork : (n : ℕ) (p : Place) (axis : Axis) (h : Head) (l r : Shape) → goes_left h.axis p h.item.point ≡ false → IsSound (fork h l r) → IsFree n (fork h l r)
@@ -241,8 +241,8 @@ right_fork n p axis h l r e s k =
         few = omega (arith, k.few, nodes-put n p next keep_tag (tagged h.pending r), tagged_nodes h.pending l, tagged_nodes h.pending r);
         low = omega (arith, k.low, levels-put n p next keep_tag (tagged h.pending r), tagged_levels h.pending l, tagged_levels h.pending r);
       };
-      calm = λ large all. calm_parts large p (head h.item h.axis) (tagged h.pending l) (put_from n p next (tagged h.pending r)) (subst (RebuildsNoneOnRoute large p) (sym value) all);
-      even = λ large k. even_sons large h l r k;
+      criteria = λ large all. criteria_parts large p (head h.item h.axis) (tagged h.pending l) (put_from n p next (tagged h.pending r)) (subst (RebuildsNoneOnRoute large p) (sym value) all);
+      balanced = λ large k. balanced_sons large h l r k;
     }
 
 -- both sons are free where the tree is
@@ -280,7 +280,7 @@ updated_left large n p axis s f l t k e u done =
     let plain = put_from n p (next_axis f.axis) f.left in
     subst (λ v. IsUpdated large s v (RebuildsNoneOnRoute large p (put_from n p axis s)) t) k.value
     (updated_fork large s f.item f.axis f.left f.right plain f.right l f.right t (RebuildsNoneOnRoute large p (put_from n p axis s)) (RebuildsNoneOnRoute large p plain) (Unit {0})
-    u (updated_plain large f.right f.right (Unit {0}) (λ v. v)) (k.even large) (λ all. let parts = k.calm large all in (parts.0, parts.1 e, tt)) done)
+    u (updated_plain large f.right f.right (Unit {0}) (λ v. v)) (k.balanced large) (λ all. let parts = k.criteria large all in (parts.0, parts.1 e, tt)) done)
 
 -- where it went right
 pub updated_right : (large n : ℕ) (p : Place) (axis : Axis) (s : Shape) (f : Fork) (r t : Shape) → IsOnRoute n p axis s f f.left (put_from n p (next_axis f.axis) f.right) → goes_left f.axis p f.item.point ≡ false
@@ -290,4 +290,4 @@ updated_right large n p axis s f r t k e u done =
     let plain = put_from n p (next_axis f.axis) f.right in
     subst (λ v. IsUpdated large s v (RebuildsNoneOnRoute large p (put_from n p axis s)) t) k.value
     (updated_fork large s f.item f.axis f.left f.right f.left plain f.left r t (RebuildsNoneOnRoute large p (put_from n p axis s)) (Unit {0}) (RebuildsNoneOnRoute large p plain)
-    (updated_plain large f.left f.left (Unit {0}) (λ v. v)) u (k.even large) (λ all. let parts = k.calm large all in (parts.0, tt, parts.2 e)) done)
+    (updated_plain large f.left f.left (Unit {0}) (λ v. v)) u (k.balanced large) (λ all. let parts = k.criteria large all in (parts.0, tt, parts.2 e)) done)

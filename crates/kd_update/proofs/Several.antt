@@ -1,5 +1,5 @@
 -- Updates while several subtrees are watched.
-use Rattle.std.proofs.Common.{◌≡◌, ℕ, ◌+◌, ◌≤◌, true, false, refl, ap, sym, subst, arith, List, [], ◌∷◌, Option, Some, None}
+use Rattle.std.proofs.Common.{◌≡◌, ℕ, ◌+◌, ◌≤◌, ◌<◌, true, false, refl, ap, sym, subst, arith, List, [], ◌∷◌, Option, Some, None}
 use Rattle.point_geom.specs.Place.{Place}
 use Rattle.map_fold.specs.declared.choice.Choice.{Choice}
 use Rattle.kd_update.specs.Reach.{covers, meets, reach}
@@ -33,17 +33,17 @@ use Rattle.kd_update.proofs.Large.{large_nodes, large_same, large_after, watched
 
 -- without a path
 
-pub even_clear : (large : ℕ) (t : Shape) → IsBalancedBelow large t → IsBalancedClear large [] t
-even_clear large leaf k = tt
-even_clear large (fork h l r) k = λ _. (k.0, even_clear large l k.1, even_clear large r k.2)
+pub balanced_clear : (large : ℕ) (t : Shape) → IsBalancedBelow large t → IsBalancedClear large [] t
+balanced_clear large leaf k = tt
+balanced_clear large (fork h l r) k = λ _. (k.0, balanced_clear large l k.1, balanced_clear large r k.2)
 
-pub clear_even : (large : ℕ) (t : Shape) → IsBalancedClear large [] t → IsBalancedBelow large t
-clear_even large leaf k = tt
-clear_even large (fork h l r) k = let all = k refl in (all.0, clear_even large l all.1, clear_even large r all.2)
+pub clear_balanced : (large : ℕ) (t : Shape) → IsBalancedClear large [] t → IsBalancedBelow large t
+clear_balanced large leaf k = tt
+clear_balanced large (fork h l r) k = let all = k refl in (all.0, clear_balanced large l all.1, clear_balanced large r all.2)
 
-pub even_clear_tagged : (large : ℕ) (ps : List (List Side)) (q : Tag) (t : Shape) → IsBalancedClear large ps t → IsBalancedClear large ps (tagged q t)
-even_clear_tagged large ps q leaf k = tt
-even_clear_tagged large ps q (fork h l r) k = k
+pub balanced_clear_tagged : (large : ℕ) (ps : List (List Side)) (q : Tag) (t : Shape) → IsBalancedClear large ps t → IsBalancedClear large ps (tagged q t)
+balanced_clear_tagged large ps q leaf k = tt
+balanced_clear_tagged large ps q (fork h l r) k = k
 
 -- large subtrees
 
@@ -94,29 +94,29 @@ some_large large p ps t k = large_nodes large p t k.0
 pub clear_plain : (large : ℕ) (ps : List (List Side)) (old t : Shape) (C : Type 0) → (IsBalancedClear large ps old → IsBalancedClear large ps t) → IsUpdatedClear large ps old t C t
 clear_plain large ps old t C k = record { refresh = refresh_same t; same = same_itself ps t; unrebuilt = λ _. refl; balance = k }
 
--- where a path ends here, evenness is asked of nothing
-pub even_here : (large : ℕ) (ps : List (List Side)) (t : Shape) → is_here ps ≡ true → IsBalancedClear large ps t
-even_here large ps leaf e = tt
-even_here large ps (fork h l r) e = λ n. absurd (cc)
+-- where a path ends here, balance is asked of nothing
+pub balanced_here : (large : ℕ) (ps : List (List Side)) (t : Shape) → is_here ps ≡ true → IsBalancedClear large ps t
+balanced_here large ps leaf e = tt
+balanced_here large ps (fork h l r) e = λ n. absurd (cc)
 
 pub clear_here : (large : ℕ) (ps : List (List Side)) (old plain new : Shape) (C : Type 0) → is_here ps ≡ true → new ≡ plain → IsUpdatedClear large ps old plain C new
-clear_here large ps old plain new C e k = subst (λ t. IsUpdatedClear large ps old plain C t) (sym k) (clear_plain large ps old plain C (λ _. even_here large ps plain e))
+clear_here large ps old plain new C e k = subst (λ t. IsUpdatedClear large ps old plain C t) (sym k) (clear_plain large ps old plain C (λ _. balanced_here large ps plain e))
 
 -- without a path it is an update as it was
 pub clear_none : (large : ℕ) (old plain new : Shape) (C : Type 0) → IsUpdated large old plain C new → IsUpdatedClear large [] old plain C new
-clear_none large old plain new C u = record { refresh = u.refresh; same = tt; unrebuilt = u.unrebuilt; balance = λ e. even_clear large new (u.balance (clear_even large old e)) }
+clear_none large old plain new C u = record { refresh = u.refresh; same = tt; unrebuilt = u.unrebuilt; balance = λ e. balanced_clear large new (u.balance (clear_balanced large old e)) }
 
 -- what is known of a tree when its top is taken apart and no path ends there
 pub record IsPassedBy (large : ℕ) (ps : List (List Side)) (s : Shape) (f : Fork) : Type 0 where
   pub left : AreLargeAt large (onward Left ps) f.left
   pub right : AreLargeAt large (onward Right ps) f.right
-  pub even : is_here ps ≡ false → IsBalancedClear large ps s → IsBalancedClear large (onward Left ps) f.left × IsBalancedClear large (onward Right ps) f.right
+  pub balanced : is_here ps ≡ false → IsBalancedClear large ps s → IsBalancedClear large (onward Left ps) f.left × IsBalancedClear large (onward Right ps) f.right
 
 passed_fork : (large : ℕ) (ps : List (List Side)) (h : Head) (l r : Shape) → AreLargeAt large ps (fork h l r) → IsPassedBy large ps (fork h l r) (forked h l r)
 passed_fork large ps h l r k = record {
   left = large_all_tagged large (onward Left ps) h.pending l (large_left large ps h l r k);
   right = large_all_tagged large (onward Right ps) h.pending r (large_right large ps h l r k);
-  even = λ e all. let parts = all e in (even_clear_tagged large (onward Left ps) h.pending l parts.1, even_clear_tagged large (onward Right ps) h.pending r parts.2);
+  balanced = λ e all. let parts = all e in (balanced_clear_tagged large (onward Left ps) h.pending l parts.1, balanced_clear_tagged large (onward Right ps) h.pending r parts.2);
 }
 
 pub passed_by : (large : ℕ) (ps : List (List Side)) (s : Shape) (f : Fork) → Some f ≡ pushed s → AreLargeAt large ps s → IsPassedBy large ps s f
@@ -129,11 +129,11 @@ pub clear_fork : (large : ℕ) (ps : List (List Side)) (old : Shape) (i : Item) 
     → IsUpdatedClear large (onward Left ps) ol l Cl l' → IsUpdatedClear large (onward Right ps) or r Cr r'
     → (IsBalancedClear large ps old → IsBalancedClear large (onward Left ps) ol × IsBalancedClear large (onward Right ps) or)
     → (C → Cl × Cr) → IsUpdatedClear large ps old (fork (head i a) l r) C (fork (head i a) l' r')
-clear_fork large ps old i a ol or l r l' r' C Cl Cr here big u v even calm = record {
+clear_fork large ps old i a ol or l r l' r' C Cl Cr here big u v balanced criteria = record {
   refresh = refresh_fork i a l r l' r' u.refresh v.refresh;
   same = same_sons ps (head i a) l r l' r' here u.same v.same;
-  unrebuilt = λ c. let both = calm c in sons_alike (head i a) l r l' r' (u.unrebuilt both.0) (v.unrebuilt both.1);
-  balance = λ e. let both = even e in λ _. ((λ many few. absurd (omega (arith, few, big))), u.balance both.0, v.balance both.1);
+  unrebuilt = λ c. let both = criteria c in sons_alike (head i a) l r l' r' (u.unrebuilt both.0) (v.unrebuilt both.1);
+  balance = λ e. let both = balanced e in λ _. ((λ many few. absurd (omega (arith, few, big))), u.balance both.0, v.balance both.1);
 }
 
 -- each watch by itself
@@ -142,7 +142,7 @@ pub large_all_marked : (large : ℕ) (c : Choice) (a : Tag) (ps : List (List Sid
 large_all_marked large c a [] t k = tt
 large_all_marked large c a (p ∷ ps) t k = (large_after large p t (marked_shape c a t) _ k.0 (watched-mark c a p t k.0.node k.0.there), large_all_marked large c a ps t k.1)
 
-pub large_all_put : (large n : ℕ) (p : Place) (axis : Axis) (ps : List (List Side)) (t : Shape) → IsSound t → times n keep_tag t ≡ 0 → nodes t ≤ 4194303 → AreLargeAt large ps t → AreLargeAt large ps (put_from n p axis t)
+pub large_all_put : (large n : ℕ) (p : Place) (axis : Axis) (ps : List (List Side)) (t : Shape) → IsSound t → times n keep_tag t ≡ 0 → nodes t < 4194304 → AreLargeAt large ps t → AreLargeAt large ps (put_from n p axis t)
 large_all_put large n p axis [] t s e f k = tt
 large_all_put large n p axis (q ∷ ps) t s e f k = (large_after large q t (put_from n p axis t) _ k.0 (watched-put n p axis q t k.0.node k.0.there s e f), large_all_put large n p axis ps t s e f k.1)
 
@@ -150,7 +150,7 @@ pub all_watched-mark : (large : ℕ) (c : Choice) (a : Tag) (ps : List (List Sid
 all_watched-mark large c a [] t new k e = tt
 all_watched-mark large c a (p ∷ ps) t new k e = (watched_new p t (marked_shape c a t) new _ e.0 (watched-mark c a p t k.0.node k.0.there), all_watched-mark large c a ps t new k.1 e.1)
 
-pub all_watched-put : (large n : ℕ) (p : Place) (axis : Axis) (ps : List (List Side)) (t new : Shape) → IsSound t → times n keep_tag t ≡ 0 → nodes t ≤ 4194303 → AreLargeAt large ps t → AreSameAt ps new (put_from n p axis t)
+pub all_watched-put : (large n : ℕ) (p : Place) (axis : Axis) (ps : List (List Side)) (t new : Shape) → IsSound t → times n keep_tag t ≡ 0 → nodes t < 4194304 → AreLargeAt large ps t → AreSameAt ps new (put_from n p axis t)
     → AreWatched (λ q. IsWatched q t new (logged_put n p q t)) ps
 all_watched-put large n p axis [] t new s o f k e = tt
 all_watched-put large n p axis (q ∷ ps) t new s o f k e = (watched_new q t (put_from n p axis t) new _ e.0 (watched-put n p axis q t k.0.node k.0.there s o f), all_watched-put large n p axis ps t new s o f k.1 e.1)
@@ -163,7 +163,7 @@ pub clear_missed : (large : ℕ) (c : Choice) (a : Tag) (ps : List (List Side)) 
 clear_missed large c a ps s C e x m = subst (λ t. IsUpdatedClear large ps s t C s) (marked_missed c a s e x m) (clear_plain large ps s s C (λ e. e))
 
 pub clear_covered : (large : ℕ) (c : Choice) (a : Tag) (ps : List (List Side)) (s : Shape) (C : Type 0) (e : Reach) → Some e ≡ reach s → meets c e ≡ true → covers c e ≡ true → IsUpdatedClear large ps s (marked_shape c a s) C (tagged a s)
-clear_covered large c a ps s C e x m k = subst (λ t. IsUpdatedClear large ps s t C (tagged a s)) (marked_covered c a s e x m k) (clear_plain large ps s (tagged a s) C (even_clear_tagged large ps a s))
+clear_covered large c a ps s C e x m k = subst (λ t. IsUpdatedClear large ps s t C (tagged a s)) (marked_covered c a s e x m k) (clear_plain large ps s (tagged a s) C (balanced_clear_tagged large ps a s))
 
 pub some_of : (large : ℕ) (ps : List (List Side)) (t : Shape) → (ps ≡ [] → ⊥) → AreLargeAt large ps t → large ≤ nodes t
 some_of large [] t n k = absurd (n refl)
@@ -183,11 +183,11 @@ marked_joined large c a ps s f l r w x k here some u v =
     let there = subst (AreLargeAt large ps) (sym w.value) (large_all_marked large c a ps s k) in
     let big = some_of large ps (fork (head i f.axis) l r) some (large_all_same large ps (fork (head i f.axis) ml mr) (fork (head i f.axis) l r) same there) in
     subst (λ p. IsUpdatedClear large ps s p C (fork (head i f.axis) l r)) w.value
-    (clear_fork large ps s i f.axis f.left f.right ml mr l r C _ _ here big u v ((passed_by large ps s f x k).even here) (λ calm. let all = w.calm large calm in (all.1, all.2)))
+    (clear_fork large ps s i f.axis f.left f.right ml mr l r C _ _ here big u v ((passed_by large ps s f x k).balanced here) (λ criteria. let all = w.criteria large criteria in (all.1, all.2)))
 
 -- a node on the route, above the ends of the paths, where the point goes left
 pub put_joined_left : (large n : ℕ) (p : Place) (axis : Axis) (ps : List (List Side)) (s : Shape) (f : Fork) (t : Shape) → IsOnRoute n p axis s f (put_from n p (next_axis f.axis) f.left) f.right → goes_left f.axis p f.item.point ≡ true → Some f ≡ pushed s
-    → IsSound s → times n keep_tag s ≡ 0 → nodes s ≤ 4194303 → AreLargeAt large ps s → is_here ps ≡ false → (ps ≡ [] → ⊥)
+    → IsSound s → times n keep_tag s ≡ 0 → nodes s < 4194304 → AreLargeAt large ps s → is_here ps ≡ false → (ps ≡ [] → ⊥)
     → IsUpdatedClear large (onward Left ps) f.left (put_from n p (next_axis f.axis) f.left) (RebuildsNoneOnRoute large p (put_from n p (next_axis f.axis) f.left)) t
     → IsUpdatedClear large ps s (put_from n p axis s) (RebuildsNoneOnRoute large p (put_from n p axis s)) (fork (head f.item f.axis) t f.right)
 put_joined_left large n p axis ps s f t w e x sound none few k here some u =
@@ -198,11 +198,11 @@ put_joined_left large n p axis ps s f t w e x sound none few k here some u =
     let there = subst (AreLargeAt large ps) (sym w.value) (large_all_put large n p axis ps s sound none few k) in
     let big = some_of large ps (fork h t f.right) some (large_all_same large ps (fork h plain f.right) (fork h t f.right) same there) in
     subst (λ v. IsUpdatedClear large ps s v C (fork h t f.right)) w.value
-    (clear_fork large ps s f.item f.axis f.left f.right plain f.right t f.right C (RebuildsNoneOnRoute large p plain) (Unit {0}) here big u (clear_plain large (onward Right ps) f.right f.right (Unit {0}) (λ v. v)) ((passed_by large ps s f x k).even here) (λ all. let parts = w.calm large all in (parts.1 e, tt)))
+    (clear_fork large ps s f.item f.axis f.left f.right plain f.right t f.right C (RebuildsNoneOnRoute large p plain) (Unit {0}) here big u (clear_plain large (onward Right ps) f.right f.right (Unit {0}) (λ v. v)) ((passed_by large ps s f x k).balanced here) (λ all. let parts = w.criteria large all in (parts.1 e, tt)))
 
 -- a node on the route, above the ends of the paths, where the point goes right
 pub put_joined_right : (large n : ℕ) (p : Place) (axis : Axis) (ps : List (List Side)) (s : Shape) (f : Fork) (t : Shape) → IsOnRoute n p axis s f f.left (put_from n p (next_axis f.axis) f.right) → goes_left f.axis p f.item.point ≡ false → Some f ≡ pushed s
-    → IsSound s → times n keep_tag s ≡ 0 → nodes s ≤ 4194303 → AreLargeAt large ps s → is_here ps ≡ false → (ps ≡ [] → ⊥)
+    → IsSound s → times n keep_tag s ≡ 0 → nodes s < 4194304 → AreLargeAt large ps s → is_here ps ≡ false → (ps ≡ [] → ⊥)
     → IsUpdatedClear large (onward Right ps) f.right (put_from n p (next_axis f.axis) f.right) (RebuildsNoneOnRoute large p (put_from n p (next_axis f.axis) f.right)) t
     → IsUpdatedClear large ps s (put_from n p axis s) (RebuildsNoneOnRoute large p (put_from n p axis s)) (fork (head f.item f.axis) f.left t)
 put_joined_right large n p axis ps s f t w e x sound none few k here some u =
@@ -213,7 +213,7 @@ put_joined_right large n p axis ps s f t w e x sound none few k here some u =
     let there = subst (AreLargeAt large ps) (sym w.value) (large_all_put large n p axis ps s sound none few k) in
     let big = some_of large ps (fork h f.left t) some (large_all_same large ps (fork h f.left plain) (fork h f.left t) same there) in
     subst (λ v. IsUpdatedClear large ps s v C (fork h f.left t)) w.value
-    (clear_fork large ps s f.item f.axis f.left f.right f.left plain f.left t C (Unit {0}) (RebuildsNoneOnRoute large p plain) here big (clear_plain large (onward Left ps) f.left f.left (Unit {0}) (λ v. v)) u ((passed_by large ps s f x k).even here) (λ all. let parts = w.calm large all in (tt, parts.2 e)))
+    (clear_fork large ps s f.item f.axis f.left f.right f.left plain f.left t C (Unit {0}) (RebuildsNoneOnRoute large p plain) here big (clear_plain large (onward Left ps) f.left f.left (Unit {0}) (λ v. v)) u ((passed_by large ps s f x k).balanced here) (λ all. let parts = w.criteria large all in (tt, parts.2 e)))
 
 -- a path that goes on needs a node
 pub nowhere : (large : ℕ) (ps : List (List Side)) (s : Shape) → ◌≡◌ {A = Option Fork} None (pushed s) → AreLargeAt large ps s → is_here ps ≡ false → (ps ≡ [] → ⊥) → ⊥

@@ -30,7 +30,7 @@ use Rattle.kd_update.specs.Replace.{StandsFor, HasRoomAt, RebuildsNoneAbove, IsN
 use Rattle.kd_tree.proofs.Left.{all_left, left_all}
 use Rattle.kd_update.proofs.Trees.{nodes_below}
 use Rattle.kd_update.proofs.Refresh.{refresh_contents, refreshed_refresh}
-use Rattle.kd_update.proofs.Update.{calm_even}
+use Rattle.kd_update.proofs.Update.{criteria_balanced}
 use Rattle.kd_update.proofs.Large.{large_nodes, large_same, some_shape}
 
 -- what is left under an action, by number, is what it leaves of the contents
@@ -97,15 +97,15 @@ from_right n r' l r w f m k =
       ]
     ]
 
--- what is even is even outside whatever paths
-pub even_outside : (large : ℕ) (ps : List (List Side)) (t : Shape) → IsBalancedBelow large t → IsBalancedClear large ps t
-even_outside large ps leaf k = tt
-even_outside large ps (fork h l r) k = λ _. (k.0, even_outside large (onward Left ps) l k.1, even_outside large (onward Right ps) r k.2)
+-- what is balanced is balanced outside whatever paths
+pub balanced_outside : (large : ℕ) (ps : List (List Side)) (t : Shape) → IsBalancedBelow large t → IsBalancedClear large ps t
+balanced_outside large ps leaf k = tt
+balanced_outside large ps (fork h l r) k = λ _. (k.0, balanced_outside large (onward Left ps) l k.1, balanced_outside large (onward Right ps) r k.2)
 
--- a node with sons that are even outside the paths, rebuilt where it is to be
+-- a node with sons that are balanced outside the paths, rebuilt where it is to be
 refreshed_outside : (large : ℕ) (ps : List (List Side)) (h : Head) (l r t : Shape) → RefreshesIfDue large (fork h l r) t → (is_here ps ≡ false → IsBalancedClear large (onward Left ps) l × IsBalancedClear large (onward Right ps) r) → IsBalancedClear large ps t
 refreshed_outside large ps h l r t (inl k) e = subst (IsBalancedClear large ps) k.1 (λ here. ((λ many few. (k.0 many few).0), (e here).0, (e here).1))
-refreshed_outside large ps h l r t (inr k) e = even_outside large ps t (calm_even large t k.2)
+refreshed_outside large ps h l r t (inr k) e = balanced_outside large ps t (criteria_balanced large t k.2)
 
 -- a tree that is to be spared stays
 refreshed_spared : (large : ℕ) (s t : Shape) → RefreshesIfDue large s t → IsNotDue large s → t ≡ s
@@ -167,7 +167,7 @@ replaced_root large [] t other none k = record {
   size = record { few = omega arith; low = omega arith };
   from = λ n c. Contains-append_left (numbers other) (numbers t) n c;
   beside = λ p a big. absurd a;
-  balance = λ ps e o. even_outside large ps other o;
+  balance = λ ps e o. balanced_outside large ps other o;
   unrebuilt = λ c. refl;
 }
 
@@ -220,11 +220,11 @@ son_replaced large Right path (fork h l r) other s new u e sound k f g =
     let f' = subst (λ x. IsReplaced large path x other new) (sym (some_shape r s e)) f in
     replaced_right large path h l r other new u sound f' g (sound_right large path h l r other new sound k f')
 
--- what is calm above a path is so in the son
-pub son_calm : (large : ℕ) (side : Side) (path : List Side) (t other s : Shape) → at (side ∷ []) t ≡ Some s → RebuildsNoneAbove large (side ∷ path) (replaced_at (side ∷ path) other t) → RebuildsNoneAbove large path (replaced_at path other s)
-son_calm large side path leaf other s e k = absurd (cc)
-son_calm large Left path (fork h l r) other s e k = subst (λ x. RebuildsNoneAbove large path (replaced_at path other x)) (some_shape l s e) k.1
-son_calm large Right path (fork h l r) other s e k = subst (λ x. RebuildsNoneAbove large path (replaced_at path other x)) (some_shape r s e) k.1
+-- what meets the criteria above a path does so in the son
+pub son_criteria : (large : ℕ) (side : Side) (path : List Side) (t other s : Shape) → at (side ∷ []) t ≡ Some s → RebuildsNoneAbove large (side ∷ path) (replaced_at (side ∷ path) other t) → RebuildsNoneAbove large path (replaced_at path other s)
+son_criteria large side path leaf other s e k = absurd (cc)
+son_criteria large Left path (fork h l r) other s e k = subst (λ x. RebuildsNoneAbove large path (replaced_at path other x)) (some_shape l s e) k.1
+son_criteria large Right path (fork h l r) other s e k = subst (λ x. RebuildsNoneAbove large path (replaced_at path other x)) (some_shape r s e) k.1
 
 -- and its father is spared
 pub son_spared : (large : ℕ) (side : Side) (path : List Side) (t other s new : Shape) → at (side ∷ []) t ≡ Some s → RebuildsNoneAbove large (side ∷ path) (replaced_at (side ∷ path) other t) → new ≡ replaced_at path other s → IsNotDue large (with_son side new t)

@@ -1,5 +1,5 @@
 -- What an update does to a watched subtree.
-use Rattle.std.proofs.Common.{◌≡◌, ℕ, ◌≤◌, true, false, not, ◌&&◌, cond, refl, ap, ◌∙◌, sym, subst, arith, List, [], ◌∷◌, ◌++◌, Some}
+use Rattle.std.proofs.Common.{◌≡◌, ℕ, ◌≤◌, ◌<◌, true, false, not, ◌&&◌, cond, refl, ap, ◌∙◌, sym, subst, arith, List, [], ◌∷◌, ◌++◌, Some}
 use Rattle.std.specs.Prelude.{◌==◌}
 use Rattle.std.proofs.lemmas.Bool.{cond_both, and_parts}
 use Rattle.std.proofs.lemmas.List.Sorted.{sum_by-IsPermutation}
@@ -167,7 +167,7 @@ at_son_tagged path q t s e =
     subst (λ b. IsWatched path t (tagged b t) (handed path q ++ [])) (sym (composed-keep_right q)) (watched_handed path q t (tagged q t) s [] e (watched_same path (tagged q t) u.0 u.1))
 
 -- A point put into a tree is, for the subtree at a path, what is logged of it.
-pub watched-put : (n : ℕ) (p : Place) (axis : Axis) (path : List Side) (t s : Shape) → at path t ≡ Some s → IsSound t → times n keep_tag t ≡ 0 → nodes t ≤ 4194303
+pub watched-put : (n : ℕ) (p : Place) (axis : Axis) (path : List Side) (t s : Shape) → at path t ≡ Some s → IsSound t → times n keep_tag t ≡ 0 → nodes t < 4194304
     → IsWatched path t (put_from n p axis t) (logged_put n p path t)
 unfolding put_under logged_put
 watched-put n p axis [] t s e sound new few = record {

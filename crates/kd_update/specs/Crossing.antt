@@ -8,12 +8,12 @@ use Rattle.map_fold.specs.declared.op.Op.TheVariants.{Put}
 use Rattle.kd_tree.specs.Shape.{Shape, leaf, fork, nodes}
 use Rattle.kd_tree.specs.Walk.{tagged}
 use Rattle.kd_tree.specs.declared.path.Side.{Side}
-use Rattle.kd_tree.specs.declared.path.Side.TheVariants.{Left, Right}
 use Rattle.kd_update.specs.declared.watch.Watch.{Watch}
 use Rattle.kd_update.specs.Put.{goes_left}
 use Rattle.kd_update.specs.Scan.{IsGrown}
 use Rattle.kd_update.specs.Several.{IsBalancedClear}
 use Rattle.kd_update.specs.Watch.{goes_to, handed, son}
+use Rattle.op_logger.specs.declared.log.TheConstants.{MAX_LOGGED}
 
 -- the items put one after the other, as operations
 abbrev pub puts_of : List Item → List Op
@@ -59,7 +59,7 @@ pub record IsCrossed (large : ℕ) (ps : List (List Side)) (s : Shape) (is : Lis
 -- Each log has room for the items and two operations more. So, done one by one, none of them would find a log without room for two.
 abbrev pub HaveRoomAtOnce : ℕ → List Watch → Type 0
 HaveRoomAtOnce n [] = Unit {0}
-HaveRoomAtOnce n (w ∷ ws) = (length w.log + n + 2 ≤ 65536) × HaveRoomAtOnce n ws
+HaveRoomAtOnce n (w ∷ ws) = (length w.log + n + 2 ≤ MAX_LOGGED) × HaveRoomAtOnce n ws
 
 -- the same watches, each log with what the items do to its subtree
 abbrev pub with_scan : List Item → Shape → List Watch → List Watch

@@ -10,6 +10,7 @@ use Rattle.kd_update.specs.Refresh.{AreAmong, IsNotDue}
 use Rattle.kd_update.specs.Update.{IsBalancedBelow}
 use Rattle.kd_update.specs.Watch.{IsLargeAt}
 use Rattle.kd_update.specs.Several.{IsBalancedClear}
+use Rattle.kd_tree.specs.declared.limits.TheConstants.{MAX_LEVELS, MAX_NODES}
 
 -- a subtree stands at the path, and the other tree holds what the subtree by itself holds
 pub record StandsFor (path : List Side) (t other : Shape) : Type 0 where
@@ -19,8 +20,8 @@ pub record StandsFor (path : List Side) (t other : Shape) : Type 0 where
 
 -- the tree with the other at the path has no more levels and nodes than a tree may have
 pub record HasRoomAt (path : List Side) (other t : Shape) : Type 0 where
-  pub low : levels (replaced_at path other t) ≤ 512
-  pub few : nodes (replaced_at path other t) ≤ 4194304
+  pub low : levels (replaced_at path other t) ≤ MAX_LEVELS
+  pub few : nodes (replaced_at path other t) ≤ MAX_NODES
 
 -- no node above the path's end is to be rebuilt
 abbrev pub RebuildsNoneAbove : ℕ → List Side → Shape → Type 0
@@ -35,7 +36,7 @@ pub record IsNoLarger (s t : Shape) : Type 0 where
   pub low : levels t ≤ levels s
 
 -- The new tree is the old one with the other at the path, and some nodes above it rebuilt: none that has a large subtree
--- beside the path, none at all where none is to be, and enough to stay even.
+-- beside the path, none at all where none is to be, and enough to stay balanced.
 pub record IsReplaced (large : ℕ) (path : List Side) (old other new : Shape) : Type 0 where
   pub held : contents new ≡ contents old
   pub size : IsNoLarger (replaced_at path other old) new

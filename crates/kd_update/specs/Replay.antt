@@ -1,4 +1,4 @@
--- Operations done on a tree, and the runs of points among them.
+-- Operations done on a tree, and the runs of points among them. Cited by private functions alone.
 use Rattle.std.specs.Prelude.{◌≡◌, ℕ, ◌+◌, ◌<◌, ◌≤◌, max, Bool, true, false, List, [], ◌∷◌, ◌++◌, length, All}
 use Rattle.map_fold.specs.declared.item.Item.{Item}
 use Rattle.map_fold.specs.declared.op.Op.{Op}
@@ -9,12 +9,13 @@ use Rattle.kd_tree.specs.Shape.{Shape, levels, nodes, numbers}
 use Rattle.kd_tree.specs.Contents.{contents}
 use Rattle.kd_update.specs.Refresh.{AreAmong}
 use Rattle.kd_update.specs.Update.{IsBalancedBelow}
+use Rattle.kd_tree.specs.declared.limits.TheConstants.{MAX_NODES}
 
--- The second tree is the first with the operations done: each point that they put adds a level and a node at most, and it stays even.
+-- The second tree is the first with the operations done: each point that they put adds a level and a node at most, and it stays balanced.
 pub record IsPerformed (large : ℕ) (s : Shape) (ops : List Op) (t : Shape) : Type 0 where
   pub held : contents t ≡ replay (contents s) ops
   pub from : AreAmong (numbers t) (numbers_put ops ++ numbers s)
-  pub even : IsBalancedBelow large s → IsBalancedBelow large t
+  pub balanced : IsBalancedBelow large s → IsBalancedBelow large t
   pub low : levels t ≤ levels s + length (numbers_put ops)
   pub few : nodes t ≤ nodes s + length (numbers_put ops)
 
@@ -37,6 +38,6 @@ pub record IsRun (large : ℕ) (ops : List Op) (s : Shape) : Type 0 where
   pub puts : ArePuts ops
   pub many : 22 ≤ length ops
   pub small : length ops < max 2 large
-  pub short : length ops < 4194304
+  pub short : length ops < MAX_NODES
   pub low : levels s ≤ 490
-  pub few : nodes s + length ops ≤ 4194304
+  pub few : nodes s + length ops ≤ MAX_NODES

@@ -11,6 +11,7 @@ use Rattle.kd_tree.specs.Contents.{AreDistinct, contents}
 use Rattle.kd_update.specs.Refresh.{AreAmong}
 use Rattle.kd_update.specs.Update.{IsBalancedBelow}
 use Rattle.kd_update.specs.Put.{goes_left}
+use Rattle.kd_tree.specs.declared.limits.TheConstants.{MAX_NODES}
 
 -- the items put one after the other
 abbrev pub put_each : List Item → List Item → List Item
@@ -32,23 +33,23 @@ numbers_in is = map (λ i. i.number) is
 pub record MayJoin (m is : List Item) : Type 0 where
   pub live : AreLive is
   pub distinct : AreDistinct (m ++ is)
-  pub room : length m + length is ≤ 4194304
+  pub room : length m + length is ≤ MAX_NODES
 
--- The second tree is the first with the items put: it holds them, has no other number and no more nodes, and stays even.
+-- The second tree is the first with the items put: it holds them, has no other number and no more nodes, and stays balanced.
 pub record IsPut (large : ℕ) (s : Shape) (is : List Item) (t : Shape) : Type 0 where
   pub held : contents t ≡ put_each (contents s) is
   pub from : AreAmong (numbers t) (numbers_in is ++ numbers s)
   pub few : nodes t ≤ nodes s + length is
-  pub even : IsBalancedBelow large s → IsBalancedBelow large t
+  pub balanced : IsBalancedBelow large s → IsBalancedBelow large t
 
 -- The items may be put in one pass: they are fewer than large nodes are, and the tree's bounds aren't near.
 pub record IsPiece (large : ℕ) (s : Shape) (is : List Item) : Type 0 where
   pub live : AreLive is
   pub distinct : AreDistinct (walk keep_tag s ++ is)
   pub small : length is < max 2 large
-  pub short : length is < 4194304
+  pub short : length is < MAX_NODES
   pub low : levels s ≤ 490
-  pub few : nodes s + length is ≤ 4194304
+  pub few : nodes s + length is ≤ MAX_NODES
 
 -- The second tree has what is left of the first and the items, on no more nodes than both and on few more levels.
 pub record IsGrown (s : Shape) (is : List Item) (t : Shape) : Type 0 where

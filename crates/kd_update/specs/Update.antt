@@ -9,11 +9,11 @@ abbrev pub IsBalancedBelow : ℕ → Shape → Type 0
 IsBalancedBelow large leaf = Unit {0}
 IsBalancedBelow large (fork h l r) = (10 ≤ nodes l + nodes r + 1 → nodes l + nodes r + 1 < large → IsBalanced l r) × IsBalancedBelow large l × IsBalancedBelow large r
 
--- where the first tree is even, so is the second, from whatever number of nodes on a subtree is large
-abbrev pub KeepsEven : Shape → Shape → Type 0
-KeepsEven s t = (large : ℕ) → IsBalancedBelow large s → IsBalancedBelow large t
+-- where the first tree is balanced, so is the second, from whatever number of nodes on a subtree is large
+abbrev pub KeepsBalance : Shape → Shape → Type 0
+KeepsBalance s t = (large : ℕ) → IsBalancedBelow large s → IsBalancedBelow large t
 
--- The new tree is the plain result with some subtrees rebuilt: none where the fact holds, and enough to stay even.
+-- The new tree is the plain result with some subtrees rebuilt: none where the fact holds, and enough to stay balanced.
 pub record IsUpdated (large : ℕ) (old plain : Shape) (Calm : Type 0) (new : Shape) : Type 0 where
   pub refresh : IsRefresh plain new
   pub unrebuilt : Calm → new ≡ plain
@@ -22,5 +22,5 @@ pub record IsUpdated (large : ℕ) (old plain : Shape) (Calm : Type 0) (new : Sh
 -- The new tree is the old one with subtrees rebuilt, no node from 10 nodes on breaches a criterion, and without a breach it is the same.
 pub record IsSettled (old new : Shape) : Type 0 where
   pub refresh : IsRefresh old new
-  pub calm : AllMeetCriteria 10 new
+  pub criteria : AllMeetCriteria 10 new
   pub unrebuilt : AllMeetCriteria 10 old → new ≡ old

@@ -8,6 +8,7 @@ use Rattle.kd_tree.specs.Shape.{Shape}
 use Rattle.kd_tree.specs.declared.path.Side.{Side}
 use Rattle.kd_update.specs.declared.watch.Watch.{Watch}
 use Rattle.kd_update.specs.Watch.{logged_mark, logged_put}
+use Rattle.op_logger.specs.declared.log.TheConstants.{MAX_LOGGED}
 
 -- the paths of the watches
 abbrev pub paths_in : List Watch → List (List Side)
@@ -17,7 +18,7 @@ paths_in (w ∷ ws) = w.path ∷ paths_in ws
 -- each log has room for two operations more
 abbrev pub HaveRoom : List Watch → Type 0
 HaveRoom [] = Unit {0}
-HaveRoom (w ∷ ws) = (length w.log + 2 ≤ 65536) × HaveRoom ws
+HaveRoom (w ∷ ws) = (length w.log + 2 ≤ MAX_LOGGED) × HaveRoom ws
 
 -- the same watches, each log with what the action in the box does to its subtree
 abbrev pub with_marks : Choice → Tag → Shape → List Watch → List Watch

@@ -1,4 +1,4 @@
--- At most four paths, as the code has them.
+-- At most four paths, as the code has them. Cited by private functions alone.
 use Rattle.std.specs.Prelude.{List, [], ◌∷◌, ◌++◌, Option, Some, None}
 use Rattle.std.specs.Borrow.{Bor}
 use Rattle.kd_tree.specs.declared.path.Side.{Side}

@@ -11,7 +11,7 @@ ghost use Rattle.kd_update.specs.Made.{entered_put};
 ghost use Rattle.kd_update.specs.Put.{RebuildsNoneOnRoute, goes_left, leaf_of, put_from, put_shape};
 
 use crate::rebuild::rejoined;
-use kd_tree::{Block, OpenNode, Steps, Tree};
+use kd_tree::{Block, MAX_LEVELS, MAX_NODES, OpenNode, Steps, Tree};
 use map_fold::{Item, Label, NoMemory};
 use point_geom::{Axis, Point};
 use std::alloc::Global;
@@ -22,8 +22,8 @@ use std::sync::ledger::Ledger;
 /// The point goes left where its coordinate on a node's axis is smaller than the node's, and else right. The new leaf's
 /// axis is the next one after its father's, and X in the empty tree. On the way out each node of the route that has from 10
 /// nodes on, and fewer than `large`, is rebuilt where it breaches a criterion; but for that only nodes on the route and
-/// their sons are made. Where one is rebuilt, no clause says which: that is what the code does. Where memory is wanting,
-/// the tree is let go.
+/// their sons are made. Where one is rebuilt, no clause says which: that is what the code does. Where memory runs out,
+/// the tree is dropped.
 pub fn put<L: Ledger>(
     alloc: Global,
     tree: Tree,
@@ -32,8 +32,8 @@ pub fn put<L: Ledger>(
     point: Point,
     steps: &mut Steps<L>,
 ) -> Result<Tree, NoMemory>
-    requires low { levels tree < 512 }
-    requires few { nodes tree < 4194304 }
+    requires low { levels tree < MAX_LEVELS }
+    requires few { nodes tree < MAX_NODES }
     requires new { times number keep_tag tree ≡ 0 }
     ensures contents { IfOk result (λ t. contents t ≡ put (contents tree) number point) }
     ensures numbers { IfOk result (λ t. AreAmong (numbers t) (number ∷ numbers tree)) }
@@ -67,8 +67,8 @@ pub(crate) fn put_below<L: Ledger>(
     steps: &mut Steps<L>,
 ) -> Result<Tree, NoMemory>
     requires live { item ≡ live_at item.number item.point }
-    requires low { levels tree ≤ 511 }
-    requires few { nodes tree ≤ 4194303 }
+    requires low { levels tree < MAX_LEVELS }
+    requires few { nodes tree < MAX_NODES }
     requires new { times item.number keep_tag tree ≡ 0 }
     ensures updated { let plain = put_from item.number item.point axis tree in
         IfOk result (λ t. IsUpdated large tree plain (RebuildsNoneOnRoute large item.point plain) t) }

@@ -16,14 +16,14 @@ use crate::Watches;
 use crate::log_put::log_puts;
 use crate::put_clear::put_clear;
 use crate::ways::Ways;
-use kd_tree::{Steps, Tree};
+use kd_tree::{MAX_LEVELS, MAX_NODES, Steps, Tree};
 use map_fold::{Item, Label, NoMemory};
 use point_geom::{Axis, Point};
 use std::alloc::Global;
 use std::sync::ledger::Ledger;
 
 /// `put`, while the subtrees at the watches' paths are watched: no node above one, at its top or in it is rebuilt, and what
-/// it meets is put at the end of its log. With no watch it is `put`. Where memory is wanting, the tree is let go, and logs may
+/// it meets is put at the end of its log. With no watch it is `put`. Where memory runs out, the tree is dropped, and logs may
 /// have grown.
 pub fn put_watched<L: Ledger>(
     alloc: Global,
@@ -34,8 +34,8 @@ pub fn put_watched<L: Ledger>(
     watches: &mut Watches,
     steps: &mut Steps<L>,
 ) -> Result<Tree, NoMemory>
-    requires low { levels tree < 512 }
-    requires few { nodes tree < 4194304 }
+    requires low { levels tree < MAX_LEVELS }
+    requires few { nodes tree < MAX_NODES }
     requires new { times number keep_tag tree ≡ 0 }
     requires there { AreLargeAt large (paths_in watches.old) tree }
     requires room { HaveRoom watches.old }

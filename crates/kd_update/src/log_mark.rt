@@ -10,7 +10,7 @@ use crate::watch::{is_keep, note_mark};
 use crate::{Watch, Watches};
 use kd_tree::{Side, Tree};
 use map_fold::{Choice, NoMemory, Tag};
-use op_logger::OpLog;
+use op_logger::{MAX_LOGGED, OpLog};
 
 pub(crate) fn log_marks(
     tree: &Tree,
@@ -60,7 +60,7 @@ fn log_mark(
     tag: Tag,
     log: &mut OpLog,
 ) -> Result<(), NoMemory>
-    requires { length log.old + length (logged_mark choice.now tag sides.now (tagged owed tree.now)) ≤ 65536 }
+    requires { length log.old + length (logged_mark choice.now tag sides.now (tagged owed tree.now)) ≤ MAX_LOGGED }
     ensures logged { OnOk result (log.new ≡ log.old ++ logged_mark choice.now tag sides.now (tagged owed tree.now)) }
     ensures begins { Extends log.old log.new }
     ensures few { length log.new ≤ length log.old + length (logged_mark choice.now tag sides.now (tagged owed tree.now)) }
@@ -93,7 +93,7 @@ fn log_mark(
 
 // Logs an action that is handed down to a son from which the path goes on, where that son is the watched root.
 pub(crate) fn note_owed(owed: Tag, rest: &[Side], log: &mut OpLog) -> Result<(), NoMemory>
-    requires { length log.old + length (handed rest.now owed) ≤ 65536 }
+    requires { length log.old + length (handed rest.now owed) ≤ MAX_LOGGED }
     ensures logged { OnOk result (log.new ≡ log.old ++ handed rest.now owed) }
     ensures begins { Extends log.old log.new }
     ensures few { length log.new ≤ length log.old + length (handed rest.now owed) }

@@ -11,7 +11,7 @@ use crate::watch::note_put;
 use crate::{Watch, Watches};
 use kd_tree::{Side, Tree};
 use map_fold::{NoMemory, Tag};
-use op_logger::OpLog;
+use op_logger::{MAX_LOGGED, OpLog};
 use point_geom::Point;
 
 pub(crate) fn log_puts(
@@ -62,7 +62,7 @@ fn log_put(
     point: Point,
     log: &mut OpLog,
 ) -> Result<(), NoMemory>
-    requires { length log.old + length (logged_put number point sides.now (tagged owed tree.now)) ≤ 65536 }
+    requires { length log.old + length (logged_put number point sides.now (tagged owed tree.now)) ≤ MAX_LOGGED }
     ensures logged { OnOk result (log.new ≡ log.old ++ logged_put number point sides.now (tagged owed tree.now)) }
     ensures begins { Extends log.old log.new }
     ensures few { length log.new ≤ length log.old + length (logged_put number point sides.now (tagged owed tree.now)) }

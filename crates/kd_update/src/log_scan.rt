@@ -12,7 +12,7 @@ use crate::watch::note_put;
 use crate::{Watch, Watches};
 use kd_tree::{Side, Tree};
 use map_fold::{Item, NoMemory, Tag};
-use op_logger::OpLog;
+use op_logger::{MAX_LOGGED, OpLog};
 use point_geom::{Axis, Point};
 use std::alloc::Global;
 
@@ -63,7 +63,7 @@ fn log_scan(
     items: &mut Vec<Item>,
     log: &mut OpLog,
 ) -> Result<(), NoMemory>
-    requires { length log.old + length (logged_scan sides.now items.old.items (tagged owed tree.now)) ≤ 65536 }
+    requires { length log.old + length (logged_scan sides.now items.old.items (tagged owed tree.now)) ≤ MAX_LOGGED }
     ensures logged { OnOk result (log.new ≡ log.old ++ logged_scan sides.now items.old.items (tagged owed tree.now)) }
     ensures begins { Extends log.old log.new }
     ensures few { length log.new ≤ length log.old + length (logged_scan sides.now items.old.items (tagged owed tree.now)) }
@@ -110,7 +110,7 @@ fn goes_to(side: Side, on_left: bool) -> bool
 }
 
 fn note_puts(log: &mut OpLog, items: &[Item]) -> Result<(), NoMemory>
-    requires { length log.old + length (puts_of items.now) ≤ 65536 }
+    requires { length log.old + length (puts_of items.now) ≤ MAX_LOGGED }
     ensures logged { OnOk result (log.new ≡ log.old ++ puts_of items.now) }
     ensures begins { Extends log.old log.new }
     ensures few { length log.new ≤ length log.old + length (puts_of items.now) }

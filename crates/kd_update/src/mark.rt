@@ -21,7 +21,7 @@ use std::sync::ledger::Ledger;
 /// breaches a criterion. A node is entered where it is neither covered nor missed, and its father is entered. The choice
 /// covers a node where the box, if there is one, covers its extent, and its greatest number is below the bound, if there is one. It
 /// misses a node where the box doesn't meet its extent, or its least number isn't below the bound.
-/// Only these nodes and their sons are made. Where memory is wanting, the tree is let go.
+/// Only these nodes and their sons are made. Where memory runs out, the tree is dropped.
 pub fn marked<L: Ledger>(
     alloc: Global,
     tree: Tree,

@@ -20,7 +20,7 @@ use std::alloc::Global;
 use std::sync::ledger::Ledger;
 
 /// `marked`, while the subtrees at the watches' paths are watched: no node above one, at its top or in it is rebuilt, and
-/// what it meets is put at the end of its log. With no watch it is `marked`. Where memory is wanting, the tree is let go, and
+/// what it meets is put at the end of its log. With no watch it is `marked`. Where memory runs out, the tree is dropped, and
 /// logs may have grown.
 pub fn marked_watched<L: Ledger>(
     alloc: Global,

@@ -10,13 +10,13 @@ ghost use Rattle.kd_update.specs.Scan.{live_from, numbers_in};
 
 use crate::put_all;
 use kd_tree::{Scratch, Steps, Tree};
-use map_fold::{Item, Label, NoMemory};
+use map_fold::{Item, Label, MAX_POINTS, NoMemory};
 use point_geom::Point;
 use std::alloc::Global;
 use std::sync::ledger::Ledger;
 
-/// The tree with these points put, live, under the numbers from `first` on, as `put_all` puts them. Where memory is wanting,
-/// the tree is let go.
+/// The tree with these points put, live, under the numbers from `first` on, as `put_all` puts them. Where memory runs out,
+/// the tree is dropped.
 pub fn put_points<L: Ledger>(
     alloc: Global,
     tree: Tree,
@@ -27,7 +27,7 @@ pub fn put_points<L: Ledger>(
     steps: &mut Steps<L>,
 ) -> Result<Tree, NoMemory>
     requires held { AreContents 0 first (contents tree) }
-    requires few { first + length points.now ≤ 4194304 }
+    requires few { first + length points.now ≤ MAX_POINTS }
     ensures added { IfOk result (λ t. record { items = contents t; next = first + length points.now } ≡ add_points points.now (record { items = contents tree; next = first })) }
     ensures numbers { IfOk result (λ t. AreAmong (numbers t) (numbers_in (live_from first points.now) ++ numbers tree)) }
     ensures balance { IsBalancedBelow large tree → IfOk result (λ t. IsBalancedBelow large t) }
@@ -39,7 +39,7 @@ pub fn put_points<L: Ledger>(
 
 /// These points as live items, under the numbers from `first` on.
 pub fn live_items(alloc: Global, first: u32, points: &[Point]) -> Result<Vec<Item>, NoMemory>
-    requires few { first + length points.now ≤ 4194304 }
+    requires few { first + length points.now ≤ MAX_POINTS }
     ensures items { IfOk result (λ v. v.items ≡ live_from first points.now) }
 {
     let mut items = Vec::with_capacity(alloc, points.len())?;

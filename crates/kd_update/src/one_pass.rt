@@ -57,7 +57,7 @@ pub(crate) fn put_at_once<L: Ledger>(
     rejoined(alloc, node, large, steps)
 }
 
-// What is left of the tree and the items, built by medians. The tree is let go.
+// What is left of the tree and the items, built by medians. The tree is dropped.
 fn built_with<L: Ledger>(
     alloc: Global,
     tree: Tree,

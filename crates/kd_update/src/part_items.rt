@@ -6,14 +6,14 @@ ghost use Rattle.kd_update.specs.Scan.{IsParted};
 
 use crate::insert::goes_left;
 use crate::rebuild::LEAST;
-use kd_tree::Tree;
+use kd_tree::{MAX_NODES, Tree};
 use map_fold::Item;
 use point_geom::{Axis, Point};
 
 // How many of the items go left of the top: they are moved to the front. None where the tree is to be rebuilt with the
 // items: it has no node, or its top would breach a criterion with so many more nodes on its sides.
 pub(crate) fn parted(tree: &Tree, large: u32, items: &mut [Item]) -> Option<usize>
-    requires few { nodes tree.now + length items.old ≤ 4194304 }
+    requires few { nodes tree.now + length items.old ≤ MAX_NODES }
     requires small { length items.old < max 2 large }
     ensures moved { IsPermutation items.old items.new }
     ensures parted { IfSome result (λ n. IsParted tree.now n items.new) }
@@ -34,7 +34,7 @@ pub(crate) fn parted(tree: &Tree, large: u32, items: &mut [Item]) -> Option<usiz
 
 // Whether the top would have to be rebuilt if its sons had so many nodes, with as many dropped ones as now.
 fn is_due(tree: &Tree, large: u32, left: u32, right: u32) -> bool
-    requires { left + right + 1 ≤ 4194304 }
+    requires { left + right + 1 ≤ MAX_NODES }
     ensures { result ≡ true → left + right + 1 < large }
 {
     let _size = tree.size();

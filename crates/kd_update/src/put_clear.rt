@@ -1,5 +1,5 @@
 //! Points put into a tree, with watched subtrees left as they stand. Nothing here knows what is logged of them.
-ghost use Rattle.std.specs.Prelude.{◌≡◌, ◌+◌, ◌*◌, ◌≤◌, IfOk};
+ghost use Rattle.std.specs.Prelude.{◌≡◌, ◌+◌, ◌*◌, ◌<◌, ◌≤◌, IfOk};
 ghost use Rattle.node_labels.specs.Labels.{keep_tag};
 ghost use Rattle.map_fold.specs.Contents.{live_at};
 ghost use Rattle.kd_tree.specs.Shape.{levels, nodes};
@@ -12,7 +12,7 @@ ghost use Rattle.kd_update.specs.Ways.{paths_of};
 use crate::insert::{goes_left, put_below};
 use crate::rebuild::{NEVER, joined};
 use crate::ways::Ways;
-use kd_tree::{Block, OpenNode, Side, Steps, Tree};
+use kd_tree::{Block, MAX_LEVELS, MAX_NODES, OpenNode, Side, Steps, Tree};
 use map_fold::{Item, NoMemory};
 use point_geom::Axis;
 use std::alloc::Global;
@@ -29,8 +29,8 @@ pub(crate) fn put_clear<L: Ledger>(
     steps: &mut Steps<L>,
 ) -> Result<Tree, NoMemory>
     requires live { item ≡ live_at item.number item.point }
-    requires low { levels tree ≤ 511 }
-    requires few { nodes tree ≤ 4194303 }
+    requires low { levels tree < MAX_LEVELS }
+    requires few { nodes tree < MAX_NODES }
     requires new { times item.number keep_tag tree ≡ 0 }
     requires there { AreLargeAt large (paths_of ways.now) tree }
     ensures updated { let plain = put_from item.number item.point axis tree in

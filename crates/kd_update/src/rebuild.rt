@@ -21,12 +21,12 @@ pub(crate) const NEVER: u32 = 0;
 
 /// What is left in the tree, rebuilt by medians. n nodes take time in the order of n log n. The new ones are
 /// made in the memory of the old ones that nobody else holds, and beside these only a list of the items and one of that
-/// memory are needed. Where memory is wanting, the tree is let go.
+/// memory are needed. Where memory runs out, the tree is dropped.
 pub fn rebuilt<L: Ledger>(alloc: Global, tree: Tree, steps: &mut Steps<L>) -> Result<Tree, NoMemory>
     ensures contents { IfOk result (λ t. contents t ≡ contents tree) }
     ensures numbers { IfOk result (λ t. AreAmong (numbers t) (numbers tree)) }
     ensures refresh { IfOk result (λ t. IsRefresh tree t) }
-    ensures calm { IfOk result (λ t. AllMeetCriteria 10 t) }
+    ensures criteria { IfOk result (λ t. AllMeetCriteria 10 t) }
     ensures nodes { IfOk result (λ t. nodes t ≡ length (contents tree)) }
     ensures levels { IfOk result (λ t. levels t ≤ 23) }
     // A node for each item, whatever the call answers.

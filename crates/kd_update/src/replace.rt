@@ -12,7 +12,7 @@ ghost use Rattle.kd_update.specs.Replace.{HasRoomAt, RebuildsNoneAbove, IsNoLarg
 
 use crate::Replaced;
 use crate::rebuild::{rebuilt, refreshed};
-use kd_tree::{Path, Side, Steps, Tree};
+use kd_tree::{MAX_LEVELS, MAX_NODES, Path, Side, Steps, Tree};
 use map_fold::NoMemory;
 use std::alloc::Global;
 use std::sync::ledger::Ledger;
@@ -22,7 +22,7 @@ use std::sync::ledger::Ledger;
 ///
 /// Nothing is pushed down. On the way out each node above the path that has from 10 nodes on, and fewer than `large`, is
 /// rebuilt where it breaches a criterion. Where there would be more than 512 levels or 4,194,304 nodes, the whole tree is
-/// rebuilt by medians. Where memory is wanting, both trees are let go. No run reads the other paths: a clause says what
+/// rebuilt by medians. Where memory runs out, both trees are dropped. No run reads the other paths: a clause says what
 /// stays there.
 pub fn replaced<L: Ledger>(
     alloc: Global,
@@ -43,7 +43,7 @@ pub fn replaced<L: Ledger>(
         → IfOk result (λ r. IsBalancedClear large others.now r.tree) }
     // Rebuilt exactly where the plain replacement has no room.
     ensures anew { IfOk result (λ r. (r.anew ≡ false) ↔ HasRoomAt path.now with tree) }
-    ensures calm { IfOk result (λ r. r.anew ≡ true → AllMeetCriteria 10 r.tree) }
+    ensures criteria { IfOk result (λ r. r.anew ≡ true → AllMeetCriteria 10 r.tree) }
     ensures medians { IfOk result (λ r. r.anew ≡ true → nodes r.tree ≡ length (contents tree)) }
     // Otherwise the same subtrees stand at the other paths.
     ensures others { IfOk result (λ r. r.anew ≡ false → AreSameAt others.now r.tree tree) }
@@ -111,10 +111,10 @@ fn has_room(tree: &Tree, path: &Path, with: &Tree) -> bool
     let Some(node) = tree.subtree_at(path) else {
         return false;
     };
-    if 4_194_304 < tree.size() - node.size() + with.size() {
+    if MAX_NODES < tree.size() - node.size() + with.size() {
         return false;
     }
-    levels_with(tree, path.as_slice(), with) <= 512
+    levels_with(tree, path.as_slice(), with) <= MAX_LEVELS
 }
 
 // How many levels the tree with the other at the path would have.

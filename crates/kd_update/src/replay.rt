@@ -17,7 +17,7 @@ use std::sync::ledger::{Blank, Ledger};
 
 /// The tree after these operations, done one after the other. Points that stand side by side, 64 of them at least, are put in
 /// passes of fewer than `large`. Where a point finds 512 levels or 4,194,304 nodes, the tree is rebuilt by medians first.
-/// Where memory is wanting, the tree is let go.
+/// Where memory runs out, the tree is dropped.
 pub fn replayed(alloc: Global, tree: Tree, large: u32, ops: &[Op]) -> Result<Tree, NoMemory>
     requires fit { Fit (contents tree) ops.now }
     ensures contents { IfOk result (λ t. contents t ≡ replay (contents tree) ops.now) }

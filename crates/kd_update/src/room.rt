@@ -3,31 +3,31 @@ ghost use Rattle.std.specs.Prelude.{◌≡◌, ◌+◌, ◌<◌, ◌≤◌, IfOk
 ghost use Rattle.kd_tree.specs.Shape.{levels, nodes, numbers};
 ghost use Rattle.kd_tree.specs.Contents.{contents};
 ghost use Rattle.kd_update.specs.Refresh.{AreAmong, IsRefresh};
-ghost use Rattle.kd_update.specs.Update.{KeepsEven};
+ghost use Rattle.kd_update.specs.Update.{KeepsBalance};
 
 use crate::rebuild::rebuilt;
-use kd_tree::{Steps, Tree};
+use kd_tree::{MAX_LEVELS, MAX_NODES, Steps, Tree};
 use map_fold::NoMemory;
 use std::alloc::Global;
 use std::sync::ledger::Ledger;
 
 /// The tree, with room for one more point: where it has 512 levels or 4,194,304 nodes, what is left in it is rebuilt.
-/// Where memory is wanting, the tree is let go.
+/// Where memory runs out, the tree is dropped.
 pub fn roomy<L: Ledger>(alloc: Global, tree: Tree, steps: &mut Steps<L>) -> Result<Tree, NoMemory>
-    requires { length (contents tree) < 4194304 }
+    requires { length (contents tree) < MAX_NODES }
     ensures contents { IfOk result (λ t. contents t ≡ contents tree) }
     ensures numbers { IfOk result (λ t. AreAmong (numbers t) (numbers tree)) }
-    ensures balance { IfOk result (λ t. KeepsEven tree t) }
+    ensures balance { IfOk result (λ t. KeepsBalance tree t) }
     ensures refresh { IfOk result (λ t. IsRefresh tree t) }
-    ensures low { IfOk result (λ t. levels t < 512) }
-    ensures few { IfOk result (λ t. nodes t < 4194304) }
+    ensures low { IfOk result (λ t. levels t < MAX_LEVELS) }
+    ensures few { IfOk result (λ t. nodes t < MAX_NODES) }
     // Where there is room, nothing is rebuilt.
-    ensures unrebuilt { levels tree < 512 → nodes tree < 4194304 → IfOk result (λ t. t ≡ tree) }
-    ensures still { levels tree < 512 → nodes tree < 4194304 → steps.new ≡ steps.old }
+    ensures unrebuilt { levels tree < MAX_LEVELS → nodes tree < MAX_NODES → IfOk result (λ t. t ≡ tree) }
+    ensures still { levels tree < MAX_LEVELS → nodes tree < MAX_NODES → steps.new ≡ steps.old }
     // And else a node for each item at most, whatever the call answers.
     ensures ticks { steps.new ≤ steps.old + length (contents tree) }
 {
-    if tree.levels() < 512 && tree.size() < 4_194_304 {
+    if tree.levels() < MAX_LEVELS && tree.size() < MAX_NODES {
         return Ok(tree);
     }
     rebuilt(alloc, tree, steps)

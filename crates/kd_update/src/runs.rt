@@ -5,8 +5,8 @@ ghost use Rattle.kd_tree.specs.Contents.{contents};
 ghost use Rattle.kd_update.specs.Replay.{ArePuts, IsPerformed, IsRun, is_put, items_put};
 
 use crate::one_pass::put_at_once;
-use crate::scan::{LOW, MOST};
-use kd_tree::{Scratch, Steps, Tree};
+use crate::scan::LOW;
+use kd_tree::{MAX_NODES, Scratch, Steps, Tree};
 use map_fold::{Item, Label, NoMemory, Op};
 use point_geom::Axis;
 use std::alloc::Global;
@@ -23,10 +23,10 @@ pub(crate) fn most_at_once(tree: &Tree, large: u32, ops: &[Op]) -> usize
     ensures run { 1 < result → IsRun large (take result ops.now) tree.now }
 {
     let size = tree.size();
-    if tree.levels() > LOW || size >= MOST {
+    if tree.levels() > LOW || size >= MAX_NODES {
         return 1;
     }
-    let most = (large.clamp(2, MOST) - 1).min(MOST - size) as usize;
+    let most = (large.clamp(2, MAX_NODES) - 1).min(MAX_NODES - size) as usize;
     if most < RUN {
         return 1;
     }

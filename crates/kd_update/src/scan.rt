@@ -9,7 +9,7 @@ ghost use Rattle.kd_update.specs.Scan.{IsPut, MayJoin, numbers_in, put_each};
 use crate::insert::put_below;
 use crate::one_pass::put_at_once;
 use crate::roomy;
-use kd_tree::{Block, Scratch, Steps, Tree};
+use kd_tree::{Block, MAX_LEVELS, MAX_NODES, Scratch, Steps, Tree};
 use map_fold::{Item, NoMemory};
 use point_geom::Axis;
 use std::alloc::Global;
@@ -18,19 +18,14 @@ use std::sync::ledger::Ledger;
 // A pass adds at most 22 levels, so it begins with no more than these.
 pub(crate) const LOW: u32 = 490;
 
-// A tree with so many levels takes no point.
-const FULL: u32 = 512;
-
-pub(crate) const MOST: u32 = 4_194_304;
-
 /// The tree with these items put: each of them is live, and its number isn't held.
 ///
 /// The items are put in passes of fewer than `large`. In a pass each node that they meet is made anew once, however many of
 /// them meet it, and a subtree of fewer than `large` nodes that would breach a criterion is rebuilt with them at once. Near
 /// the bounds of a tree they are put one by one, and once it is full, so that it has to be rebuilt anyway, it is built with
 /// all that are left: so a scan rebuilds it at most once, however its points lie. The contents are those of `put`, done in
-/// turn; where nodes stand isn't. New nodes are made in the memory of the scratch, as far as that goes. Where memory is wanting,
-/// the tree is let go.
+/// turn; where nodes stand isn't. New nodes are made in the memory of the scratch, as far as that goes. Where memory runs out,
+/// the tree is dropped.
 pub fn put_all<L: Ledger>(
     alloc: Global,
     tree: Tree,
@@ -63,7 +58,7 @@ fn put_in_pieces<L: Ledger>(
     let mut tree = tree;
     let mut rest = items;
     while !rest.is_empty() {
-        if tree.levels() >= FULL || tree.size() >= MOST {
+        if tree.levels() >= MAX_LEVELS || tree.size() >= MAX_NODES {
             return built_with_rest(alloc, tree, rest, scratch, steps);
         }
         let most = most_at_once(&tree, large);
@@ -78,15 +73,15 @@ fn put_in_pieces<L: Ledger>(
 fn most_at_once(tree: &Tree, large: u32) -> usize
     ensures some { 1 ≤ result }
     ensures small { result < max 2 large }
-    ensures short { result < 4194304 }
+    ensures short { result < MAX_NODES }
 {
     if tree.levels() > LOW {
         return 1;
     }
-    large.clamp(2, MOST) as usize - 1
+    large.clamp(2, MAX_NODES) as usize - 1
 }
 
-// The tree is full: what is left of it and the items, built by medians. The tree is let go.
+// The tree is full: what is left of it and the items, built by medians. The tree is dropped.
 fn built_with_rest<L: Ledger>(
     alloc: Global,
     tree: Tree,
@@ -112,11 +107,11 @@ fn put_piece<L: Ledger>(
 ) -> Result<Tree, NoMemory>
     requires fit { MayJoin (contents tree) items.now }
     requires small { length items.now < max 2 large }
-    requires short { length items.now < 4194304 }
+    requires short { length items.now < MAX_NODES }
     ensures { IfOk result (λ t. IsPut large tree items.now t) }
 {
     let _size = tree.size();
-    if tree.levels() > LOW || tree.size() + items.len() as u32 > MOST {
+    if tree.levels() > LOW || tree.size() + items.len() as u32 > MAX_NODES {
         return put_singly(alloc, tree, large, items, steps);
     }
     let mut items = Vec::from_slice(alloc, items)?;

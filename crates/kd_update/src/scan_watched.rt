@@ -15,7 +15,7 @@ use crate::Watches;
 use crate::log_scan::log_scans;
 use crate::put_beside::put_beside;
 use crate::ways::Ways;
-use kd_tree::{Scratch, Steps, Tree};
+use kd_tree::{MAX_NODES, Scratch, Steps, Tree};
 use map_fold::{Item, NoMemory};
 use point_geom::Axis;
 use std::alloc::Global;
@@ -25,7 +25,7 @@ use std::sync::ledger::Ledger;
 ///
 /// No node above a watched subtree, at its top or in it is rebuilt. At the end of its log comes what the last node above it owes,
 /// where one item comes there at least, and then each item that comes to it, in the order of the list. Elsewhere it is a pass of
-/// `put_all`. Where memory is wanting, the tree is let go, and logs may have grown.
+/// `put_all`. Where memory runs out, the tree is dropped, and logs may have grown.
 pub fn put_all_watched<L: Ledger>(
     alloc: Global,
     tree: Tree,
@@ -37,9 +37,9 @@ pub fn put_all_watched<L: Ledger>(
 ) -> Result<Tree, NoMemory>
     requires fit { MayJoin (contents tree) items.now }
     requires small { length items.now < max 2 large }
-    requires short { length items.now < 4194304 }
+    requires short { length items.now < MAX_NODES }
     requires low { levels tree ≤ 490 }
-    requires few { nodes tree + length items.now ≤ 4194304 }
+    requires few { nodes tree + length items.now ≤ MAX_NODES }
     requires there { AreLargeAt large (paths_in watches.old) tree }
     requires apart { AreAllApart (paths_in watches.old) }
     requires room { HaveRoomAtOnce (length items.now) watches.old }

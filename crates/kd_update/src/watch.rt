@@ -6,7 +6,7 @@ ghost use Rattle.kd_update.specs.Watch.{is_keep};
 
 use kd_tree::Path;
 use map_fold::{Choice, Label, NoMemory, Op, Tag};
-use op_logger::OpLog;
+use op_logger::{MAX_LOGGED, OpLog};
 use point_geom::Point;
 
 /// A subtree that is watched: its path, and the operations on its own items that were met since the log was empty.
@@ -17,7 +17,7 @@ pub struct Watch {
 }
 
 pub(crate) fn note_mark(log: &mut OpLog, choice: Choice, tag: Tag) -> Result<(), NoMemory>
-    requires { length log.old < 65536 }
+    requires { length log.old < MAX_LOGGED }
     ensures logged { OnOk result (log.new ≡ log.old ++ Mark choice tag ∷ []) }
     ensures begins { Extends log.old log.new }
     ensures few { length log.new ≤ length log.old + 1 }
@@ -29,7 +29,7 @@ pub(crate) fn note_mark(log: &mut OpLog, choice: Choice, tag: Tag) -> Result<(),
 }
 
 pub(crate) fn note_put(log: &mut OpLog, number: u32, point: Point) -> Result<(), NoMemory>
-    requires { length log.old < 65536 }
+    requires { length log.old < MAX_LOGGED }
     ensures logged { OnOk result (log.new ≡ log.old ++ Put number point ∷ []) }
     ensures begins { Extends log.old log.new }
     ensures few { length log.new ≤ length log.old + 1 }

@@ -50,7 +50,7 @@ impl Watches {
         self.items.as_slice()
     }
 
-    /// Puts one more at the end. Where memory is wanting, that one is let go, and the others stay as they were.
+    /// Puts one more at the end. Where memory runs out, that one is dropped, and the others stay as they were.
     pub fn push(&mut self, watch: Watch) -> Result<(), NoMemory>
         requires { length self.old < 4 }
         ensures ok { OnOk result (self.new ≡ self.old ++ watch ∷ []) }

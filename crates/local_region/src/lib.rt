@@ -11,8 +11,6 @@ mod range;
 mod region;
 mod removing;
 mod rules;
-#[cfg(test)]
-mod tests;
 
 pub use moving::Moved;
 pub use region::Region;

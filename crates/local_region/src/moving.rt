@@ -23,7 +23,7 @@ impl Region {
     /// The region after a move to the point, and what it left, which is in at most three boxes: first what was left on x, then
     /// of the rest on y, then on z. On each axis the region falls by a step where the ball round the point touches or passes
     /// its lower face, rises by one where it touches or passes the upper face, and else stays, however far the point is.
-    /// The boxes are cut to the limits of `Cuboid::new`. Where memory for them is wanting, the region is let go.
+    /// The boxes are cut to the limits of `Cuboid::new`. Where memory for them runs out, the region is dropped.
     pub fn moved(self, alloc: Global, p: &Point) -> Result<Moved, NoMemory>
         ensures region { IfOk result (λ m. m.region ≡ after p.now self) }
         ensures moves { IfOk result (λ m. Moves p.now self m.region) }

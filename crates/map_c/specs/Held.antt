@@ -1,4 +1,4 @@
--- What a handle owns: a box of a content, or nothing.
+-- What a handle owns: a box of a content, or nothing. Cited by private functions alone.
 use Rattle.std.specs.Prelude.{Option, None, Some}
 use base.Fml.{Fml, ftrue}
 use base.Stored.{Coded}

@@ -11,6 +11,8 @@ use Rattle.map_c.specs.declared.forms.Bounds.{Bounds}
 use Rattle.map_c.specs.declared.forms.Point.{Point}
 use Rattle.map_c.specs.Forms.{HasWrongBox, HasWrongPoint}
 use Rattle.map_c.specs.Status.{IsNoList, bad_box, bad_number, empty, full, no_memory, out_of_range, too_many_points, too_many_updates}
+use Rattle.map_fold.specs.declared.limits.TheConstants.{MAX_POINTS}
+use Rattle.rebuild_core.specs.declared.plan.TheConstants.{MAX_UPDATES}
 
 -- the map that a handle holds, if it holds one
 abbrev pub map_in : Option Content → Option StateAt
@@ -36,11 +38,11 @@ pub record IsMade (u : Update) (old new : Option Content) : Type 0 where
 
 -- the handle holds a map that has all the updates that a map may have
 abbrev pub HasAllUpdates : Option Content → Type 0
-HasAllUpdates c = (s : StateAt) × (map_in c ≡ Some s) × (length s.history ≡ 1048576)
+HasAllUpdates c = (s : StateAt) × (map_in c ≡ Some s) × (length s.history ≡ MAX_UPDATES)
 
 -- the handle holds a map for which the points of the update would be too many
 abbrev pub HasTooMany : Update → Option Content → Type 0
-HasTooMany u c = (s : StateAt) × (map_in c ≡ Some s) × (length s.history < 1048576) × (4194304 < s.next + points_in u)
+HasTooMany u c = (s : StateAt) × (map_in c ≡ Some s) × (length s.history < MAX_UPDATES) × (MAX_POINTS < s.next + points_in u)
 
 -- why an update is refused
 abbrev pub IsUpdateRefusal : Update → Option Content → ℤ → Type 0

@@ -4,6 +4,7 @@ use Rattle.map_fold.specs.declared.item.Item.{Item}
 use Rattle.map_fold.specs.declared.op.Op.{Op}
 use Rattle.map_fold.specs.declared.op.Op.TheVariants.{Mark, Put}
 use Rattle.map_fold.specs.Contents.{put, mark, chosen_by}
+use Rattle.map_fold.specs.declared.limits.TheConstants.{MAX_POINTS}
 
 abbrev pub perform : List Item → Op → List Item
 perform m (Mark choice a) = mark m (chosen_by choice) a
@@ -22,7 +23,7 @@ IsUnheld n m = count_by (λ i. n == i.number) m ≡ 0
 abbrev pub Fit : List Item → List Op → Type 0
 Fit m [] = Unit {0}
 Fit m (Mark choice a ∷ ops) = Fit (mark m (chosen_by choice) a) ops
-Fit m (Put n p ∷ ops) = IsUnheld n m × (length m < 4194304) × Fit (put m n p) ops
+Fit m (Put n p ∷ ops) = IsUnheld n m × (length m < MAX_POINTS) × Fit (put m n p) ops
 
 -- the numbers that are put
 abbrev pub numbers_put : List Op → List ℕ

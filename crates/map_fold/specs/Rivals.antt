@@ -1,4 +1,4 @@
--- What is live in a voxel.
+-- What is live in a voxel. Cited by private functions alone.
 use Rattle.std.specs.Prelude.{◌≡◌, List, [], ◌∷◌}
 use Rattle.map_fold.specs.declared.item.Item.{Item}
 use Rattle.map_fold.specs.declared.thin.Rivals.{Rivals}

@@ -67,7 +67,7 @@ impl Hits {
         self.hits.as_slice()
     }
 
-    /// Puts one more at the end. Where memory is wanting, the list stays as it was.
+    /// Puts one more at the end. Where memory runs out, the list stays as it was.
     pub fn push(&mut self, hit: Hit) -> Result<(), NoMemory>
         ensures ok { OnOk result (self.new ≡ self.old ++ hit ∷ []) }
         ensures err { OnErr result (self.new ≡ self.old) }
@@ -147,7 +147,7 @@ fn put_at(hits: &mut SmallVec<Hit, 16>, k: usize, at: usize, hit: &Hit) -> Resul
     Ok(())
 }
 
-// Puts the hit at this place, and lets go of the last.
+// Puts the hit at this place, and drops the last.
 fn put_before_last(hits: &mut [Hit], at: usize, hit: Hit)
     requires { at < length hits.old }
     ensures { hits.new ≡ insert (take (length hits.old - 1) hits.old) at hit }

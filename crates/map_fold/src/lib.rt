@@ -6,14 +6,13 @@ mod entry;
 mod group;
 mod hits;
 mod item;
+mod limits;
 mod memory;
 mod op;
 mod plain_map;
 mod reply;
 mod sequence;
 mod settings;
-#[cfg(test)]
-mod tests;
 mod thin;
 mod update;
 
@@ -22,6 +21,7 @@ pub use entry::Entry;
 pub use group::{Group, Groups};
 pub use hits::{Hit, HitLists, Hits};
 pub use item::{Item, Items};
+pub use limits::MAX_POINTS;
 pub use memory::NoMemory;
 pub use node_labels::{Counts, Label, Tag};
 pub use op::{Op, Ops};

@@ -10,6 +10,7 @@ ghost use Rattle.map_fold.specs.Nearest.{AreNearest};
 ghost use Rattle.map_fold.specs.Thinned.{IsThinned};
 ghost use Rattle.map_fold.specs.declared.update.Update.TheVariants as Update;
 
+use crate::limits::MAX_POINTS;
 use crate::thin::thin_one;
 use crate::{
     Choice, Counts, Cuboids, Hit, Hits, Item, Items, Label, NoMemory, Points, Settings, Tag, Update,
@@ -67,9 +68,9 @@ impl PlainMap {
         }
     }
 
-    /// The map after one more update. Want of memory loses the map.
+    /// The map after one more update. Lack of memory loses the map.
     pub fn apply(self, settings: &Settings, update: &Update) -> Result<PlainMap, NoMemory>
-        requires { self.next + points_in update.now ≤ 4194304 }
+        requires { self.next + points_in update.now ≤ MAX_POINTS }
         ensures stepped { IfOk result (λ m. m ≡ step settings.now.voxel update.now self) }
 
         // What that is for one point that is thinned, said without the way it is made.
@@ -87,7 +88,7 @@ impl PlainMap {
     }
 
     fn add(self, points: &Points) -> Result<PlainMap, NoMemory>
-        requires { self.next + points_in (Update.Add points.now) ≤ 4194304 }
+        requires { self.next + points_in (Update.Add points.now) ≤ MAX_POINTS }
         ensures { IfOk result (λ m. m ≡ step 0 (Update.Add points.now) self) }
     {
         let PlainMap {
@@ -108,7 +109,7 @@ impl PlainMap {
     fn thin(self, edge: u32, points: &Points) -> Result<PlainMap, NoMemory>
         requires edge_from { 1 ≤ edge }
         requires edge_to { edge ≤ 1000000 }
-        requires room { self.next + points_in (Update.Thin points.now) ≤ 4194304 }
+        requires room { self.next + points_in (Update.Thin points.now) ≤ MAX_POINTS }
         ensures stepped { IfOk result (λ m. m ≡ thin_points edge points.now self) }
         ensures thinned { (p : Place) → points.now ≡ p ∷ [] → IfOk result (λ m. IsThinned edge self.items self.next p m.items) }
     {
@@ -187,7 +188,7 @@ impl PlainMap {
     }
 }
 
-// Does the action to the chosen items, and lets go of what it drops.
+// Does the action to the chosen items, and drops what it drops.
 pub(crate) fn mark_items(items: &mut Vec<Item>, choice: &Choice, tag: Tag)
     ensures { items.new.items ≡ mark items.old.items (chosen_by choice.now) tag }
 {

@@ -43,7 +43,7 @@ impl<T: Drop> Sequence<T> {
         self.items.as_slice()
     }
 
-    /// Puts one more at the end. Where memory is wanting, the list stays as it was.
+    /// Puts one more at the end. Where memory runs out, the list stays as it was.
     pub fn push(&mut self, item: T) -> Result<(), NoMemory>
         ensures ok { OnOk result (self.new ≡ self.old ++ item ∷ []) }
         ensures err { OnErr result (self.new ≡ self.old) }

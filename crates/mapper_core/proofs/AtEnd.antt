@@ -7,22 +7,23 @@ use Rattle.map_fold.specs.declared.update.Update.{Update}
 use Rattle.map_fold.specs.Fold.{fold, points_in}
 use Rattle.rebuild_core.specs.History.{updates}
 use Rattle.published_map.specs.Marks.{Seen, times, AllOf, callers_of, AllMet, AllGrown, AllMetNow}
+use Rattle.scan_log.specs.Commands.{is_by}
 use Rattle.scan_log.specs.declared.command.Command.{Command}
 use Rattle.scan_log.specs.declared.command.Command.TheVariants.{Change, Near, Nears, Inside, Ball, Lonely, Clusters, Pose, Sync}
 use Rattle.scan_log.specs.declared.reply.Reply.{Reply}
 use Rattle.scan_log.specs.Scripts.{ScriptAt, submitted, points_of}
 use Rattle.scan_log.specs.Legal.{counted, AreLegalReplies}
 use Rattle.scan_log.specs.Transcript.{totals_reply, mark_of}
-use Rattle.mapper_core.specs.Told.{is_by, raised, Told}
+use Rattle.mapper_core.specs.Told.{raised, Told}
 use Rattle.mapper_core.specs.Mine.{updates_by, Ran, Stopped, Turned}
 use Rattle.mapper_core.specs.Meetings.{AllDone, Standing, StandingAtEnd}
 use Rattle.mapper_core.specs.Ended.{AllReplied, HaveEnded}
-use Rattle.mapper_core.proofs.Whose.{anyone, anyone_concerned}
+use Rattle.scan_log.proofs.Whose.{anyone, anyone_concerned, updates_few}
 use Rattle.mapper_core.proofs.LegalMarks.{told_is_legal}
 use Rattle.mapper_core.proofs.OneCaller.{updates_own}
 use Rattle.mapper_core.proofs.CameBack.{AllBack, back_rest}
 use Rattle.mapper_core.proofs.Meeting.{updates_append, standing_distinct}
-use Rattle.mapper_core.proofs.Weights.{weigh, weigh_append, weigh_one, weigh_points, entries_whole, commands_of, commands_most, commands_whole, AllChangesOf, weigh_all, all_ones, all_points, updates_few, made, made_met, made_done}
+use Rattle.mapper_core.proofs.Weights.{weigh, weigh_append, weigh_one, weigh_points, entries_whole, commands_of, commands_most, commands_whole, AllChangesOf, weigh_all, all_ones, all_points, made, made_met, made_done}
 
 -- there are no more commands and points than a script may have
 pub record AreFew (cs : List Command) : Type 0 where

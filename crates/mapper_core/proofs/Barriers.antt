@@ -1,11 +1,15 @@
 -- Where marks are legal, a barrier's is the number of updates before it.
-use Rattle.std.proofs.Common.{◌≡◌, ℕ, zero, suc, ◌+◌, ◌<◌, ◌≤◌, Bool, true, false, nat_le, if◌then◌else◌, List, [], ◌∷◌, take, length, map, Some, slice_get, refl, sym, ap, ◌∙◌, subst, arith, nat_lt}
+use Rattle.std.proofs.Common.{◌≡◌, ℕ, zero, suc, ◌+◌, ◌<◌, ◌≤◌, Bool, true, false, nat_le, if◌then◌else◌, List, [], ◌∷◌, take, length, map, Some, slice_get, refl, sym, ap, ◌∙◌, subst, arith, nat_lt, Option, None, ◌++◌}
 use Rattle.std.proofs.lemmas.Bool.Decides.{nat_tests}
+use Rattle.std.specs.Prelude.{MatchOption}
 use Rattle.std.specs.List.{AllByRecursion}
+use Rattle.std.specs.Option.{option_to_list}
 use Rattle.map_fold.specs.declared.update.Update.{Update}
 use Rattle.scan_log.specs.declared.command.Command.{Command}
-use Rattle.scan_log.specs.declared.command.Command.TheVariants.{Change, Near, Nears, Inside, Ball, Lonely, Clusters, Pose, Sync}
-use Rattle.scan_log.specs.Transcript.{updates_in, put_update, marked_updates}
+use Rattle.scan_log.specs.declared.command.Command.TheVariants.{Sync}
+use Rattle.scan_log.specs.Commands.{command_update, updates_made}
+use Rattle.scan_log.specs.Transcript.{updates_in, put_if, put_update, marked_updates}
+use Rattle.scan_log.proofs.Whose.{anyone, anyone_concerned, follows_later}
 use Rattle.scan_log.specs.Legal.{counted, MayFollow, IsLater, AllFollow, AreInOrder, IsLegal}
 
 -- 1 where the mark isn't above top
@@ -49,54 +53,34 @@ few_put : (top m : ℕ) (u : Update) (hs : List (ℕ × Update)) → few top (ma
 few_put top m u [] = refl
 few_put top m u (g ∷ hs) = few_put_by top m u g hs (few_put top m u hs) (nat_lt g.0 m) refl
 
+abbrev early_if : ℕ → ℕ → Option Update → ℕ → ℕ
+early_if top m (Some u) k = one top m + k
+early_if top m None k = k
+
 -- how many updates have no mark above top
 abbrev early : ℕ → List Command → List ℕ → ℕ
-early top (Change caller u ∷ cs) (m ∷ ms) = one top m + early top cs ms
-early top (Near caller k p within ∷ cs) (m ∷ ms) = early top cs ms
-early top (Inside caller k c ∷ cs) (m ∷ ms) = early top cs ms
-early top (Nears caller k ps ∷ cs) (m ∷ ms) = early top cs ms
-early top (Ball caller k r p ∷ cs) (m ∷ ms) = early top cs ms
-early top (Lonely caller k r ∷ cs) (m ∷ ms) = early top cs ms
-early top (Clusters caller k r ∷ cs) (m ∷ ms) = early top cs ms
-early top (Pose caller rules p ∷ cs) (m ∷ ms) = early top cs ms
-early top (Sync ∷ cs) (m ∷ ms) = early top cs ms
+early top (c ∷ cs) (m ∷ ms) = early_if top m (command_update c) (early top cs ms)
 early top [] ms = 0
 early top (c ∷ cs) [] = 0
 
+few_if : (top m : ℕ) (made : Option Update) (hs : List (ℕ × Update)) (k : ℕ) → few top (map (λ h. h.0) hs) ≡ k → few top (map (λ h. h.0) (put_if m made hs)) ≡ early_if top m made k
+few_if top m (Some u) hs k e = few_put top m u hs ∙ ap (λ n. one top m + n) e
+few_if top m None hs k e = e
+
 early_few : (top : ℕ) (cs : List Command) (ms : List ℕ) → few top (map (λ h. h.0) (marked_updates cs ms)) ≡ early top cs ms
 early_few top [] ms = refl
-early_few top (Change caller u ∷ cs) [] = refl
-early_few top (Near caller k p within ∷ cs) [] = refl
-early_few top (Inside caller k c ∷ cs) [] = refl
-early_few top (Nears caller k ps ∷ cs) [] = refl
-early_few top (Ball caller k r p ∷ cs) [] = refl
-early_few top (Lonely caller k r ∷ cs) [] = refl
-early_few top (Clusters caller k r ∷ cs) [] = refl
-early_few top (Pose caller rules p ∷ cs) [] = refl
-early_few top (Sync ∷ cs) [] = refl
-early_few top (Change caller u ∷ cs) (m ∷ ms) = few_put top m u (marked_updates cs ms) ∙ ap (λ n. one top m + n) (early_few top cs ms)
-early_few top (Near caller k p within ∷ cs) (m ∷ ms) = early_few top cs ms
-early_few top (Inside caller k c ∷ cs) (m ∷ ms) = early_few top cs ms
-early_few top (Nears caller k ps ∷ cs) (m ∷ ms) = early_few top cs ms
-early_few top (Ball caller k r p ∷ cs) (m ∷ ms) = early_few top cs ms
-early_few top (Lonely caller k r ∷ cs) (m ∷ ms) = early_few top cs ms
-early_few top (Clusters caller k r ∷ cs) (m ∷ ms) = early_few top cs ms
-early_few top (Pose caller rules p ∷ cs) (m ∷ ms) = early_few top cs ms
-early_few top (Sync ∷ cs) (m ∷ ms) = early_few top cs ms
+early_few top (c ∷ cs) [] = refl
+early_few top (c ∷ cs) (m ∷ ms) = few_if top m (command_update c) _ _ (early_few top cs ms)
+
+none_if : (top m : ℕ) (made : Option Update) (k : ℕ) → MatchOption made (top ≤ m) (λ u. top < m) → k ≡ 0 → early_if top m made k ≡ 0
+none_if top m (Some u) k lt e = omega (arith, one_high top m lt, e)
+none_if top m None k le e = e
 
 -- after a barrier no update has such a mark
 none_early : (top : ℕ) (cs : List Command) (ms : List ℕ) → AllFollow Sync top cs ms → early top cs ms ≡ 0
 none_early top [] ms f = refl
 none_early top (c ∷ cs) [] f = refl
-none_early top (Change caller u ∷ cs) (m ∷ ms) f = omega (arith, one_high top m f.0, none_early top cs ms f.1)
-none_early top (Near caller k p within ∷ cs) (m ∷ ms) f = none_early top cs ms f.1
-none_early top (Inside caller k c ∷ cs) (m ∷ ms) f = none_early top cs ms f.1
-none_early top (Nears caller k ps ∷ cs) (m ∷ ms) f = none_early top cs ms f.1
-none_early top (Ball caller k r p ∷ cs) (m ∷ ms) f = none_early top cs ms f.1
-none_early top (Lonely caller k r ∷ cs) (m ∷ ms) f = none_early top cs ms f.1
-none_early top (Clusters caller k r ∷ cs) (m ∷ ms) f = none_early top cs ms f.1
-none_early top (Pose caller rules p ∷ cs) (m ∷ ms) f = none_early top cs ms f.1
-none_early top (Sync ∷ cs) (m ∷ ms) f = none_early top cs ms f.1
+none_early top (c ∷ cs) (m ∷ ms) f = none_if top m (command_update c) _ f.0 (none_early top cs ms f.1)
 
 -- what comes later may follow
 follows_at : (c : Command) (m : ℕ) (ds : List Command) (ns : List ℕ) (k : ℕ) (d : Command) (n : ℕ)
@@ -107,30 +91,22 @@ follows_at c m (e ∷ ds) (j ∷ ns) zero d n f at there =
     let a : e ≡ d = cc at in let b : j ≡ n = cc there in subst (λ z. MayFollow c m z n) a (subst (λ z. MayFollow c m e z) b f.0)
 follows_at c m (e ∷ ds) (j ∷ ns) (suc k) d n f at there = follows_at c m ds ns k d n f.1 at there
 
+low_if : (top m : ℕ) (made : Option Update) (k : ℕ) (us : List Update) → m ≤ top → k ≡ length us → early_if top m made k ≡ length (option_to_list made ++ us)
+low_if top m (Some u) k us le e = omega (arith, one_low top m le, e)
+low_if top m None k us le e = e
+
 early_at : (top : ℕ) (cs : List Command) (ms : List ℕ) (k : ℕ) → AreInOrder cs ms → slice_get cs k ≡ Some Sync → slice_get ms k ≡ Some top
     → early top cs ms ≡ updates_in (take k cs)
 early_at top [] ms k o at there = absurd (cc at)
 early_at top (c ∷ cs) [] k o at there = absurd (cc there)
-early_at top (Sync ∷ cs) (m ∷ ms) zero o at there = let b : m ≡ top = cc there in none_early top cs ms (subst (λ z. AllFollow Sync z cs ms) b o.0)
-early_at top (Change caller u ∷ cs) (m ∷ ms) zero o at there = absurd (cc at)
-early_at top (Near caller k p within ∷ cs) (m ∷ ms) zero o at there = absurd (cc at)
-early_at top (Inside caller k c ∷ cs) (m ∷ ms) zero o at there = absurd (cc at)
-early_at top (Nears caller k ps ∷ cs) (m ∷ ms) zero o at there = absurd (cc at)
-early_at top (Ball caller k r p ∷ cs) (m ∷ ms) zero o at there = absurd (cc at)
-early_at top (Lonely caller k r ∷ cs) (m ∷ ms) zero o at there = absurd (cc at)
-early_at top (Clusters caller k r ∷ cs) (m ∷ ms) zero o at there = absurd (cc at)
-early_at top (Pose caller rules p ∷ cs) (m ∷ ms) zero o at there = absurd (cc at)
-early_at top (Change caller u ∷ cs) (m ∷ ms) (suc k) o at there =
-    let le : m ≤ top = follows_at (Change caller u) m cs ms k Sync top o.0 at there tt in
-    omega (arith, one_low top m le, early_at top cs ms k o.1 at there)
-early_at top (Near caller j p within ∷ cs) (m ∷ ms) (suc k) o at there = early_at top cs ms k o.1 at there
-early_at top (Inside caller j c ∷ cs) (m ∷ ms) (suc k) o at there = early_at top cs ms k o.1 at there
-early_at top (Nears caller j ps ∷ cs) (m ∷ ms) (suc k) o at there = early_at top cs ms k o.1 at there
-early_at top (Ball caller j r p ∷ cs) (m ∷ ms) (suc k) o at there = early_at top cs ms k o.1 at there
-early_at top (Lonely caller j r ∷ cs) (m ∷ ms) (suc k) o at there = early_at top cs ms k o.1 at there
-early_at top (Clusters caller j r ∷ cs) (m ∷ ms) (suc k) o at there = early_at top cs ms k o.1 at there
-early_at top (Pose caller rules p ∷ cs) (m ∷ ms) (suc k) o at there = early_at top cs ms k o.1 at there
-early_at top (Sync ∷ cs) (m ∷ ms) (suc k) o at there = early_at top cs ms k o.1 at there
+early_at top (c ∷ cs) (m ∷ ms) zero o at there =
+    let a : c ≡ Sync = cc at in
+    let b : m ≡ top = cc there in
+    let after : AllFollow Sync top cs ms = subst (λ z. AllFollow Sync z cs ms) b (subst (λ z. AllFollow z m cs ms) a o.0) in
+    subst (λ z. early top (z ∷ cs) (m ∷ ms) ≡ 0) (sym a) (none_early top cs ms after)
+early_at top (c ∷ cs) (m ∷ ms) (suc k) o at there =
+    let le : m ≤ top = follows_later (anyone c) c m Sync top (anyone_concerned c) tt (follows_at c m cs ms k Sync top o.0 at there) in
+    low_if top m (command_update c) _ (updates_made (take k cs)) le (early_at top cs ms k o.1 at there)
 
 below_at : (P : ℕ → Type 0) (ms : List ℕ) (k n : ℕ) → AllByRecursion P ms → slice_get ms k ≡ Some n → P n
 below_at P [] k n all there = absurd (cc there)

@@ -5,15 +5,17 @@ use Rattle.std.specs.List.{AllByRecursion}
 use Rattle.map_fold.specs.declared.entry.Entry.{Entry}
 use Rattle.map_fold.specs.declared.update.Update.{Update}
 use Rattle.rebuild_core.specs.History.{updates}
+use Rattle.scan_log.specs.Commands.{Concerns}
 use Rattle.scan_log.specs.declared.command.Command.{Command}
 use Rattle.scan_log.specs.declared.command.Command.TheVariants.{Change, Near, Nears, Inside, Ball, Lonely, Clusters, Pose, Sync}
 use Rattle.scan_log.specs.declared.reply.Reply.{Reply}
 use Rattle.scan_log.specs.Scripts.{ScriptAt}
-use Rattle.scan_log.specs.Legal.{counted, Concerns, AllFollow, AreInOrder, IsLegal, AreLegalReplies}
+use Rattle.scan_log.specs.Legal.{counted, AllFollow, AreInOrder, IsLegal, AreLegalReplies}
 use Rattle.scan_log.specs.Transcript.{updates_in, put_update, marked_updates, totals_reply, replies_from, replies, mark_of}
 use Rattle.mapper_core.specs.Told.{IsPlaced, IsReply, Answers, raised, Told}
 use Rattle.mapper_core.proofs.Beginnings.{get_below, drop_get}
-use Rattle.mapper_core.proofs.Whose.{anyone, anyone_concerned, concerns_for, may_follow, later_less, later_le, raised_own, raises}
+use Rattle.scan_log.proofs.Whose.{anyone, anyone_concerned, concerns_for, may_follow, later_less, later_le}
+use Rattle.mapper_core.proofs.Whose.{raised_own, raises}
 
 -- the marks before a command's reply aren't above it
 pub told_raises : (voxel : ℕ) (h : List Entry) (lows : ℕ → ℕ) (c : Command) (r : Reply) → ((x : ℕ) → Concerns x c → Answers voxel h (lows x) c r)

@@ -7,16 +7,18 @@ use mathlib.Core.List.{IsPrefix}
 use Rattle.map_fold.specs.declared.entry.Entry.{Entry}
 use Rattle.rebuild_core.specs.History.{updates}
 use Rattle.published_map.specs.Marks.{Seen, keep_if, times, IsDistinct, AllOf, callers_of, AllMet, AllGrown, AllMetNow, seen_by_new}
+use Rattle.scan_log.specs.Commands.{is_by, is_for}
 use Rattle.scan_log.specs.declared.command.Command.{Command}
 use Rattle.scan_log.specs.declared.command.Command.TheVariants.{Change, Near, Nears, Inside, Ball, Lonely, Clusters, Pose, Sync}
 use Rattle.scan_log.specs.declared.reply.Reply.{Reply}
 use Rattle.scan_log.specs.Legal.{counted}
 use Rattle.scan_log.specs.Transcript.{mark_of, totals_reply}
-use Rattle.mapper_core.specs.Told.{is_by, is_for, IsPlaced, IsReply, raised, Told}
+use Rattle.mapper_core.specs.Told.{IsPlaced, IsReply, raised, Told}
 use Rattle.mapper_core.specs.Mine.{updates_by, Mine, Ran}
 use Rattle.mapper_core.specs.Meetings.{AllMine, MergedFrom, MergedTo, AllDone, Standing, IsTotal}
 use Rattle.mapper_core.proofs.Beginnings.{prefix_trans, prefix_length, get_prefix, take_early}
-use Rattle.mapper_core.proofs.Whose.{later_less, reply_take}
+use Rattle.scan_log.proofs.Whose.{later_less}
+use Rattle.mapper_core.proofs.Whose.{reply_take}
 use Rattle.mapper_core.proofs.LegalMarks.{placed_below}
 use Rattle.mapper_core.proofs.OneCaller.{mine_other, mine_next, mine_skip}
 use Rattle.mapper_core.proofs.CameBack.{AllBack, back_rest, back_callers}

@@ -3,14 +3,16 @@ use Rattle.std.proofs.Common.{◌≡◌, ℕ, zero, suc, ◌+◌, ◌<◌, ◌�
 use Rattle.std.proofs.lemmas.Bool.Decides.{nat_tests}
 use Rattle.std.specs.List.{AllByRecursion}
 use Rattle.map_fold.specs.declared.entry.Entry.{Entry}
+use Rattle.scan_log.specs.Commands.{IsBy, is_by, is_for}
 use Rattle.scan_log.specs.declared.command.Command.{Command}
 use Rattle.scan_log.specs.declared.reply.Reply.{Reply}
 use Rattle.scan_log.specs.Transcript.{mark_of}
-use Rattle.mapper_core.specs.Told.{is_by, is_for, Answers, raised, Told}
+use Rattle.mapper_core.specs.Told.{Answers, raised, Told}
 use Rattle.mapper_core.specs.Mine.{Mine}
-use Rattle.mapper_core.specs.Meetings.{IsBy, IsOfCallers, AllMine, AllBelow, AreReplies, HasReply, Takes, MergedTo}
+use Rattle.mapper_core.specs.Meetings.{IsOfCallers, AllMine, AllBelow, AreReplies, HasReply, Takes, MergedTo}
 use Rattle.mapper_core.proofs.OneCaller.{mine_next, mine_skip}
-use Rattle.mapper_core.proofs.Whose.{later_le, raised_own, raised_other, is_by_own, is_by_other, for_own, for_other, concerns_by}
+use Rattle.scan_log.proofs.Whose.{later_le, is_by_own, is_by_other, for_own, for_other, concerns_by}
+use Rattle.mapper_core.proofs.Whose.{raised_own, raised_other}
 
 pub merged_start : (voxel : ℕ) (cs : List Command) (lists : List (List Reply)) (rs : List Reply) → MergedTo voxel cs cs lists lists rs rs
 merged_start voxel cs lists rs h lows high mine below =

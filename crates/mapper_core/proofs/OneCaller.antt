@@ -18,13 +18,14 @@ use Rattle.rebuild_core.specs.Lawful.{VersionAt}
 use Rattle.published_map.specs.Marks.{Seen, Grown, Added, keep_if}
 use Rattle.published_map.specs.Answers.{near_reply, box_reply}
 use Rattle.published_map.specs.Versions.{IsVersionOf, held}
+use Rattle.scan_log.specs.Commands.{is_by}
 use Rattle.scan_log.specs.declared.command.Command.{Command}
 use Rattle.scan_log.specs.declared.command.Command.TheVariants.{Change, Near, Nears, Inside, Ball, Lonely, Clusters, Pose, Sync}
 use Rattle.scan_log.specs.declared.reply.Reply.{Reply}
 use Rattle.scan_log.specs.declared.reply.Reply.TheVariants as reply
 use Rattle.scan_log.specs.Legal.{IsLater}
 use Rattle.scan_log.specs.Transcript.{reply_to, mark_of, held_at, found_reply, clusters_reply}
-use Rattle.mapper_core.specs.Told.{is_by, Answers, IsPlaced}
+use Rattle.mapper_core.specs.Told.{Answers, IsPlaced}
 use Rattle.mapper_core.specs.Mine.{updates_by, Mine, Answered, Tried, RanTo, Turned}
 use Rattle.mapper_core.proofs.Beginnings.{prefix_self, prefix_trans, prefix_length, take_prefix, get_prefix, get_last}
 use Rattle.mapper_core.proofs.Whose.{reply_take}

@@ -1,7 +1,9 @@
 -- Slices of a script's commands.
-use Rattle.std.proofs.Common.{◌≡◌, ℕ, zero, suc, ◌+◌, ◌-◌, ◌≤◌, true, false, List, [], ◌∷◌, ◌++◌, length, take, drop, Some, slice_get, refl, ap, ◌∙◌, subst, arith}
+use Rattle.std.proofs.Common.{◌≡◌, ℕ, zero, suc, ◌+◌, ◌-◌, ◌≤◌, true, false, List, [], ◌∷◌, ◌++◌, length, take, drop, Some, None, IfSome, slice_get, refl, ap, ◌∙◌, subst, arith}
+use Rattle.std.specs.Prelude.{◌<◌, is_none, IsSomeAnd}
 use Rattle.std.specs.List.{AllByRecursion}
 use Rattle.std.specs.declared.option.Option.{Option}
+use Rattle.scan_log.specs.Commands.{command_caller}
 use Rattle.scan_log.specs.declared.command.Command.{Command}
 use Rattle.scan_log.specs.declared.command.Command.TheVariants.{Change, Near, Nears, Inside, Ball, Lonely, Clusters, Pose, Sync}
 use Rattle.scan_log.specs.Scripts.{points_of}
@@ -61,17 +63,13 @@ barrier_is (Clusters caller k r) is = absurd (cc is)
 barrier_is (Pose caller rules place) is = absurd (cc is)
 barrier_is Sync is = refl
 
+one_of : (n : ℕ) (o : Option ℕ) → is_none o ≡ false → IfSome o (λ k. (1 ≤ k) × (k ≤ n)) → (k : ℕ) × IsSomeAnd o (λ caller. caller ≡ k + 1) × (k < n)
+one_of n (Some k) is has = let a : 1 ≤ k = has.0 in let b : k ≤ n = has.1 in (k - 1, omega arith, omega arith)
+one_of n None is has = absurd (cc is)
+
 -- a command that is no barrier is one of the callers'
 pub caller_is : (n : ℕ) (c : Command) → is_barrier c ≡ false → HasCaller n c → IsOfCallers n c
-caller_is n (Change caller u) is has = (caller - 1, (let a : 1 ≤ caller = has.0 in omega arith), (let a : 1 ≤ caller = has.0 in let b : caller ≤ n = has.1 in omega arith))
-caller_is n (Near caller k p within) is has = (caller - 1, (let a : 1 ≤ caller = has.0 in omega arith), (let a : 1 ≤ caller = has.0 in let b : caller ≤ n = has.1 in omega arith))
-caller_is n (Nears caller k ps) is has = (caller - 1, (let a : 1 ≤ caller = has.0 in omega arith), (let a : 1 ≤ caller = has.0 in let b : caller ≤ n = has.1 in omega arith))
-caller_is n (Inside caller k c) is has = (caller - 1, (let a : 1 ≤ caller = has.0 in omega arith), (let a : 1 ≤ caller = has.0 in let b : caller ≤ n = has.1 in omega arith))
-caller_is n (Ball caller k r p) is has = (caller - 1, (let a : 1 ≤ caller = has.0 in omega arith), (let a : 1 ≤ caller = has.0 in let b : caller ≤ n = has.1 in omega arith))
-caller_is n (Lonely caller k r) is has = (caller - 1, (let a : 1 ≤ caller = has.0 in omega arith), (let a : 1 ≤ caller = has.0 in let b : caller ≤ n = has.1 in omega arith))
-caller_is n (Clusters caller k r) is has = (caller - 1, (let a : 1 ≤ caller = has.0 in omega arith), (let a : 1 ≤ caller = has.0 in let b : caller ≤ n = has.1 in omega arith))
-caller_is n (Pose caller rules place) is has = (caller - 1, (let a : 1 ≤ caller = has.0 in omega arith), (let a : 1 ≤ caller = has.0 in let b : caller ≤ n = has.1 in omega arith))
-caller_is n Sync is has = absurd (cc is)
+caller_is n c is has = one_of n (command_caller c) is has
 
 drop_slice : {A : Type 0} (n k : ℕ) (xs : List A) (x : A) → slice_get xs (n + k) ≡ Some x → slice_get (drop n xs) k ≡ Some x
 drop_slice zero k [] x at = absurd (cc at)
@@ -91,16 +89,12 @@ slice_next from at xs x le there =
     let more : (at + 1) - from ≡ suc k = omega arith in
     ap (λ z. take z (drop from xs)) more ∙ take_next (drop from xs) k x here
 
+caller_more : (n m : ℕ) (o : Option ℕ) → n ≤ m → IfSome o (λ k. (1 ≤ k) × (k ≤ n)) → IfSome o (λ k. (1 ≤ k) × (k ≤ m))
+caller_more n m (Some k) le has = (has.0, (let a : k ≤ n = has.1 in omega arith))
+caller_more n m None le has = tt
+
 pub has_caller_more : (n m : ℕ) (c : Command) → n ≤ m → HasCaller n c → HasCaller m c
-has_caller_more n m (Change caller u) le has = (has.0, (let a : caller ≤ n = has.1 in omega arith))
-has_caller_more n m (Near caller k p within) le has = (has.0, (let a : caller ≤ n = has.1 in omega arith))
-has_caller_more n m (Nears caller k ps) le has = (has.0, (let a : caller ≤ n = has.1 in omega arith))
-has_caller_more n m (Inside caller k c) le has = (has.0, (let a : caller ≤ n = has.1 in omega arith))
-has_caller_more n m (Ball caller k r p) le has = (has.0, (let a : caller ≤ n = has.1 in omega arith))
-has_caller_more n m (Lonely caller k r) le has = (has.0, (let a : caller ≤ n = has.1 in omega arith))
-has_caller_more n m (Clusters caller k r) le has = (has.0, (let a : caller ≤ n = has.1 in omega arith))
-has_caller_more n m (Pose caller rules place) le has = (has.0, (let a : caller ≤ n = has.1 in omega arith))
-has_caller_more n m Sync le has = tt
+has_caller_more n m c le has = caller_more n m (command_caller c) le has
 
 pub all_none : {A : Type 0} (P : A → Type 0) (n : ℕ) (xs : List A) → n ≡ 0 → AllByRecursion P (take n xs)
 all_none P zero [] is = tt

@@ -203,18 +203,6 @@ all_points (Clusters x k far ∷ ds) = let r = all_points ds in omega arith
 all_points (Pose x rules place ∷ ds) = let r = all_points ds in omega arith
 all_points (Sync ∷ ds) = let r = all_points ds in omega arith
 
-pub updates_few : (ds : List Command) → updates_in ds ≤ length ds
-updates_few [] = omega arith
-updates_few (Change x u ∷ ds) = let r = updates_few ds in omega arith
-updates_few (Near x k p within ∷ ds) = let r = updates_few ds in omega arith
-updates_few (Nears x k ps ∷ ds) = let r = updates_few ds in omega arith
-updates_few (Inside x k b ∷ ds) = let r = updates_few ds in omega arith
-updates_few (Ball x k far p ∷ ds) = let r = updates_few ds in omega arith
-updates_few (Lonely x k far ∷ ds) = let r = updates_few ds in omega arith
-updates_few (Clusters x k far ∷ ds) = let r = updates_few ds in omega arith
-updates_few (Pose x rules place ∷ ds) = let r = updates_few ds in omega arith
-updates_few (Sync ∷ ds) = let r = updates_few ds in omega arith
-
 -- what these passes have made
 unfoldable pub made : (Update → ℕ) → List Seen → ℕ
 made w [] = 0

@@ -62,7 +62,7 @@ pub record IsTextOf (a : Ask) (log : LogSeen) (lines : List ℕ) : Type 0 where
   pub said : IsDoneOn a log script
   pub printed : Prints a log.left script lines
 
--- why there is no such text: the log's cause, or want of memory
+-- why there is no such text: the log's cause, or lack of memory
 abbrev pub HasNoText : Ask → LogSeen → Ending → Type 0
 HasNoText ask.Run log e = NotRead ask.Run log e
 HasNoText ask.Serial log e = NotRead ask.Serial log e

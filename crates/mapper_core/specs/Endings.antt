@@ -16,7 +16,7 @@ status_of (Bad line cause) = if is_limit cause then status.OverLimit else status
 status_of WriteFault = status.WriteFault
 status_of NoMemory = status.NoMemory
 
--- it is the status that is wanted, or memory was wanting
+-- it is the status that is wanted, or memory ran out
 abbrev pub IsOrNoMemory : Status → Status → Type 0
 IsOrNoMemory it wanted = (it ≡ wanted) ⊎ (it ≡ status.NoMemory)
 

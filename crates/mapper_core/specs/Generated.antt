@@ -45,7 +45,7 @@ behind i = record {
   hi = record { x = pos (1000 * i) -ℤ pos 30000; y = pos 30001; z = pos 3001 };
 }
 
--- each tenth scan lets go of what lies behind
+-- each tenth scan drops what lies behind
 abbrev pub deletions : ℕ → List Command
 deletions i = if i % 10 == 9 then Change 1 (Delete (behind i ∷ [])) ∷ [] else []
 

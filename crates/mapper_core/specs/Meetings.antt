@@ -1,10 +1,11 @@
--- What all callers did and were told, from one meeting to the next.
-use Rattle.std.specs.Prelude.{◌≡◌, Bool, true, false, ℕ, ◌+◌, ◌<◌, ◌≤◌, List, [], ◌∷◌, ◌++◌, length, slice_get, set, Some, Result, Ok, IfOk}
+-- What all callers did and were told, from one meeting to the next. Cited by private functions alone.
+use Rattle.std.specs.Prelude.{◌≡◌, Bool, true, false, ℕ, ◌+◌, ◌<◌, ◌≤◌, List, [], ◌∷◌, ◌++◌, length, slice_get, set, Some, Result, Ok, IfOk, is_none, IfSome}
 use Rattle.std.specs.List.{AllByRecursion}
 use Rattle.map_fold.specs.declared.entry.Entry.{Entry}
 use Rattle.map_fold.specs.declared.memory.NoMemory.{NoMemory}
 use Rattle.rebuild_core.specs.History.{updates}
 use Rattle.published_map.specs.Marks.{Seen, AllMet, AllOf, callers_of, seen_by_new}
+use Rattle.scan_log.specs.Commands.{IsBy, command_caller}
 use Rattle.scan_log.specs.declared.command.Command.{Command}
 use Rattle.scan_log.specs.declared.command.Command.TheVariants.{Change, Near, Nears, Inside, Ball, Lonely, Clusters, Pose, Sync}
 use Rattle.scan_log.specs.declared.reply.Reply.{Reply}
@@ -13,28 +14,8 @@ use Rattle.scan_log.specs.Transcript.{totals_reply}
 use Rattle.mapper_core.specs.Told.{Told}
 use Rattle.mapper_core.specs.Mine.{updates_by, Mine, Turned}
 
--- whose command it is
-abbrev pub IsBy : Command → ℕ → Type 0
-IsBy (Change caller u) x = caller ≡ x
-IsBy (Near caller k p within) x = caller ≡ x
-IsBy (Nears caller k ps) x = caller ≡ x
-IsBy (Inside caller k c) x = caller ≡ x
-IsBy (Ball caller k r p) x = caller ≡ x
-IsBy (Lonely caller k r) x = caller ≡ x
-IsBy (Clusters caller k r) x = caller ≡ x
-IsBy (Pose caller rules p) x = caller ≡ x
-IsBy Sync x = ⊥
-
 abbrev pub is_barrier : Command → Bool
-is_barrier (Change caller u) = false
-is_barrier (Near caller k p within) = false
-is_barrier (Nears caller k ps) = false
-is_barrier (Inside caller k c) = false
-is_barrier (Ball caller k r p) = false
-is_barrier (Lonely caller k r) = false
-is_barrier (Clusters caller k r) = false
-is_barrier (Pose caller rules p) = false
-is_barrier Sync = true
+is_barrier c = is_none (command_caller c)
 
 -- the command is one of these callers', who are numbered from 1
 abbrev pub IsOfCallers : ℕ → Command → Type 0
@@ -42,15 +23,7 @@ IsOfCallers n c = (k : ℕ) × IsBy c (k + 1) × (k < n)
 
 -- the command is a barrier, or one of these callers'
 abbrev pub HasCaller : ℕ → Command → Type 0
-HasCaller n (Change caller u) = (1 ≤ caller) × (caller ≤ n)
-HasCaller n (Near caller k p within) = (1 ≤ caller) × (caller ≤ n)
-HasCaller n (Nears caller k ps) = (1 ≤ caller) × (caller ≤ n)
-HasCaller n (Inside caller k c) = (1 ≤ caller) × (caller ≤ n)
-HasCaller n (Ball caller k r p) = (1 ≤ caller) × (caller ≤ n)
-HasCaller n (Lonely caller k r) = (1 ≤ caller) × (caller ≤ n)
-HasCaller n (Clusters caller k r) = (1 ≤ caller) × (caller ≤ n)
-HasCaller n (Pose caller rules p) = (1 ≤ caller) × (caller ≤ n)
-HasCaller n Sync = Unit {0}
+HasCaller n c = IfSome (command_caller c) (λ caller. (1 ≤ caller) × (caller ≤ n))
 
 -- what is left to be told to each caller, the first of whom is 1
 abbrev pub AllMine : ℕ → List Entry → List Command → (ℕ → ℕ) → List (List Reply) → ℕ → Type 0

@@ -37,7 +37,7 @@ abbrev pub after_read : PiecedFeed → ℕ → Result ℕ Failed → PiecedFeed
 after_read s room (Ok n) = record s { left = drop n s.left; calls = raised s.calls; ended = is_end {E = Failed} (Ok n) room }
 after_read s room (Err e) = record s { calls = raised s.calls; faults = raised s.faults; ended = false }
 
--- a write failed, and not for want of memory
+-- a write failed, and not for lack of memory
 abbrev pub has_failed : Result ℕ SinkFault → Bool
 has_failed (Ok n) = false
 has_failed (Err fault.Failed) = true

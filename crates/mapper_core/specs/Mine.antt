@@ -1,30 +1,29 @@
--- What one caller did and was told, seen from one history.
-use Rattle.std.specs.Prelude.{◌≡◌, ℕ, ◌+◌, ◌<◌, ◌≤◌, ◌⊎◌, ◌==◌, true, List, [], ◌∷◌, ◌++◌, length, Option, Some, None, MatchBool}
+-- What one caller did and was told, seen from one history. Cited by private functions alone.
+use Rattle.std.specs.Prelude.{◌≡◌, ℕ, ◌+◌, ◌<◌, ◌≤◌, ◌⊎◌, Bool, true, List, [], ◌∷◌, ◌++◌, length, Option, Some, None, MatchBool}
 use mathlib.Core.List.{IsPrefix}
 use Rattle.map_fold.specs.declared.entry.Entry.{Entry}
 use Rattle.map_fold.specs.declared.update.Update.{Update}
 use Rattle.map_fold.specs.Fold.{fold}
 use Rattle.rebuild_core.specs.History.{updates}
 use Rattle.published_map.specs.Marks.{Seen, Grown, keep_if}
+use Rattle.scan_log.specs.Commands.{command_update, is_by}
 use Rattle.scan_log.specs.declared.command.Command.{Command}
 use Rattle.scan_log.specs.declared.command.Command.TheVariants.{Change, Near, Nears, Inside, Ball, Lonely, Clusters, Pose, Sync}
 use Rattle.scan_log.specs.declared.reply.Reply.{Reply}
 use Rattle.scan_log.specs.Scripts.{submitted}
 use Rattle.scan_log.specs.Transcript.{mark_of}
-use Rattle.mapper_core.specs.Told.{is_by, Answers}
+use Rattle.mapper_core.specs.Told.{Answers}
+use Rattle.map_fold.specs.declared.limits.TheConstants.{MAX_POINTS}
+use Rattle.rebuild_core.specs.declared.plan.TheConstants.{MAX_UPDATES}
+
+abbrev keep_made : Bool → Option Update → List Update → List Update
+keep_made is_own (Some u) us = keep_if is_own u us
+keep_made is_own None us = us
 
 -- the updates of a caller among the commands, in order
 abbrev pub updates_by : ℕ → List Command → List Update
 updates_by x [] = []
-updates_by x (Change caller u ∷ cs) = keep_if (caller == x) u (updates_by x cs)
-updates_by x (Near caller k p within ∷ cs) = updates_by x cs
-updates_by x (Nears caller k ps ∷ cs) = updates_by x cs
-updates_by x (Inside caller k c ∷ cs) = updates_by x cs
-updates_by x (Ball caller k r p ∷ cs) = updates_by x cs
-updates_by x (Lonely caller k r ∷ cs) = updates_by x cs
-updates_by x (Clusters caller k r ∷ cs) = updates_by x cs
-updates_by x (Pose caller rules p ∷ cs) = updates_by x cs
-updates_by x (Sync ∷ cs) = updates_by x cs
+updates_by x (c ∷ cs) = keep_made (is_by x c) (command_update c) (updates_by x cs)
 
 -- the replies to a caller's commands among these. Before them its last mark was at least low, and after them it is at most high
 abbrev pub Mine : ℕ → List Entry → ℕ → List Command → ℕ → List Reply → ℕ → Type 0
@@ -43,7 +42,7 @@ pub record Answered (voxel : ℕ) (c : Command) (p q : Seen) (r : Reply) : Type 
 
 -- with the command a map of this history would have more updates, or more points, than it may have
 abbrev pub IsOver : ℕ → List Entry → Command → Type 0
-IsOver voxel h c = (1048576 ≤ length h) ⊎ (4194304 < (fold voxel (updates h)).next + submitted c)
+IsOver voxel h c = (MAX_UPDATES ≤ length h) ⊎ (MAX_POINTS < (fold voxel (updates h)).next + submitted c)
 
 -- the reply to the command, or none where the map has no room for it
 abbrev pub Tried : ℕ → Command → Seen → Seen → Option Reply → Type 0

@@ -1,48 +1,18 @@
 -- What callers were told, seen from one history.
-use Rattle.std.specs.Prelude.{◌≡◌, ℕ, ◌+◌, ◌≤◌, ◌==◌, Bool, true, false, List, [], ◌∷◌, length, slice_get, Some, if◌then◌else◌}
+use Rattle.std.specs.Prelude.{◌≡◌, ℕ, ◌+◌, ◌≤◌, ◌==◌, Bool, true, false, List, [], ◌∷◌, length, slice_get, Some, if◌then◌else◌, IfSome, MatchOption}
 use Rattle.map_fold.specs.declared.entry.Entry.{Entry}
 use Rattle.rebuild_core.specs.History.{updates}
+use Rattle.scan_log.specs.Commands.{Concerns, command_caller, command_update, is_for}
 use Rattle.scan_log.specs.declared.command.Command.{Command}
 use Rattle.scan_log.specs.declared.command.Command.TheVariants.{Change, Near, Nears, Inside, Ball, Lonely, Clusters, Pose, Sync}
 use Rattle.scan_log.specs.declared.reply.Reply.{Reply}
-use Rattle.scan_log.specs.Legal.{Concerns, IsLater}
+use Rattle.scan_log.specs.Legal.{IsLater}
 use Rattle.scan_log.specs.Transcript.{reply_to, mark_of}
-
--- the command is this caller's
-abbrev pub is_by : ℕ → Command → Bool
-is_by x (Change caller u) = caller == x
-is_by x (Near caller k p within) = caller == x
-is_by x (Nears caller k ps) = caller == x
-is_by x (Inside caller k c) = caller == x
-is_by x (Ball caller k r p) = caller == x
-is_by x (Lonely caller k r) = caller == x
-is_by x (Clusters caller k r) = caller == x
-is_by x (Pose caller rules p) = caller == x
-is_by x Sync = false
-
--- the command is this caller's, or a barrier
-abbrev pub is_for : ℕ → Command → Bool
-is_for x (Change caller u) = caller == x
-is_for x (Near caller k p within) = caller == x
-is_for x (Nears caller k ps) = caller == x
-is_for x (Inside caller k c) = caller == x
-is_for x (Ball caller k r p) = caller == x
-is_for x (Lonely caller k r) = caller == x
-is_for x (Clusters caller k r) = caller == x
-is_for x (Pose caller rules p) = caller == x
-is_for x Sync = true
 
 -- the mark has a place in the history: an update's is the place of the caller's entry with it, from 1 on
 abbrev pub IsPlaced : List Entry → Command → ℕ → Type 0
-IsPlaced h (Change caller u) m = (k : ℕ) × (m ≡ k + 1) × ((e : Entry) × (slice_get h k ≡ Some e) × (e.caller ≡ caller) × (e.update ≡ u))
-IsPlaced h (Near caller k p within) m = m ≤ length h
-IsPlaced h (Nears caller k ps) m = m ≤ length h
-IsPlaced h (Inside caller k c) m = m ≤ length h
-IsPlaced h (Ball caller k r p) m = m ≤ length h
-IsPlaced h (Lonely caller k r) m = m ≤ length h
-IsPlaced h (Clusters caller k r) m = m ≤ length h
-IsPlaced h (Pose caller rules p) m = m ≤ length h
-IsPlaced h Sync m = m ≤ length h
+IsPlaced h c m = MatchOption (command_update c) (m ≤ length h)
+    (λ u. (k : ℕ) × (m ≡ k + 1) × ((e : Entry) × (slice_get h k ≡ Some e) × IfSome (command_caller c) (λ caller. e.caller ≡ caller) × (e.update ≡ u)))
 
 -- the reply to the command after so many entries of the history as its mark says
 pub record IsReply (voxel : ℕ) (h : List Entry) (c : Command) (r : Reply) : Type 0 where

@@ -4,29 +4,17 @@ use Rattle.kd_tree.specs.Contents.{contents}
 use Rattle.map_fold.specs.declared.update.Update.{Update}
 use Rattle.rebuild_core.specs.History.{updates}
 use Rattle.rebuild_core.specs.Lawful.{StateAt}
+use Rattle.scan_log.specs.Commands.{updates_made}
 use Rattle.scan_log.specs.declared.command.Command.{Command}
 use Rattle.scan_log.specs.declared.command.Command.TheVariants.{Change, Near, Nears, Inside, Ball, Lonely, Clusters, Pose, Sync}
 use Rattle.scan_log.specs.declared.reply.Reply.{Reply}
 use Rattle.scan_log.specs.Scripts.{submitted}
 use Rattle.scan_log.specs.Transcript.{reply_to}
 
--- the updates of the commands, in order
-abbrev pub updates_of : List Command → List Update
-updates_of [] = []
-updates_of (Change caller u ∷ cs) = u ∷ updates_of cs
-updates_of (Near caller k p within ∷ cs) = updates_of cs
-updates_of (Nears caller k ps ∷ cs) = updates_of cs
-updates_of (Inside caller k c ∷ cs) = updates_of cs
-updates_of (Ball caller k r p ∷ cs) = updates_of cs
-updates_of (Lonely caller k r ∷ cs) = updates_of cs
-updates_of (Clusters caller k r ∷ cs) = updates_of cs
-updates_of (Pose caller rules p ∷ cs) = updates_of cs
-updates_of (Sync ∷ cs) = updates_of cs
-
 -- The second state is the first after the command: its updates are one more, or the same.
 pub record Follows (c : Command) (s t : StateAt) : Type 0 where
   pub settings : t.settings ≡ s.settings
-  pub made : updates t.history ≡ updates s.history ++ updates_of (c ∷ [])
+  pub made : updates t.history ≡ updates s.history ++ updates_made (c ∷ [])
   pub next : t.next ≡ s.next + submitted c
 
 -- the tree may be another one, and all that is seen stays

@@ -11,9 +11,9 @@ ghost use Rattle.mapper_core.specs.Turns.{Follows, IsTended, reply_of};
 use crate::neighbours::{ball_reply, clusters_reply, lonely_reply};
 use kd_search::{count_in, in_cuboid, nearest};
 use kd_tree::{Steps, Tree};
-use map_fold::{BoxReply, HitLists, NearReply, NearsReply, NoMemory, Points, Update};
+use map_fold::{BoxReply, HitLists, MAX_POINTS, NearReply, NearsReply, NoMemory, Points, Update};
 use point_geom::{Cuboid, Point};
-use rebuild_core::{Built, MapState, StateFault, SwapFault};
+use rebuild_core::{Built, MAX_UPDATES, MapState, StateFault, SwapFault};
 use scan_log::{Command, Reply};
 use std::alloc::Global;
 use std::marker::Brand;
@@ -22,8 +22,8 @@ use std::sync::ledger::{Blank, Ledger};
 /// Does what the command asks for, and answers the reply. At a barrier the map is settled.
 pub fn answer(alloc: Global, state: &mut MapState, command: &Command) -> Result<Reply, NoMemory>
     requires good { IsPlain command.now }
-    requires updates { length state.old.state.history < 1048576 }
-    requires points { state.old.state.next + submitted command.now ≤ 4194304 }
+    requires updates { length state.old.state.history < MAX_UPDATES }
+    requires points { state.old.state.next + submitted command.now ≤ MAX_POINTS }
     ensures follows { OnOk result (Follows command.now state.old.state state.new.state) }
     ensures reply { IfOk result (λ r. r ≡ reply_of state.new.state command.now) }
 {
@@ -66,7 +66,7 @@ fn change(
     Ok(Reply::Done { mark })
 }
 
-// One more update of the caller. There is room for it, so nothing but want of memory refuses it.
+// One more update of the caller. There is room for it, so nothing but lack of memory refuses it.
 fn updated<L: Ledger>(
     alloc: Global,
     state: &mut MapState,

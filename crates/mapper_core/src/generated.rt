@@ -7,9 +7,9 @@ ghost use Rattle.scan_log.specs.Scripts.{IsCaller, IsCallerBox, IsCommand, IsSca
 ghost use Rattle.mapper_core.specs.Generated.{after, behind, deletions, generated, next_draws, points_of_draws, robot, scan_commands};
 
 use crate::draws::{Draws, point_at};
-use map_fold::{Cuboids, NoMemory, Points, Settings, Update};
+use map_fold::{Cuboids, MAX_POINTS, NoMemory, Points, Settings, Update};
 use point_geom::{Corner, Cuboid};
-use scan_log::{Command, Format, Script};
+use scan_log::{Command, Format, MAX_COMMANDS, Script};
 use std::alloc::Global;
 
 /// The edge of the grid's voxels, in millimetres.
@@ -51,8 +51,8 @@ fn push_scan(
 ) -> Result<(), NoMemory>
     requires format { script.old.format ≡ One }
     requires scan { scan < 200 }
-    requires few { length script.old.commands + 5 ≤ 65536 }
-    requires room { points_of script.old.commands + 2000 ≤ 4194304 }
+    requires few { length script.old.commands + 5 ≤ MAX_COMMANDS }
+    requires room { points_of script.old.commands + 2000 ≤ MAX_POINTS }
     requires hits { hits_of script.old.commands ≤ 256 * length script.old.commands }
     ensures format { OnOk result (script.new.format ≡ One) }
     ensures sizes { OnOk result (script.new.sizes ≡ script.old.sizes) }
@@ -104,8 +104,8 @@ fn question(caller: u8, scan: u32, within: Option<u64>) -> Command
 fn push_deletions(alloc: Global, script: &mut Script, scan: u32) -> Result<(), NoMemory>
     requires format { script.old.format ≡ One }
     requires scan { scan < 200 }
-    requires few { length script.old.commands < 65536 }
-    requires room { points_of script.old.commands ≤ 4194304 }
+    requires few { length script.old.commands < MAX_COMMANDS }
+    requires room { points_of script.old.commands ≤ MAX_POINTS }
     requires hits { hits_of script.old.commands ≤ 256 * length script.old.commands }
     ensures format { OnOk result (script.new.format ≡ One) }
     ensures sizes { OnOk result (script.new.sizes ≡ script.old.sizes) }
@@ -150,8 +150,8 @@ fn behind(scan: u32) -> Cuboid
 fn push(script: &mut Script, command: Command) -> Result<(), NoMemory>
     requires format { script.old.format ≡ One }
     requires good { IsCommand One command }
-    requires few { length script.old.commands < 65536 }
-    requires room { points_of script.old.commands + submitted command ≤ 4194304 }
+    requires few { length script.old.commands < MAX_COMMANDS }
+    requires room { points_of script.old.commands + submitted command ≤ MAX_POINTS }
     requires hits { hits_of script.old.commands ≤ 256 * length script.old.commands }
     requires asks { asked command ≤ 256 }
     ensures format { OnOk result (script.new.format ≡ One) }

@@ -14,7 +14,7 @@ use clap::{Arg, ArgAction, ArgMatches, Command};
 use std::alloc::{AllocError, Global};
 
 /// What `clap` reads from the words, of which the first is the program's name. Whatever it refuses is heard as nothing, its
-/// texts are let go, and words that ask for something are heard as that.
+/// texts are dropped, and words that ask for something are heard as that.
 pub fn heard(alloc: Global, argv: &[&str]) -> Result<Option<Ask>, AllocError>
     ensures can_be_done { IfOk result (λ r. IfSome r CanBeDone) }
     ensures heard { (a : Ask) → CanBeDone a → map (λ w. w.now) argv.now ≡ codes "mapper" ∷ spelled a → IfOk result (λ r. IsHeard r (spelled a)) }

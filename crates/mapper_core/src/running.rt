@@ -56,12 +56,12 @@ pub fn run<H: Threads + Wait + Sync, R: Source, W: Sink, E: Sink, G: Gate + Sync
     ensures made { (n : ℕ) → result ≡ Status.Done → Asks (Ask.Make n) (texts words.now) → IsMade n (out_seen W.Sink out.old out.new) }
     ensures driven { (n : ℕ) → result ≡ Status.Done → Asks (Ask.Drive n) (texts words.now) → IsDriven n (out_seen W.Sink out.old out.new) }
 
-    // Each status has its cause, and notes get its line or a front of it. Only the words decide on Usage, where memory was not wanting.
+    // Each status has its cause, and notes get its line or a front of it. Only the words decide on Usage, where memory did not run out.
     ensures cause { Ends (run_seen (texts words.now) (log_seen R.Source log.old log.new) (out_seen W.Sink out.old out.new)) (E.held notes.old) (E.held notes.new) result }
     ensures usage { result ≡ Status.Usage → AskNothing (texts words.now) }
     ensures wrong_words { AskNothing (texts words.now) → IsOrNoMemory result Status.Usage }
 
-    // Where no stream failed and memory was not wanting, a log that is spelled is done, whatever stands behind it, and so is what is
+    // Where no stream failed and memory did not run out, a log that is spelled is done, whatever stands behind it, and so is what is
     // generated. One whose first fault is no limit is bad, and else it is over a limit, as is an input that is too long.
     ensures complete { IfSpelled (texts words.now) (R.left log.old) (NoFault (R.faults log.old) (R.faults log.new)
         → NoFault (W.faults out.old) (W.faults out.new) → IsOrNoMemory result Status.Done) }

@@ -29,22 +29,16 @@ pub fn is_spelled(words: &[String], ask: Ask) -> bool
 
 /// The number of scans whose one spelling this is, from 1 to 200.
 pub fn scans_of(text: &str) -> Option<u32>
-    ensures some { IfSome result (λ n. (1 ≤ n) × (n ≤ 200) × (decimal n ≡ text.now)) }
-    ensures none { IfNone result ((n : ℕ) → 1 ≤ n → n ≤ 200 → decimal n ≢ text.now) }
+    ensures some { IfSome result (λ n. (1 ≤ n) × (n ≤ MAX_SCANS) × (decimal n ≡ text.now)) }
+    ensures none { IfNone result ((n : ℕ) → 1 ≤ n → n ≤ MAX_SCANS → decimal n ≢ text.now) }
 {
-    for n in 1..MAX_SCANS + 1 {
-        let mut number = Buffer::new();
-        if number.format(n) == text {
-            return Some(n);
-        }
-    }
-    None
+    natural_in(1, MAX_SCANS, text.as_bytes()).ok()
 }
 
 /// The number of bytes whose one spelling this is, if a log may have so many.
 pub fn length_of(text: &str) -> Option<u32>
-    ensures some { IfSome result (λ n. (n ≤ 268435456) × (decimal n ≡ text.now)) }
-    ensures none { IfNone result ((n : ℕ) → n ≤ 268435456 → decimal n ≢ text.now) }
+    ensures some { IfSome result (λ n. (n ≤ MAX_LOG) × (decimal n ≡ text.now)) }
+    ensures none { IfNone result ((n : ℕ) → n ≤ MAX_LOG → decimal n ≢ text.now) }
 {
     natural_in(0, MAX_LOG, text.as_bytes()).ok()
 }

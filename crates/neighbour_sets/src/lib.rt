@@ -8,13 +8,9 @@
 
 mod alone;
 mod ball;
-#[cfg(test)]
-mod crowds;
 mod front;
 mod growing;
 mod noted;
-#[cfg(test)]
-mod tests;
 
 pub use alone::{Found, lonely};
 pub use ball::{count_ball, in_ball};

@@ -6,6 +6,9 @@ ghost use Rattle.node_labels.specs.declared.label.Label.{Label};
 
 use crate::{Label, Tag};
 
+/// The most that counts may tell of together: 4,194,304, as many as a map may be given points.
+pub const MAX_COUNTED: u32 = 4_194_304;
+
 /// How many nodes or items there are of each label.
 #[derive(Clone, Copy, Debug, Default, PartialEq, Eq)]
 pub struct Counts {
@@ -17,7 +20,7 @@ pub struct Counts {
 impl Counts {
     /// The counts after an action on all that was counted.
     pub fn apply(self, tag: Tag) -> Counts
-        requires { total self ≤ 4194304 }
+        requires { total self ≤ MAX_COUNTED }
         ensures value { result ≡ applied tag self }
         ensures counts { (labels : List Label) → self ≡ tally labels → result ≡ tally (map (apply tag) labels) }
         ensures same { total result ≡ total self }
@@ -34,7 +37,7 @@ impl Counts {
 
     /// The counts of both together.
     pub fn add(self, other: Counts) -> Counts
-        requires { total self + total other ≤ 4194304 }
+        requires { total self + total other ≤ MAX_COUNTED }
         ensures { result ≡ added self other }
     {
         Counts {
@@ -45,7 +48,7 @@ impl Counts {
     }
 
     fn gain(&mut self, label: Label, n: u32)
-        requires { total self.old + n ≤ 4194304 }
+        requires { total self.old + n ≤ MAX_COUNTED }
         ensures { self.new ≡ added self.old (counted label n) }
     {
         match label {

@@ -5,9 +5,6 @@ mod counts;
 mod label;
 mod tag;
 
-pub use counts::Counts;
+pub use counts::{Counts, MAX_COUNTED};
 pub use label::Label;
 pub use tag::Tag;
-
-#[cfg(test)]
-mod tests;

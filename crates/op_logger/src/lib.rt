@@ -4,8 +4,6 @@
 mod block;
 mod fault;
 mod log;
-#[cfg(test)]
-mod tests;
 
 pub use fault::PushFault;
-pub use log::OpLog;
+pub use log::{MAX_LOGGED, OpLog};

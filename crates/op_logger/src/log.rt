@@ -9,8 +9,8 @@ use std::alloc::{AllocError, Global};
 use std::marker::Model;
 use std::mem;
 
-// As many operations as are held at most.
-const MOST: u32 = 65_536;
+/// The most operations that a list holds: 65,536.
+pub const MAX_LOGGED: u32 = 65_536;
 
 // From so many operations on the tail becomes a block.
 const FULL: usize = 256;
@@ -31,12 +31,13 @@ impl Model for OpLog {
     ghost use Rattle.std.specs.Prelude.{List, ◌≡◌, ◌+◌, ◌≤◌, ◌++◌, length};
     ghost use Rattle.op_logger.specs.Blocks.{ops_in};
     ghost use Rattle.map_fold.specs.declared.op.Op.{Op};
+    ghost use Rattle.op_logger.specs.declared.log.TheConstants.{MAX_LOGGED};
 
     ghost Value = { List Op };
 
     ghost view = { λ l. ops_in l.blocks.items ++ l.tail.items };
 
-    ghost invariant = { λ l. (l.front ≡ length (ops_in l.blocks.items)) × (l.front + length l.tail.items ≤ 65536) };
+    ghost invariant = { λ l. (l.front ≡ length (ops_in l.blocks.items)) × (l.front + length l.tail.items ≤ MAX_LOGGED) };
 }
 
 impl OpLog {
@@ -55,17 +56,17 @@ impl OpLog {
     /// How many there are.
     pub fn len(&self) -> u32
         ensures value { result ≡ length self.now }
-        ensures few { result ≤ 65536 }
+        ensures few { result ≤ MAX_LOGGED }
     {
         self.front + self.tail.len() as u32
     }
 
     /// How many more there may be.
     pub fn room(&self) -> u32
-        ensures value { result ≡ 65536 - length self.now }
-        ensures sum { result + length self.now ≡ 65536 }
+        ensures value { result ≡ MAX_LOGGED - length self.now }
+        ensures sum { result + length self.now ≡ MAX_LOGGED }
     {
-        MOST - self.len()
+        MAX_LOGGED - self.len()
     }
 
     /// Those after the first n, in order, as a list of its own. It costs a step for each of them, and for each few hundred before.
@@ -101,14 +102,14 @@ impl OpLog {
         })
     }
 
-    /// Puts one more at the end. It is refused where 65,536 are held, and where memory is wanting; then the list stays as it
+    /// Puts one more at the end. It is refused where 65,536 are held, and where memory runs out; then the list stays as it
     /// was.
     pub fn push(&mut self, op: Op) -> Result<(), PushFault>
         ensures ok { OnOk result (self.new ≡ self.old ++ op ∷ []) }
         ensures err { OnErr result (self.new ≡ self.old) }
-        ensures full { IsErrOf result Full ↔ (length self.old ≡ 65536) }
+        ensures full { IsErrOf result Full ↔ (length self.old ≡ MAX_LOGGED) }
     {
-        if self.len() == MOST {
+        if self.len() == MAX_LOGGED {
             return Err(PushFault::Full);
         }
         if FULL <= self.tail.len() {

@@ -13,6 +13,3 @@ pub use cuboid::{Corner, Cuboid, CuboidError, voxel};
 pub use distance::{centre_dist2, dist2, dist2_on};
 pub use extent::Extent;
 pub use point::{OutOfRange, Point};
-
-#[cfg(test)]
-mod tests;

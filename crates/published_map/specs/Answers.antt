@@ -12,13 +12,15 @@ use Rattle.rebuild_core.specs.declared.fault.StateFault.{StateFault}
 use Rattle.rebuild_core.specs.declared.fault.StateFault.TheVariants.{TooManyUpdates, TooManyPoints, NoMemory}
 use Rattle.published_map.specs.Marks.{Seen, Grown, Added}
 use Rattle.published_map.specs.Versions.{held}
+use Rattle.map_fold.specs.declared.limits.TheConstants.{MAX_POINTS}
+use Rattle.rebuild_core.specs.declared.plan.TheConstants.{MAX_UPDATES}
 
--- An update ends what its pass has seen. A refusal by a limit shows the history that is full; want of memory leaves all.
+-- An update ends what its pass has seen. A refusal by a limit shows the history that is full; lack of memory leaves all.
 abbrev pub Updated : ℕ → Result ℕ StateFault → Seen → Seen → Update → Type 0
 Updated voxel (Ok n) p q u = Added p q u n
-Updated voxel (Err (TooManyUpdates len)) p q u = Grown p q × (len ≡ length q.seen) × (len ≡ 1048576)
+Updated voxel (Err (TooManyUpdates len)) p q u = Grown p q × (len ≡ length q.seen) × (len ≡ MAX_UPDATES)
 Updated voxel (Err (TooManyPoints next asked)) p q u =
-    Grown p q × (next ≡ (fold voxel (updates q.seen)).next) × (asked ≡ points_in u) × (4194304 < next + asked)
+    Grown p q × (next ≡ (fold voxel (updates q.seen)).next) × (asked ≡ points_in u) × (MAX_POINTS < next + asked)
 Updated voxel (Err NoMemory) p q u = q ≡ p
 
 -- the nearest points of what the history leaves, at its length

@@ -5,14 +5,15 @@ use Rattle.kd_tree.specs.Contents.{contents}
 use Rattle.rebuild_core.specs.Built.{BuiltAt}
 use Rattle.rebuild_core.specs.declared.swap.Late.{Late}
 use Rattle.rebuild_core.specs.declared.swap.Late.TheVariants.{Stale, Behind, NoMemory}
+use Rattle.op_logger.specs.declared.log.TheConstants.{MAX_LOGGED}
 
--- Where at most so many operations are done: but for want of memory the value is handed back, and one that is further behind with the
+-- Where at most so many operations are done: but for lack of memory the value is handed back, and one that is further behind with the
 -- operations that it lacks. They can be done on its tree, and are no more than a log has.
 abbrev pub IsLateCause : BuiltAt → ℕ → Late → Type 0
 IsLateCause b most (Stale built) = built ≡ b
-IsLateCause b most (Behind built ops) = (built ≡ b) × Fit (contents b.tree) ops × (most < length ops) × (length ops ≤ 65536)
+IsLateCause b most (Behind built ops) = (built ≡ b) × Fit (contents b.tree) ops × (most < length ops) × (length ops ≤ MAX_LOGGED)
 IsLateCause b most NoMemory = ⊤
 
 -- so many operations are done in a swap: where it is forced, as many as a log has
 abbrev pub most_done : Bool → ℕ
-most_done force = if force then 65536 else 64
+most_done force = if force then MAX_LOGGED else 64

@@ -1,4 +1,4 @@
--- What a turn of the lock makes of the history.
+-- What a turn of the lock makes of the history. Cited by private functions alone.
 use Rattle.std.specs.Prelude.{List, ◌++◌}
 use Rattle.map_fold.specs.declared.entry.Entry.{Entry}
 use Rattle.rebuild_core.specs.Lawful.{StateAt}

@@ -8,6 +8,7 @@ use crate::mark::Mark;
 use crate::name::MapName;
 use crate::shared::Shared;
 use map_fold::{NoMemory, Ops};
+use op_logger::MAX_LOGGED;
 use rebuild_core::{Built, Desk, Job, Late, LogAsk, SwapFault, SwapLeft};
 use std::alloc::Global;
 use std::sync::{MutexGuard, Wait};
@@ -15,12 +16,9 @@ use std::sync::{MutexGuard, Wait};
 // As many operations are done in a swap that isn't forced.
 const FEW: u32 = 64;
 
-// As many a log has at most.
-const MOST_LOGGED: u32 = 65_536;
-
 impl<L: MapName> Desk for Shared<L> {
     /// The subtree is detached as a tree in one turn of the lock, listed after it, and in a second turn the map gets the list.
-    /// Where memory is wanting for the list, the subtree stays detached, without a job: the next call for its slot detaches it
+    /// Where memory runs out for the list, the subtree stays detached, without a job: the next call for its slot detaches it
     /// afresh.
     fn detach<R: Wait>(&self, rt: &R, alloc: Global, slot: u8) -> Result<Option<Job>, NoMemory> {
         let mut locked = self.lock.lock(rt);
@@ -53,7 +51,7 @@ impl<L: MapName> Desk for Shared<L> {
         built: Built,
         force: bool,
     ) -> Result<(), SwapLeft> {
-        let most = if force { MOST_LOGGED } else { FEW };
+        let most = if force { MAX_LOGGED } else { FEW };
         match self.swap_copy(rt, alloc, &built, most) {
             Ok(()) => Ok(()),
             Err(late) => {

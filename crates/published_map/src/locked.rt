@@ -40,10 +40,10 @@ where
     // Whether an update, which makes few nodes anew, came after the former version.
     pub(crate) by_update: bool,
     // The version that the last swap or settling took the place of, once an update came after it. It may be the last to hold what
-    // was taken out of the tree, so a worker lets it go, and not the caller that updates.
+    // was taken out of the tree, so a worker drops it, and not the caller that updates.
     pub(crate) left: Option<Arc<Version>>,
     // What the pass of an update kept before it, where that wasn't the version that was published last. After several swaps it may
-    // hold what the first of them took out, so a worker lets it go as well.
+    // hold what the first of them took out, so a worker drops it as well.
     pub(crate) kept: Option<Shown<L>>,
     // What subtrees held that were detached, the last of each slot.
     pub(crate) holds: Vec<Hold<L>>,
@@ -78,7 +78,7 @@ impl<L: MapName> Locked<L> {
     }
 
     /// Ends a turn before which this version was published, and in which an update was made or something else. What it answers may
-    /// be all that keeps a version now: it is to be let go of after the lock was given back. What an update left behind it is the
+    /// be all that keeps a version now: it is to be dropped after the lock was given back. What an update left behind it is the
     /// state's again, for the next one.
     pub fn keep(
         &mut self,
@@ -109,7 +109,7 @@ impl<L: MapName> Locked<L> {
         self.writer.published().mark().is_same(kept.mark())
     }
 
-    /// Takes what the pass of an update kept before it, in the place of what an earlier pass did, which is to be let go of after the
+    /// Takes what the pass of an update kept before it, in the place of what an earlier pass did, which is to be dropped after the
     /// lock was given back.
     pub fn set_aside(&mut self, kept: Option<Shown<L>>) -> Option<Shown<L>>
         ensures same { self.new ≡ self.old }
@@ -117,7 +117,7 @@ impl<L: MapName> Locked<L> {
         replace(&mut self.kept, kept)
     }
 
-    /// What the detached subtrees held, held once more: a turn that may forget some lets it go after the lock was given back.
+    /// What the detached subtrees held, held once more: a turn that may forget some drops it after the lock was given back.
     pub fn holdings(&self) -> [Option<Holding>; 4] {
         [
             self.state.holding_in(1),

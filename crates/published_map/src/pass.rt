@@ -92,7 +92,7 @@ impl<L: MapName> Pass<L> {
         self.kept.version().len()
     }
 
-    /// Takes the published version and keeps it. Where no version is handed out, or memory is wanting, it keeps the one that it
+    /// Takes the published version and keeps it. Where no version is handed out, or memory runs out, it keeps the one that it
     /// has.
     pub fn renew(&mut self)
         ensures { Grown self.old self.new }
@@ -109,7 +109,7 @@ impl<L: MapName> Pass<L> {
         self.kept.version()
     }
 
-    /// Renews the version, and searches it as `kd_search::nearest` does, with the same cost. Where memory is wanting, more may
+    /// Renews the version, and searches it as `kd_search::nearest` does, with the same cost. Where memory runs out, more may
     /// have been seen.
     pub fn nearest(
         &mut self,
@@ -135,7 +135,7 @@ impl<L: MapName> Pass<L> {
     }
 
     /// Renews the version, counts the live points of the box, and lists the first `most` of them by number, as
-    /// `kd_search::count_in` and `kd_search::in_cuboid` do. Where memory is wanting, more may have been seen.
+    /// `kd_search::count_in` and `kd_search::in_cuboid` do. Where memory runs out, more may have been seen.
     pub fn in_cuboid(&mut self, alloc: Global, c: &Cuboid, most: u32) -> Result<BoxReply, NoMemory>
         requires most_from { 1 ≤ most }
         requires most_to { most ≤ 256 }

@@ -19,7 +19,7 @@ use std::sync::ledger::Blank;
 use std::sync::{Mutex, MutexGuard, Wait};
 
 /// A map that several callers share, each with a pass of its own. A call that is handed `rt` takes the lock, and waits for those
-/// that have it. What a turn lets go of is freed after the lock was given back, and what a swap took out of the tree by the next
+/// that have it. What a turn drops is freed after the lock was given back, and what a swap took out of the tree by the next
 /// turn of a worker rather than by the caller that updates, though no clause says so.
 /// End it by `finish` or `close`.
 pub struct Shared<L: MapName> {
@@ -76,7 +76,7 @@ impl<L: MapName> Shared<L> {
     }
 
     /// Makes an update of the pass's caller, as `MapState::update` does, and publishes a version with it, which the pass then
-    /// keeps. It answers how many entries the history has then. A refusal lets go of the update.
+    /// keeps. It answers how many entries the history has then. A refusal drops the update.
     pub fn update<R: Wait>(
         &self,
         rt: &R,
@@ -127,8 +127,8 @@ impl<L: MapName> Shared<L> {
         MutexGuard::unlock(locked);
     }
 
-    /// Ends the map, and gives its state and what each caller did, in the order of the passes. Where memory is wanting, the state
-    /// is let go of.
+    /// Ends the map, and gives its state and what each caller did, in the order of the passes. Where memory runs out, the state
+    /// is dropped.
     pub fn finish<R: Wait>(
         self,
         rt: &R,

@@ -35,7 +35,7 @@ fn shown_by<L: MapName>(
     Ok(Shown::new(version, mark))
 }
 
-// Publishes a planned step and enters it, after which the history is so long. Where memory is wanting, it does neither.
+// Publishes a planned step and enters it, after which the history is so long. Where memory runs out, it does neither.
 fn show_step<L: MapName, R: Wait>(
     rt: &R,
     state: &mut MapState,
@@ -62,7 +62,7 @@ fn show_step<L: MapName, R: Wait>(
     Ok(state.enter_step(planned))
 }
 
-/// Publishes a planned step and enters it, after which the history is so long. Where memory is wanting, it does neither.
+/// Publishes a planned step and enters it, after which the history is so long. Where memory runs out, it does neither.
 pub fn take_step<L: MapName, R: Wait>(
     rt: &R,
     marks: &mut MarkList,

@@ -64,7 +64,7 @@ impl<L: MapName> Locked<L> {
     }
 
     /// One turn of the lock in which the part of the ticket gets the list of what it held, by this mark. What it answers is to be
-    /// let go of after the lock was given back: what the part had before, or the list where nobody waits for it any more.
+    /// dropped after the lock was given back: what the part had before, or the list where nobody waits for it any more.
     pub fn hold(&mut self, ticket: u64, list: Holding, mark: &Mark<L>) -> Holding
         requires { list ≡ mark.now.items }
         ensures { self.new ≡ self.old }
@@ -89,7 +89,7 @@ impl<L: MapName> Locked<L> {
     }
 
     /// One turn of the lock that swaps the value in, where it is at most so many operations behind. It was built of what the mark
-    /// is of. What comes back is to be let go of after the lock was given back.
+    /// is of. What comes back is to be dropped after the lock was given back.
     pub fn swap<R: Wait>(
         &mut self,
         rt: &R,

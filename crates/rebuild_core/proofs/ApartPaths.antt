@@ -1,4 +1,4 @@
--- Paths of which none begins with another, and what is even outside them.
+-- Paths of which none begins with another, and what is balanced outside them.
 use Rattle.std.proofs.Common.{◌≡◌, ℕ, Bool, true, false, List, [], ◌∷◌, ◌++◌, inl, inr, refl, ap}
 use Rattle.std.specs.Prelude.{◌⊎◌}
 use Rattle.kd_tree.specs.Shape.{Shape, leaf, fork}
@@ -81,14 +81,14 @@ none_here ps qs f e = by (is_here ps) refl
     by true h = let k = one_here qs (f [] (here_one ps h)) in absurd cc
     by false h = h
 
--- what is even outside some paths is so outside more
-pub even_more : (large : ℕ) (ps qs : List (List Side)) (t : Shape) → AreOnesOf ps qs → IsBalancedClear large ps t → IsBalancedClear large qs t
-even_more large ps qs leaf f k = tt
-even_more large ps qs (fork h l r) f k = λ e.
+-- what is balanced outside some paths is so outside more
+pub balanced_more : (large : ℕ) (ps qs : List (List Side)) (t : Shape) → AreOnesOf ps qs → IsBalancedClear large ps t → IsBalancedClear large qs t
+balanced_more large ps qs leaf f k = tt
+balanced_more large ps qs (fork h l r) f k = λ e.
     let all = k (none_here ps qs f e) in (
       all.0,
-      even_more large (onward Left ps) (onward Left qs) l (λ p m. one_onward Left p qs (f (Left ∷ p) (onward_one Left p ps m))) all.1,
-      even_more large (onward Right ps) (onward Right qs) r (λ p m. one_onward Right p qs (f (Right ∷ p) (onward_one Right p ps m))) all.2,
+      balanced_more large (onward Left ps) (onward Left qs) l (λ p m. one_onward Left p qs (f (Left ∷ p) (onward_one Left p ps m))) all.1,
+      balanced_more large (onward Right ps) (onward Right qs) r (λ p m. one_onward Right p qs (f (Right ∷ p) (onward_one Right p ps m))) all.2,
     )
 
 -- one of several stands before the others

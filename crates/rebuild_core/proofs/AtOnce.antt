@@ -4,7 +4,7 @@ use Rattle.std.specs.Prelude.{All}
 use Rattle.kd_tree.specs.Shape.{numbers}
 use Rattle.kd_update.specs.Several.{IsBalancedClear}
 use Rattle.kd_update.specs.Update.{IsBalancedBelow}
-use Rattle.kd_update.proofs.Several.{clear_even, even_clear}
+use Rattle.kd_update.proofs.Several.{clear_balanced, balanced_clear}
 use Rattle.rebuild_core.specs.Draft.{IsDraft, IsDraftLeft, watches_of}
 use Rattle.rebuild_core.specs.declared.work.Work.{Work}
 use Rattle.rebuild_core.specs.Parts.{PartAt, paths}
@@ -14,21 +14,21 @@ none_watched : (ps : List PartAt) → [] ≡ watches_of ps → ps ≡ []
 none_watched [] e = refl
 none_watched (p ∷ ps) e = absurd (cc)
 
--- where nothing is watched the whole tree is even
-pub free_even : (large next last : ℕ) (ps : List PartAt) (w : Work) → w.watches ≡ [] → IsDraft large next last ps w → IsBalancedBelow large w.tree
-free_even large next last ps w free d =
+-- where nothing is watched the whole tree is balanced
+pub free_balanced : (large next last : ℕ) (ps : List PartAt) (w : Work) → w.watches ≡ [] → IsDraft large next last ps w → IsBalancedBelow large w.tree
+free_balanced large next last ps w free d =
     let none = none_watched ps (sym free ∙ d.watched) in
-    clear_even large w.tree (subst (λ (qs : List PartAt). IsBalancedClear large (paths qs) w.tree) none d.even)
+    clear_balanced large w.tree (subst (λ (qs : List PartAt). IsBalancedClear large (paths qs) w.tree) none d.balanced)
 
--- and an even tree with numbers below the next is a draft
+-- and a balanced tree with numbers below the next is a draft
 pub free_draft : (large next last : ℕ) (ps : List PartAt) (w : Work) → w.watches ≡ [] → All (λ n. n < next) (numbers w.tree) → IsBalancedBelow large w.tree → IsDraftLeft large next last ps w
-free_draft large next last ps w free below even = (
+free_draft large next last ps w free below balanced = (
   [],
   left_none ps,
   record {
     watched = free;
     parts = record { each = tt; apart = tt; slots = tt; tickets = tt };
-    even = even_clear large w.tree even;
+    balanced = balanced_clear large w.tree balanced;
     below = below;
   },
 )

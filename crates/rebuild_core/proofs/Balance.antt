@@ -4,6 +4,6 @@ use Rattle.kd_tree.specs.Shape.{Shape, leaf, fork, nodes}
 use Rattle.kd_update.specs.Update.{IsBalancedBelow}
 
 -- a tree of few nodes
-pub small_even : (large : ℕ) (t : Shape) → nodes t < 10 → IsBalancedBelow large t
-small_even large leaf few = tt
-small_even large (fork h l r) few = ((λ many _. absurd (omega (arith, few, many))), small_even large l (omega (arith, few)), small_even large r (omega (arith, few)))
+pub small_balanced : (large : ℕ) (t : Shape) → nodes t < 10 → IsBalancedBelow large t
+small_balanced large leaf few = tt
+small_balanced large (fork h l r) few = ((λ many _. absurd (omega (arith, few, many))), small_balanced large l (omega (arith, few)), small_balanced large r (omega (arith, few)))

@@ -16,7 +16,7 @@ use Rattle.kd_update.proofs.Large.{some_shape}
 use Rattle.rebuild_core.specs.Detach.{IsDetachedAt, with_part}
 use Rattle.rebuild_core.specs.Lawful.{IsLawful, StateAt}
 use Rattle.rebuild_core.specs.Parts.{AreEachLawful, AreInSlots, HaveOwnTickets, IsLawfulPart, IsNewTicket, PartAt, part_in, paths}
-use Rattle.rebuild_core.proofs.ApartPaths.{AreOnesOf, IsOneOf, apart_sym, even_more}
+use Rattle.rebuild_core.proofs.ApartPaths.{AreOnesOf, IsOneOf, apart_sym, balanced_more}
 use Rattle.rebuild_core.proofs.Detached.{each_more}
 use Rattle.rebuild_core.proofs.Drafts.{among_below}
 use Rattle.rebuild_core.proofs.Working.{at_numbers}
@@ -198,7 +198,7 @@ detached_lawful slot s path node from to k sound chosen there =
         slots = slots_with q to s.parts 1 from k.parts.slots;
         tickets = tickets_with q s.parts (later_new s.settings.large s.next s.last (s.last + 1) s.tree s.parts (omega arith) k.parts.each) k.parts.tickets;
       };
-      even = even_more s.settings.large (paths s.parts) (paths (with_part q s.parts)) s.tree (ones_with q s.parts fits) k.even;
+      balanced = balanced_more s.settings.large (paths s.parts) (paths (with_part q s.parts)) s.tree (ones_with q s.parts fits) k.balanced;
       shown = k.shown;
       shown_next = k.shown_next;
       shown_len = k.shown_len;

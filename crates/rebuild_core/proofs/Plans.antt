@@ -12,8 +12,8 @@ use Rattle.kd_update.specs.declared.watch.Watch.{Watch}
 use Rattle.kd_update.specs.Refresh.{AreAmong}
 use Rattle.kd_update.specs.Several.{IsBalancedClear}
 use Rattle.kd_update.specs.Watches.{HaveRoom}
-use Rattle.kd_update.proofs.Several.{even_clear}
-use Rattle.kd_update.proofs.Update.{calm_even}
+use Rattle.kd_update.proofs.Several.{balanced_clear}
+use Rattle.kd_update.proofs.Update.{criteria_balanced}
 use Rattle.map_fold.specs.declared.entry.Entry.{Entry}
 use Rattle.rebuild_core.specs.Draft.{watches_of}
 use Rattle.rebuild_core.specs.History.{entry_by}
@@ -42,14 +42,14 @@ pub plan_shape : (u : Update) (op : Op) (s z : StateAt) (t new : Shape) (ws : Li
     → IsUnrebuiltUpdate u op z → new ≡ unrebuilt op z.tree
 plan_shape u op s z t new ws is same seen k =
     let here : IsUnrebuiltUpdate u op s → new ≡ unrebuilt op s.tree =
-    λ q. subst (λ (x : Shape). RebuildsNothing s.settings.large op x → new ≡ unrebuilt op x) same (k q.only (subst HaveRoom (sym seen) (watched_room s.parts q.room))) q.quiet in
+    λ q. subst (λ (x : Shape). RebuildsNothing s.settings.large op x → new ≡ unrebuilt op x) same (k q.only (subst HaveRoom (sym seen) (watched_room s.parts q.room))) q.unrebuilt in
     subst (λ (x : StateAt). IsUnrebuiltUpdate u op x → new ≡ unrebuilt op x.tree) is here
 
 pub plan_ticks : (u : Update) (op : Op) (s z : StateAt) (t : Shape) (m n new : ℕ) (ws : List Watch) → s ≡ z → t ≡ s.tree → m ≡ n → ws ≡ watches_of s.parts
     → (only_op s.next u ≡ Some op → HaveRoom ws → RebuildsNothing s.settings.large op t → new ≤ m + (5 * entered_nodes op t + 1)) → IsUnrebuiltUpdate u op z → new ≤ n + (5 * entered_nodes op z.tree + 1)
 plan_ticks u op s z t m n new ws is same start seen k =
     let here : IsUnrebuiltUpdate u op s → new ≤ m + (5 * entered_nodes op s.tree + 1) =
-    λ q. subst (λ (x : Shape). RebuildsNothing s.settings.large op x → new ≤ m + (5 * entered_nodes op x + 1)) same (k q.only (subst HaveRoom (sym seen) (watched_room s.parts q.room))) q.quiet in
+    λ q. subst (λ (x : Shape). RebuildsNothing s.settings.large op x → new ≤ m + (5 * entered_nodes op x + 1)) same (k q.only (subst HaveRoom (sym seen) (watched_room s.parts q.room))) q.unrebuilt in
     let there : IsUnrebuiltUpdate u op z → new ≤ m + (5 * entered_nodes op z.tree + 1) = subst (λ (x : StateAt). IsUnrebuiltUpdate u op x → new ≤ m + (5 * entered_nodes op x.tree + 1)) is here in
     λ q. let h = there q in omega (arith, h, start)
 
@@ -71,7 +71,7 @@ planned_lawful caller u s d k from to short few sound made = record {
   short = omega (arith, short, length-append s.history (entry_by caller u s.history ∷ []));
   entries = entries-push s.history (entry_by caller u s.history) k.entries (record { caller_from = from; caller_to = to; seq = refl });
   parts = made.parts;
-  even = made.even;
+  balanced = made.balanced;
   shown = refl;
   shown_next = refl;
   shown_len = omega (arith, length-append s.history (entry_by caller u s.history ∷ []));
@@ -101,7 +101,7 @@ next_of p q s z e f k =
 -- A lawful state stays lawful with another tree that holds the same, and with parts that are lawful in that.
 pub held_lawful : (s : StateAt) (t : Shape) (ps : List PartAt) → IsLawful s → IsSound t → contents t ≡ contents s.tree → All (λ n. n < s.next) (numbers t) → AreLawfulParts s.settings.large s.next s.last t ps
     → IsBalancedClear s.settings.large (paths ps) t → IsLawful (record s { tree = t; version = record { tree = t; next = s.next; len = length s.history }; history = s.history ++ []; parts = ps })
-held_lawful s t ps k sound held below lawful even =
+held_lawful s t ps k sound held below lawful balanced =
     let one : IsLawful (record s { tree = t; version = record { tree = t; next = s.next; len = length s.history }; parts = ps }) = record {
       sizes = k.sizes;
       sound = sound;
@@ -111,7 +111,7 @@ held_lawful s t ps k sound held below lawful even =
       short = k.short;
       entries = k.entries;
       parts = lawful;
-      even = even;
+      balanced = balanced;
       shown = refl;
       shown_next = refl;
       shown_len = refl;
@@ -121,12 +121,12 @@ held_lawful s t ps k sound held below lawful even =
 -- the plan of settling
 pub settles : (s z : StateAt) (t : Shape) (ver : VersionAt) (logs : List LogPlan) → IsLawful s → IsSound t → contents t ≡ contents s.tree → AreAmong (numbers t) (numbers s.tree) → AllMeetCriteria 10 t → planned_parts logs s.parts ≡ []
     → ver ≡ record { tree = t; next = s.next; len = length s.history } → s ≡ z → IsSettlePlan z (record { tree = t; next = s.next; version = ver; entry = None; logs = logs })
-settles s z t ver logs k sound held from calm none shown is =
+settles s z t ver logs k sound held from criteria none shown is =
     let P : PlannedAt = record { tree = t; next = s.next; version = record { tree = t; next = s.next; len = length s.history }; entry = None; logs = logs } in
     let all =
     held_lawful s t [] k sound held (among_below s.next (numbers t) (numbers s.tree) from k.below) (left_lawful s.settings.large s.next s.next s.last s.last s.tree t s.parts [] (left_none s.parts) k.parts tt)
-    (even_clear s.settings.large t (calm_even s.settings.large t calm)) in
+    (balanced_clear s.settings.large t (criteria_balanced s.settings.large t criteria)) in
     let here : IsLawful (entered P s) = subst (λ (ps : List PartAt). IsLawful (record s { tree = t; version = P.version; history = s.history ++ []; parts = ps })) (sym none) all in
-    let plan : IsSettlePlan s P = record { lawful = here; held = held; next = refl; none = refl; parts = none; calm = calm } in
+    let plan : IsSettlePlan s P = record { lawful = here; held = held; next = refl; none = refl; parts = none; criteria = criteria } in
     let with_version : IsSettlePlan s (record P { version = ver }) = subst (λ (x : VersionAt). IsSettlePlan s (record P { version = x })) (sym shown) plan in
     subst (λ (x : StateAt). IsSettlePlan x (record P { version = ver })) is with_version

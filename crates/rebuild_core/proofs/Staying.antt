@@ -39,8 +39,8 @@ pub plan_logged : (u : Update) (op : Op) (s z : StateAt) (t : Shape) (ws : List 
     → ((qs : List PartAt) → AreLeft s.parts qs → new.watches ≡ watches_of qs → planned_parts logs s.parts ≡ qs) → IsUnrebuiltUpdate u op z → planned_parts logs z.parts ≡ logged_by op z.tree z.parts
 plan_logged u op s z t ws new logs is same seen k plans =
     let here : IsUnrebuiltUpdate u op s → planned_parts logs s.parts ≡ logged_by op s.tree s.parts = λ q.
-    let quiet : RebuildsNothing s.settings.large op t = subst (RebuildsNothing s.settings.large op) (sym same) q.quiet in
-    let done = k q.only (subst HaveRoom (sym seen) (watched_room s.parts q.room)) quiet in
+    let unrebuilt : RebuildsNothing s.settings.large op t = subst (RebuildsNothing s.settings.large op) (sym same) q.unrebuilt in
+    let done = k q.only (subst HaveRoom (sym seen) (watched_room s.parts q.room)) unrebuilt in
     let watches : new.watches ≡ watches_of (logged_by op s.tree s.parts) =
     ap (λ (w : Work). w.watches) done ∙ ap (λ (x : Shape). with_op op x ws) same ∙ ap (λ (xs : List Watch). with_op op s.tree xs) seen ∙ watched_by op s.tree s.parts in
     plans (logged_by op s.tree s.parts) (left_by op s.tree s.parts) watches in
@@ -51,7 +51,7 @@ draft_start : (s : StateAt) (t : Shape) (ws : List Watch) → IsLawful s → t �
 draft_start s t ws k same seen = record {
   watched = seen;
   parts = subst (λ (x : Shape). AreLawfulParts s.settings.large s.next s.last x s.parts) (sym same) k.parts;
-  even = subst (λ (x : Shape). IsBalancedClear s.settings.large (paths s.parts) x) (sym same) k.even;
+  balanced = subst (λ (x : Shape). IsBalancedClear s.settings.large (paths s.parts) x) (sym same) k.balanced;
   below = subst (λ (x : Shape). All (λ n. n < s.next) (numbers x)) (sym same) k.below;
 }
 

@@ -15,15 +15,15 @@ use Rattle.kd_tree.specs.Apart.{AreAllApart, IsClear}
 use Rattle.kd_update.specs.Refresh.{AreAmong}
 use Rattle.kd_update.specs.Replace.{HasRoomAt, StandsFor}
 use Rattle.kd_update.specs.Several.{AreLargeAt, AreSameAt, IsBalancedClear}
-use Rattle.kd_update.proofs.Several.{even_clear}
-use Rattle.kd_update.proofs.Update.{calm_even}
+use Rattle.kd_update.proofs.Several.{balanced_clear}
+use Rattle.kd_update.proofs.Update.{criteria_balanced}
 use Rattle.rebuild_core.specs.Built.{BuiltAt, IsLawfulBuilt, IsPartOf, IsTreeOf, undone}
 use Rattle.rebuild_core.specs.Lawful.{IsLawful, StateAt, VersionAt}
 use Rattle.rebuild_core.specs.Logs.{LogPlan, planned_parts}
 use Rattle.rebuild_core.specs.Parts.{AreEachLawful, AreLawfulParts, AreLeft, PartAt, paths, without}
 use Rattle.rebuild_core.specs.Steps.{PlannedAt}
 use Rattle.rebuild_core.specs.Swap.{IsCaughtUp, IsLeftBySwap, IsSwapPlan}
-use Rattle.rebuild_core.proofs.ApartPaths.{clear_of_others, even_more, ones_moved}
+use Rattle.rebuild_core.proofs.ApartPaths.{clear_of_others, balanced_more, ones_moved}
 use Rattle.rebuild_core.proofs.Detached.{each_large, each_same, each_without, left_lawful, left_none, left_without}
 use Rattle.rebuild_core.proofs.OtherParts.{IsAmongOthers, part_among}
 use Rattle.rebuild_core.proofs.Plans.{held_lawful}
@@ -66,8 +66,8 @@ swap_clear s b p k o =
 pub swap_outside : (s : StateAt) (b : BuiltAt) (p : PartAt) → IsLawful s → IsPartOf b s.parts p → IsBalancedClear s.settings.large (p.path ∷ paths (without b.ticket s.parts)) s.tree
 swap_outside s b p k o =
     let m = among s b p o in
-    let even = subst (λ (ps : List PartAt). IsBalancedClear s.settings.large (paths ps) s.tree) m.all k.even in
-    subst (λ (ps : List PartAt). IsBalancedClear s.settings.large (p.path ∷ paths ps) s.tree) (sym m.others) (even_more s.settings.large (paths (m.front ++ p ∷ m.back)) (p.path ∷ paths (m.front ++ m.back)) s.tree (ones_moved m.front p m.back) even)
+    let balanced = subst (λ (ps : List PartAt). IsBalancedClear s.settings.large (paths ps) s.tree) m.all k.balanced in
+    subst (λ (ps : List PartAt). IsBalancedClear s.settings.large (p.path ∷ paths ps) s.tree) (sym m.others) (balanced_more s.settings.large (paths (m.front ++ p ∷ m.back)) (p.path ∷ paths (m.front ++ m.back)) s.tree (ones_moved m.front p m.back) balanced)
 
 -- numbers
 
@@ -105,18 +105,18 @@ below_both next new with old f k l = All-weaker (λ n. Contains new n) (λ n. n 
 
 -- the plan of a swap
 
--- the parts that are left are lawful, and the tree is even outside them
+-- the parts that are left are lawful, and the tree is balanced outside them
 left_by_swap : (s : StateAt) (b : BuiltAt) (p : PartAt) (t : Shape) (anew : Bool) (ps : List PartAt) → IsLawful s → IsPartOf b s.parts p → (anew ≡ true → AllMeetCriteria 10 t) → (anew ≡ false → AreSameAt (paths (without b.ticket s.parts)) t s.tree)
     → IsBalancedClear s.settings.large (paths (without b.ticket s.parts)) t → (anew ≡ true → ps ≡ []) → (anew ≡ false → ps ≡ without b.ticket s.parts) → AreLawfulParts s.settings.large s.next s.last t ps × IsBalancedClear s.settings.large (paths ps) t
-left_by_swap s b p t true ps k o calm same even none one =
+left_by_swap s b p t true ps k o criteria same balanced none one =
     subst (λ (qs : List PartAt). AreLawfulParts s.settings.large s.next s.last t qs × IsBalancedClear s.settings.large (paths qs) t) (sym (none refl))
-    (left_lawful s.settings.large s.next s.next s.last s.last s.tree t s.parts [] (left_none s.parts) k.parts tt, even_clear s.settings.large t (calm_even s.settings.large t (calm refl)))
-left_by_swap s b p t false ps k o calm same even none one =
+    (left_lawful s.settings.large s.next s.next s.last s.last s.tree t s.parts [] (left_none s.parts) k.parts tt, balanced_clear s.settings.large t (criteria_balanced s.settings.large t (criteria refl)))
+left_by_swap s b p t false ps k o criteria same balanced none one =
     let m = among s b p o in
     let left : AreLeft s.parts (without b.ticket s.parts) = subst (λ (qs : List PartAt). AreLeft qs (without b.ticket s.parts)) (sym m.all) (subst (AreLeft (m.front ++ p ∷ m.back)) (sym m.others) (left_without m.front p m.back)) in
     let each = each_same s.settings.large s.next s.next s.last s.last s.tree t (without b.ticket s.parts) (same refl) (omega arith) (omega arith) (swap_each s b p k o) in
     subst (λ (qs : List PartAt). AreLawfulParts s.settings.large s.next s.last t qs × IsBalancedClear s.settings.large (paths qs) t) (sym (one refl))
-    (left_lawful s.settings.large s.next s.next s.last s.last s.tree t s.parts (without b.ticket s.parts) left k.parts each, even)
+    (left_lawful s.settings.large s.next s.next s.last s.last s.tree t s.parts (without b.ticket s.parts) left k.parts each, balanced)
 
 which_left : (s : StateAt) (b : BuiltAt) (p : PartAt) (with : Shape) (anew : Bool) (ps : List PartAt) → IsPartOf b s.parts p → IsCaughtUp s.settings.large b (undone b p) with → ((anew ≡ false) ↔ HasRoomAt p.path with s.tree)
     → (anew ≡ true → ps ≡ []) → (anew ≡ false → ps ≡ without b.ticket s.parts) → IsLeftBySwap b s ps
@@ -127,9 +127,9 @@ pub swaps : (s : StateAt) (b : BuiltAt) (p : PartAt) (with t : Shape) (anew : Bo
     → contents t ≡ contents s.tree → All (λ n. n < s.next) (numbers t) → ((anew ≡ false) ↔ HasRoomAt p.path with s.tree) → (anew ≡ true → AllMeetCriteria 10 t) → (anew ≡ false → AreSameAt (paths (without b.ticket s.parts)) t s.tree)
     → IsBalancedClear s.settings.large (paths (without b.ticket s.parts)) t → (anew ≡ true → planned_parts logs s.parts ≡ []) → (anew ≡ false → planned_parts logs s.parts ≡ without b.ticket s.parts)
     → ver ≡ record { tree = t; next = s.next; len = length s.history } → next ≡ s.next → IsSwapPlan b s (record { tree = t; next = next; version = ver; entry = None; logs = logs })
-swaps s b p with t anew next ver logs k o sound caught held below room calm same even none one shown is =
+swaps s b p with t anew next ver logs k o sound caught held below room criteria same balanced none one shown is =
     let P : PlannedAt = record { tree = t; next = s.next; version = record { tree = t; next = s.next; len = length s.history }; entry = None; logs = logs } in
-    let left = left_by_swap s b p t anew (planned_parts logs s.parts) k o calm same even none one in
+    let left = left_by_swap s b p t anew (planned_parts logs s.parts) k o criteria same balanced none one in
     let plan : IsSwapPlan b s P = record {
       lawful = held_lawful s t (planned_parts logs s.parts) k sound held below left.0 left.1;
       held = held;

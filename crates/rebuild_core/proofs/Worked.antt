@@ -119,15 +119,15 @@ worked_put n p v w u vs same low few made more most = record {
 
 pub plain_mark : (large : ℕ) (c : Choice) (a : Tag) (v w : Work) (u : Shape) (vs : List Watch) → w ≡ v → (RebuildsNoneEntered large c (marked_shape c a w.tree) → u ≡ marked_shape c a w.tree) → vs ≡ with_marks c a w.tree w.watches
     → RebuildsNothing large (Mark c a) v.tree → ◌≡◌ {A = Work} (record { tree = u; watches = vs }) (plain_work (Mark c a) v)
-plain_mark large c a v w u vs same made logged quiet =
-    let shape = subst (λ (x : Work). RebuildsNoneEntered large c (marked_shape c a x.tree) → u ≡ marked_shape c a x.tree) same made quiet.calm in
+plain_mark large c a v w u vs same made logged unrebuilt =
+    let shape = subst (λ (x : Work). RebuildsNoneEntered large c (marked_shape c a x.tree) → u ≡ marked_shape c a x.tree) same made unrebuilt.criteria in
     let seen : vs ≡ with_marks c a v.tree v.watches = logged ∙ ap (λ (x : Work). with_marks c a x.tree x.watches) same in
     ap (λ (t : Shape). record { tree = t; watches = vs }) shape ∙ ap (λ (ws : List Watch). record { tree = marked_shape c a v.tree; watches = ws }) seen
 
 pub plain_put : (large n : ℕ) (p : Place) (v w : Work) (u : Shape) (vs : List Watch) → w ≡ v → (RebuildsNoneOnRoute large p (put_shape n p w.tree) → u ≡ put_shape n p w.tree) → vs ≡ with_puts n p w.tree w.watches
     → RebuildsNothing large (Put n p) v.tree → ◌≡◌ {A = Work} (record { tree = u; watches = vs }) (plain_work (Put n p) v)
-plain_put large n p v w u vs same made logged quiet =
-    let shape = subst (λ (x : Work). RebuildsNoneOnRoute large p (put_shape n p x.tree) → u ≡ put_shape n p x.tree) same made quiet.calm in
+plain_put large n p v w u vs same made logged unrebuilt =
+    let shape = subst (λ (x : Work). RebuildsNoneOnRoute large p (put_shape n p x.tree) → u ≡ put_shape n p x.tree) same made unrebuilt.criteria in
     let seen : vs ≡ with_puts n p v.tree v.watches = logged ∙ ap (λ (x : Work). with_puts n p x.tree x.watches) same in
     ap (λ (t : Shape). record { tree = t; watches = vs }) shape ∙ ap (λ (ws : List Watch). record { tree = put_shape n p v.tree; watches = ws }) seen
 

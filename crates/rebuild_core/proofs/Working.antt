@@ -27,12 +27,12 @@ use Rattle.kd_update.specs.Watches.{HaveRoom, paths_in, with_marks, with_puts}
 use Rattle.kd_update.proofs.Large.{some_shape}
 use Rattle.kd_update.proofs.Logged.{logged_mark_few, logged_put_few, mark_puts, put_puts}
 use Rattle.kd_update.proofs.Numbers.{left_few, unheld}
-use Rattle.kd_update.proofs.Several.{even_clear}
-use Rattle.kd_update.proofs.Update.{calm_even}
+use Rattle.kd_update.proofs.Several.{balanced_clear}
+use Rattle.kd_update.proofs.Update.{criteria_balanced}
 use Rattle.rebuild_core.specs.Draft.{IsDraft, IsDraftLeft, watch_of, watches_of}
 use Rattle.rebuild_core.specs.Parts.{AreLawfulParts, AreLeft, HaveLogRoom, PartAt, paths}
 use Rattle.rebuild_core.specs.declared.work.Work.{Work}
-use Rattle.rebuild_core.proofs.ApartPaths.{clear_of_others, even_more, ones_moved}
+use Rattle.rebuild_core.proofs.ApartPaths.{clear_of_others, balanced_more, ones_moved}
 use Rattle.rebuild_core.proofs.Detached.{HaveLogRoomOf, each_at, each_large, each_logged, each_more, each_same, each_without, left_itself, left_lawful, left_logged, left_none, left_trans, left_without, logged, paths-logged, room_of_two}
 use Rattle.rebuild_core.proofs.Drafts.{among_below}
 
@@ -78,7 +78,7 @@ pub draft_more : (large next more last : ℕ) (ps : List PartAt) (w : Work) → 
 draft_more large next more last ps w le d = record {
   watched = d.watched;
   parts = left_lawful large next more last last w.tree w.tree ps ps (left_itself ps) d.parts (each_more large next more last last w.tree ps le (omega arith) d.parts.each);
-  even = d.even;
+  balanced = d.balanced;
   below = All-weaker (λ n. n < next) (λ n. n < more) (λ n h. omega (arith, h)) (numbers w.tree) d.below;
 }
 
@@ -87,17 +87,17 @@ draft_more large next more last ps w le d = record {
 pub draft_logged : (large next last n : ℕ) (F : List Side → List Op) (w : Work) (u : Shape) (vs : List Watch) (ps : List PartAt) → IsDraft large next last ps w → HaveLogRoomOf n ps → vs ≡ watches_of (logged F ps)
     → All (λ n. n < next) (numbers u) → (IsBalancedClear large (paths_in w.watches) w.tree → IsBalancedClear large (paths_in w.watches) u) → AreWatched (λ q. IsWatched q w.tree u (F q)) (paths_in w.watches)
     → ((q : List Side) → length (F q) ≤ n) → ((q : List Side) → All (λ m. m < next) (numbers_put (F q))) → IsDraftLeft large next last ps (record { tree = u; watches = vs })
-draft_logged large next last n F w u vs ps d room is below even watched few puts =
+draft_logged large next last n F w u vs ps d room is below balanced watched few puts =
     let named : paths_in w.watches ≡ paths ps = ap paths_in d.watched ∙ paths-watched ps in
     let seen : AreWatched (λ q. IsWatched q w.tree u (F q)) (paths ps) = subst (AreWatched (λ q. IsWatched q w.tree u (F q))) named watched in
     let each = each_logged large next next last n F w.tree u ps d.parts.each seen room few (omega arith) puts in
-    let outside : IsBalancedClear large (paths ps) u = subst (λ (qs : List (List Side)). IsBalancedClear large qs u) named (even (subst (λ (qs : List (List Side)). IsBalancedClear large qs w.tree) (sym named) d.even)) in (
+    let outside : IsBalancedClear large (paths ps) u = subst (λ (qs : List (List Side)). IsBalancedClear large qs u) named (balanced (subst (λ (qs : List (List Side)). IsBalancedClear large qs w.tree) (sym named) d.balanced)) in (
       logged F ps,
       left_logged F ps,
       record {
         watched = is;
         parts = left_lawful large next next last last w.tree u ps (logged F ps) (left_logged F ps) d.parts each;
-        even = subst (λ (qs : List (List Side)). IsBalancedClear large qs u) (sym (paths-logged F ps)) outside;
+        balanced = subst (λ (qs : List (List Side)). IsBalancedClear large qs u) (sym (paths-logged F ps)) outside;
         below = below;
       },
     )
@@ -106,8 +106,8 @@ draft_logged large next last n F w u vs ps d room is below even watched few puts
 pub draft_marked : (large next last : ℕ) (c : Choice) (a : Tag) (w : Work) (u : Shape) (vs : List Watch) (ps : List PartAt) → IsDraft large next last ps w → HaveRoom w.watches → vs ≡ with_marks c a w.tree w.watches
     → AreAmong (numbers u) (numbers w.tree) → (IsBalancedClear large (paths_in w.watches) w.tree → IsBalancedClear large (paths_in w.watches) u)
     → AreWatched (λ q. IsWatched q w.tree u (logged_mark c a q w.tree)) (paths_in w.watches) → IsDraftLeft large next last ps (record { tree = u; watches = vs })
-draft_marked large next last c a w u vs ps d room is among even watched =
-    draft_logged large next last 2 (λ q. logged_mark c a q w.tree) w u vs ps d (room_of_two ps (room_watched ps (subst HaveRoom d.watched room))) (is ∙ ap (with_marks c a w.tree) d.watched ∙ marks-watched c a w.tree ps) (among_below next (numbers u) (numbers w.tree) among d.below) even watched
+draft_marked large next last c a w u vs ps d room is among balanced watched =
+    draft_logged large next last 2 (λ q. logged_mark c a q w.tree) w u vs ps d (room_of_two ps (room_watched ps (subst HaveRoom d.watched room))) (is ∙ ap (with_marks c a w.tree) d.watched ∙ marks-watched c a w.tree ps) (among_below next (numbers u) (numbers w.tree) among d.below) balanced watched
     (λ q. logged_mark_few c a q w.tree) (λ q. subst (All (λ n. n < next)) (sym (mark_puts c a q w.tree)) (All-nil (λ n. n < next)))
 
 below_put : (next n : ℕ) (ns ms : List ℕ) → n < next → AreAmong ns (n ∷ ms) → All (λ m. m < next) ms → All (λ m. m < next) ns
@@ -117,8 +117,8 @@ below_put next n ns ms less among below = among_below next ns (n ∷ ms) among (
 pub draft_put : (large next last n : ℕ) (p : Place) (w : Work) (u : Shape) (vs : List Watch) (ps : List PartAt) → n < next → IsDraft large next last ps w → HaveRoom w.watches → vs ≡ with_puts n p w.tree w.watches
     → AreAmong (numbers u) (n ∷ numbers w.tree) → (IsBalancedClear large (paths_in w.watches) w.tree → IsBalancedClear large (paths_in w.watches) u)
     → AreWatched (λ q. IsWatched q w.tree u (logged_put n p q w.tree)) (paths_in w.watches) → IsDraftLeft large next last ps (record { tree = u; watches = vs })
-draft_put large next last n p w u vs ps less d room is among even watched =
-    draft_logged large next last 2 (λ q. logged_put n p q w.tree) w u vs ps d (room_of_two ps (room_watched ps (subst HaveRoom d.watched room))) (is ∙ ap (with_puts n p w.tree) d.watched ∙ puts-watched n p w.tree ps) (below_put next n (numbers u) (numbers w.tree) less among d.below) even watched
+draft_put large next last n p w u vs ps less d room is among balanced watched =
+    draft_logged large next last 2 (λ q. logged_put n p q w.tree) w u vs ps d (room_of_two ps (room_watched ps (subst HaveRoom d.watched room))) (is ∙ ap (with_puts n p w.tree) d.watched ∙ puts-watched n p w.tree ps) (below_put next n (numbers u) (numbers w.tree) less among d.below) balanced watched
     (λ q. logged_put_few n p q w.tree) (λ q. put_puts (λ m. m < next) n p q w.tree less)
 
 -- what is left of what is left
@@ -127,13 +127,13 @@ draft_on large next last ps qs w k d = (d.0, left_trans ps qs d.0 k d.1, d.2)
 
 -- nothing more is watched where the whole tree was rebuilt
 pub draft_anew : (large next last : ℕ) (w : Work) (u : Shape) (ps : List PartAt) → IsDraft large next last ps w → AreAmong (numbers u) (numbers w.tree) → AllMeetCriteria 10 u → IsDraftLeft large next last ps (record { tree = u; watches = [] })
-draft_anew large next last w u ps d among calm = (
+draft_anew large next last w u ps d among criteria = (
   [],
   left_none ps,
   record {
     watched = refl;
     parts = left_lawful large next next last last w.tree u ps [] (left_none ps) d.parts tt;
-    even = even_clear large u (calm_even large u calm);
+    balanced = balanced_clear large u (criteria_balanced large u criteria);
     below = among_below next (numbers u) (numbers w.tree) among d.below;
   },
 )
@@ -191,7 +191,7 @@ without_at large next last w front p back gone ws d is left =
       others = subst (λ (qs : List (List Side)). AreLargeAt large qs w.tree) (sym named) (each_large large next last w.tree (front ++ back) (each_without large next last w.tree front p back d.parts.each));
       clear = subst (λ (q : List Side). IsClear q (paths_in ws)) (sym path) (subst (λ (qs : List (List Side)). IsClear p.path qs) (sym named) (clear_of_others front p back d.parts.apart));
       outside = subst (λ (q : List Side). IsBalancedClear large (q ∷ paths_in ws) w.tree) (sym path)
-          (subst (λ (qs : List (List Side)). IsBalancedClear large (p.path ∷ qs) w.tree) (sym named) (even_more large (paths (front ++ p ∷ back)) (p.path ∷ paths (front ++ back)) w.tree (ones_moved front p back) d.even));
+          (subst (λ (qs : List (List Side)). IsBalancedClear large (p.path ∷ qs) w.tree) (sym named) (balanced_more large (paths (front ++ p ∷ back)) (p.path ∷ paths (front ++ back)) w.tree (ones_moved front p back) d.balanced));
     }
 
 pub without_of : (large next last : ℕ) (ps : List PartAt) (w : Work) (i : ℕ) (gone : Watch) (ws : List Watch) → IsDraft large next last ps w → i < length w.watches → gone ≡ get_or w.watches i gone → ws ≡ remove w.watches i
@@ -208,7 +208,7 @@ without_of large next last ps w i gone ws d below is left =
 -- the others are left, where the same stands at their paths
 pub draft_without : (large next last : ℕ) (ps : List PartAt) (w : Work) (gone : Watch) (ws : List Watch) (u : Shape) → IsDraft large next last ps w → IsWithout large ps w gone ws
     → AreSameAt (paths_in ws) u w.tree → IsBalancedClear large (paths_in ws) u → AreAmong (numbers u) (numbers w.tree) → IsDraftLeft large next last ps (record { tree = u; watches = ws })
-draft_without large next last ps w gone ws u d k same even among =
+draft_without large next last ps w gone ws u d k same balanced among =
     let named : paths_in ws ≡ paths (k.front ++ k.back) = ap paths_in k.left ∙ paths-watched (k.front ++ k.back) in
     let lawful : AreLawfulParts large next last w.tree (k.front ++ k.part ∷ k.back) = subst (λ (qs : List PartAt). AreLawfulParts large next last w.tree qs) k.all d.parts in
     let each = each_same large next next last last w.tree u (k.front ++ k.back) (subst (λ (qs : List (List Side)). AreSameAt qs u w.tree) named same) (omega arith) (omega arith)
@@ -218,7 +218,7 @@ draft_without large next last ps w gone ws u d k same even among =
       record {
         watched = k.left;
         parts = left_lawful large next next last last w.tree u (k.front ++ k.part ∷ k.back) (k.front ++ k.back) (left_without k.front k.part k.back) lawful each;
-        even = subst (λ (qs : List (List Side)). IsBalancedClear large qs u) named even;
+        balanced = subst (λ (qs : List (List Side)). IsBalancedClear large qs u) named balanced;
         below = among_below next (numbers u) (numbers w.tree) among d.below;
       },
     )

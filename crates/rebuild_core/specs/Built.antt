@@ -37,7 +37,7 @@ pub record IsBuiltOf (j : JobAt) (b : BuiltAt) : Type 0 where
   pub items : b.items ≡ j.items
   pub done : b.done ≡ []
   pub held : contents b.tree ≡ j.items
-  pub calm : AllMeetCriteria 10 b.tree
+  pub criteria : AllMeetCriteria 10 b.tree
 
 -- the second value is the first, with these operations done too
 pub record IsReplayOf (b : BuiltAt) (ops : List Op) (c : BuiltAt) : Type 0 where

@@ -1,4 +1,4 @@
--- Points that enter a map by turns, each into its voxel, in an order of one's own.
+-- Points that enter a map by turns, each into its voxel, in an order of one's own. Cited by private functions alone.
 use Rattle.std.specs.Prelude.{◌≡◌, ◌≢◌, ℕ, ◌<◌, true, false, List, [], ◌∷◌, All}
 use Rattle.point_geom.specs.Place.{Place}
 use Rattle.point_geom.specs.Boxes.{holds, voxel}

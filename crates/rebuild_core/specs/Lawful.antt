@@ -9,6 +9,8 @@ use Rattle.kd_update.specs.Several.{IsBalancedClear}
 use Rattle.map_fold.specs.declared.entry.Entry.{Entry}
 use Rattle.rebuild_core.specs.History.{AreEntries, updates}
 use Rattle.rebuild_core.specs.Parts.{AreLawfulParts, PartAt, paths}
+use Rattle.map_fold.specs.declared.limits.TheConstants.{MAX_POINTS}
+use Rattle.rebuild_core.specs.declared.plan.TheConstants.{MAX_UPDATES}
 
 -- what queries see: a tree, how many points were submitted, and how many entries the history had
 pub record VersionAt : Type 0 where
@@ -40,13 +42,13 @@ pub record IsLawful (s : StateAt) : Type 0 where
   pub sound : IsSound s.tree
   -- it holds the fold of its history, and the next number is how many points the history submitted
   pub folded : map_of s.tree s.next ≡ fold s.settings.voxel (updates s.history)
-  pub few : s.next ≤ 4194304
+  pub few : s.next ≤ MAX_POINTS
   pub below : All (λ n. n < s.next) (numbers s.tree)
-  pub short : length s.history ≤ 1048576
+  pub short : length s.history ≤ MAX_UPDATES
   pub entries : AreEntries [] s.history
   pub parts : AreLawfulParts s.settings.large s.next s.last s.tree s.parts
   -- outside the parts
-  pub even : IsBalancedClear s.settings.large (paths s.parts) s.tree
+  pub balanced : IsBalancedClear s.settings.large (paths s.parts) s.tree
   -- the version is of the very tree, by its shape, and not only of what that holds
   pub shown : s.version.tree ≡ s.tree
   pub shown_next : s.version.next ≡ s.next

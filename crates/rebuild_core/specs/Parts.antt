@@ -9,6 +9,7 @@ use Rattle.kd_tree.specs.Contents.{contents}
 use Rattle.kd_tree.specs.Apart.{AreAllApart}
 use Rattle.kd_tree.specs.declared.path.Side.{Side}
 use Rattle.kd_update.specs.Watch.{IsLargeAt}
+use Rattle.op_logger.specs.declared.log.TheConstants.{MAX_LOGGED}
 
 -- a detached subtree: its slot, where it stands, its ticket, what it held when it was detached, and the operations since
 pub record PartAt : Type 0 where
@@ -21,7 +22,7 @@ pub record PartAt : Type 0 where
 -- The part is lawful in a tree, where so many points were submitted and so many tickets given.
 pub record IsLawfulPart (large next last : ℕ) (t : Shape) (p : PartAt) : Type 0 where
   pub there : IsLargeAt large p.path t
-  pub few : length p.log ≤ 65536
+  pub few : length p.log ≤ MAX_LOGGED
   pub items : AreContents 0 next p.items
   pub fit : Fit p.items p.log
   pub below : All (λ n. n < next) (numbers_put p.log)
@@ -103,4 +104,4 @@ AreLeft (p ∷ ps) qs = AreLeft ps qs ⊎ ((log : List Op) × (rest : List PartA
 -- each log has room for two operations more
 abbrev pub HaveLogRoom : List PartAt → Type 0
 HaveLogRoom [] = Unit {0}
-HaveLogRoom (p ∷ ps) = (length p.log + 2 ≤ 65536) × HaveLogRoom ps
+HaveLogRoom (p ∷ ps) = (length p.log + 2 ≤ MAX_LOGGED) × HaveLogRoom ps

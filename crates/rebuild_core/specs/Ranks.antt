@@ -1,4 +1,4 @@
--- Entrants with their voxels, and the order in which they are sorted.
+-- Entrants with their voxels, and the order in which they are sorted. Cited by private functions alone.
 use Rattle.std.specs.Prelude.{◌≡◌, ℕ, ℤ, List, All, map}
 use Rattle.std.specs.Ordering.{int_cmp, nat_cmp, ordering_then}
 use Rattle.std.specs.declared.cmp.Ordering.{Ordering}

@@ -12,6 +12,7 @@ use Rattle.kd_tree.specs.Shape.{Shape, levels, nodes}
 use Rattle.kd_update.specs.Made.{entered_mark, entered_put}
 use Rattle.kd_update.specs.Mark.{RebuildsNoneEntered, marked_shape}
 use Rattle.kd_update.specs.Put.{RebuildsNoneOnRoute, put_shape}
+use Rattle.kd_tree.specs.declared.limits.TheConstants.{MAX_LEVELS, MAX_NODES}
 
 -- the operation of an action on one box
 abbrev pub only_mark : Tag → List Bounds → Option Op
@@ -47,6 +48,6 @@ entered_nodes (Mark c a) t = entered_mark c t
 
 -- The operation rebuilds nothing: there is room in the tree, and no node that is entered is to be rebuilt.
 pub record RebuildsNothing (large : ℕ) (op : Op) (t : Shape) : Type 0 where
-  pub low : levels t < 512
-  pub few : nodes t < 4194304
-  pub calm : RebuildsNoneFor large op (unrebuilt op t)
+  pub low : levels t < MAX_LEVELS
+  pub few : nodes t < MAX_NODES
+  pub criteria : RebuildsNoneFor large op (unrebuilt op t)

@@ -6,6 +6,7 @@ use Rattle.rebuild_core.specs.History.{Follows, entries_of}
 use Rattle.rebuild_core.specs.Lawful.{StateAt}
 use Rattle.rebuild_core.specs.Parts.{PartAt}
 use Rattle.rebuild_core.specs.declared.part.PartInfo.{PartInfo}
+use Rattle.rebuild_core.specs.declared.plan.TheConstants.{MAX_UPDATES}
 
 abbrev pub state_of : Inside → StateAt
 state_of s = record { settings = s.settings; tree = s.tree; next = s.next; history = s.history.items; parts = s.parts.items; last = s.last; version = s.version.value }
@@ -21,7 +22,7 @@ pub record AreMade (made : List ℕ) (history : List Entry) : Type 0 where
 -- the entry, if there is one, may follow these, of which there are few enough
 abbrev pub IsNextOf : List Entry → Option Entry → Type 0
 IsNextOf before None = Unit {0}
-IsNextOf before (Some e) = Follows before e × (length before < 1048576)
+IsNextOf before (Some e) = Follows before e × (length before < MAX_UPDATES)
 
 -- what is shown of a part
 abbrev pub info_of : Option PartAt → Option PartInfo

@@ -9,6 +9,8 @@ use Rattle.kd_tree.specs.Shape.{Shape, levels, nodes}
 use Rattle.kd_update.specs.Watch.{logged_mark, logged_put}
 use Rattle.rebuild_core.specs.Lawful.{StateAt}
 use Rattle.rebuild_core.specs.Parts.{PartAt}
+use Rattle.kd_tree.specs.declared.limits.TheConstants.{MAX_LEVELS, MAX_NODES}
+use Rattle.op_logger.specs.declared.log.TheConstants.{MAX_LOGGED}
 
 -- how many operations the update is at most: a point that thins its voxel may be an action and a point that is put
 abbrev pub most_ops : Update → ℕ
@@ -22,12 +24,12 @@ most_ops (Expire n) = 1
 -- each log has room for two operations for each of so many
 abbrev pub HaveLogRoomFor : ℕ → List PartAt → Type 0
 HaveLogRoomFor n [] = Unit {0}
-HaveLogRoomFor n (p ∷ ps) = (length p.log + 2 * n ≤ 65536) × HaveLogRoomFor n ps
+HaveLogRoomFor n (p ∷ ps) = (length p.log + 2 * n ≤ MAX_LOGGED) × HaveLogRoomFor n ps
 
 -- The update finds no full tree before a point that it puts, and before no operation a log without room for two.
 pub record HasRoomBeside (u : Update) (s : StateAt) : Type 0 where
-  pub low : levels s.tree + points_in u ≤ 512
-  pub few : nodes s.tree + points_in u ≤ 4194304
+  pub low : levels s.tree + points_in u ≤ MAX_LEVELS
+  pub few : nodes s.tree + points_in u ≤ MAX_NODES
   pub logs : HaveLogRoomFor (most_ops u) s.parts
 
 -- the parts, each with what the operation is to it at the end of its log

@@ -16,6 +16,8 @@ use Rattle.rebuild_core.specs.Logs.{LogPlan, planned_parts}
 use Rattle.rebuild_core.specs.Parts.{AreLawfulParts, AreLeft, HaveLogRoom, paths}
 use Rattle.rebuild_core.specs.declared.plan.Drafted.{Drafted}
 use Rattle.rebuild_core.specs.Single.{RebuildsNothing, only_op}
+use Rattle.map_fold.specs.declared.limits.TheConstants.{MAX_POINTS}
+use Rattle.rebuild_core.specs.declared.plan.TheConstants.{MAX_UPDATES}
 
 -- what a step stores
 pub record PlannedAt : Type 0 where
@@ -35,21 +37,21 @@ entered p s = record s { tree = p.tree; next = p.next; version = p.version; hist
 
 -- there is room for one more update, and for its points
 pub record HasRoom (u : Update) (s : StateAt) : Type 0 where
-  pub updates : length s.history < 1048576
-  pub points : s.next + points_in u ≤ 4194304
+  pub updates : length s.history < MAX_UPDATES
+  pub points : s.next + points_in u ≤ MAX_POINTS
 
 -- why an update is refused
 abbrev pub IsFault : Update → StateAt → StateFault → Type 0
-IsFault u s (TooManyUpdates len) = (length s.history ≡ 1048576) × (len ≡ length s.history)
-IsFault u s (TooManyPoints next asked) = (length s.history < 1048576) × (4194304 < s.next + points_in u) × (next ≡ s.next) × (asked ≡ points_in u)
+IsFault u s (TooManyUpdates len) = (length s.history ≡ MAX_UPDATES) × (len ≡ length s.history)
+IsFault u s (TooManyPoints next asked) = (length s.history < MAX_UPDATES) × (MAX_POINTS < s.next + points_in u) × (next ≡ s.next) × (asked ≡ points_in u)
 IsFault u s NoMemory = HasRoom u s
 
--- The draft is the tree after the update, which is even outside the parts that are left, and they are lawful in it.
+-- The draft is the tree after the update, which is balanced outside the parts that are left, and they are lawful in it.
 pub record IsDrafted (u : Update) (s : StateAt) (d : Drafted) : Type 0 where
   pub stepped : map_of d.tree (s.next + points_in u) ≡ step s.settings.voxel u (map_of s.tree s.next)
   pub left : AreLeft s.parts (planned_parts d.logs.items s.parts)
   pub parts : AreLawfulParts s.settings.large (s.next + points_in u) s.last d.tree (planned_parts d.logs.items s.parts)
-  pub even : IsBalancedClear s.settings.large (paths (planned_parts d.logs.items s.parts)) d.tree
+  pub balanced : IsBalancedClear s.settings.large (paths (planned_parts d.logs.items s.parts)) d.tree
   pub below : All (λ n. n < s.next + points_in u) (numbers d.tree)
 
 -- the plan is that of this caller's update
@@ -70,7 +72,7 @@ pub record IsUpdateStep (caller : ℕ) (u : Update) (s t : StateAt) : Type 0 whe
 -- the update is this one operation, and rebuilds nothing
 pub record IsUnrebuiltUpdate (u : Update) (op : Op) (s : StateAt) : Type 0 where
   pub only : only_op s.next u ≡ Some op
-  pub quiet : RebuildsNothing s.settings.large op s.tree
+  pub unrebuilt : RebuildsNothing s.settings.large op s.tree
   pub room : HaveLogRoom s.parts
 
 -- The plan leaves no node from 10 nodes on that breaches a criterion, no part, and what the map holds.
@@ -80,7 +82,7 @@ pub record IsSettlePlan (s : StateAt) (p : PlannedAt) : Type 0 where
   pub next : p.next ≡ s.next
   pub none : p.entry ≡ None
   pub parts : planned_parts p.logs s.parts ≡ []
-  pub calm : AllMeetCriteria 10 p.tree
+  pub criteria : AllMeetCriteria 10 p.tree
 
 -- the second state is the first, settled
 pub record IsSettleStep (s t : StateAt) : Type 0 where
@@ -90,4 +92,4 @@ pub record IsSettleStep (s t : StateAt) : Type 0 where
   pub history : t.history ≡ s.history
   pub parts : t.parts ≡ []
   pub last : t.last ≡ s.last
-  pub calm : AllMeetCriteria 10 t.tree
+  pub criteria : AllMeetCriteria 10 t.tree

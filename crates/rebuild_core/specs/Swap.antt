@@ -33,14 +33,14 @@ abbrev pub IsNear : BuiltAt → ℕ → StateAt → Type 0
 IsNear b most s = (p : PartAt) × IsPartOf b s.parts p × (length (undone b p) ≤ most)
 
 -- Why a value isn't swapped in where at most so many operations are done. It is handed back, and where it is further behind with the
--- operations that it hasn't done. A value for which memory was wanting is of a part.
+-- operations that it hasn't done. A value for which memory ran out is of a part.
 abbrev pub IsLate : BuiltAt → ℕ → StateAt → Late → Type 0
 IsLate b most s (late_of.Stale built) = (built ≡ b) × IsStale b s.parts
 IsLate b most s (late_of.Behind built ops) = (built ≡ b) × Fit (contents b.tree) ops × IsLogAfter b s ops × (most < length ops)
 IsLate b most s late_of.NoMemory = (p : PartAt) × IsPartOf b s.parts p
 
 -- The tree is the value's after these operations: each point that they put adds a level and a node at most. It is the value's own
--- where there is none, and that is even.
+-- where there is none, and that is balanced.
 pub record IsCaughtUp (large : ℕ) (b : BuiltAt) (ops : List Op) (with : Shape) : Type 0 where
   pub held : contents with ≡ replay (contents b.tree) ops
   pub low : levels with ≤ levels b.tree + length (numbers_put ops)
@@ -73,11 +73,11 @@ pub record IsSwapStep (b : BuiltAt) (s t : StateAt) : Type 0 where
   pub parts : IsLeftBySwap b s t.parts
   pub last : t.last ≡ s.last
 
--- The swap rebuilds nothing: the value's part has no operation left for it, its tree is even, there is room for it, and no node
+-- The swap rebuilds nothing: the value's part has no operation left for it, its tree is balanced, there is room for it, and no node
 -- above it is to be rebuilt.
 pub record IsUnrebuiltSwap (b : BuiltAt) (p : PartAt) (s : StateAt) : Type 0 where
   pub of : IsPartOf b s.parts p
   pub done : undone b p ≡ []
-  pub even : IsBalancedBelow s.settings.large b.tree
+  pub balanced : IsBalancedBelow s.settings.large b.tree
   pub room : HasRoomAt p.path b.tree s.tree
-  pub calm : RebuildsNoneAbove s.settings.large p.path (replaced_at p.path b.tree s.tree)
+  pub criteria : RebuildsNoneAbove s.settings.large p.path (replaced_at p.path b.tree s.tree)

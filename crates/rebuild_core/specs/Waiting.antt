@@ -1,4 +1,4 @@
--- Items that wait to be put into a tree.
+-- Items that wait to be put into a tree. Cited by private functions alone.
 use Rattle.std.specs.Prelude.{◌≡◌, ℕ, ◌<◌, ◌⊎◌, true, false, List, [], ◌∷◌, ◌++◌, All}
 use Rattle.point_geom.specs.Place.{Bounds}
 use Rattle.point_geom.specs.Boxes.{voxel}

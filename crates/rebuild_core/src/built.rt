@@ -9,11 +9,11 @@ ghost use Rattle.kd_update.specs.Refresh.{AreAmong};
 ghost use Rattle.kd_update.specs.Update.{IsBalancedBelow};
 ghost use Rattle.rebuild_core.specs.Built.{AreNumbersOf, IsLawfulBuilt, IsReplayOf};
 
-use crate::even::is_even;
+use crate::balanced::is_balanced;
 use crate::holding::twin_by;
 use kd_tree::{Steps, Tree};
 use kd_update::{rebuilt, replayed};
-use map_fold::{Item, Items, NoMemory, Op};
+use map_fold::{Item, Items, MAX_POINTS, NoMemory, Op};
 use std::alloc::Global;
 use std::marker::{Brand, Model};
 use std::sync::Arc;
@@ -44,11 +44,12 @@ impl Model for Built {
     ghost view = { λ b. record { ticket = b.ticket; items = b.items.value; done = b.done.items; tree = b.tree } };
 
     ghost use Rattle.map_fold.specs.Contents.{AreContents};
+    ghost use Rattle.map_fold.specs.declared.limits.TheConstants.{MAX_POINTS};
 
-    ghost invariant = { λ b. IsLawfulBuilt (record { ticket = b.ticket; items = b.items.value; done = b.done.items; tree = b.tree }) × IsBalancedBelow b.large b.tree × AreContents 0 4194304 b.items.value };
+    ghost invariant = { λ b. IsLawfulBuilt (record { ticket = b.ticket; items = b.items.value; done = b.done.items; tree = b.tree }) × IsBalancedBelow b.large b.tree × AreContents 0 MAX_POINTS b.items.value };
 }
 
-/// A value on which nothing more was done for want of memory.
+/// A value on which nothing more was done for lack of memory.
 #[derive(Debug, Drop)]
 pub struct BuiltLeft {
     pub built: Built,
@@ -63,10 +64,10 @@ impl Built {
         large: u32,
         tree: Tree,
     ) -> Built
-        requires items { AreContents 0 4194304 items.value }
+        requires items { AreContents 0 MAX_POINTS items.value }
         requires held { contents tree ≡ items.value }
         requires numbers { AreNumbersOf items.value tree }
-        requires calm { AllMeetCriteria 10 tree }
+        requires criteria { AllMeetCriteria 10 tree }
         ensures { result ≡ record { ticket = ticket; items = items.value; done = []; tree = tree } }
     {
         Built {
@@ -126,7 +127,7 @@ impl Built {
     }
 
     /// The value with these operations done too, one after the other, as `replayed` does them. Where its tree is out of balance
-    /// for this `large`, since it was built with another, it is rebuilt by medians before. Where memory is wanting, the value
+    /// for this `large`, since it was built with another, it is rebuilt by medians before. Where memory runs out, the value
     /// is handed back as it was.
     pub fn replay(self, alloc: Global, large: u32, ops: &[Op]) -> Result<Built, BuiltLeft>
         requires { Fit (contents self.tree) ops.now }
@@ -140,8 +141,8 @@ impl Built {
         }
     }
 
-    /// `replay`, done in the place of the value's own nodes, so that none of them is copied: the value is let go of where memory is
-    /// wanting.
+    /// `replay`, done in the place of the value's own nodes, so that none of them is copied: the value is dropped where memory runs
+    /// out.
     pub fn replay_in_place(self, alloc: Global, large: u32, ops: &[Op]) -> Result<Built, NoMemory>
         requires { Fit (contents self.tree) ops.now }
         ensures replayed { IfOk result (IsReplayOf self ops.now) }
@@ -191,7 +192,7 @@ impl Built {
         requires fit { Fit (contents self.tree) ops.now }
         requires replayed { contents tree ≡ replay (contents self.tree) ops.now }
         requires numbers { AreAmong (numbers tree) (numbers_put ops.now ++ numbers self.tree) }
-        requires even { IsBalancedBelow large tree }
+        requires balanced { IsBalancedBelow large tree }
         ensures replayed { IfOk result (IsReplayOf self ops.now) }
         ensures balance { IfOk result (λ b. IsBalancedBelow large b.tree) }
         ensures left { IfErr result (λ l. l.built ≡ self) }
@@ -220,7 +221,7 @@ fn replayed_from<L: Ledger>(
     requires name { blank.name ≡ L.name }
     requires parts { blank.parts ≡ L.parts }
     requires some { blank.parts ≡ 1 }
-    requires even { IsBalancedBelow made_with tree }
+    requires balanced { IsBalancedBelow made_with tree }
     requires fit { Fit (contents tree) ops.now }
     ensures contents { IfOk result (λ t. contents t ≡ replay (contents tree) ops.now) }
     ensures numbers { IfOk result (λ t. AreAmong (numbers t) (numbers_put ops.now ++ numbers tree)) }
@@ -230,7 +231,7 @@ fn replayed_from<L: Ledger>(
     caught_up(alloc, tree, made_with, large, ops, &mut steps)
 }
 
-// The tree after the operations. It is even for this `large`, for which it is rebuilt before where it isn't.
+// The tree after the operations. It is balanced for this `large`, for which it is rebuilt before where it isn't.
 pub(crate) fn caught_up<L: Ledger>(
     alloc: Global,
     tree: Tree,
@@ -239,26 +240,26 @@ pub(crate) fn caught_up<L: Ledger>(
     ops: &[Op],
     steps: &mut Steps<L>,
 ) -> Result<Tree, NoMemory>
-    requires even { IsBalancedBelow made_with tree }
+    requires balanced { IsBalancedBelow made_with tree }
     requires fit { Fit (contents tree) ops.now }
     ensures contents { IfOk result (λ t. contents t ≡ replay (contents tree) ops.now) }
     ensures numbers { IfOk result (λ t. AreAmong (numbers t) (numbers_put ops.now ++ numbers tree)) }
     ensures balance { IfOk result (λ t. IsBalancedBelow large t) }
     ensures low { IfOk result (λ t. levels t ≤ levels tree + length (numbers_put ops.now)) }
     ensures few { IfOk result (λ t. nodes t ≤ nodes tree + length (numbers_put ops.now)) }
-    // An even tree stays where nothing is to be done, and no node is made.
+    // A balanced tree stays where nothing is to be done, and no node is made.
     ensures same { ops.now ≡ [] → IsBalancedBelow large tree → IfOk result (λ t. t ≡ tree) }
     ensures still { ops.now ≡ [] → IsBalancedBelow large tree → steps.new ≡ steps.old }
 {
-    let tree = evened(alloc, tree, made_with, large, steps)?;
+    let tree = balanced_for(alloc, tree, made_with, large, steps)?;
     if ops.is_empty() {
         return Ok(tree);
     }
     replayed(alloc, tree, large, ops)
 }
 
-// The tree, rebuilt where it isn't even for this `large`. Only where it was made with another is it looked at.
-fn evened<L: Ledger>(
+// The tree, rebuilt where it isn't balanced for this `large`. Only where it was made with another is it looked at.
+fn balanced_for<L: Ledger>(
     alloc: Global,
     tree: Tree,
     made_with: u32,
@@ -277,7 +278,7 @@ fn evened<L: Ledger>(
     if made_with == large {
         return Ok(tree);
     }
-    if is_even(&tree, large) {
+    if is_balanced(&tree, large) {
         return Ok(tree);
     }
     rebuilt(alloc, tree, steps)

@@ -35,7 +35,7 @@ pub trait Desk {
         ensures refused { IfErr result (λ l. IsSwapCause built force l.fault) };
 
     /// Swaps a built value in that is at most so many operations behind, as `MapState::plan_swap_or_log` does. One that is stale
-    /// or further behind comes back as it was, and where memory is wanting the value is let go of.
+    /// or further behind comes back as it was, and where memory runs out the value is dropped.
     ///
     /// By itself it asks `swap` without force and then `log_after`, which are two steps, and does as many operations as `swap`
     /// does, whatever is asked for. A map that can do it in one step compares the value's items once, and may do the operations

@@ -11,7 +11,7 @@ use crate::part::{Part, part_in, part_of, paths_of};
 use crate::{Built, Holding, Job, LogAsk, MapState, Snapshot};
 use kd_tree::Path;
 use map_fold::{NoMemory, Ops};
-use op_logger::OpLog;
+use op_logger::{MAX_LOGGED, OpLog};
 use std::alloc::Global;
 
 impl MapState {
@@ -148,7 +148,7 @@ impl MapState {
         ensures none { IsNone result → IsStale built.now self.now.state.parts }
         ensures some { IfSome result (λ p. IsPartOf built.now self.now.state.parts p.now) }
         ensures done { IfSome result (λ p. length built.now.done ≤ length p.now.log) }
-        ensures few { IfSome result (λ p. length p.now.log ≤ 65536) }
+        ensures few { IfSome result (λ p. length p.now.log ≤ MAX_LOGGED) }
         ensures fit { IfSome result (λ p. Fit (contents built.now.tree) (undone built.now p.now)) }
     {
         let part = part_of(self.parts.as_slice(), built.ticket)?;
@@ -164,7 +164,7 @@ impl MapState {
         ensures none { IsNone result → IsStale built.now self.now.state.parts }
         ensures some { IfSome result (λ p. IsPartOf built.now self.now.state.parts p.now) }
         ensures done { IfSome result (λ p. length built.now.done ≤ length p.now.log) }
-        ensures few { IfSome result (λ p. length p.now.log ≤ 65536) }
+        ensures few { IfSome result (λ p. length p.now.log ≤ MAX_LOGGED) }
         ensures fit { IfSome result (λ p. Fit (contents built.now.tree) (undone built.now p.now)) }
     {
         let part = part_of(self.parts.as_slice(), built.ticket)?;

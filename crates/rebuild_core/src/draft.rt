@@ -20,7 +20,7 @@ use crate::scan::SCAN;
 use crate::thin::thinned;
 use crate::work::Work;
 use kd_tree::{Scratch, Steps};
-use map_fold::{Choice, Cuboids, NoMemory, Points, Settings, Tag, Update};
+use map_fold::{Choice, Cuboids, MAX_POINTS, NoMemory, Points, Settings, Tag, Update};
 use point_geom::Point;
 use std::alloc::Global;
 use std::sync::ledger::Ledger;
@@ -36,7 +36,7 @@ pub(crate) fn changed<L: Ledger>(
     steps: &mut Steps<L>,
 ) -> Result<Work, NoMemory>
     requires draft { IsWork settings.now.large next work }
-    requires few { next + points_in update.now ≤ 4194304 }
+    requires few { next + points_in update.now ≤ MAX_POINTS }
     ensures stepped { IfOk result (λ w. map_of w.tree (next + points_in update.now) ≡ step settings.now.voxel update.now (map_of work.tree next)) }
     ensures draft { (last : ℕ) (ps : List PartAt) → IsDraft settings.now.large next last ps work
         → IfOk result (IsDraftLeft settings.now.large (next + points_in update.now) last ps) }
@@ -71,7 +71,7 @@ fn added<L: Ledger>(
     steps: &mut Steps<L>,
 ) -> Result<Work, NoMemory>
     requires draft { IsWork large next work }
-    requires few { next + length points.now ≤ 4194304 }
+    requires few { next + length points.now ≤ MAX_POINTS }
     ensures stepped { IfOk result (λ w. map_of w.tree (next + length points.now) ≡ add_points points.now (map_of work.tree next)) }
     ensures draft { (last : ℕ) (ps : List PartAt) → IsDraft large next last ps work
         → IfOk result (IsDraftLeft large (next + length points.now) last ps) }
@@ -104,7 +104,7 @@ pub(crate) fn added_one<L: Ledger>(
     steps: &mut Steps<L>,
 ) -> Result<Work, NoMemory>
     requires draft { IsWork large next work }
-    requires few { next < 4194304 }
+    requires few { next < MAX_POINTS }
     ensures contents { IfOk result (λ w. contents w.tree ≡ put (contents work.tree) next point) }
     ensures draft { (last : ℕ) (ps : List PartAt) → IsDraft large next last ps work
         → IfOk result (IsDraftLeft large (next + 1) last ps) }

@@ -6,7 +6,7 @@ ghost use Rattle.kd_update.specs.Scan.{live_from};
 ghost use Rattle.rebuild_core.specs.Entrants.{AreFirsts};
 ghost use Rattle.rebuild_core.specs.Ranks.{HaveVoxels, entrant_of, items_in, rank_of};
 
-use map_fold::{Item, Label, NoMemory, Settings};
+use map_fold::{Item, Label, MAX_POINTS, NoMemory, Settings};
 use point_geom::{Cuboid, Point, centre_dist2, voxel};
 use std::alloc::Global;
 
@@ -25,7 +25,7 @@ pub(crate) fn firsts(
     next: u32,
     points: &[Point],
 ) -> Result<Vec<Entrant>, NoMemory>
-    requires few { next + length points.now ≤ 4194304 }
+    requires few { next + length points.now ≤ MAX_POINTS }
     ensures firsts { IfOk result (λ v. AreFirsts settings.now.voxel next points.now (items_in v.items)) }
     ensures cubes { IfOk result (λ v. HaveVoxels settings.now.voxel v.items) }
     ensures few { IfOk result (λ v. length v.items ≤ length points.now) }
@@ -41,7 +41,7 @@ pub(crate) fn firsts(
 fn entrants(alloc: Global, edge: u32, next: u32, points: &[Point]) -> Result<Vec<Entrant>, NoMemory>
     requires positive { 1 ≤ edge }
     requires short { edge ≤ 1000000 }
-    requires few { next + length points.now ≤ 4194304 }
+    requires few { next + length points.now ≤ MAX_POINTS }
     ensures { IfOk result (λ v. v.items ≡ map (entrant_of edge) (live_from next points.now)) }
 {
     let mut entrants = Vec::with_capacity(alloc, points.len())?;

@@ -20,7 +20,7 @@ impl MapState {
         Ok(Some(holding))
     }
 
-    /// What the detached subtree in the slot held, held once more. The state may be the last to hold it, and lets it go in the
+    /// What the detached subtree in the slot held, held once more. The state may be the last to hold it, and drops it in the
     /// step that forgets the subtree: whoever takes that step under a lock can so free it after the lock.
     pub fn holding_in(&self, slot: u8) -> Option<Holding>
         ensures { IfSome result (λ h. (p : PartAt) × (part_in slot self.now.state.parts ≡ Some p) × (h ≡ p.items)) }

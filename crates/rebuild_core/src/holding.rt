@@ -6,7 +6,7 @@ ghost use Rattle.kd_tree.specs.Contents.{contents};
 use crate::Built;
 use crate::same_items::{are_same, holds};
 use kd_tree::{Steps, Tree};
-use map_fold::{Items, NoMemory};
+use map_fold::{Items, MAX_POINTS, NoMemory};
 use std::alloc::Global;
 use std::marker::{Brand, Model};
 use std::sync::Arc;
@@ -36,13 +36,15 @@ impl Model for Holding {
 
     ghost view = { λ h. items_held h.held };
 
-    ghost invariant = { λ h. AreContents 0 4194304 (items_held h.held) };
+    ghost use Rattle.map_fold.specs.declared.limits.TheConstants.{MAX_POINTS};
+
+    ghost invariant = { λ h. AreContents 0 MAX_POINTS (items_held h.held) };
 }
 
 impl Holding {
     // What the subtree holds. It takes no time that depends on how many nodes there are.
     pub(crate) fn of(alloc: Global, tree: &Tree) -> Result<Holding, NoMemory>
-        requires { AreContents 0 4194304 (contents tree.now) }
+        requires { AreContents 0 MAX_POINTS (contents tree.now) }
         ensures { IfOk result (λ h. h ≡ contents tree.now) }
     {
         let twin = twin_by::<Brand>(alloc, tree, Blank::new(1))?;
@@ -54,7 +56,7 @@ impl Holding {
 
     // The items of a list.
     pub(crate) fn listed(items: Arc<Items>) -> Holding
-        requires { AreContents 0 4194304 items.value }
+        requires { AreContents 0 MAX_POINTS items.value }
         ensures { result ≡ items.value }
     {
         Holding {
@@ -76,7 +78,7 @@ impl Holding {
     // The items as a list. n of them take time in the order of n log n, where they are kept as a tree.
     pub(crate) fn list(&self, alloc: Global) -> Result<Arc<Items>, NoMemory>
         ensures value { IfOk result (λ items. items.value ≡ self.now) }
-        ensures lawful { AreContents 0 4194304 self.now }
+        ensures lawful { AreContents 0 MAX_POINTS self.now }
     {
         match &self.held {
             Held::Unlisted(tree) => {

@@ -6,7 +6,7 @@ ghost use Rattle.rebuild_core.specs.Built.{AreNumbersOf, IsBuiltOf};
 
 use crate::{Built, Holding};
 use kd_tree::{Steps, Tree};
-use map_fold::{Item, Items, NoMemory};
+use map_fold::{Item, Items, MAX_POINTS, NoMemory};
 use std::alloc::Global;
 use std::marker::{Brand, Model};
 use std::sync::Arc;
@@ -27,10 +27,12 @@ impl Model for Job {
 
     ghost view = { λ j. record { ticket = j.ticket; items = j.items.value } };
 
-    ghost invariant = { λ j. AreContents 0 4194304 j.items.value };
+    ghost use Rattle.map_fold.specs.declared.limits.TheConstants.{MAX_POINTS};
+
+    ghost invariant = { λ j. AreContents 0 MAX_POINTS j.items.value };
 }
 
-/// A job that wasn't done for want of memory.
+/// A job that wasn't done for lack of memory.
 #[derive(Debug, Drop)]
 pub struct JobLeft {
     pub job: Job,
@@ -60,7 +62,7 @@ impl Job {
     }
 
     /// A tree of the items, built by medians, with nothing done on it yet. n items take time in the order of n log n. Where
-    /// memory is wanting, the job is handed back. The value is best swapped into a state with the same `large`.
+    /// memory runs out, the job is handed back. The value is best swapped into a state with the same `large`.
     pub fn build(self, alloc: Global, large: u32) -> Result<Built, JobLeft>
         ensures built { IfOk result (IsBuiltOf self) }
         ensures left { IfErr result (λ l. l.job ≡ self) }
@@ -80,7 +82,7 @@ impl Job {
         requires parts { blank.parts ≡ L.parts }
         requires some { blank.parts ≡ 1 }
         ensures contents { IfOk result (λ t. contents t ≡ self.now.items) }
-        ensures calm { IfOk result (λ t. AllMeetCriteria 10 t) }
+        ensures criteria { IfOk result (λ t. AllMeetCriteria 10 t) }
         ensures numbers { IfOk result (λ t. AreNumbersOf self.now.items t) }
     {
         let mut steps: Steps<L> = Steps::new(blank);

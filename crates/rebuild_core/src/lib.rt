@@ -1,13 +1,13 @@
 //! The state of a map: its tree, its history, and the version that queries see. A step is planned first, and then entered.
 #![tactic(auto)]
 
+mod balanced;
 mod built;
 mod desk;
 mod detach;
 mod draft;
 mod enter;
 mod entrants;
-mod even;
 mod fault;
 mod hold;
 mod holding;
@@ -35,6 +35,7 @@ pub use fault::{LogAsk, StateFault, SwapFault};
 pub use holding::Holding;
 pub use job::{Job, JobLeft};
 pub use part::PartInfo;
+pub use plan::MAX_UPDATES;
 pub use planned::Planned;
 pub use snapshot::{Snapshot, SnapshotLeft};
 pub use state::MapState;

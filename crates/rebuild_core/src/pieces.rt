@@ -10,7 +10,7 @@ ghost use Rattle.rebuild_core.specs.Pieces.{MayPass};
 
 use crate::scan::SCAN;
 use crate::work::Work;
-use kd_tree::{Scratch, Steps};
+use kd_tree::{MAX_NODES, Scratch, Steps};
 use kd_update::{Watch, put_all, put_all_watched};
 use map_fold::{Item, NoMemory};
 use std::alloc::Global;
@@ -18,8 +18,6 @@ use std::sync::ledger::Ledger;
 
 // A pass adds at most 22 levels, so it begins with no more than these.
 const LOW: u32 = 490;
-
-const MOST: u32 = 4_194_304;
 
 impl Work {
     // The work with these items put, in as few passes as may be.
@@ -106,11 +104,13 @@ impl Work {
         ensures pass { 1 < result → MayPass large result self.now }
     {
         let size = self.tree.size();
-        if self.tree.levels() > LOW || size >= MOST {
+        if self.tree.levels() > LOW || size >= MAX_NODES {
             return 1;
         }
         let room = least_room(self.watches.as_slice());
-        let most = (large.clamp(2, MOST) - 1).min(MOST - size).min(room) as usize;
+        let most = (large.clamp(2, MAX_NODES) - 1)
+            .min(MAX_NODES - size)
+            .min(room) as usize;
         let count = most.min(wanted);
         if count < SCAN {
             return 1;
@@ -152,7 +152,7 @@ fn least_room(watches: &[Watch]) -> u32
     ensures { (n : ℕ) → 1 ≤ n → n ≤ result → HaveRoomAtOnce n watches.now }
 {
     let Some((watch, rest)) = watches.split_first() else {
-        return MOST;
+        return MAX_NODES;
     };
     watch.log.room().saturating_sub(2).min(least_room(rest))
 }

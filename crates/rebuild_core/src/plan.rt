@@ -17,14 +17,13 @@ use crate::work::Work;
 use crate::{MapState, Planned, StateFault, Version};
 use kd_tree::{Scratch, Steps, Tree};
 use kd_update::settled;
-use map_fold::{Entry, NoMemory, Update};
+use map_fold::{Entry, MAX_POINTS, NoMemory, Update};
 use std::alloc::Global;
 use std::marker::Brand;
 use std::sync::ledger::{Blank, Ledger};
 
-const MOST_UPDATES: u64 = 1_048_576;
-
-const MOST_POINTS: u64 = 4_194_304;
+/// The most updates of a history: 1,048,576.
+pub const MAX_UPDATES: u64 = 1_048_576;
 
 // A tree after an update, and what becomes of the logs of the parts.
 #[derive(Drop)]
@@ -34,7 +33,7 @@ struct Drafted {
 }
 
 impl MapState {
-    /// Makes one more update of this caller, and answers how many entries the history has then. A refusal lets go of the
+    /// Makes one more update of this caller, and answers how many entries the history has then. A refusal drops the
     /// update. The time is that of the update's operations on the tree, and of copying the logs of detached subtrees: nothing
     /// walks the tree or the history.
     ///
@@ -152,12 +151,12 @@ impl MapState {
         ensures still { (p : Place) → update ≡ Update.Thin (p ∷ []) → IsTurnedAwayFrom self.old.state p → steps.new ≡ steps.old }
     {
         let len = self.history.len() as u64;
-        if len == MOST_UPDATES {
+        if len == MAX_UPDATES {
             return Err(StateFault::TooManyUpdates { len });
         }
         let next = self.next;
         let asked = update.points() as u64;
-        if MOST_POINTS - (next as u64) < asked {
+        if ((MAX_POINTS - next) as u64) < asked {
             return Err(StateFault::TooManyPoints { next, asked });
         }
         let Drafted { tree, logs } = self.drafted(alloc, &update, scratch, steps)?;
@@ -188,7 +187,7 @@ impl MapState {
         scratch: &mut Scratch,
         steps: &mut Steps<L>,
     ) -> Result<Drafted, NoMemory>
-        requires few { self.now.state.next + points_in update.now ≤ 4194304 }
+        requires few { self.now.state.next + points_in update.now ≤ MAX_POINTS }
         ensures drafted { IfOk result (IsDrafted update.now self.now.state) }
         ensures kept { HasRoomBeside update.now self.now.state
             → IfOk result (λ d. paths (planned_parts d.logs.items self.now.state.parts) ≡ paths self.now.state.parts) }

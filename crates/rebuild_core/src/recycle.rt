@@ -8,7 +8,7 @@ use std::mem;
 use std::sync::Arc;
 
 impl MapState {
-    /// Takes a version that the caller lets go, in the place of one that the state would have taken itself: the next update makes
+    /// Takes a version that the caller drops, in the place of one that the state would have taken itself: the next update makes
     /// its nodes in the memory of those that nobody else holds then. The version itself stays as long as somebody holds it.
     pub fn recycle(&mut self, version: Arc<Version>)
         ensures same { self.new.state ≡ self.old.state }
@@ -29,7 +29,7 @@ impl MapState {
         scratch
     }
 
-    // Takes the scratch back. What it hasn't used of a version is let go now, lest it be the last to hold a subtree that is
+    // Takes the scratch back. What it hasn't used of a version is dropped now, lest it be the last to hold a subtree that is
     // swapped out before the next update.
     pub(crate) fn returned(&mut self, mut scratch: Scratch)
         ensures same { self.new.state ≡ self.old.state }

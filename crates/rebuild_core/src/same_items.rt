@@ -7,7 +7,7 @@ ghost use Rattle.kd_tree.specs.Walk.{walk};
 ghost use Rattle.rebuild_core.specs.Holding.{AreIn};
 
 use kd_tree::{Top, Tree};
-use map_fold::{Item, Label, Tag};
+use map_fold::{Item, Label, MAX_POINTS, Tag};
 
 pub(crate) fn are_same(items: &[Item], others: &[Item]) -> bool
     ensures { result ≡ true ↔ (items.now ≡ others.now) }
@@ -17,7 +17,7 @@ pub(crate) fn are_same(items: &[Item], others: &[Item]) -> bool
 
 // Whether the tree holds these items, and no others. Each item of the tree is looked for in the list.
 pub(crate) fn holds(tree: &Tree, items: &[Item]) -> bool
-    requires { AreContents 0 4194304 items.now }
+    requires { AreContents 0 MAX_POINTS items.now }
     ensures { result ≡ true ↔ (contents tree.now ≡ items.now) }
 {
     let counts = tree.counts();
@@ -30,7 +30,7 @@ pub(crate) fn holds(tree: &Tree, items: &[Item]) -> bool
 
 // Whether each item that is left of the tree under this action is one of the items.
 fn are_among(tree: &Tree, owed: Tag, items: &[Item]) -> bool
-    requires { AreContents 0 4194304 items.now }
+    requires { AreContents 0 MAX_POINTS items.now }
     ensures { result ≡ true ↔ AreIn (walk owed tree.now) items.now }
 {
     let Some(top) = tree.top() else {
@@ -58,7 +58,7 @@ fn top_item(top: &Top<'_>, owed: Tag) -> Item
 
 // Whether the item is dropped or one of the items.
 fn is_among(item: &Item, items: &[Item]) -> bool
-    requires { AreContents 0 4194304 items.now }
+    requires { AreContents 0 MAX_POINTS items.now }
     ensures { result ≡ true ↔ AreIn (kept (item.now ∷ [])) items.now }
 {
     if item.label == Label::Dropped {
@@ -68,7 +68,7 @@ fn is_among(item: &Item, items: &[Item]) -> bool
 }
 
 fn is_one(item: &Item, items: &[Item]) -> bool
-    requires { AreContents 0 4194304 items.now }
+    requires { AreContents 0 MAX_POINTS items.now }
     ensures { result ≡ true ↔ Member item.now items.now }
 {
     match items.binary_search_by_key(&item.number, |i: &Item| i.number) {

@@ -9,7 +9,7 @@ ghost use Rattle.rebuild_core.specs.Parts.{PartAt};
 use crate::work::Work;
 use kd_tree::{Scratch, Steps};
 use kd_update::live_items;
-use map_fold::NoMemory;
+use map_fold::{MAX_POINTS, NoMemory};
 use point_geom::Point;
 use std::alloc::Global;
 use std::sync::ledger::Ledger;
@@ -30,7 +30,7 @@ impl Work {
         steps: &mut Steps<L>,
     ) -> Result<Work, NoMemory>
         requires draft { IsWork large next self }
-        requires few { next + length points.now ≤ 4194304 }
+        requires few { next + length points.now ≤ MAX_POINTS }
         ensures stepped { IfOk result (λ w. map_of w.tree (next + length points.now) ≡ add_points points.now (map_of self.tree next)) }
         ensures draft { (last : ℕ) (ps : List PartAt) → IsDraft large next last ps self
             → IfOk result (IsDraftLeft large (next + length points.now) last ps) }

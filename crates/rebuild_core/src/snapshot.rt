@@ -21,7 +21,7 @@ impl Model for Snapshot {
     ghost view = { λ s. record { ticket = s.ticket; items = s.holding } };
 }
 
-/// A snapshot whose items weren't listed for want of memory.
+/// A snapshot whose items weren't listed for lack of memory.
 #[derive(Debug, Drop)]
 pub struct SnapshotLeft {
     pub snapshot: Snapshot,
@@ -43,7 +43,7 @@ impl Snapshot {
     }
 
     /// The job of rebuilding the subtree. n items take time in the order of n log n, since they are sorted by number. Where
-    /// memory is wanting, the snapshot is handed back.
+    /// memory runs out, the snapshot is handed back.
     pub fn job(self, alloc: Global) -> Result<Job, SnapshotLeft>
         ensures job { IfOk result (λ j. j ≡ self) }
         ensures left { IfErr result (λ l. l.snapshot ≡ self) }

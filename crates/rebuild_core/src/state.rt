@@ -26,7 +26,7 @@ pub struct MapState {
     pub(crate) parts: Vec<Part>,
     // The last ticket that was given, or 0.
     pub(crate) last: u64,
-    // The version before, which the next update lets go of.
+    // The version before, which the next update drops.
     pub(crate) former: Option<Arc<Version>>,
     // What the nodes of the next update are made in.
     pub(crate) scratch: Scratch,

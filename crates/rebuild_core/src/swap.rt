@@ -26,14 +26,14 @@ pub struct SwapLeft {
     pub fault: SwapFault,
 }
 
-/// Why a value isn't swapped in that may be so many operations behind. But for want of memory it is handed back as it was.
+/// Why a value isn't swapped in that may be so many operations behind. But for lack of memory it is handed back as it was.
 #[derive(Debug, Drop)]
 pub enum Late {
     /// No detached subtree has the value's ticket and items, and a log that begins with what the value has done.
     Stale { built: Built },
     /// It hasn't done these operations, which are more than are to be done in the swap.
     Behind { built: Built, ops: Ops },
-    /// The value was let go of.
+    /// The value was dropped.
     NoMemory,
 }
 
@@ -161,7 +161,7 @@ impl MapState {
         Ok(planned)
     }
 
-    // The plan, where this is the tree of a value of the part, which is even for the `large` that it was made with, and these are the
+    // The plan, where this is the tree of a value of the part, which is balanced for the `large` that it was made with, and these are the
     // operations that the value hasn't done.
     fn swapped<L: Ledger>(
         &self,
@@ -173,7 +173,7 @@ impl MapState {
         steps: &mut Steps<L>,
     ) -> Result<Planned, NoMemory>
         requires of { (b : BuiltAt) × IsTreeOf b part.now self.now.state.parts tree ops.now }
-        requires even { IsBalancedBelow made_with tree }
+        requires balanced { IsBalancedBelow made_with tree }
         ensures planned { (b : BuiltAt) → IsTreeOf b part.now self.now.state.parts tree ops.now
             → IfOk result (IsSwapPlan b self.now.state) }
         ensures unrebuilt { (b : BuiltAt) → IsTreeOf b part.now self.now.state.parts tree ops.now → IsUnrebuiltSwap b part.now self.now.state

@@ -19,7 +19,7 @@ use crate::waiting::thinned_at_once;
 use crate::work::Work;
 use kd_search::{Rivals, rivals_in};
 use kd_tree::{Scratch, Steps};
-use map_fold::{Choice, Item, Label, NoMemory, Points, Settings, Tag};
+use map_fold::{Choice, Item, Label, MAX_POINTS, NoMemory, Points, Settings, Tag};
 use point_geom::{Cuboid, Point, voxel};
 use std::alloc::Global;
 use std::sync::ledger::Ledger;
@@ -35,7 +35,7 @@ pub(crate) fn thinned<L: Ledger>(
     steps: &mut Steps<L>,
 ) -> Result<Work, NoMemory>
     requires draft { IsWork settings.now.large next work }
-    requires few { next + length points.now ≤ 4194304 }
+    requires few { next + length points.now ≤ MAX_POINTS }
     ensures stepped { IfOk result (λ w. map_of w.tree (next + length points.now) ≡ thin_points settings.now.voxel points.now (map_of work.tree next)) }
     ensures draft { (last : ℕ) (ps : List PartAt) → IsDraft settings.now.large next last ps work
         → IfOk result (IsDraftLeft settings.now.large (next + length points.now) last ps) }
@@ -69,7 +69,7 @@ fn thinned_one<L: Ledger>(
     steps: &mut Steps<L>,
 ) -> Result<Work, NoMemory>
     requires draft { IsWork settings.now.large next work }
-    requires few { next < 4194304 }
+    requires few { next < MAX_POINTS }
     ensures contents { IfOk result (λ w. contents w.tree ≡ thin settings.now.voxel (contents work.tree) next point) }
     ensures draft { (last : ℕ) (ps : List PartAt) → IsDraft settings.now.large next last ps work
         → IfOk result (IsDraftLeft settings.now.large (next + 1) last ps) }
@@ -109,7 +109,7 @@ fn left_alone<L: Ledger>(
     steps: &mut Steps<L>,
 ) -> Result<Work, NoMemory>
     requires draft { IsWork large next work }
-    requires few { next < 4194304 }
+    requires few { next < MAX_POINTS }
     requires below { item.number < next + 1 }
     requires new { IsUnheld item.number (mark (contents work.tree) (in_box cuboid.now) thin_tag) }
     ensures contents { IfOk result (λ w. contents w.tree ≡ put (mark (contents work.tree) (in_box cuboid.now) thin_tag) item.number item.point) }

@@ -20,7 +20,7 @@ use crate::entrants::{Entrant, firsts};
 use crate::work::Work;
 use kd_search::{Rivals, rivals_in};
 use kd_tree::{Scratch, Steps};
-use map_fold::{Choice, Item, NoMemory, Settings, Tag};
+use map_fold::{Choice, Item, MAX_POINTS, NoMemory, Settings, Tag};
 use point_geom::{Cuboid, Point};
 use std::alloc::Global;
 use std::sync::ledger::Ledger;
@@ -45,7 +45,7 @@ pub(crate) fn thinned_at_once<L: Ledger>(
     steps: &mut Steps<L>,
 ) -> Result<Work, NoMemory>
     requires draft { IsWork settings.now.large next work }
-    requires few { next + length points.now ≤ 4194304 }
+    requires few { next + length points.now ≤ MAX_POINTS }
     ensures stepped { IfOk result (λ w. map_of w.tree (next + length points.now) ≡ thin_points settings.now.voxel points.now (map_of work.tree next)) }
     ensures draft { (last : ℕ) (ps : List PartAt) → IsDraft settings.now.large next last ps work
         → IfOk result (IsDraftLeft settings.now.large (next + length points.now) last ps) }
@@ -86,7 +86,7 @@ impl Waiting {
         steps: &mut Steps<L>,
     ) -> Result<Work, NoMemory>
         requires waiting { IsWaiting large high self }
-        requires few { high ≤ 4194304 }
+        requires few { high ≤ MAX_POINTS }
         ensures held { IfOk result (λ w. contents w.tree ≡ held_by self) }
         ensures draft { (last : ℕ) (ps : List PartAt) → IsDraft large high last ps self.work
             → IfOk result (IsDraftLeft large high last ps) }

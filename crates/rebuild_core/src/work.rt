@@ -11,7 +11,7 @@ ghost use Rattle.rebuild_core.specs.Draft.{IsDraft, IsDraftLeft, IsWork, IsWorke
 ghost use Rattle.rebuild_core.specs.Parts.{PartAt};
 ghost use Rattle.rebuild_core.specs.Single.{RebuildsNothing, entered_nodes};
 
-use kd_tree::{Path, Steps, Tree};
+use kd_tree::{MAX_LEVELS, MAX_NODES, Path, Steps, Tree};
 use kd_update::{Replaced, Watch, Watches, marked_watched, put_watched, rebuilt, replaced};
 use map_fold::{Choice, NoMemory, Tag};
 use point_geom::Point;
@@ -61,7 +61,7 @@ impl Work {
         steps: &mut Steps<L>,
     ) -> Result<Work, NoMemory>
         requires draft { (next : ℕ) × IsWork large next self }
-        requires few { length (contents self.tree) < 4194304 }
+        requires few { length (contents self.tree) < MAX_NODES }
         requires new { times number keep_tag self.tree ≡ 0 }
         ensures contents { IfOk result (λ w. contents w.tree ≡ put (contents self.tree) number point) }
         ensures draft { (next last : ℕ) (ps : List PartAt) → number < next → IsDraft large next last ps self
@@ -86,21 +86,21 @@ impl Work {
         steps: &mut Steps<L>,
     ) -> Result<Work, NoMemory>
         requires draft { (next : ℕ) × IsWork large next self }
-        requires few { length (contents self.tree) < 4194304 }
+        requires few { length (contents self.tree) < MAX_NODES }
         ensures contents { IfOk result (λ w. contents w.tree ≡ contents self.tree) }
         ensures draft { (next last : ℕ) (ps : List PartAt) → IsDraft large next last ps self
             → IfOk result (IsDraftLeft large next last ps) }
-        ensures low { IfOk result (λ w. levels w.tree < 512) }
-        ensures few { IfOk result (λ w. nodes w.tree < 4194304) }
+        ensures low { IfOk result (λ w. levels w.tree < MAX_LEVELS) }
+        ensures few { IfOk result (λ w. nodes w.tree < MAX_NODES) }
         ensures lower { IfOk result (λ w. levels w.tree ≤ levels self.tree) }
         ensures fewer { IfOk result (λ w. nodes w.tree ≤ nodes self.tree) }
         ensures room { IfOk result (λ w. HaveRoom w.watches) }
-        ensures same { levels self.tree < 512 → nodes self.tree < 4194304 → HaveRoom self.watches
+        ensures same { levels self.tree < MAX_LEVELS → nodes self.tree < MAX_NODES → HaveRoom self.watches
             → IfOk result (λ w. w ≡ self) }
-        ensures still { levels self.tree < 512 → nodes self.tree < 4194304 → HaveRoom self.watches
+        ensures still { levels self.tree < MAX_LEVELS → nodes self.tree < MAX_NODES → HaveRoom self.watches
             → steps.new ≡ steps.old }
     {
-        if self.tree.levels() < 512 && self.tree.size() < 4_194_304 {
+        if self.tree.levels() < MAX_LEVELS && self.tree.size() < MAX_NODES {
             return self.without_full(alloc, large, steps);
         }
         let Work { tree, .. } = self;

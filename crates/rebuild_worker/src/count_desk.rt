@@ -28,7 +28,7 @@ struct Counted {
 }
 
 impl CountDesk {
-    /// A map in this state. The calls whose numbers are listed answer that memory is wanting, and change nothing; the others are
+    /// A map in this state. The calls whose numbers are listed answer that memory runs out, and change nothing; the others are
     /// those of the state.
     pub fn new(state: MapState, refused: Vec<u32>) -> CountDesk {
         CountDesk {

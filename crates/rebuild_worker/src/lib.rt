@@ -9,8 +9,6 @@ mod hold_gate;
 mod meet_gate;
 mod shares;
 mod signal;
-#[cfg(test)]
-mod tests;
 mod worker;
 
 pub use bell::{Bell, Rest, pair};

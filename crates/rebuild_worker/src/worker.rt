@@ -25,12 +25,12 @@ const FIRST: u32 = 2;
 const SCAN: u32 = 2_560;
 
 /// Works until it is told to end, as worker 1 or 2: it looks for subtrees to be rebuilt in two slots, 1 and 2 or 3 and 4, builds
-/// them, and swaps them in. Where there is none, or memory was wanting, it sleeps until its bell rings. It looks whether it was told
+/// them, and swaps them in. Where there is none, or memory ran out, it sleeps until its bell rings. It looks whether it was told
 /// to end before each round, so a round that was begun is done whole. `large` is best that of the map's settings.
 ///
 /// A value that is behind is brought up to date outside the map, 8 times at most, and then swapped in by force. From the third time
 /// on, a map that has a call for it swaps it in with as many operations left as a scan logs. A value that is stale is dropped,
-/// and so is one for which memory was wanting: its subtree stays detached, and is detached afresh in the next round.
+/// and so is one for which memory ran out: its subtree stays detached, and is detached afresh in the next round.
 pub fn work<D: Desk, G: Gate, R: Wait>(
     rt: &R,
     alloc: Global,
@@ -96,7 +96,7 @@ struct Worker<'a, D: Desk, G: Gate> {
 }
 
 impl<'a, D: Desk, G: Gate> Worker<'a, D, G> {
-    // Asks for a job in each of two slots, and then does those that it got. Want of memory for one doesn't keep it from the other.
+    // Asks for a job in each of two slots, and then does those that it got. Lack of memory for one doesn't keep it from the other.
     fn round<R: Wait>(&self, rt: &R, one: u8, two: u8) -> Round
         requires one_from { 1 ≤ one }
         requires one_to { one ≤ 4 }

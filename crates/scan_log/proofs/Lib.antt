@@ -24,4 +24,5 @@ pub mod WrittenLines
 pub mod WrittenFields
 pub mod WrittenScripts
 pub mod Plains
+pub mod Whose
 mod Vectors

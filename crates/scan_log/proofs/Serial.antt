@@ -1,14 +1,17 @@
 -- The marks of a run in the log's order are legal, and replies carry the marks that they are made under.
-use Rattle.std.proofs.Common.{◌≡◌, ℕ, suc, ◌+◌, ◌<◌, ◌≤◌, false, List, [], ◌∷◌, length, map, Some, slice_get, refl, sym, ap, ◌∙◌, arith, nat_lt}
+use Rattle.std.proofs.Common.{◌≡◌, ℕ, ◌+◌, ◌<◌, ◌≤◌, false, List, [], ◌∷◌, length, map, Option, Some, None, slice_get, refl, sym, ap, ◌∙◌, arith, nat_lt}
+use Rattle.std.specs.Prelude.{◌++◌, MatchOption}
+use Rattle.std.specs.Option.{option_to_list}
 use Rattle.std.proofs.lemmas.Bool.Decides.{nat_tests}
 use Rattle.std.specs.List.{AllByRecursion}
 use Rattle.map_fold.specs.declared.update.Update.{Update}
 use Rattle.scan_log.specs.declared.command.Command.{Command}
 use Rattle.scan_log.specs.declared.command.Command.TheVariants.{Change, Near, Nears, Inside, Ball, Lonely, Clusters, Pose, Sync}
+use Rattle.scan_log.specs.Commands.{Concerns, command_caller, command_update, updates_made}
 use Rattle.scan_log.specs.Scripts.{ScriptAt}
 use Rattle.scan_log.specs.Poses.{plain_script}
 use Rattle.scan_log.specs.Spelling.{Spells}
-use Rattle.scan_log.specs.Transcript.{updates_in, put_update, marked_updates, serial_marks_from, serial_marks, history, reply_to, replies_from, replies, mark_of, text}
+use Rattle.scan_log.specs.Transcript.{updates_in, mark_from, put_if, put_update, marked_updates, serial_marks_from, serial_marks, history, reply_to, replies_from, replies, mark_of, text}
 use Rattle.scan_log.specs.Legal.{counted, MayFollow, IsLater, AllFollow, AreInOrder, IsLegal, AreLegalReplies, IsLegalTranscript}
 
 abbrev Above : ℕ → List (ℕ × Update) → Type 0
@@ -24,107 +27,77 @@ lower m n [] le h = tt
 lower m n (g ∷ hs) le h = ((let k : m < g.0 = h.0 in omega arith), lower m n hs le h.1)
 
 -- the marks of updates are above the number of those before
+above_put : (n : ℕ) (made : Option Update) (hs : List (ℕ × Update)) → Above (mark_from n made) hs → Above n (put_if (mark_from n made) made hs)
+above_put n (Some u) hs h = rw (put_first (n + 1) u hs h) (omega arith, lower (n + 1) n hs (omega arith) h)
+above_put n None hs h = h
+
 serial_above : (n : ℕ) (cs : List Command) → Above n (marked_updates cs (serial_marks_from n cs))
 serial_above n [] = tt
-serial_above n (Change caller u ∷ cs) =
-    rw (put_first (n + 1) u _ (serial_above (n + 1) cs)) (omega arith, lower (n + 1) n _ (omega arith) (serial_above (n + 1) cs))
-serial_above n (Near caller k p within ∷ cs) = serial_above n cs
-serial_above n (Nears caller k ps ∷ cs) = serial_above n cs
-serial_above n (Inside caller k c ∷ cs) = serial_above n cs
-serial_above n (Ball caller k r p ∷ cs) = serial_above n cs
-serial_above n (Lonely caller k r ∷ cs) = serial_above n cs
-serial_above n (Clusters caller k r ∷ cs) = serial_above n cs
-serial_above n (Pose caller rules p ∷ cs) = serial_above n cs
-serial_above n (Sync ∷ cs) = serial_above n cs
+serial_above n (c ∷ cs) = above_put n (command_update c) _ (serial_above (mark_from n (command_update c)) cs)
 
-counted-more : (n k : ℕ) → counted n (1 + k) ≡ n ∷ counted (n + 1) k
-counted-more n k = let e : 1 + k ≡ suc k = omega arith in ap (counted n) e
+each_put : (n : ℕ) (made : Option Update) (hs : List (ℕ × Update)) (us : List Update) → Above (mark_from n made) hs → map (λ h. h.0) hs ≡ counted (mark_from n made + 1) (length us)
+    → map (λ h. h.0) (put_if (mark_from n made) made hs) ≡ counted (n + 1) (length (option_to_list made ++ us))
+each_put n (Some u) hs us above e = rw (put_first (n + 1) u hs above) (ap (λ ms. (n + 1) ∷ ms) e)
+each_put n None hs us above e = e
 
 each_once : (n : ℕ) (cs : List Command) → map (λ h. h.0) (marked_updates cs (serial_marks_from n cs)) ≡ counted (n + 1) (updates_in cs)
 each_once n [] = refl
-each_once n (Change caller u ∷ cs) =
-    rw (put_first (n + 1) u _ (serial_above (n + 1) cs)) (ap (λ ms. (n + 1) ∷ ms) (each_once (n + 1) cs) ∙ sym (counted-more (n + 1) (updates_in cs)))
-each_once n (Near caller k p within ∷ cs) = each_once n cs
-each_once n (Nears caller k ps ∷ cs) = each_once n cs
-each_once n (Inside caller k c ∷ cs) = each_once n cs
-each_once n (Ball caller k r p ∷ cs) = each_once n cs
-each_once n (Lonely caller k r ∷ cs) = each_once n cs
-each_once n (Clusters caller k r ∷ cs) = each_once n cs
-each_once n (Pose caller rules p ∷ cs) = each_once n cs
-each_once n (Sync ∷ cs) = each_once n cs
+each_once n (c ∷ cs) = let m = mark_from n (command_update c) in each_put n (command_update c) _ (updates_made cs) (serial_above m cs) (each_once m cs)
+
+history_put : (n : ℕ) (made : Option Update) (hs : List (ℕ × Update)) (us : List Update) → Above (mark_from n made) hs → map (λ h. h.1) hs ≡ us
+    → map (λ h. h.1) (put_if (mark_from n made) made hs) ≡ option_to_list made ++ us
+history_put n (Some u) hs us above e = rw (put_first (n + 1) u hs above) (ap (λ us. u ∷ us) e)
+history_put n None hs us above e = e
+
+-- the history of a run in the log's order is its updates in order
+pub serial_history : (n : ℕ) (cs : List Command) → history cs (serial_marks_from n cs) ≡ updates_made cs
+serial_history n [] = refl
+serial_history n (c ∷ cs) = let m = mark_from n (command_update c) in history_put n (command_update c) _ (updates_made cs) (serial_above m cs) (serial_history m cs)
+
+follows_any : (o : Option ℕ) (d : Command) (A : Type 0) → A → MatchOption o A (λ x. Concerns x d → A)
+follows_any (Some x) d A l = λ _. l
+follows_any None d A l = l
 
 -- what is late enough for a command is so whoever asks
 may_follow : (c : Command) (m : ℕ) (d : Command) (n : ℕ) → IsLater m d n → MayFollow c m d n
-may_follow (Change caller u) m d n l = λ _. l
-may_follow (Near caller k p within) m d n l = λ _. l
-may_follow (Nears caller k ps) m d n l = λ _. l
-may_follow (Inside caller k c) m d n l = λ _. l
-may_follow (Ball caller k r p) m d n l = λ _. l
-may_follow (Lonely caller k r) m d n l = λ _. l
-may_follow (Clusters caller k r) m d n l = λ _. l
-may_follow (Pose caller rules p) m d n l = λ _. l
-may_follow Sync m d n l = l
+may_follow c m d n l = follows_any (command_caller c) d (IsLater m d n) l
+
+-- a mark isn't below those before it, and that of an update is above
+mark_after : (m n : ℕ) (made : Option Update) → m ≤ n → m ≤ mark_from n made
+mark_after m n (Some u) le = omega arith
+mark_after m n None le = le
+
+mark_later : (m n : ℕ) (made : Option Update) → m ≤ n → MatchOption made (m ≤ mark_from n made) (λ u. m < mark_from n made)
+mark_later m n (Some u) le = omega arith
+mark_later m n None le = le
 
 all_follow : (c : Command) (m n : ℕ) (cs : List Command) → m ≤ n → AllFollow c m cs (serial_marks_from n cs)
 all_follow c m n [] le = tt
-all_follow c m n (Change caller u ∷ cs) le = (may_follow c m (Change caller u) (n + 1) (omega arith), all_follow c m (n + 1) cs (omega arith))
-all_follow c m n (Near caller k p within ∷ cs) le = (may_follow c m (Near caller k p within) n le, all_follow c m n cs le)
-all_follow c m n (Nears caller k ps ∷ cs) le = (may_follow c m (Nears caller k ps) n le, all_follow c m n cs le)
-all_follow c m n (Inside caller k b ∷ cs) le = (may_follow c m (Inside caller k b) n le, all_follow c m n cs le)
-all_follow c m n (Ball caller k r p ∷ cs) le = (may_follow c m (Ball caller k r p) n le, all_follow c m n cs le)
-all_follow c m n (Lonely caller k r ∷ cs) le = (may_follow c m (Lonely caller k r) n le, all_follow c m n cs le)
-all_follow c m n (Clusters caller k r ∷ cs) le = (may_follow c m (Clusters caller k r) n le, all_follow c m n cs le)
-all_follow c m n (Pose caller rules p ∷ cs) le = (may_follow c m (Pose caller rules p) n le, all_follow c m n cs le)
-all_follow c m n (Sync ∷ cs) le = (may_follow c m Sync n le, all_follow c m n cs le)
+all_follow c m n (d ∷ cs) le = let made = command_update d in (may_follow c m d (mark_from n made) (mark_later m n made le), all_follow c m (mark_from n made) cs (mark_after m n made le))
 
 in_order : (n : ℕ) (cs : List Command) → AreInOrder cs (serial_marks_from n cs)
 in_order n [] = tt
-in_order n (Change caller u ∷ cs) = (all_follow (Change caller u) (n + 1) (n + 1) cs (omega arith), in_order (n + 1) cs)
-in_order n (Near caller k p within ∷ cs) = (all_follow (Near caller k p within) n n cs (omega arith), in_order n cs)
-in_order n (Nears caller k ps ∷ cs) = (all_follow (Nears caller k ps) n n cs (omega arith), in_order n cs)
-in_order n (Inside caller k c ∷ cs) = (all_follow (Inside caller k c) n n cs (omega arith), in_order n cs)
-in_order n (Ball caller k r p ∷ cs) = (all_follow (Ball caller k r p) n n cs (omega arith), in_order n cs)
-in_order n (Lonely caller k r ∷ cs) = (all_follow (Lonely caller k r) n n cs (omega arith), in_order n cs)
-in_order n (Clusters caller k r ∷ cs) = (all_follow (Clusters caller k r) n n cs (omega arith), in_order n cs)
-in_order n (Pose caller rules p ∷ cs) = (all_follow (Pose caller rules p) n n cs (omega arith), in_order n cs)
-in_order n (Sync ∷ cs) = (all_follow Sync n n cs (omega arith), in_order n cs)
+in_order n (c ∷ cs) = let m = mark_from n (command_update c) in (all_follow c m m cs (omega arith), in_order m cs)
 
 -- one mark for each command, and one for the end
 pub length-serial_marks_from : (n : ℕ) (cs : List Command) → length (serial_marks_from n cs) ≡ length cs + 1
 length-serial_marks_from n [] = refl
-length-serial_marks_from n (Change caller u ∷ cs) = omega (arith, length-serial_marks_from (n + 1) cs)
-length-serial_marks_from n (Near caller k p within ∷ cs) = omega (arith, length-serial_marks_from n cs)
-length-serial_marks_from n (Nears caller k ps ∷ cs) = omega (arith, length-serial_marks_from n cs)
-length-serial_marks_from n (Inside caller k c ∷ cs) = omega (arith, length-serial_marks_from n cs)
-length-serial_marks_from n (Ball caller k r p ∷ cs) = omega (arith, length-serial_marks_from n cs)
-length-serial_marks_from n (Lonely caller k r ∷ cs) = omega (arith, length-serial_marks_from n cs)
-length-serial_marks_from n (Clusters caller k r ∷ cs) = omega (arith, length-serial_marks_from n cs)
-length-serial_marks_from n (Pose caller rules p ∷ cs) = omega (arith, length-serial_marks_from n cs)
-length-serial_marks_from n (Sync ∷ cs) = omega (arith, length-serial_marks_from n cs)
+length-serial_marks_from n (c ∷ cs) = omega (arith, length-serial_marks_from (mark_from n (command_update c)) cs)
+
+-- with its update, or none, there are as many as before
+marks_before : (n : ℕ) (made : Option Update) (us : List Update) → mark_from n made + length us ≡ n + length (option_to_list made ++ us)
+marks_before n (Some u) us = omega arith
+marks_before n None us = refl
 
 none_above : (n top : ℕ) (cs : List Command) → n + updates_in cs ≤ top → AllByRecursion (λ m. m ≤ top) (serial_marks_from n cs)
 none_above n top [] le = (omega arith, tt)
-none_above n top (Change caller u ∷ cs) le = (omega arith, none_above (n + 1) top cs (omega arith))
-none_above n top (Near caller k p within ∷ cs) le = (omega arith, none_above n top cs le)
-none_above n top (Nears caller k ps ∷ cs) le = (omega arith, none_above n top cs le)
-none_above n top (Inside caller k c ∷ cs) le = (omega arith, none_above n top cs le)
-none_above n top (Ball caller k r p ∷ cs) le = (omega arith, none_above n top cs le)
-none_above n top (Lonely caller k r ∷ cs) le = (omega arith, none_above n top cs le)
-none_above n top (Clusters caller k r ∷ cs) le = (omega arith, none_above n top cs le)
-none_above n top (Pose caller rules p ∷ cs) le = (omega arith, none_above n top cs le)
-none_above n top (Sync ∷ cs) le = (omega arith, none_above n top cs le)
+none_above n top (c ∷ cs) le =
+    let e = marks_before n (command_update c) (updates_made cs) in
+    (omega (arith, e, le), none_above (mark_from n (command_update c)) top cs (omega (arith, e, le)))
 
 at_end : (n : ℕ) (cs : List Command) → slice_get (serial_marks_from n cs) (length cs) ≡ Some (n + updates_in cs)
 at_end n [] = ap (λ k. Some k) (omega arith)
-at_end n (Change caller u ∷ cs) = at_end (n + 1) cs ∙ ap (λ k. Some k) (omega arith)
-at_end n (Near caller k p within ∷ cs) = at_end n cs
-at_end n (Nears caller k ps ∷ cs) = at_end n cs
-at_end n (Inside caller k c ∷ cs) = at_end n cs
-at_end n (Ball caller k r p ∷ cs) = at_end n cs
-at_end n (Lonely caller k r ∷ cs) = at_end n cs
-at_end n (Clusters caller k r ∷ cs) = at_end n cs
-at_end n (Pose caller rules p ∷ cs) = at_end n cs
-at_end n (Sync ∷ cs) = at_end n cs
+at_end n (c ∷ cs) = at_end (mark_from n (command_update c)) cs ∙ ap (λ k. Some k) (marks_before n (command_update c) (updates_made cs))
 
 -- the marks of a run in the log's order are legal, whatever the script
 pub serial_is_legal : (s : ScriptAt) → IsLegal s.commands (serial_marks s)

@@ -12,6 +12,8 @@ use Rattle.scan_log.specs.declared.fault.LogCause.TheVariants.{NoHeader, Unknown
 use Rattle.scan_log.specs.Lines.{lines_of, kept_from, fields_of}
 use Rattle.scan_log.specs.Numbers.{is_numeral}
 use Rattle.scan_log.specs.Scripts.{room_of}
+use Rattle.map_fold.specs.declared.limits.TheConstants.{MAX_POINTS}
+use Rattle.scan_log.specs.declared.commands.TheConstants.{MAX_COMMANDS}
 
 -- a fault, and the number of the line that has it
 pub record FaultAt : Type 0 where
@@ -94,7 +96,7 @@ are_groups n args = not (length args == 0) && (length args % n == 0)
 abbrev pub points_fault : Format → ℕ → List (List ℕ) → Option LogCause
 points_fault format before args =
     check (are_groups (width format) args) WrongCount
-    orelse check (nat_le (length args / width format) 262144 && nat_le (before + length args / width format) 4194304) TooManyPoints
+    orelse check (nat_le (length args / width format) 262144 && nat_le (before + length args / width format) MAX_POINTS) TooManyPoints
     orelse scanned_fault format args
 
 abbrev pub erase_fault : Format → List (List ℕ) → Option LogCause
@@ -106,7 +108,7 @@ marks_fault format args = check (are_groups 6 args) WrongCount orelse check (nat
 
 -- the number of an expiry
 abbrev pub expire_fault : List (List ℕ) → Option LogCause
-expire_fault (n ∷ []) = number_fault (pos 0) (pos 4194304) n
+expire_fault (n ∷ []) = number_fault (pos 0) (pos MAX_POINTS) n
 expire_fault args = Some WrongCount
 
 abbrev pub k_fault : List ℕ → Option LogCause
@@ -193,7 +195,7 @@ fields_hits fields = 0
 -- the fault of a command's fields, where so many commands, points and hits stand before it
 abbrev pub command_fault : Format → ℕ → ℕ → ℕ → List (List ℕ) → Option LogCause
 command_fault format commands points hits (first ∷ fields) =
-    check (nat_lt commands 65536) TooManyCommands
+    check (nat_lt commands MAX_COMMANDS) TooManyCommands
     orelse (if bytes_eq first (codes "sync") then check (length fields == 0) WrongCount else called_fault format points first fields)
     orelse check (nat_le (hits + fields_hits (first ∷ fields)) 16777216) TooManyHits
 command_fault format commands points hits [] = Some UnknownCommand

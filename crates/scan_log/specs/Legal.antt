@@ -1,8 +1,8 @@
 -- Which marks the replies to a script may carry.
-use Rattle.std.specs.Prelude.{◌≡◌, ℕ, zero, suc, ◌+◌, ◌<◌, ◌≤◌, List, [], ◌∷◌, map, length, slice_get, Some}
+use Rattle.std.specs.Prelude.{◌≡◌, ℕ, zero, suc, ◌+◌, ◌<◌, ◌≤◌, List, [], ◌∷◌, map, length, slice_get, Some, MatchOption}
 use Rattle.std.specs.List.{AllByRecursion}
+use Rattle.scan_log.specs.Commands.{Concerns, command_caller, command_update}
 use Rattle.scan_log.specs.declared.command.Command.{Command}
-use Rattle.scan_log.specs.declared.command.Command.TheVariants.{Change, Near, Nears, Inside, Ball, Lonely, Clusters, Pose, Sync}
 use Rattle.scan_log.specs.declared.reply.Reply.{Reply}
 use Rattle.scan_log.specs.Scripts.{ScriptAt}
 use Rattle.scan_log.specs.Poses.{plain_script}
@@ -14,41 +14,13 @@ abbrev pub counted : ℕ → ℕ → List ℕ
 counted n zero = []
 counted n (suc k) = n ∷ counted (n + 1) k
 
--- the command is this caller's, or a barrier
-abbrev pub Concerns : ℕ → Command → Type 0
-Concerns x (Change caller u) = caller ≡ x
-Concerns x (Near caller k p within) = caller ≡ x
-Concerns x (Nears caller k ps) = caller ≡ x
-Concerns x (Inside caller k c) = caller ≡ x
-Concerns x (Ball caller k r p) = caller ≡ x
-Concerns x (Lonely caller k r) = caller ≡ x
-Concerns x (Clusters caller k r) = caller ≡ x
-Concerns x (Pose caller rules p) = caller ≡ x
-Concerns x Sync = Unit {0}
-
 -- a later mark isn't below, and that of an update is above
 abbrev pub IsLater : ℕ → Command → ℕ → Type 0
-IsLater m (Change caller u) n = m < n
-IsLater m (Near caller k p within) n = m ≤ n
-IsLater m (Nears caller k ps) n = m ≤ n
-IsLater m (Inside caller k c) n = m ≤ n
-IsLater m (Ball caller k r p) n = m ≤ n
-IsLater m (Lonely caller k r) n = m ≤ n
-IsLater m (Clusters caller k r) n = m ≤ n
-IsLater m (Pose caller rules p) n = m ≤ n
-IsLater m Sync n = m ≤ n
+IsLater m c n = MatchOption (command_update c) (m ≤ n) (λ u. m < n)
 
 -- after a caller's command with the mark m may come one with the mark n; after a barrier every command is asked
 abbrev pub MayFollow : Command → ℕ → Command → ℕ → Type 0
-MayFollow (Change caller u) m d n = Concerns caller d → IsLater m d n
-MayFollow (Near caller k p within) m d n = Concerns caller d → IsLater m d n
-MayFollow (Nears caller k ps) m d n = Concerns caller d → IsLater m d n
-MayFollow (Inside caller k c) m d n = Concerns caller d → IsLater m d n
-MayFollow (Ball caller k r p) m d n = Concerns caller d → IsLater m d n
-MayFollow (Lonely caller k r) m d n = Concerns caller d → IsLater m d n
-MayFollow (Clusters caller k r) m d n = Concerns caller d → IsLater m d n
-MayFollow (Pose caller rules p) m d n = Concerns caller d → IsLater m d n
-MayFollow Sync m d n = IsLater m d n
+MayFollow c m d n = MatchOption (command_caller c) (IsLater m d n) (λ caller. Concerns caller d → IsLater m d n)
 
 -- all these commands may come after it
 abbrev pub AllFollow : Command → ℕ → List Command → List ℕ → Type 0

@@ -3,6 +3,7 @@ pub mod Steps
 pub mod Numbers
 pub mod Formats
 pub mod Scripts
+pub mod Commands
 pub mod Spelling
 pub mod Faults
 pub mod Refusal

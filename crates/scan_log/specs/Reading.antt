@@ -1,4 +1,4 @@
--- Reading a log line by line, and a line field by field.
+-- Reading a log line by line, and a line field by field. Cited by private functions alone.
 use Rattle.std.specs.Prelude.{ℕ, ℤ, ◌+◌, ◌-◌, ◌/◌, Bool, ◌&&◌, ◌==◌, List, [], ◌∷◌, length, map, codes, min, nat_le, nat_lt, int_le, if◌then◌else◌}
 use Rattle.std.specs.Str.{bytes_eq}
 use Rattle.std.specs.declared.option.Option.TheVariants.{None, Some}
@@ -22,6 +22,7 @@ use Rattle.scan_log.specs.Lines.{lines_of, kept_from, fields_of}
 use Rattle.scan_log.specs.Numbers.{coordinate, corner_number, natural_in, read_number}
 use Rattle.scan_log.specs.Faults.{FaultAt, are_groups, line_feeds}
 use Rattle.scan_log.specs.Scripts.{ScriptAt, asked, submitted}
+use Rattle.map_fold.specs.declared.limits.TheConstants.{MAX_POINTS}
 
 -- a point of three fields
 unfoldable pub place_of : Format → List ℕ → List ℕ → List ℕ → Result Place LogCause
@@ -138,7 +139,7 @@ units_of format args = do
 
 -- the number of an expiry
 unfoldable pub expiry_of : List (List ℕ) → Result Update LogCause
-expiry_of (number ∷ []) = natural_in 0 4194304 number >>= λ n. Ok (Expire n)
+expiry_of (number ∷ []) = natural_in 0 MAX_POINTS number >>= λ n. Ok (Expire n)
 expiry_of args = Err WrongCount
 
 -- the update of a word and its arguments, where the log has room for so many points
@@ -281,7 +282,7 @@ commands_of format before room hits ((n, line) ∷ lines) = do
 -- the script of this version and these settings, and of the lines after the header
 abbrev pub body_of : Format → Sizes → List (ℕ × List ℕ) → Result ScriptAt FaultAt
 body_of format sizes lines = do
-  cs ← commands_of format 0 4194304 16777216 lines
+  cs ← commands_of format 0 MAX_POINTS 16777216 lines
   Ok (record { format = format; sizes = sizes; commands = cs })
 
 -- the script of the kept lines, where the log has so many line feeds

@@ -14,6 +14,8 @@ use Rattle.scan_log.specs.declared.format.Format.TheVariants.{One, Two}
 use Rattle.scan_log.specs.Formats.{HasNewer, lowest, highest, box_highest, farthest, greatest_intensity}
 use Rattle.scan_log.specs.declared.command.Command.{Command}
 use Rattle.scan_log.specs.declared.command.Command.TheVariants.{Change, Near, Nears, Inside, Ball, Lonely, Clusters, Pose, Sync}
+use Rattle.map_fold.specs.declared.limits.TheConstants.{MAX_POINTS}
+use Rattle.scan_log.specs.declared.commands.TheConstants.{MAX_COMMANDS}
 
 -- what a log says: its version, the settings, and the commands in order
 pub record ScriptAt : Type 0 where
@@ -69,7 +71,7 @@ AreBoxes format cs = (0 < length cs) × (length cs ≤ 262144) × AllByRecursion
 -- the numbers up to which a log of this version may expire
 abbrev pub IsExpiry : Format → ℕ → Type 0
 IsExpiry One n = ⊥
-IsExpiry Two n = n ≤ 4194304
+IsExpiry Two n = n ≤ MAX_POINTS
 
 -- an update has one point or box or more, and no more than a command may have
 abbrev pub IsUpdate : Format → Update → Type 0
@@ -135,6 +137,6 @@ hits_of (c ∷ cs) = asked c + hits_of cs
 pub record IsScript (s : ScriptAt) : Type 0 where
   pub sizes : AreSizes s.sizes
   pub each : AllByRecursion (IsCommand s.format) s.commands
-  pub few : length s.commands ≤ 65536
-  pub room : points_of s.commands ≤ 4194304
+  pub few : length s.commands ≤ MAX_COMMANDS
+  pub room : points_of s.commands ≤ MAX_POINTS
   pub hits : hits_of s.commands ≤ 16777216

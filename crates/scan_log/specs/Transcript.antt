@@ -16,6 +16,7 @@ use Rattle.map_fold.specs.Answers.{nearest, nears, inside, count, live_count, su
 use Rattle.map_fold.specs.Neighbours.{ball, lonely}
 use Rattle.map_fold.specs.Clusters.{clusters}
 use Rattle.map_fold.specs.Fold.{fold}
+use Rattle.scan_log.specs.Commands.{command_update, updates_made}
 use Rattle.scan_log.specs.declared.format.Format.{Format}
 use Rattle.scan_log.specs.declared.format.Format.TheVariants.{One, Two}
 use Rattle.scan_log.specs.declared.command.Command.{Command}
@@ -30,33 +31,20 @@ use Rattle.scan_log.specs.Spelling.{caller_field, point_fields, scanned_fields}
 
 -- how many of the commands are updates
 abbrev pub updates_in : List Command → ℕ
-updates_in [] = 0
-updates_in (Change caller u ∷ cs) = 1 + updates_in cs
-updates_in (Near caller k p within ∷ cs) = updates_in cs
-updates_in (Nears caller k ps ∷ cs) = updates_in cs
-updates_in (Inside caller k c ∷ cs) = updates_in cs
-updates_in (Ball caller k r p ∷ cs) = updates_in cs
-updates_in (Lonely caller k r ∷ cs) = updates_in cs
-updates_in (Clusters caller k r ∷ cs) = updates_in cs
-updates_in (Pose caller rules p ∷ cs) = updates_in cs
-updates_in (Sync ∷ cs) = updates_in cs
+updates_in cs = length (updates_made cs)
 
 -- an update before the first whose mark is greater
 abbrev pub put_update : ℕ → Update → List (ℕ × Update) → List (ℕ × Update)
 put_update m u [] = (m, u) ∷ []
 put_update m u (h ∷ hs) = if nat_lt h.0 m then h ∷ put_update m u hs else (m, u) ∷ h ∷ hs
 
+abbrev pub put_if : ℕ → Option Update → List (ℕ × Update) → List (ℕ × Update)
+put_if m (Some u) hs = put_update m u hs
+put_if m None hs = hs
+
 -- the updates of the commands with their marks, in the order of these
 abbrev pub marked_updates : List Command → List ℕ → List (ℕ × Update)
-marked_updates (Change caller u ∷ cs) (m ∷ marks) = put_update m u (marked_updates cs marks)
-marked_updates (Near caller k p within ∷ cs) (m ∷ marks) = marked_updates cs marks
-marked_updates (Nears caller k ps ∷ cs) (m ∷ marks) = marked_updates cs marks
-marked_updates (Inside caller k c ∷ cs) (m ∷ marks) = marked_updates cs marks
-marked_updates (Ball caller k r p ∷ cs) (m ∷ marks) = marked_updates cs marks
-marked_updates (Lonely caller k r ∷ cs) (m ∷ marks) = marked_updates cs marks
-marked_updates (Clusters caller k r ∷ cs) (m ∷ marks) = marked_updates cs marks
-marked_updates (Pose caller rules p ∷ cs) (m ∷ marks) = marked_updates cs marks
-marked_updates (Sync ∷ cs) (m ∷ marks) = marked_updates cs marks
+marked_updates (c ∷ cs) (m ∷ marks) = put_if m (command_update c) (marked_updates cs marks)
 marked_updates [] marks = []
 marked_updates cs [] = []
 
@@ -113,18 +101,15 @@ mark_of (reply.Lonely r) = r.mark
 mark_of (reply.Clusters r) = r.mark
 mark_of (reply.Totals m live suspended) = m
 
+-- the mark of a command in the log's order, where n updates stand before it
+abbrev pub mark_from : ℕ → Option Update → ℕ
+mark_from n (Some u) = n + 1
+mark_from n None = n
+
 -- the marks of a run in the log's order, where n updates stand before
 abbrev pub serial_marks_from : ℕ → List Command → List ℕ
 serial_marks_from n [] = n ∷ []
-serial_marks_from n (Change caller u ∷ cs) = (n + 1) ∷ serial_marks_from (n + 1) cs
-serial_marks_from n (Near caller k p within ∷ cs) = n ∷ serial_marks_from n cs
-serial_marks_from n (Nears caller k ps ∷ cs) = n ∷ serial_marks_from n cs
-serial_marks_from n (Inside caller k c ∷ cs) = n ∷ serial_marks_from n cs
-serial_marks_from n (Ball caller k r p ∷ cs) = n ∷ serial_marks_from n cs
-serial_marks_from n (Lonely caller k r ∷ cs) = n ∷ serial_marks_from n cs
-serial_marks_from n (Clusters caller k r ∷ cs) = n ∷ serial_marks_from n cs
-serial_marks_from n (Pose caller rules p ∷ cs) = n ∷ serial_marks_from n cs
-serial_marks_from n (Sync ∷ cs) = n ∷ serial_marks_from n cs
+serial_marks_from n (c ∷ cs) = mark_from n (command_update c) ∷ serial_marks_from (mark_from n (command_update c)) cs
 
 -- the marks of a script that runs in the log's order
 abbrev pub serial_marks : ScriptAt → List ℕ

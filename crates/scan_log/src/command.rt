@@ -90,6 +90,24 @@ impl Command {
     ghost use Rattle.std.specs.Prelude.{◌≡◌, IfOk};
     ghost use Rattle.scan_log.specs.declared.format.Format.TheVariants.{Two};
     ghost use Rattle.scan_log.specs.Scripts.{IsCommand, asked, submitted};
+    ghost use Rattle.scan_log.specs.Commands.{command_caller};
+
+    /// Whose it is, by the caller's number. A barrier is nobody's.
+    pub fn caller(&self) -> Option<u8>
+        ensures { result ≡ command_caller self.now }
+    {
+        match self {
+            Command::Change { caller, .. }
+            | Command::Near { caller, .. }
+            | Command::Nears { caller, .. }
+            | Command::Inside { caller, .. }
+            | Command::Ball { caller, .. }
+            | Command::Lonely { caller, .. }
+            | Command::Clusters { caller, .. }
+            | Command::Pose { caller, .. } => Some(*caller),
+            Command::Sync => None,
+        }
+    }
 
     /// How many points it submits.
     pub fn points(&self) -> usize

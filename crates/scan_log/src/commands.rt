@@ -13,15 +13,13 @@ use crate::points::scanned_points;
 use crate::poses::pose;
 use crate::queries::{ball, inside, near, nears, reach};
 use crate::{Command, Format, LogCause};
-use map_fold::Update;
+use map_fold::{MAX_POINTS, Update};
 use std::alloc::Global;
 
-const MAX_COMMANDS: usize = 65_536;
+/// The most commands of a log: 65,536.
+pub const MAX_COMMANDS: usize = 65_536;
 
 const MAX_POINTS_OF_COMMAND: usize = 262_144;
-
-// Of a history, so no number is greater.
-const MAX_POINTS: u32 = 4_194_304;
 
 /// The command that the line spells, where so many commands stand before it, and the log has room for so many points and its
 /// replies for so many hits.

@@ -25,6 +25,7 @@ mod script;
 mod writing;
 
 pub use command::Command;
+pub use commands::MAX_COMMANDS;
 pub use fault::{LogCause, ParseFault};
 pub use format::Format;
 pub use number::natural_in;

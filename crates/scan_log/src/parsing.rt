@@ -12,10 +12,8 @@ use crate::header::settings;
 use crate::lines::Lines;
 use crate::piece::count_of;
 use crate::{Format, LogCause, ParseFault, Script};
-use map_fold::Settings;
+use map_fold::{MAX_POINTS, Settings};
 use std::alloc::Global;
-
-const MAX_POINTS: usize = 4_194_304;
 
 // Of all replies together, which are kept in memory.
 const MAX_HITS: usize = 16_777_216;
@@ -33,7 +31,7 @@ pub fn parse(alloc: Global, log: &[u8]) -> Result<Script, ParseFault>
     // The fault is the first one, and nothing is spelled then.
     ensures fault { IfErr result (IsParseFault log.now) }
 
-    // So it is with all bytes, also where memory is wanting.
+    // So it is with all bytes, also where memory runs out.
     ensures either { IsSpelledOrFaulty log.now }
 {
     read(alloc, log)
@@ -70,7 +68,7 @@ fn body(
 {
     let mut lines = lines;
     let mut script = Script::new(alloc, format, settings);
-    let mut room = MAX_POINTS;
+    let mut room = MAX_POINTS as usize;
     let mut hits = MAX_HITS;
     while let Some((number, line)) = lines.next() {
         let before = script.commands().len();

@@ -34,8 +34,8 @@ impl Model for PlainScript {
 impl PlainScript {
     ghost use Rattle.scan_log.specs.Plain.{IsPlainScript};
 
-    /// The script with each pose's change put in its place. Takes memory for these changes alone, and lets the script go where that
-    /// is wanting.
+    /// The script with each pose's change put in its place. Takes memory for these changes alone, and drops the script where that
+    /// runs out.
     pub fn of(alloc: Global, script: Script) -> Result<PlainScript, NoMemory>
         ensures { IfOk result (λ s. s ≡ plain_script script) }
     {

@@ -26,7 +26,7 @@ pub fn reply_line(
     put(out, line.as_slice())
 }
 
-// What these put of a line where memory runs out isn't said: it is let go.
+// What these put of a line where memory runs out isn't said: it is dropped.
 
 fn put_reply(
     out: &mut Vec<u8>,

@@ -1,5 +1,5 @@
 //! Putting what lines are made of, those of a transcript and those of a log. What these put where memory runs out isn't said:
-//! the line or the log is let go.
+//! the line or the log is dropped.
 ghost use Rattle.std.specs.Prelude.{◌≡◌, ◌++◌, OnOk, OnErr};
 ghost use Rattle.scan_log.specs.Spelling.{caller_field};
 ghost use Rattle.scan_log.specs.Transcript.{point_text, spaced};

@@ -69,7 +69,7 @@ impl Script {
     }
 
     /// Puts one more command at the end. Points have the intensity 0, but for those that are added or thinned in version 2.
-    /// Where memory is wanting, the script stays as it was.
+    /// Where memory runs out, the script stays as it was.
     pub fn push(&mut self, command: Command) -> Result<(), NoMemory>
         requires { IsScript (with_command self.old command) }
         ensures ok { OnOk result (self.new ≡ with_command self.old command) }

@@ -1,12 +1,13 @@
 -- The parts of which legal marks are made.
-use Rattle.std.proofs.Common.{◌≡◌, ℕ, suc, ◌+◌, ◌≤◌, List, [], ◌∷◌, length, map, slice_get, Some, get_or, refl, sym, ap, ◌∙◌, arith, nat_lt, Bool, true, false, cond}
+use Rattle.std.proofs.Common.{◌≡◌, ℕ, suc, ◌+◌, ◌≤◌, List, [], ◌∷◌, length, map, slice_get, Some, get_or, refl, sym, ap, ◌∙◌, arith, nat_lt, Bool, true, false, cond, Option, None, ◌++◌}
+use Rattle.std.specs.Option.{option_to_list}
 use Rattle.std.proofs.lemmas.List.{length-map}
 use Rattle.std.proofs.lemmas.Option.{slice_get-get_or}
 use Rattle.map_fold.specs.declared.update.Update.{Update}
+use Rattle.scan_log.specs.Commands.{command_update, updates_made}
 use Rattle.scan_log.specs.declared.command.Command.{Command}
-use Rattle.scan_log.specs.declared.command.Command.TheVariants.{Change, Near, Nears, Inside, Ball, Lonely, Clusters, Pose, Sync}
 use Rattle.scan_log.specs.Legal.{IsLegal, counted}
-use Rattle.scan_log.specs.Transcript.{marked_updates, put_update, updates_in}
+use Rattle.scan_log.specs.Transcript.{marked_updates, put_if, put_update, updates_in}
 use Rattle.transcript_check.specs.Told.{updates_of}
 use Rattle.transcript_check.specs.declared.order.Marked.{Marked}
 
@@ -18,23 +19,16 @@ length-put_update m u (h ∷ hs) = go (nat_lt h.0 m) (length-put_update m u hs)
     go true r = ap suc r
     go false r = refl
 
+length_if : (m : ℕ) (made : Option Update) (hs : List (ℕ × Update)) (us : List Update) → length hs ≡ length us → length (put_if m made hs) ≡ length (option_to_list made ++ us)
+length_if m (Some u) hs us e = length-put_update m u hs ∙ ap suc e
+length_if m None hs us e = e
+
 -- there is a mark for each update
 pub length-marked_updates : (cs : List Command) (marks : List ℕ) → length cs ≤ length marks → length (marked_updates cs marks) ≡ updates_in cs
 length-marked_updates [] [] h = refl
 length-marked_updates [] (m ∷ marks) h = refl
 length-marked_updates (c ∷ cs) [] h = absurd (omega arith)
-length-marked_updates (Change caller u ∷ cs) (m ∷ marks) h =
-    let r = length-marked_updates cs marks (omega arith) in
-    let p = length-put_update m u (marked_updates cs marks) in
-    omega arith
-length-marked_updates (Near caller k p within ∷ cs) (m ∷ marks) h = length-marked_updates cs marks (omega arith)
-length-marked_updates (Nears caller k ps ∷ cs) (m ∷ marks) h = length-marked_updates cs marks (omega arith)
-length-marked_updates (Inside caller k b ∷ cs) (m ∷ marks) h = length-marked_updates cs marks (omega arith)
-length-marked_updates (Ball caller k r q ∷ cs) (m ∷ marks) h = length-marked_updates cs marks (omega arith)
-length-marked_updates (Lonely caller k r ∷ cs) (m ∷ marks) h = length-marked_updates cs marks (omega arith)
-length-marked_updates (Clusters caller k r ∷ cs) (m ∷ marks) h = length-marked_updates cs marks (omega arith)
-length-marked_updates (Pose caller rules q ∷ cs) (m ∷ marks) h = length-marked_updates cs marks (omega arith)
-length-marked_updates (Sync ∷ cs) (m ∷ marks) h = length-marked_updates cs marks (omega arith)
+length-marked_updates (c ∷ cs) (m ∷ marks) h = length_if m (command_update c) _ (updates_made cs) (length-marked_updates cs marks (omega arith))
 
 first_of_pairs : (us : List Marked) → map (λ h. h.0) (updates_of us) ≡ map (λ (u : Marked). u.mark) us
 first_of_pairs [] = refl

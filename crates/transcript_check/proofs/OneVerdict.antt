@@ -21,7 +21,8 @@ use Rattle.transcript_check.specs.declared.verdict.Verdict.TheVariants.{Legal, U
 use Rattle.transcript_check.proofs.ReadLines.{length-heads, spell_long}
 use Rattle.transcript_check.specs.Told.{lines_of, lines_under, marks_of}
 use Rattle.transcript_check.specs.declared.lines.Told.{Told}
-use Rattle.transcript_check.proofs.Replays.{updates_few, length-reply_lines}
+use Rattle.scan_log.proofs.Whose.{updates_few}
+use Rattle.transcript_check.proofs.Replays.{length-reply_lines}
 use Rattle.std.proofs.lemmas.Bool.{cases_order}
 use Rattle.std.proofs.lemmas.Option.{slice_get_past}
 use Rattle.transcript_check.proofs.ReplyLines.{spell_replies, joined_replies, heads-plain_from, reply_lines-plain_from}

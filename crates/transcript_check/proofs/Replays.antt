@@ -13,6 +13,7 @@ use Rattle.map_fold.specs.declared.item.Item.{Item}
 use Rattle.map_fold.specs.declared.update.Update.{Update}
 use Rattle.map_fold.specs.Fold.{MapAt, fold, fold_from, no_points}
 use Rattle.map_fold.specs.Sizes.{Sizes}
+use Rattle.scan_log.proofs.Whose.{updates_few}
 use Rattle.scan_log.specs.declared.command.Command.{Command}
 use Rattle.scan_log.specs.declared.command.Command.TheVariants.{Change, Near, Nears, Inside, Ball, Lonely, Clusters, Pose, Sync}
 use Rattle.scan_log.specs.declared.reply.Reply.{Reply}
@@ -176,18 +177,6 @@ pub given_of : (s : ScriptAt) (told : List Told) (us : List Marked) (places ats 
     → ((i m : ℕ) → slice_get (marks_of told) i ≡ Some m → Contains places (record { mark = m; place = i })) → IsGiven s told us ats
 given_of s told us places ats script legal many updates same order placed all =
     rw same (record { script = script; legal = legal; many = many; updates = updates; order = order; placed = placed; all = all })
-
-pub updates_few : (cs : List Command) → updates_in cs ≤ length cs
-updates_few [] = omega arith
-updates_few (Change caller u ∷ cs) = let r = updates_few cs in omega arith
-updates_few (Near caller k p within ∷ cs) = let r = updates_few cs in omega arith
-updates_few (Nears caller k ps ∷ cs) = let r = updates_few cs in omega arith
-updates_few (Inside caller k c ∷ cs) = let r = updates_few cs in omega arith
-updates_few (Ball caller k r q ∷ cs) = let r = updates_few cs in omega arith
-updates_few (Lonely caller k r ∷ cs) = let r = updates_few cs in omega arith
-updates_few (Clusters caller k r ∷ cs) = let r = updates_few cs in omega arith
-updates_few (Pose caller rules q ∷ cs) = let r = updates_few cs in omega arith
-updates_few (Sync ∷ cs) = let r = updates_few cs in omega arith
 
 -- there are few enough lines and updates
 few_given : (s : ScriptAt) (told : List Told) (us : List Marked) (places : List Placed) → IsGiven s told us places → (length us ≤ 65536) × (length told ≤ 65537)

@@ -1,5 +1,5 @@
 -- The updates in the order of their marks.
-use Rattle.std.proofs.Common.{◌≡◌, ℕ, suc, ◌<◌, ◌≤◌, Bool, true, false, cond, List, [], ◌∷◌, ◌++◌, length, get_or, drop, refl, sym, ap, ◌∙◌, subst, arith, nat_lt, nat_eq, inl, inr}
+use Rattle.std.proofs.Common.{◌≡◌, ℕ, suc, ◌<◌, ◌≤◌, Bool, true, false, cond, List, [], ◌∷◌, ◌++◌, length, get_or, drop, refl, sym, ap, ◌∙◌, subst, arith, nat_lt, nat_eq, inl, inr, Option, Some, None}
 use Rattle.std.specs.Prelude.{filter}
 use Rattle.std.specs.List.{AllByRecursion}
 use Rattle.std.specs.List.Sorted.{IsNonDecreasingBy, IsStableByKey, ties}
@@ -9,26 +9,23 @@ use Rattle.std.proofs.lemmas.Bool.Decides.{nat_tests}
 use Rattle.std.proofs.lemmas.List.{map_push, append_assoc, drop_all}
 use Rattle.std.proofs.lemmas.List.Elements.{filter_agree}
 use Rattle.map_fold.specs.declared.update.Update.{Update}
+use Rattle.scan_log.specs.Commands.{command_update}
 use Rattle.scan_log.specs.declared.command.Command.{Command}
 use Rattle.scan_log.specs.declared.command.Command.TheVariants.{Change, Near, Nears, Inside, Ball, Lonely, Clusters, Pose, Sync}
-use Rattle.scan_log.specs.Transcript.{marked_updates, put_update}
+use Rattle.scan_log.specs.Transcript.{marked_updates, put_if, put_update}
 use Rattle.transcript_check.specs.Told.{updates_of}
 use Rattle.transcript_check.specs.declared.order.Marked.{Marked}
 
 abbrev pub Pair : Type 0
 Pair = ℕ × Update
 
+abbrev pub first_if : ℕ → Option Update → List (ℕ × Update) → List (ℕ × Update)
+first_if m (Some u) hs = (m, u) ∷ hs
+first_if m None hs = hs
+
 -- the updates with their marks, in the log's order
 abbrev pub plain_updates : List Command → List ℕ → List (ℕ × Update)
-plain_updates (Change caller u ∷ cs) (m ∷ marks) = (m, u) ∷ plain_updates cs marks
-plain_updates (Near caller k p within ∷ cs) (m ∷ marks) = plain_updates cs marks
-plain_updates (Nears caller k ps ∷ cs) (m ∷ marks) = plain_updates cs marks
-plain_updates (Inside caller k c ∷ cs) (m ∷ marks) = plain_updates cs marks
-plain_updates (Ball caller k r q ∷ cs) (m ∷ marks) = plain_updates cs marks
-plain_updates (Lonely caller k r ∷ cs) (m ∷ marks) = plain_updates cs marks
-plain_updates (Clusters caller k r ∷ cs) (m ∷ marks) = plain_updates cs marks
-plain_updates (Pose caller rules q ∷ cs) (m ∷ marks) = plain_updates cs marks
-plain_updates (Sync ∷ cs) (m ∷ marks) = plain_updates cs marks
+plain_updates (c ∷ cs) (m ∷ marks) = first_if m (command_update c) (plain_updates cs marks)
 plain_updates [] marks = []
 plain_updates cs [] = []
 
@@ -81,50 +78,25 @@ has_put k m u (h ∷ hs) = go (nat_lt h.0 m) refl (has_put k m u hs)
         ∙ swap (nat_eq m k) (has k h) (λ p q. let low : h.0 < m = grind (arith, nat_tests) in let one : m ≡ k = grind (arith, nat_tests) in let two : h.0 ≡ k = grind (arith, nat_tests) in absurd (omega arith)) (filter (has k) hs)
     go false e r = refl
 
+rising_if : (m : ℕ) (made : Option Update) (hs : List (ℕ × Update)) → Rising hs → Rising (put_if m made hs)
+rising_if m (Some u) hs up = rising_put m u hs up
+rising_if m None hs up = up
+
 rising_marked : (cs : List Command) (marks : List ℕ) → Rising (marked_updates cs marks)
 rising_marked [] [] = tt
 rising_marked [] (m ∷ marks) = tt
-rising_marked (Change caller u ∷ cs) [] = tt
-rising_marked (Near caller k p within ∷ cs) [] = tt
-rising_marked (Nears caller k ps ∷ cs) [] = tt
-rising_marked (Inside caller k c ∷ cs) [] = tt
-rising_marked (Ball caller k r q ∷ cs) [] = tt
-rising_marked (Lonely caller k r ∷ cs) [] = tt
-rising_marked (Clusters caller k r ∷ cs) [] = tt
-rising_marked (Pose caller rules q ∷ cs) [] = tt
-rising_marked (Sync ∷ cs) [] = tt
-rising_marked (Change caller u ∷ cs) (m ∷ marks) = rising_put m u (marked_updates cs marks) (rising_marked cs marks)
-rising_marked (Near caller k p within ∷ cs) (m ∷ marks) = rising_marked cs marks
-rising_marked (Nears caller k ps ∷ cs) (m ∷ marks) = rising_marked cs marks
-rising_marked (Inside caller k c ∷ cs) (m ∷ marks) = rising_marked cs marks
-rising_marked (Ball caller k r q ∷ cs) (m ∷ marks) = rising_marked cs marks
-rising_marked (Lonely caller k r ∷ cs) (m ∷ marks) = rising_marked cs marks
-rising_marked (Clusters caller k r ∷ cs) (m ∷ marks) = rising_marked cs marks
-rising_marked (Pose caller rules q ∷ cs) (m ∷ marks) = rising_marked cs marks
-rising_marked (Sync ∷ cs) (m ∷ marks) = rising_marked cs marks
+rising_marked (c ∷ cs) [] = tt
+rising_marked (c ∷ cs) (m ∷ marks) = rising_if m (command_update c) _ (rising_marked cs marks)
+
+has_if : (k m : ℕ) (made : Option Update) (hs ps : List (ℕ × Update)) → filter (has k) hs ≡ filter (has k) ps → filter (has k) (put_if m made hs) ≡ filter (has k) (first_if m made ps)
+has_if k m (Some u) hs ps e = has_put k m u hs ∙ ap (λ (rest : List (ℕ × Update)). cond (nat_eq m k) ((m, u) ∷ rest) rest) e
+has_if k m None hs ps e = e
 
 has_marked : (k : ℕ) (cs : List Command) (marks : List ℕ) → filter (has k) (marked_updates cs marks) ≡ filter (has k) (plain_updates cs marks)
 has_marked k [] [] = refl
 has_marked k [] (m ∷ marks) = refl
-has_marked k (Change caller u ∷ cs) [] = refl
-has_marked k (Near caller j p within ∷ cs) [] = refl
-has_marked k (Nears caller j ps ∷ cs) [] = refl
-has_marked k (Inside caller j c ∷ cs) [] = refl
-has_marked k (Ball caller j r q ∷ cs) [] = refl
-has_marked k (Lonely caller j r ∷ cs) [] = refl
-has_marked k (Clusters caller j r ∷ cs) [] = refl
-has_marked k (Pose caller rules q ∷ cs) [] = refl
-has_marked k (Sync ∷ cs) [] = refl
-has_marked k (Change caller u ∷ cs) (m ∷ marks) =
-    has_put k m u (marked_updates cs marks) ∙ ap (λ (rest : List (ℕ × Update)). cond (nat_eq m k) ((m, u) ∷ rest) rest) (has_marked k cs marks)
-has_marked k (Near caller j p within ∷ cs) (m ∷ marks) = has_marked k cs marks
-has_marked k (Nears caller j ps ∷ cs) (m ∷ marks) = has_marked k cs marks
-has_marked k (Inside caller j c ∷ cs) (m ∷ marks) = has_marked k cs marks
-has_marked k (Ball caller j r q ∷ cs) (m ∷ marks) = has_marked k cs marks
-has_marked k (Lonely caller j r ∷ cs) (m ∷ marks) = has_marked k cs marks
-has_marked k (Clusters caller j r ∷ cs) (m ∷ marks) = has_marked k cs marks
-has_marked k (Pose caller rules q ∷ cs) (m ∷ marks) = has_marked k cs marks
-has_marked k (Sync ∷ cs) (m ∷ marks) = has_marked k cs marks
+has_marked k (c ∷ cs) [] = refl
+has_marked k (c ∷ cs) (m ∷ marks) = has_if k m (command_update c) _ _ (has_marked k cs marks)
 
 -- nothing below the first has its mark
 none_has : (k j : ℕ) (hs : List (ℕ × Update)) → j < k → AllFrom k hs → filter (has j) hs ≡ []

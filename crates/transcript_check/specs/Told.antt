@@ -1,5 +1,5 @@
 -- Lines with their marks, as they are read, ordered and replayed.
-use Rattle.std.specs.Prelude.{◌≡◌, ℕ, ◌+◌, Bool, true, nat_lt, nat_le, ◌==◌, List, [], ◌∷◌, map, slice_get, if◌then◌else◌}
+use Rattle.std.specs.Prelude.{◌≡◌, ℕ, ◌+◌, Bool, true, nat_lt, nat_le, ◌==◌, List, [], ◌∷◌, map, slice_get, if◌then◌else◌, is_some}
 use Rattle.std.specs.declared.option.Option.{Option}
 use Rattle.std.specs.declared.option.Option.TheVariants.{None, Some}
 use Rattle.map_fold.specs.declared.item.Item.{Item}
@@ -8,6 +8,7 @@ use Rattle.map_fold.specs.Answers.{nearest, nears, inside, count, live_count, su
 use Rattle.map_fold.specs.Neighbours.{ball, lonely}
 use Rattle.map_fold.specs.Clusters.{clusters}
 use Rattle.map_fold.specs.Fold.{points_in}
+use Rattle.scan_log.specs.Commands.{command_update, is_for}
 use Rattle.scan_log.specs.declared.command.Command.{Command}
 use Rattle.scan_log.specs.declared.command.Command.TheVariants.{Change, Near, Nears, Inside, Ball, Lonely, Clusters, Pose, Sync}
 use Rattle.scan_log.specs.declared.reply.Reply.{Reply}
@@ -43,37 +44,17 @@ abbrev pub WasUnspelled : List Command → List ℕ → Stop → Type 0
 WasUnspelled cs out (Unspelled before) = IsUnspelled (heads cs) out (before + 1)
 WasUnspelled cs out NoMemory = Unit {0}
 
--- the command is this caller's, or a barrier
-abbrev pub concerns : ℕ → Command → Bool
-concerns x (Change caller u) = caller == x
-concerns x (Near caller k p within) = caller == x
-concerns x (Nears caller k ps) = caller == x
-concerns x (Inside caller k c) = caller == x
-concerns x (Ball caller k r p) = caller == x
-concerns x (Lonely caller k r) = caller == x
-concerns x (Clusters caller k r) = caller == x
-concerns x (Pose caller rules p) = caller == x
-concerns x Sync = true
-
 -- the mark may come behind the last one, if there is one
 abbrev pub is_late : Option ℕ → Command → ℕ → Bool
 is_late None c m = true
-is_late (Some low) (Change caller u) m = nat_lt low m
-is_late (Some low) (Near caller k p within) m = nat_le low m
-is_late (Some low) (Nears caller k ps) m = nat_le low m
-is_late (Some low) (Inside caller k c) m = nat_le low m
-is_late (Some low) (Ball caller k r p) m = nat_le low m
-is_late (Some low) (Lonely caller k r) m = nat_le low m
-is_late (Some low) (Clusters caller k r) m = nat_le low m
-is_late (Some low) (Pose caller rules p) m = nat_le low m
-is_late (Some low) Sync m = nat_le low m
+is_late (Some low) c m = if is_some (command_update c) then nat_lt low m else nat_le low m
 
 -- the marks of this caller's commands and of the barriers are in order, behind a last one
 abbrev pub InOrderBehind : ℕ → Option ℕ → List Command → List ℕ → Type 0
 InOrderBehind x low [] marks = Unit {0}
 InOrderBehind x low (c ∷ cs) [] = Unit {0}
 InOrderBehind x low (c ∷ cs) (m ∷ marks) =
-    (concerns x c ≡ true → is_late low c m ≡ true) × InOrderBehind x (if concerns x c then Some m else low) cs marks
+    (is_for x c ≡ true → is_late low c m ≡ true) × InOrderBehind x (if is_for x c then Some m else low) cs marks
 
 abbrev pub AreCallersInOrder : ℕ → List Command → List ℕ → Type 0
 AreCallersInOrder x cs marks = InOrderBehind x None cs marks

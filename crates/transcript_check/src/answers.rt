@@ -6,7 +6,7 @@ ghost use Rattle.scan_log.specs.Plain.{IsPlain};
 ghost use Rattle.transcript_check.specs.Told.{reply_at};
 
 use crate::neighbours::{ball_reply, clusters_reply, lonely_reply};
-use map_fold::{BoxReply, HitLists, NearReply, NearsReply, NoMemory, PlainMap};
+use map_fold::{BoxReply, HitLists, MAX_POINTS, NearReply, NearsReply, NoMemory, PlainMap};
 use point_geom::Point;
 use scan_log::{Command, Reply};
 use std::alloc::Global;
@@ -19,7 +19,7 @@ pub fn reply_to(
     mark: u64,
 ) -> Result<Reply, NoMemory>
     requires good { ForSome (option_copied command) IsPlain }
-    requires few { map.now.next ≤ 4194304 }
+    requires few { map.now.next ≤ MAX_POINTS }
     ensures { IfOk result (λ r. r ≡ reply_at map.now.items (option_copied command.entry) mark) }
 {
     match command {
@@ -30,7 +30,7 @@ pub fn reply_to(
 
 fn answer_to(alloc: Global, map: &PlainMap, command: &Command, mark: u64) -> Result<Reply, NoMemory>
     requires good { IsPlain command.now }
-    requires few { map.now.next ≤ 4194304 }
+    requires few { map.now.next ≤ MAX_POINTS }
     ensures { IfOk result (λ r. r ≡ reply_at map.now.items (Some command.now) mark) }
 {
     Ok(match command {

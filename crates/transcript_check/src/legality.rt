@@ -2,10 +2,11 @@
 ghost use Rattle.std.specs.Prelude.{◌≡◌, ◌+◌, ◌≤◌, length, map};
 ghost use Rattle.std.specs.Bool.{Decides};
 ghost use Rattle.std.specs.List.{AllByRecursion};
+ghost use Rattle.scan_log.specs.Commands.{is_for};
 ghost use Rattle.scan_log.specs.Legal.{AreInOrder, IsLegal, counted};
 ghost use Rattle.scan_log.specs.Plain.{IsPlain};
 ghost use Rattle.scan_log.specs.Transcript.{marked_updates};
-ghost use Rattle.transcript_check.specs.Told.{AreCallersInOrder, concerns, is_late, marks_of, updates_of};
+ghost use Rattle.transcript_check.specs.Told.{AreCallersInOrder, is_late, marks_of, updates_of};
 
 use crate::lines::Told;
 use crate::order::Marked;
@@ -76,7 +77,7 @@ fn is_in_order(caller: u8, commands: &[Command], told: &[Told]) -> bool
     for place in 0..commands.len() {
         let command = &commands[place];
         let mark = told[place].mark;
-        if concerns(caller, command) {
+        if is_for(caller, command) {
             if !is_late(floor, command, mark) {
                 return false;
             }
@@ -87,19 +88,12 @@ fn is_in_order(caller: u8, commands: &[Command], told: &[Told]) -> bool
 }
 
 // Whether the command is this caller's, or a barrier.
-fn concerns(x: u8, command: &Command) -> bool
-    ensures { result ≡ concerns x command.now }
+fn is_for(x: u8, command: &Command) -> bool
+    ensures { result ≡ is_for x command.now }
 {
-    match command {
-        Command::Change { caller, .. }
-        | Command::Near { caller, .. }
-        | Command::Nears { caller, .. }
-        | Command::Inside { caller, .. }
-        | Command::Ball { caller, .. }
-        | Command::Lonely { caller, .. }
-        | Command::Clusters { caller, .. }
-        | Command::Pose { caller, .. } => *caller == x,
-        Command::Sync => true,
+    match command.caller() {
+        Some(own) => own == x,
+        None => true,
     }
 }
 

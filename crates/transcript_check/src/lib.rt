@@ -9,8 +9,6 @@ mod lines;
 mod neighbours;
 mod order;
 mod replaying;
-#[cfg(test)]
-mod tests;
 mod verdict;
 
 pub use checking::check;

@@ -9,7 +9,7 @@ ghost use Rattle.node_labels.specs.Labels.{is_live};
 ghost use Rattle.scan_log.specs.Transcript.{clusters_reply, found_reply};
 
 use kd_tree::{Steps, Tree};
-use map_fold::{BoxReply, ClusterReply, Item, Items, Label, NoMemory, PlainMap};
+use map_fold::{BoxReply, ClusterReply, Item, Items, Label, MAX_POINTS, NoMemory, PlainMap};
 use neighbour_sets::{clusters, lonely};
 use point_geom::{Point, dist2};
 use std::alloc::Global;
@@ -48,7 +48,7 @@ pub fn lonely_reply(
     requires k_from { 1 ≤ k }
     requires k_to { k ≤ 256 }
     requires r_to { r ≤ 4398046511104 }
-    requires few { map.now.next ≤ 4194304 }
+    requires few { map.now.next ≤ MAX_POINTS }
     ensures { IfOk result (λ found. found ≡ found_reply mark (lonely map.now.items r) k) }
 {
     let tree = tree_of(alloc, map)?;
@@ -71,7 +71,7 @@ pub fn clusters_reply(
     requires k_from { 1 ≤ k }
     requires k_to { k ≤ 256 }
     requires r_to { r ≤ 4398046511104 }
-    requires few { map.now.next ≤ 4194304 }
+    requires few { map.now.next ≤ MAX_POINTS }
     ensures { IfOk result (λ found. found ≡ clusters_reply mark (clusters map.now.items r) k) }
 {
     let tree = tree_of(alloc, map)?;
@@ -84,7 +84,7 @@ pub fn clusters_reply(
 }
 
 fn tree_of(alloc: Global, map: &PlainMap) -> Result<Tree, NoMemory>
-    requires { map.now.next ≤ 4194304 }
+    requires { map.now.next ≤ MAX_POINTS }
     ensures { IfOk result (λ t. contents t ≡ map.now.items) }
 {
     tree_by::<Brand>(alloc, map, Blank::new(1))
@@ -92,7 +92,7 @@ fn tree_of(alloc: Global, map: &PlainMap) -> Result<Tree, NoMemory>
 
 // Nobody asks how many nodes are made.
 fn tree_by<L: Ledger>(alloc: Global, map: &PlainMap, blank: Blank) -> Result<Tree, NoMemory>
-    requires few { map.now.next ≤ 4194304 }
+    requires few { map.now.next ≤ MAX_POINTS }
     requires name { blank.name ≡ L.name }
     requires parts { blank.parts ≡ L.parts }
     requires some { blank.parts ≡ 1 }

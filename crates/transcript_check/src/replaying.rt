@@ -12,7 +12,7 @@ ghost use Rattle.transcript_check.specs.Verdicts.{IsFirstOther};
 use crate::answers::reply_to;
 use crate::lines::{Told, command_at};
 use crate::order::{Marked, places_by_mark};
-use map_fold::{NoMemory, PlainMap, Settings};
+use map_fold::{MAX_POINTS, NoMemory, PlainMap, Settings};
 use scan_log::{Command, Format, PlainScript, reply_line};
 use std::alloc::Global;
 
@@ -56,7 +56,7 @@ pub fn first_other(
 
 // The map after these updates.
 fn advanced(map: PlainMap, settings: &Settings, updates: &[Marked]) -> Result<PlainMap, NoMemory>
-    requires { map.next + points_in_all (changes_of updates.now) ≤ 4194304 }
+    requires { map.next + points_in_all (changes_of updates.now) ≤ MAX_POINTS }
     ensures { IfOk result (λ m. m ≡ fold_from settings.now.voxel (changes_of updates.now) map) }
 {
     let mut map = map;
@@ -75,7 +75,7 @@ fn is_told(
     told: &Told,
 ) -> Result<bool, NoMemory>
     requires good { ForSome (option_copied command) IsPlain }
-    requires few { map.now.next ≤ 4194304 }
+    requires few { map.now.next ≤ MAX_POINTS }
     ensures { IfOk result (λ same. Decides same (told.now.line.now ≡ reply_text format (option_copied command.entry) (reply_at map.now.items (option_copied command.entry) told.now.mark))) }
 {
     let reply = reply_to(alloc, map, command, told.mark as u64)?;

@@ -2,9 +2,9 @@
 ghost use Rattle.std.specs.Prelude.{◌≡◌, ◌≤◌, ◌+◌, true, length, IfOk};
 ghost use Rattle.std.specs.List.{AllByRecursion};
 ghost use Rattle.std.specs.Option.{ForSome};
+ghost use Rattle.scan_log.specs.Commands.{is_by};
 ghost use Rattle.scan_log.specs.declared.command.Command.TheVariants as command_of;
 ghost use Rattle.scan_log.specs.Plain.{IsPlain};
-ghost use Rattle.mapper_core.specs.Told.{is_by};
 ghost use Rattle.mapper_core.specs.Mine.{Tried, Turned};
 
 use super::alarm::{Bells, Signals};
@@ -17,7 +17,7 @@ use point_geom::{Cuboid, Point};
 use published_map::{MapName, Pass, Shared};
 use rebuild_core::StateFault;
 use rebuild_worker::Gate;
-use scan_log::{Command, Reply};
+use scan_log::{Command, MAX_COMMANDS, Reply};
 use std::alloc::Global;
 use std::sync::Wait;
 use std::thread::Threads;
@@ -195,7 +195,7 @@ pub fn run_own<L: MapName, G: Gate, R: Threads + Wait + Sync>(
     pass: Pass<L>,
 ) -> Result<(Pass<L>, Queue), NoMemory>
     requires good { AllByRecursion IsPlain commands.now }
-    requires few { signals.now.from + length commands.now ≤ 65536 }
+    requires few { signals.now.from + length commands.now ≤ MAX_COMMANDS }
     ensures { IfOk result (λ r. Turned L.voxel commands.now pass r.0 r.1) }
 {
     let mut pass = pass;

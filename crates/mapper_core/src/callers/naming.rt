@@ -1,9 +1,9 @@
 //! Whose commands there are.
 ghost use Rattle.std.specs.Prelude.{◌≡◌, ◌≤◌, ℕ};
 ghost use Rattle.std.specs.List.{AllByRecursion};
+ghost use Rattle.scan_log.specs.Commands.{IsBy, is_by};
 ghost use Rattle.scan_log.specs.Plain.{IsPlain};
-ghost use Rattle.mapper_core.specs.Told.{is_by};
-ghost use Rattle.mapper_core.specs.Meetings.{IsBy, HasCaller, is_barrier as is_sync};
+ghost use Rattle.mapper_core.specs.Meetings.{HasCaller, is_barrier as is_sync};
 
 use scan_log::Command;
 
@@ -11,16 +11,9 @@ use scan_log::Command;
 pub fn is_own(command: &Command, caller: u8) -> bool
     ensures { result ≡ is_by caller command.now }
 {
-    match command {
-        Command::Change { caller: own, .. } => *own == caller,
-        Command::Near { caller: own, .. } => *own == caller,
-        Command::Nears { caller: own, .. } => *own == caller,
-        Command::Inside { caller: own, .. } => *own == caller,
-        Command::Ball { caller: own, .. } => *own == caller,
-        Command::Lonely { caller: own, .. } => *own == caller,
-        Command::Clusters { caller: own, .. } => *own == caller,
-        Command::Pose { caller: own, .. } => *own == caller,
-        Command::Sync => false,
+    match command.caller() {
+        Some(own) => own == caller,
+        None => false,
     }
 }
 
@@ -28,7 +21,7 @@ pub fn is_own(command: &Command, caller: u8) -> bool
 pub fn is_barrier(command: &Command) -> bool
     ensures { result ≡ is_sync command.now }
 {
-    matches!(command, Command::Sync)
+    command.caller().is_none()
 }
 
 /// Whose command it is. A barrier is nobody's, so it isn't asked for.
@@ -36,16 +29,9 @@ pub fn caller_of(command: &Command) -> u8
     requires { (x : ℕ) × IsBy command.now x }
     ensures { IsBy command.now result }
 {
-    match command {
-        Command::Change { caller, .. } => *caller,
-        Command::Near { caller, .. } => *caller,
-        Command::Nears { caller, .. } => *caller,
-        Command::Inside { caller, .. } => *caller,
-        Command::Ball { caller, .. } => *caller,
-        Command::Lonely { caller, .. } => *caller,
-        Command::Clusters { caller, .. } => *caller,
-        Command::Pose { caller, .. } => *caller,
-        Command::Sync => unreachable!(),
+    match command.caller() {
+        Some(caller) => caller,
+        None => unreachable!(),
     }
 }
 
@@ -56,17 +42,7 @@ fn named(command: &Command) -> u8
     ensures to { result ≤ 8 }
     ensures own { HasCaller result command.now }
 {
-    match command {
-        Command::Change { caller, .. } => *caller,
-        Command::Near { caller, .. } => *caller,
-        Command::Nears { caller, .. } => *caller,
-        Command::Inside { caller, .. } => *caller,
-        Command::Ball { caller, .. } => *caller,
-        Command::Lonely { caller, .. } => *caller,
-        Command::Clusters { caller, .. } => *caller,
-        Command::Pose { caller, .. } => *caller,
-        Command::Sync => 1,
-    }
+    command.caller().unwrap_or(1)
 }
 
 /// How many callers there are: up to the greatest that is named, and at least one.

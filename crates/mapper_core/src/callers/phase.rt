@@ -15,10 +15,10 @@ use super::merging::merge;
 use super::queue::Queue;
 use super::stage::Stage;
 use crate::replying::Replies;
-use map_fold::NoMemory;
+use map_fold::{MAX_POINTS, NoMemory};
 use published_map::{MapName, Pass, Shared};
 use rebuild_worker::Gate;
-use scan_log::{Command, Reply};
+use scan_log::{Command, MAX_COMMANDS, Reply};
 use std::alloc::Global;
 use std::sync::Wait;
 use std::thread::{Threads, join};
@@ -37,7 +37,7 @@ fn run_each<L: MapName + Send + Sync, G: Gate + Sync, R: Threads + Wait + Sync>(
     passes: Vec<Pass<L>>,
 ) -> Result<Vec<Turn<L>>, NoMemory>
     requires good { AllByRecursion IsPlain commands.now }
-    requires few { signals.now.from + length commands.now ≤ 65536 }
+    requires few { signals.now.from + length commands.now ≤ MAX_COMMANDS }
     ensures { IfOk result (λ v. AllTurned L.voxel commands.now passes.items v.items) }
 {
     let mut passes = passes;
@@ -47,11 +47,11 @@ fn run_each<L: MapName + Send + Sync, G: Gate + Sync, R: Threads + Wait + Sync>(
     let (turn, turns) = join(
         rt,
         move || -> Turn<L>
-            requires { IsSync R.row × AllByRecursion IsPlain commands.now × (signals.now.from + length commands.now ≤ 65536) }
+            requires { IsSync R.row × AllByRecursion IsPlain commands.now × (signals.now.from + length commands.now ≤ MAX_COMMANDS) }
             ensures { IfOk result (λ r. Turned L.voxel commands.entry.now last r.0 r.1) }
         { run_own(rt, alloc, shared, signals, commands, last) },
         move || -> Result<Vec<Turn<L>>, NoMemory>
-            requires { IsSync R.row × IsSync G.row × IsSync L.row × IsSend L.row × AllByRecursion IsPlain commands.now × (signals.now.from + length commands.now ≤ 65536) }
+            requires { IsSync R.row × IsSync G.row × IsSync L.row × IsSend L.row × AllByRecursion IsPlain commands.now × (signals.now.from + length commands.now ≤ MAX_COMMANDS) }
             ensures { IfOk result (λ v. AllTurned L.voxel commands.entry.now passes.items v.items) }
         { run_each(rt, alloc, shared, signals, commands, passes) },
     );
@@ -109,8 +109,8 @@ pub fn phase<L: MapName + Send + Sync, G: Gate + Sync, R: Threads + Wait + Sync>
     requires from_to { from ≤ to }
     requires to_end { to ≤ length commands.now }
     requires good { AllByRecursion IsPlain commands.now }
-    requires few { length commands.now ≤ 65536 }
-    requires room { points_of commands.now ≤ 4194304 }
+    requires few { length commands.now ≤ MAX_COMMANDS }
+    requires room { points_of commands.now ≤ MAX_POINTS }
     requires all { length passes.items ≡ L.callers }
     requires parts { L.callers ≡ L.parts }
     requires named { AllByRecursion (IsOfCallers L.callers) (take (to - from) (drop from commands.now)) }

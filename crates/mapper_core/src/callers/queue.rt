@@ -32,7 +32,7 @@ impl Queue {
         }
     }
 
-    /// Puts a reply at the end. Where memory is wanting, the queue stays as it was.
+    /// Puts a reply at the end. Where memory runs out, the queue stays as it was.
     pub fn put(&mut self, reply: Reply) -> Result<(), NoMemory>
         ensures ok { OnOk result (self.new ≡ self.old ++ reply ∷ []) }
         ensures err { OnErr result (self.new ≡ self.old) }

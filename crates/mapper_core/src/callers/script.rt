@@ -9,10 +9,10 @@ use super::naming::is_barrier;
 use super::phase::{barrier, held, phase};
 use super::stage::Stage;
 use crate::replying::Replies;
-use map_fold::NoMemory;
+use map_fold::{MAX_POINTS, NoMemory};
 use published_map::{MapName, Pass};
 use rebuild_worker::Gate;
-use scan_log::Command;
+use scan_log::{Command, MAX_COMMANDS};
 use std::sync::Wait;
 use std::thread::Threads;
 
@@ -24,8 +24,8 @@ pub fn run_commands<L: MapName + Send + Sync, G: Gate + Sync, R: Threads + Wait 
     passes: Vec<Pass<L>>,
 ) -> Result<(Vec<Pass<L>>, Replies), NoMemory>
     requires good { AllByRecursion IsPlain commands.now }
-    requires few { length commands.now ≤ 65536 }
-    requires room { points_of commands.now ≤ 4194304 }
+    requires few { length commands.now ≤ MAX_COMMANDS }
+    requires room { points_of commands.now ≤ MAX_POINTS }
     requires named { AllByRecursion (HasCaller L.callers) commands.now }
     requires new { AreNewcomers L.callers passes.items }
     requires parts { L.callers ≡ L.parts }

@@ -61,10 +61,10 @@ returns-clause-watched g c =
     (λ t k. let u = subst (λ (qs : List (List Side)). IsUpdatedClear c.args.large qs c.args.tree plain C t) ways k in all_watched-put c.args.large c.args.number c.args.point X ps c.args.tree t c.size-size.ensures.sound c.requires.new (omega (arith, c.requires.few)) c.requires.there u.same) c.put_clear.ensures.updated
 
 pub returns-clause-balance : goal.returns-clause-balance
-returns-clause-balance g c = λ even.
+returns-clause-balance g c = λ balanced.
     let ways : paths_of c.of-ways.result ≡ paths_in c.args.watches.now = c.of-ways.ensures ∙ ap paths_in c.as_slice.ensures.value ∙ same_paths c.args.watches.now c.log_puts.new.watches c.log_puts.ensures.begins in
     let ps = paths_in c.args.watches.now in
     let plain = put_shape c.args.number c.args.point c.args.tree in
     let C = RebuildsNoneOnRoute c.args.large c.args.point plain in
     IfOk-weaker c.put_clear.result _ (λ t. IsBalancedClear c.args.large ps t)
-    (λ t k. let u = subst (λ (qs : List (List Side)). IsUpdatedClear c.args.large qs c.args.tree plain C t) ways k in u.balance even) c.put_clear.ensures.updated
+    (λ t k. let u = subst (λ (qs : List (List Side)). IsUpdatedClear c.args.large qs c.args.tree plain C t) ways k in u.balance balanced) c.put_clear.ensures.updated

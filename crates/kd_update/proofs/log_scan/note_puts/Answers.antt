@@ -1,9 +1,8 @@
-use Rattle.std.proofs.Common.{◌≡◌, ◌+◌, ◌≤◌, [], ◌∷◌, ◌++◌, List, drop, length, ap, ◌∙◌, sym, arith, append-nil, append_assoc, length-append}
+use Rattle.std.proofs.Common.{◌≡◌, ◌+◌, [], ◌∷◌, ◌++◌, List, drop, length, ap, ◌∙◌, sym, arith, append-nil, append_assoc, length-append}
 use Rattle.std.proofs.lemmas.List.{drop_all}
 use Rattle.map_fold.specs.declared.item.Item.{Item}
 use Rattle.map_fold.specs.declared.op.Op.{Op}
 use Rattle.map_fold.specs.declared.op.Op.TheVariants.{Put}
-use Rattle.map_fold.specs.Ops.{Extends}
 use Rattle.map_fold.proofs.Numbered.{drop-at}
 use Rattle.kd_update.specs.Crossing.{puts_of}
 use Rattle.kd_update.proofs.Crossing.{extends_then}

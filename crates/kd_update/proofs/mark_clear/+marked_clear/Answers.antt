@@ -12,7 +12,7 @@ use Rattle.kd_update.specs.Several.{AreLargeAt, IsUpdatedClear}
 use Rattle.kd_update.specs.Ways.{paths_of}
 use Rattle.kd_update.proofs.InBox.{entered_all}
 use Rattle.kd_update.proofs.Made.{apart_mark, made_covered, ticks_entered}
-use Rattle.kd_update.proofs.Calm.{calm_none}
+use Rattle.kd_update.proofs.Criteria.{criteria_none}
 use Rattle.kd_update.proofs.Refresh.{head, refresh_sound}
 use Rattle.kd_update.proofs.Several.{clear_none, clear_here, clear_none_there, clear_missed, clear_covered, passed_by, marked_joined}
 use Rattle.kd_update.proofs.Trees.{pushed_smaller}
@@ -28,10 +28,10 @@ returns-then-is_empty-clause-updated g t c =
 pub returns-then-is_here-clause-updated : goal.returns-then-is_here-clause-updated
 returns-then-is_here-clause-updated g t c =
     IfOk-weaker c.marked_within-then-is_here.result _ (λ u. IsUpdatedClear c.args.large (paths_of c.args.ways.now) c.args.tree (marked_shape c.args.choice.now c.args.tag c.args.tree) (RebuildsNoneEntered c.args.large c.args.choice.now (marked_shape c.args.choice.now c.args.tag c.args.tree)) u)
-    (λ u k. clear_here c.args.large (paths_of c.args.ways.now) c.args.tree (marked_shape c.args.choice.now c.args.tag c.args.tree) u (RebuildsNoneEntered c.args.large c.args.choice.now (marked_shape c.args.choice.now c.args.tag c.args.tree)) (sym c.is_here.ensures ∙ c.if-is_here.true) (k.unrebuilt (calm_none c.args.choice.now (marked_shape c.args.choice.now c.args.tag c.args.tree)))) c.marked_within-then-is_here.ensures.updated
+    (λ u k. clear_here c.args.large (paths_of c.args.ways.now) c.args.tree (marked_shape c.args.choice.now c.args.tag c.args.tree) u (RebuildsNoneEntered c.args.large c.args.choice.now (marked_shape c.args.choice.now c.args.tag c.args.tree)) (sym c.is_here.ensures ∙ c.if-is_here.true) (k.unrebuilt (criteria_none c.args.choice.now (marked_shape c.args.choice.now c.args.tag c.args.tree)))) c.marked_within-then-is_here.ensures.updated
 
 pub returns-then-is_here-clause-ticks : goal.returns-then-is_here-clause-ticks
-returns-then-is_here-clause-ticks g t c = λ calm. c.marked_within-then-is_here.ensures.ticks (calm_none c.args.choice.now (marked_shape c.args.choice.now c.args.tag c.args.tree))
+returns-then-is_here-clause-ticks g t c = λ criteria. c.marked_within-then-is_here.ensures.ticks (criteria_none c.args.choice.now (marked_shape c.args.choice.now c.args.tag c.args.tree))
 
 pub returns-in_default-clause-updated : goal.returns-in_default-clause-updated
 returns-in_default-clause-updated g t c = clear_none_there c.args.large c.args.choice.now c.args.tag (paths_of c.args.ways.now) c.args.tree (RebuildsNoneEntered c.args.large c.args.choice.now (marked_shape c.args.choice.now c.args.tag c.args.tree)) (sym c.in_default.is ∙ c.reach_of.ensures)
@@ -45,11 +45,11 @@ returns-then-covers-clause-updated g t c =
     IfOk-weaker c.tagged.result _ _ (λ u e. subst (IsUpdatedClear c.args.large (paths_of c.args.ways.now) c.args.tree (marked_shape c.args.choice.now c.args.tag c.args.tree) (RebuildsNoneEntered c.args.large c.args.choice.now (marked_shape c.args.choice.now c.args.tag c.args.tree))) (sym e) done) c.tagged.ensures.shape
 
 pub returns-then-covers-clause-ticks : goal.returns-then-covers-clause-ticks
-returns-then-covers-clause-ticks g t c = λ calm.
+returns-then-covers-clause-ticks g t c = λ criteria.
     omega (arith, c.tagged.ensures.ticks, made_covered c.args.choice.now c.args.tree c.in-Some.reach (sym c.in-Some.is ∙ c.reach_of.ensures) (sym c.meets.ensures ∙ c.if-not-meets.false) (sym c.covers.ensures ∙ c.if-covers.true))
 
 pub returns-in_err-node-clause-ticks : goal.returns-in_err-node-clause-ticks
-returns-in_err-node-clause-ticks g t c = λ calm. apart_mark c.args.choice.now c.args.tree c.in-Some.reach c.args.steps.now c.take_apart.new.steps (sym c.in-Some.is ∙ c.reach_of.ensures) (sym c.meets.ensures ∙ c.if-not-meets.false) (sym c.covers.ensures ∙ c.if-covers.false) c.take_apart.ensures.ticks
+returns-in_err-node-clause-ticks g t c = λ criteria. apart_mark c.args.choice.now c.args.tree c.in-Some.reach c.args.steps.now c.take_apart.new.steps (sym c.in-Some.is ∙ c.reach_of.ensures) (sym c.meets.ensures ∙ c.if-not-meets.false) (sym c.covers.ensures ∙ c.if-covers.false) c.take_apart.ensures.ticks
 
 pub marked_clear-requires : goal.marked_clear-requires
 marked_clear-requires g t c κs within =

@@ -61,13 +61,13 @@ returns-clause-watched g c =
     (λ t k. let u = subst (λ (qs : List (List Side)). IsUpdatedClear c.args.large qs c.args.tree plain C t) ways k in all_watched-mark c.args.large c.args.choice.now c.args.tag ps c.args.tree t c.requires.there u.same) c.marked_clear.ensures.updated
 
 pub returns-clause-balance : goal.returns-clause-balance
-returns-clause-balance g c = λ even.
+returns-clause-balance g c = λ balanced.
     let ways : paths_of c.of-ways.result ≡ paths_in c.args.watches.now = c.of-ways.ensures ∙ ap paths_in c.as_slice.ensures.value ∙ same_paths c.args.watches.now c.log_marks.new.watches c.log_marks.ensures.begins in
     let ps = paths_in c.args.watches.now in
     let plain = marked_shape c.args.choice.now c.args.tag c.args.tree in
     let C = RebuildsNoneEntered c.args.large c.args.choice.now plain in
     IfOk-weaker c.marked_clear.result _ (λ t. IsBalancedClear c.args.large ps t)
-    (λ t k. let u = subst (λ (qs : List (List Side)). IsUpdatedClear c.args.large qs c.args.tree plain C t) ways k in u.balance even) c.marked_clear.ensures.updated
+    (λ t k. let u = subst (λ (qs : List (List Side)). IsUpdatedClear c.args.large qs c.args.tree plain C t) ways k in u.balance balanced) c.marked_clear.ensures.updated
 
 pub returns-clause-ticks : goal.returns-clause-ticks
-returns-clause-ticks g c = λ calm. omega (arith, c.marked_clear.ensures.ticks calm, made_few c.args.choice.now c.args.tree)
+returns-clause-ticks g c = λ criteria. omega (arith, c.marked_clear.ensures.ticks criteria, made_few c.args.choice.now c.args.tree)

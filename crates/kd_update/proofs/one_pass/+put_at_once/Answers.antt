@@ -10,7 +10,7 @@ use Rattle.kd_tree.specs.Parts.{fork_in, fork_of}
 use Rattle.kd_update.specs.Update.{IsBalancedBelow}
 use Rattle.kd_update.specs.Scan.{AreLive, IsGrown}
 use Rattle.kd_update.proofs.Trees.{pushed_smaller}
-use Rattle.kd_update.proofs.Grown.{grown_moved, grown_none, grown_put, piece_moved, piece_new, step_at, step_pieces, step_sound, step_grown, step_even}
+use Rattle.kd_update.proofs.Grown.{grown_moved, grown_none, grown_put, piece_moved, piece_new, step_at, step_pieces, step_sound, step_grown, step_balanced}
 use Rattle.kd_update.proofs.one_pass.+put_at_once.Goals as goal
 
 -- a list whose rest is empty
@@ -74,4 +74,4 @@ returns-clause-grown g t c =
 pub returns-clause-balance : goal.returns-clause-balance
 returns-clause-balance g t c =
     IfOk-weaker c.rejoined.result _ (λ v. IsBalancedBelow c.args.large c.args.tree → IsBalancedBelow c.args.large v)
-    (λ v done even. step_even c.args.large c.args.tree (fork_of c.in-Some-2.node) c.in_ok-left.left c.in_ok-right.right v (ap fork_in (sym c.in-Some-2.is) ∙ c.in_ok-node.ensures.parts) c.in_ok-left.ensures.balance c.in_ok-right.ensures.balance done even) c.rejoined.ensures.due
+    (λ v done balanced. step_balanced c.args.large c.args.tree (fork_of c.in-Some-2.node) c.in_ok-left.left c.in_ok-right.right v (ap fork_in (sym c.in-Some-2.is) ∙ c.in_ok-node.ensures.parts) c.in_ok-left.ensures.balance c.in_ok-right.ensures.balance done balanced) c.rejoined.ensures.due

@@ -6,7 +6,7 @@ use Rattle.kd_update.specs.Scan.{IsGrown}
 use Rattle.kd_update.specs.Update.{IsBalancedBelow}
 use Rattle.kd_update.proofs.Grown.{grown_built, live_kept}
 use Rattle.kd_update.proofs.Results.{ok_both}
-use Rattle.kd_update.proofs.Update.{calm_even}
+use Rattle.kd_update.proofs.Update.{criteria_balanced}
 use Rattle.kd_update.proofs.one_pass.built_with.Goals as goal
 
 pub rebuilt_with-requires-clause-kept : goal.rebuilt_with-requires-clause-kept
@@ -22,4 +22,4 @@ returns-clause-grown g c =
     ok_both c.rebuilt_with.result _ _ (λ t. IsGrown s is t) (λ t b ns. grown_built c.args.large s t is c.requires.piece b ns) c.rebuilt_with.ensures.shape c.rebuilt_with.ensures.numbers
 
 pub returns-clause-balance : goal.returns-clause-balance
-returns-clause-balance g c = IfOk-weaker c.rebuilt_with.result _ (λ t. IsBalancedBelow c.args.large t) (λ t calm. calm_even c.args.large t calm) c.rebuilt_with.ensures.calm
+returns-clause-balance g c = IfOk-weaker c.rebuilt_with.result _ (λ t. IsBalancedBelow c.args.large t) (λ t criteria. criteria_balanced c.args.large t criteria) c.rebuilt_with.ensures.criteria

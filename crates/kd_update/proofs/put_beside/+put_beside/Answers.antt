@@ -1,4 +1,4 @@
-use Rattle.std.proofs.Common.{◌≡◌, ◌∙◌, List, [], sym, subst, arith, length, true, false, ap, ◌∷◌}
+use Rattle.std.proofs.Common.{◌≡◌, ◌∙◌, List, [], sym, subst, arith, length, false, ap, ◌∷◌}
 use Rattle.std.specs.Prelude.{◌==◌}
 use Rattle.std.proofs.lemmas.Bool.{eqb-true}
 use Rattle.std.proofs.lemmas.List.{nil_from_length}

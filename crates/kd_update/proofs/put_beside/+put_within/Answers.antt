@@ -10,7 +10,7 @@ use Rattle.kd_tree.specs.Parts.{fork_in, fork_of}
 use Rattle.kd_update.specs.Scan.{AreLive}
 use Rattle.kd_update.specs.Crossing.{IsWholeGrown}
 use Rattle.kd_update.proofs.Trees.{pushed_smaller}
-use Rattle.kd_update.proofs.Grown.{piece_new, step_pieces, step_sound}
+use Rattle.kd_update.proofs.Grown.{step_pieces, step_sound}
 use Rattle.kd_tree.specs.Shape.{nodes}
 use Rattle.kd_update.proofs.Results.{ok_three}
 use Rattle.kd_update.proofs.Crossing.{step_from, whole_built, whole_none, whole_put, whole_step}

@@ -10,7 +10,7 @@ use Rattle.kd_update.specs.Made.{entered_put}
 use Rattle.kd_update.specs.Put.{RebuildsNoneOnRoute, goes_left, put_from}
 use Rattle.kd_update.specs.Several.{AreLargeAt, IsUpdatedClear}
 use Rattle.kd_update.specs.Ways.{paths_of}
-use Rattle.kd_update.proofs.Calm.{route_none}
+use Rattle.kd_update.proofs.Criteria.{route_none}
 use Rattle.kd_update.proofs.Made.{apart_put, ticks_left, ticks_right}
 use Rattle.kd_update.proofs.Refresh.{refresh_same, refresh_sound}
 use Rattle.kd_update.proofs.Route.{route_free, on_left, on_right}
@@ -31,17 +31,17 @@ returns-then-is_here-clause-updated g t c =
     (λ u k. clear_here c.args.large (paths_of c.args.ways.now) c.args.tree (put_from c.args.item.number c.args.item.point c.args.axis c.args.tree) u (RebuildsNoneOnRoute c.args.large c.args.item.point (put_from c.args.item.number c.args.item.point c.args.axis c.args.tree)) (sym c.is_here.ensures ∙ c.if-is_here.true) (k.unrebuilt (route_none c.args.item.point (put_from c.args.item.number c.args.item.point c.args.axis c.args.tree)))) c.put_below-then-is_here.ensures.updated
 
 pub returns-then-is_here-clause-ticks : goal.returns-then-is_here-clause-ticks
-returns-then-is_here-clause-ticks g t c = λ calm. c.put_below-then-is_here.ensures.ticks (route_none c.args.item.point (put_from c.args.item.number c.args.item.point c.args.axis c.args.tree))
+returns-then-is_here-clause-ticks g t c = λ criteria. c.put_below-then-is_here.ensures.ticks (route_none c.args.item.point (put_from c.args.item.number c.args.item.point c.args.axis c.args.tree))
 
 pub returns-in_default-clause-updated : goal.returns-in_default-clause-updated
 returns-in_default-clause-updated g t c =
     absurd (nowhere c.args.large (paths_of c.args.ways.now) c.args.tree (ap fork_in (sym c.in_default.is) ∙ c.in_ok-node.ensures.parts) c.requires.there (sym c.is_here.ensures ∙ c.if-is_here.false) (some_of (paths_of c.args.ways.now) (sym c.is_empty.ensures ∙ c.if-is_empty.false)))
 
 pub returns-in_default-clause-ticks : goal.returns-in_default-clause-ticks
-returns-in_default-clause-ticks g t c = λ calm. apart_put c.args.item.point c.args.tree c.args.steps.now c.take_apart.new.steps c.take_apart.ensures.ticks c.take_apart.ensures.still
+returns-in_default-clause-ticks g t c = λ criteria. apart_put c.args.item.point c.args.tree c.args.steps.now c.take_apart.new.steps c.take_apart.ensures.ticks c.take_apart.ensures.still
 
 pub returns-in_err-node-clause-ticks : goal.returns-in_err-node-clause-ticks
-returns-in_err-node-clause-ticks g t c = λ calm. apart_put c.args.item.point c.args.tree c.args.steps.now c.take_apart.new.steps c.take_apart.ensures.ticks c.take_apart.ensures.still
+returns-in_err-node-clause-ticks g t c = λ criteria. apart_put c.args.item.point c.args.tree c.args.steps.now c.take_apart.new.steps c.take_apart.ensures.ticks c.take_apart.ensures.still
 
 pub put_clear-requires : goal.put_clear-requires
 put_clear-requires g t c κs within =

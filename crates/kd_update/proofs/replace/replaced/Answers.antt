@@ -4,8 +4,8 @@ use Rattle.kd_tree.specs.Shape.{numbers}
 use Rattle.kd_tree.specs.declared.path.Side.{Side}
 use Rattle.kd_update.specs.Replace.{IsReplaced}
 use Rattle.kd_update.proofs.Several.{large_all_same}
-use Rattle.kd_update.proofs.StandsFor.{anew_no_larger, even_outside, same_beside}
-use Rattle.kd_update.proofs.Update.{calm_even}
+use Rattle.kd_update.proofs.StandsFor.{anew_no_larger, balanced_outside, same_beside}
+use Rattle.kd_update.proofs.Update.{criteria_balanced}
 use Rattle.kd_update.proofs.replace.replaced.Goals as goal
 
 pub returns-then-not-has_room-clause-numbers : goal.returns-then-not-has_room-clause-numbers
@@ -16,7 +16,7 @@ returns-then-not-has_room-clause-size g c =
     anew_no_larger c.args.path.now c.args.tree c.args.with c.in_ok-tree.tree c.size-size.ensures.sound c.requires.stands (λ k. let e = c.has_room.ensures.1 k in absurd (cc)) c.in_ok-tree.ensures.nodes c.in_ok-tree.ensures.levels
 
 pub returns-then-not-has_room-clause-balance : goal.returns-then-not-has_room-clause-balance
-returns-then-not-has_room-clause-balance g c = λ outside even. even_outside c.args.large c.args.others.now c.in_ok-tree.tree (calm_even c.args.large c.in_ok-tree.tree c.in_ok-tree.ensures.calm)
+returns-then-not-has_room-clause-balance g c = λ outside balanced. balanced_outside c.args.large c.args.others.now c.in_ok-tree.tree (criteria_balanced c.args.large c.in_ok-tree.tree c.in_ok-tree.ensures.criteria)
 
 pub returns-clause-others : goal.returns-clause-others
 returns-clause-others g c =

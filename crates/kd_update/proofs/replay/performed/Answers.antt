@@ -28,7 +28,7 @@ returns-in_ok-tree-in-Put-clause-numbers g c =
     (λ t f n k. among_append (c.in-Put.number ∷ []) (c.in-Put.number ∷ []) (numbers c.in_ok-tree-in-Put.tree) (numbers c.args.tree) (among_same (c.in-Put.number ∷ [])) c.in_ok-tree-in-Put.ensures.numbers n (f n k)) c.put.ensures.numbers)
 
 pub returns-in_ok-tree-in-Put-clause-balance : goal.returns-in_ok-tree-in-Put-clause-balance
-returns-in_ok-tree-in-Put-clause-balance g c = λ even. c.put.ensures.balance (c.in_ok-tree-in-Put.ensures.balance c.args.large even)
+returns-in_ok-tree-in-Put-clause-balance g c = λ balanced. c.put.ensures.balance (c.in_ok-tree-in-Put.ensures.balance c.args.large balanced)
 
 pub returns-in-Mark-clause-low : goal.returns-in-Mark-clause-low
 returns-in-Mark-clause-low g c =

@@ -21,4 +21,4 @@ returns g c =
     let join = run_join c.args.large s ops c.size-size.ensures.sound c.requires.run c.requires.fit in
     let same = c.as_mut_slice.ensures.value ∙ c.in_ok-items.ensures in
     ok_both c.put_at_once.result _ _ (λ t. IsPerformed c.args.large s ops t)
-    (λ t k even. run_performed c.args.large s t ops c.requires.run join (subst (λ (xs : List Item). IsGrown s xs t) same k) even) c.put_at_once.ensures.grown c.put_at_once.ensures.balance
+    (λ t k balanced. run_performed c.args.large s t ops c.requires.run join (subst (λ (xs : List Item). IsGrown s xs t) same k) balanced) c.put_at_once.ensures.grown c.put_at_once.ensures.balance

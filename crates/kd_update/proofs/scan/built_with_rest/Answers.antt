@@ -5,7 +5,7 @@ use Rattle.kd_update.specs.Scan.{IsGrown, IsPut}
 use Rattle.kd_update.proofs.Grown.{grown_anew, live_kept}
 use Rattle.kd_update.proofs.Joins.{contents_size, join_grown, walk_distinct}
 use Rattle.kd_update.proofs.Results.{ok_both}
-use Rattle.kd_update.proofs.Update.{calm_even}
+use Rattle.kd_update.proofs.Update.{criteria_balanced}
 use Rattle.kd_update.proofs.scan.built_with_rest.Goals as goal
 
 pub rebuilt_with-requires-clause-kept : goal.rebuilt_with-requires-clause-kept
@@ -23,4 +23,4 @@ returns g c = λ large.
     let is = c.args.items.now in
     let few : length (walk keep_tag s) + length is ≤ 4194304 = omega (arith, contents_size s, c.requires.fit.room) in
     let built = ok_both c.rebuilt_with.result _ _ (λ t. IsGrown s is t) (λ t b ns. grown_anew s t is c.requires.fit.live few c.requires.some b ns) c.rebuilt_with.ensures.shape c.rebuilt_with.ensures.numbers in
-    ok_both c.rebuilt_with.result _ _ (λ t. IsPut large s is t) (λ t k calm. join_grown large s t is c.requires.fit k (λ even. calm_even large t calm)) built c.rebuilt_with.ensures.calm
+    ok_both c.rebuilt_with.result _ _ (λ t. IsPut large s is t) (λ t k criteria. join_grown large s t is c.requires.fit k (λ balanced. criteria_balanced large t criteria)) built c.rebuilt_with.ensures.criteria

@@ -25,8 +25,8 @@ loop-rest-preserved g c =
       rest = λ u k. c.loop-rest.invariant.rest u (subst (λ (xs : List Item). IsPut c.args.large s xs u) (sym cut) (put_then c.args.large s t u piece more c.in_ok-tree.ensures k));
     }
 
-pub returns-then-levels-ge-FULL : goal.returns-then-levels-ge-FULL
-returns-then-levels-ge-FULL g c =
+pub returns-then-levels-ge-MAX_LEVELS : goal.returns-then-levels-ge-MAX_LEVELS
+returns-then-levels-ge-MAX_LEVELS g c =
     IfOk-weaker c.built_with_rest.result _ (λ t. IsPut c.args.large c.args.tree c.args.items.now t)
     c.loop-rest.invariant.rest (c.built_with_rest.ensures c.args.large)
 

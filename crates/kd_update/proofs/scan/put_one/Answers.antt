@@ -20,4 +20,4 @@ returns g c =
     IfOk-weaker c.put_below.result _ (λ t. IsPut c.args.large s (i ∷ []) t)
     (λ t k. join_grown c.args.large s t (i ∷ []) c.requires
     (grown_after s u t (i ∷ []) c.in_ok-tree.ensures.refresh (grown_put c.args.large i _ u t _ (All-head IsLive i [] c.requires.live) k))
-    (λ even. k.balance (c.in_ok-tree.ensures.balance c.args.large even))) c.put_below.ensures.updated
+    (λ balanced. k.balance (c.in_ok-tree.ensures.balance c.args.large balanced))) c.put_below.ensures.updated

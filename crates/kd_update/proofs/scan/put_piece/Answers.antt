@@ -18,4 +18,4 @@ returns g c =
     let is = c.args.items.now in
     let same = c.as_mut_slice.ensures.value ∙ c.in_ok-items.ensures.items in
     ok_both c.put_at_once.result _ _ (λ t. IsPut c.args.large s is t)
-    (λ t k even. join_grown c.args.large s t is c.requires.fit (subst (λ (xs : List Item). IsGrown s xs t) same k) even) c.put_at_once.ensures.grown c.put_at_once.ensures.balance
+    (λ t k balanced. join_grown c.args.large s t is c.requires.fit (subst (λ (xs : List Item). IsGrown s xs t) same k) balanced) c.put_at_once.ensures.grown c.put_at_once.ensures.balance

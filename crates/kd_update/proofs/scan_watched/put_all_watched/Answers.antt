@@ -6,7 +6,7 @@ use Rattle.kd_tree.specs.Shape.{Shape, levels, nodes, numbers}
 use Rattle.kd_tree.specs.Contents.{contents}
 use Rattle.kd_tree.specs.declared.path.Side.{Side}
 use Rattle.kd_update.specs.Refresh.{AreAmong}
-use Rattle.kd_update.specs.Scan.{IsPiece, IsPut, numbers_in, put_each}
+use Rattle.kd_update.specs.Scan.{IsPiece, numbers_in, put_each}
 use Rattle.kd_update.specs.Several.{AreLargeAt, AreWatched, IsBalancedClear}
 use Rattle.kd_update.specs.Watch.{IsWatched}
 use Rattle.kd_update.specs.Watches.{paths_in}
@@ -77,7 +77,7 @@ returns-clause-levels g c =
     IfOk-weaker c.put_beside.result _ (λ t. levels t ≤ levels s + 22) (λ t k. let u = moved t k in u.grown.low) c.put_beside.ensures
 
 pub returns-clause-balance : goal.returns-clause-balance
-returns-clause-balance g c = λ even.
+returns-clause-balance g c = λ balanced.
     let ways : paths_of c.of-ways.result ≡ paths_in c.args.watches.now = c.of-ways.ensures ∙ ap paths_in c.as_slice.ensures.value ∙ same_paths c.args.watches.now c.log_scans.new.watches c.log_scans.ensures.begins in
     let same = c.as_mut_slice.ensures.value ∙ c.in_ok-items.ensures.items in
     let ps = paths_in c.args.watches.now in
@@ -85,7 +85,7 @@ returns-clause-balance g c = λ even.
     let is = c.args.items.now in
     let moved : (t : Shape) → IsCrossed c.args.large (paths_of c.of-ways.result) s c.as_mut_slice.result.now t → IsCrossed c.args.large ps s is t = λ t k. subst (λ (xs : List Item). IsCrossed c.args.large ps s xs t) same (subst (λ (qs : List (List Side)). IsCrossed c.args.large qs s c.as_mut_slice.result.now t) ways k) in
     let comes = piece_comes c.args.large s is (join_piece c.args.large s is c.requires.fit c.requires.small c.requires.short c.requires.low c.requires.few) in
-    IfOk-weaker c.put_beside.result _ (λ t. IsBalancedClear c.args.large ps t) (λ t k. let u = moved t k in u.balance even) c.put_beside.ensures
+    IfOk-weaker c.put_beside.result _ (λ t. IsBalancedClear c.args.large ps t) (λ t k. let u = moved t k in u.balance balanced) c.put_beside.ensures
 
 pub returns-clause-there : goal.returns-clause-there
 returns-clause-there g c =

@@ -4,7 +4,7 @@ use Rattle.map_fold.specs.declared.op.Op.TheVariants.{Put}
 use Rattle.kd_update.specs.Watches.{HaveRoom}
 use Rattle.rebuild_core.specs.declared.work.Work.{Work}
 use Rattle.rebuild_core.proofs.Detached.{left_itself, left_trans}
-use Rattle.rebuild_core.proofs.Drafts.{first_point, only_point, quiet_ticks}
+use Rattle.rebuild_core.proofs.Drafts.{first_point, only_point, unrebuilt_ticks}
 use Rattle.rebuild_core.proofs.Worked.{plain_same, worked_itself, worked_kept, worked_then}
 use Rattle.rebuild_core.proofs.draft.added.Goals as goal
 
@@ -42,19 +42,19 @@ loop-point-preserved g c =
       rest = rw c.in_ok-work.ensures.contents (rw cut at c.loop-point.invariant.rest);
       worked = worked_then i i 1 1 (i + 1) (i + 1) c.args.work c.loop-point.work c.in_ok-work.work (omega arith) (omega arith) c.loop-point.invariant.worked c.in_ok-work.ensures.worked;
       first = λ e. absurd (omega arith);
-      second = λ e op only room quiet.
+      second = λ e op only room unrebuilt.
           let none : i ≡ 0 = omega arith in
           let start = c.loop-point.invariant.first none in
           let same = ap (λ (w : Work). w.tree) start.0 in
           let roomy = subst (λ (w : Work). HaveRoom w.watches) (sym start.0) room in
           let is = first_point c.args.next c.loop-point.next i ps p op cut none start.1 only in (
-            plain_same c.args.large (Put c.loop-point.next p) op c.loop-point.work c.args.work c.in_ok-work.work is start.0 (c.in_ok-work.ensures.unrebuilt roomy) quiet,
-            quiet_ticks c.args.large (Put c.loop-point.next p) op c.loop-point.work.tree c.args.work.tree c.loop-point.steps c.args.steps.now c.added_one.new.steps is same start.2 (c.in_ok-work.ensures.ticks roomy) quiet,
+            plain_same c.args.large (Put c.loop-point.next p) op c.loop-point.work c.args.work c.in_ok-work.work is start.0 (c.in_ok-work.ensures.unrebuilt roomy) unrebuilt,
+            unrebuilt_ticks c.args.large (Put c.loop-point.next p) op c.loop-point.work.tree c.args.work.tree c.loop-point.steps c.args.steps.now c.added_one.new.steps is same start.2 (c.in_ok-work.ensures.ticks roomy) unrebuilt,
           );
     }
 
 pub returns-in_err-work-clause-ticks : goal.returns-in_err-work-clause-ticks
-returns-in_err-work-clause-ticks g c = λ op only room quiet.
+returns-in_err-work-clause-ticks g c = λ op only room unrebuilt.
     let p = c.point-item.result in
     let ps = c.args.points.now in
     let i = c.loop-point.point-index in
@@ -64,21 +64,21 @@ returns-in_err-work-clause-ticks g c = λ op only room quiet.
     let start = c.loop-point.invariant.first none in
     let is = first_point c.args.next c.loop-point.next i ps p op cut none start.1 only in
     let roomy = subst (λ (w : Work). HaveRoom w.watches) (sym start.0) room in
-    quiet_ticks c.args.large (Put c.loop-point.next p) op c.loop-point.work.tree c.args.work.tree c.loop-point.steps c.args.steps.now c.added_one.new.steps is (ap (λ (w : Work). w.tree) start.0) start.2 (c.in_err-work.ensures.ticks roomy) quiet
+    unrebuilt_ticks c.args.large (Put c.loop-point.next p) op c.loop-point.work.tree c.args.work.tree c.loop-point.steps c.args.steps.now c.added_one.new.steps is (ap (λ (w : Work). w.tree) start.0) start.2 (c.in_err-work.ensures.ticks roomy) unrebuilt
 
 pub returns-clause-unrebuilt : goal.returns-clause-unrebuilt
-returns-clause-unrebuilt g c = λ op only room quiet.
+returns-clause-unrebuilt g c = λ op only room unrebuilt.
     let one = only_point c.args.next c.args.points.now op only in
     let all = rw c.as_slice-point-items.ensures at c.loop-point-test.false in
     let most = rw c.as_slice-point-items.ensures at c.loop-point.auto.point-index-end in
-    (c.loop-point.invariant.second (omega (arith, one, all, most)) op only room quiet).0
+    (c.loop-point.invariant.second (omega (arith, one, all, most)) op only room unrebuilt).0
 
 pub returns-clause-ticks : goal.returns-clause-ticks
-returns-clause-ticks g c = λ op only room quiet.
+returns-clause-ticks g c = λ op only room unrebuilt.
     let one = only_point c.args.next c.args.points.now op only in
     let all = rw c.as_slice-point-items.ensures at c.loop-point-test.false in
     let most = rw c.as_slice-point-items.ensures at c.loop-point.auto.point-index-end in
-    (c.loop-point.invariant.second (omega (arith, one, all, most)) op only room quiet).1
+    (c.loop-point.invariant.second (omega (arith, one, all, most)) op only room unrebuilt).1
 
 pub returns-clause-kept : goal.returns-clause-kept
 returns-clause-kept g c = λ room.

@@ -5,7 +5,7 @@ use Rattle.map_fold.specs.declared.op.Op.TheVariants.{Mark}
 use Rattle.kd_update.specs.Watches.{HaveRoom}
 use Rattle.rebuild_core.specs.declared.work.Work.{Work}
 use Rattle.rebuild_core.proofs.Detached.{left_itself, left_trans}
-use Rattle.rebuild_core.proofs.Drafts.{first_box, only_box, quiet_ticks}
+use Rattle.rebuild_core.proofs.Drafts.{first_box, only_box, unrebuilt_ticks}
 use Rattle.rebuild_core.proofs.Worked.{plain_same, worked_itself, worked_kept, worked_then}
 use Rattle.rebuild_core.proofs.draft.marked_each.Goals as goal
 
@@ -32,19 +32,19 @@ loop-cuboid-preserved g c =
       rest = rw (c.in_ok-work.ensures.contents ∙ mark-within c.within.result box _ _ c.within.ensures) (rw cut at c.loop-cuboid.invariant.rest);
       worked = worked_then 0 i 0 1 0 (i + 1) c.args.work c.loop-cuboid.work c.in_ok-work.work (omega arith) (omega arith) c.loop-cuboid.invariant.worked c.in_ok-work.ensures.worked;
       first = λ e. absurd (omega arith);
-      second = λ e op only room quiet.
+      second = λ e op only room unrebuilt.
           let none : i ≡ 0 = omega arith in
           let start = c.loop-cuboid.invariant.first none in
           let same = ap (λ (w : Work). w.tree) start.0 in
           let roomy = subst (λ (w : Work). HaveRoom w.watches) (sym start.0) room in
           let is = ap (λ (d : Choice). Mark d c.args.tag) c.within.ensures ∙ first_box c.args.tag i cs box op cut none only in (
-            plain_same c.args.large (Mark c.within.result c.args.tag) op c.loop-cuboid.work c.args.work c.in_ok-work.work is start.0 (c.in_ok-work.ensures.unrebuilt roomy) quiet,
-            quiet_ticks c.args.large (Mark c.within.result c.args.tag) op c.loop-cuboid.work.tree c.args.work.tree c.loop-cuboid.steps c.args.steps.now c.marked.new.steps is same start.1 (c.in_ok-work.ensures.ticks roomy) quiet,
+            plain_same c.args.large (Mark c.within.result c.args.tag) op c.loop-cuboid.work c.args.work c.in_ok-work.work is start.0 (c.in_ok-work.ensures.unrebuilt roomy) unrebuilt,
+            unrebuilt_ticks c.args.large (Mark c.within.result c.args.tag) op c.loop-cuboid.work.tree c.args.work.tree c.loop-cuboid.steps c.args.steps.now c.marked.new.steps is same start.1 (c.in_ok-work.ensures.ticks roomy) unrebuilt,
           );
     }
 
 pub returns-in_err-work-clause-ticks : goal.returns-in_err-work-clause-ticks
-returns-in_err-work-clause-ticks g c = λ op only room quiet.
+returns-in_err-work-clause-ticks g c = λ op only room unrebuilt.
     let box = c.cuboid-item.result in
     let cs = c.args.boxes.now in
     let i = c.loop-cuboid.cuboid-index in
@@ -54,21 +54,21 @@ returns-in_err-work-clause-ticks g c = λ op only room quiet.
     let start = c.loop-cuboid.invariant.first none in
     let is = ap (λ (d : Choice). Mark d c.args.tag) c.within.ensures ∙ first_box c.args.tag i cs box op cut none only in
     let roomy = subst (λ (w : Work). HaveRoom w.watches) (sym start.0) room in
-    quiet_ticks c.args.large (Mark c.within.result c.args.tag) op c.loop-cuboid.work.tree c.args.work.tree c.loop-cuboid.steps c.args.steps.now c.marked.new.steps is (ap (λ (w : Work). w.tree) start.0) start.1 (c.in_err-work.ensures.ticks roomy) quiet
+    unrebuilt_ticks c.args.large (Mark c.within.result c.args.tag) op c.loop-cuboid.work.tree c.args.work.tree c.loop-cuboid.steps c.args.steps.now c.marked.new.steps is (ap (λ (w : Work). w.tree) start.0) start.1 (c.in_err-work.ensures.ticks roomy) unrebuilt
 
 pub returns-clause-unrebuilt : goal.returns-clause-unrebuilt
-returns-clause-unrebuilt g c = λ op only room quiet.
+returns-clause-unrebuilt g c = λ op only room unrebuilt.
     let one = only_box c.args.tag c.args.boxes.now op only in
     let all = rw c.as_slice-cuboid-items.ensures at c.loop-cuboid-test.false in
     let most = rw c.as_slice-cuboid-items.ensures at c.loop-cuboid.auto.cuboid-index-end in
-    (c.loop-cuboid.invariant.second (omega (arith, one, all, most)) op only room quiet).0
+    (c.loop-cuboid.invariant.second (omega (arith, one, all, most)) op only room unrebuilt).0
 
 pub returns-clause-ticks : goal.returns-clause-ticks
-returns-clause-ticks g c = λ op only room quiet.
+returns-clause-ticks g c = λ op only room unrebuilt.
     let one = only_box c.args.tag c.args.boxes.now op only in
     let all = rw c.as_slice-cuboid-items.ensures at c.loop-cuboid-test.false in
     let most = rw c.as_slice-cuboid-items.ensures at c.loop-cuboid.auto.cuboid-index-end in
-    (c.loop-cuboid.invariant.second (omega (arith, one, all, most)) op only room quiet).1
+    (c.loop-cuboid.invariant.second (omega (arith, one, all, most)) op only room unrebuilt).1
 
 pub returns-clause-kept : goal.returns-clause-kept
 returns-clause-kept g c = λ room.

@@ -6,7 +6,7 @@ use Rattle.kd_tree.specs.Shape.{levels, nodes, numbers}
 use Rattle.kd_tree.specs.Contents.{by_number, contents}
 use Rattle.kd_tree.specs.Criteria.{AllMeetCriteria}
 use Rattle.kd_tree.specs.Build.{IsBuilt}
-use Rattle.kd_tree.proofs.Medians.{built_calm, built_levels, built_nodes, built_numbers, contents-built}
+use Rattle.kd_tree.proofs.Medians.{built_criteria, built_levels, built_nodes, built_numbers, contents-built}
 use Rattle.kd_tree.proofs.node.Tree.build_from.Goals as goal
 use Rattle.kd_tree.proofs.node.Tree.build_from.Goals.{After-drop-items}
 
@@ -19,10 +19,10 @@ returns-clause-contents g c =
     let xs = c.args.items.items in
     IfOk-weaker c.built.result (IsBuilt xs) (λ t. contents t ≡ by_number xs) (λ t k. contents-built t xs k c.requires.kept c.requires.distinct) (of_items g c)
 
-pub returns-clause-calm : goal.returns-clause-calm
-returns-clause-calm g c =
+pub returns-clause-criteria : goal.returns-clause-criteria
+returns-clause-criteria g c =
     let xs = c.args.items.items in
-    IfOk-weaker c.built.result (IsBuilt xs) (λ t. AllMeetCriteria 10 t) (λ t k. built_calm t xs k c.requires.kept) (of_items g c)
+    IfOk-weaker c.built.result (IsBuilt xs) (λ t. AllMeetCriteria 10 t) (λ t k. built_criteria t xs k c.requires.kept) (of_items g c)
 
 pub returns-clause-numbers : goal.returns-clause-numbers
 returns-clause-numbers g c =

@@ -9,8 +9,8 @@ use Rattle.kd_tree.proofs.node.Tree.first_free_breach.Goals.{After-seek}
 whole : (c : After-seek) → first_free c.args.least (beyond c.root-path.result c.args.except.now) c.args.self.now ≡ first_free c.args.least c.args.except.now c.args.self.now
 whole c = ap (λ (p : List Side). first_free c.args.least (beyond p c.args.except.now) c.args.self.now) c.root-path.ensures
 
-pub returns-then-seek-clause-calm : goal.returns-then-seek-clause-calm
-returns-then-seek-clause-calm c =
+pub returns-then-seek-clause-criteria : goal.returns-then-seek-clause-criteria
+returns-then-seek-clause-criteria c =
     let some : first_free c.args.least c.args.except.now c.args.self.now ≡ Some c.seek.new.path = sym (whole c.before) ∙ found_path _ _ _ _ c.seek.ensures.found c.root-path.ensures c.seek.ensures.path c.if-seek.true in
     ((λ e. cc), (λ k. let none = none_of_clear c.args.least c.args.except.now c.args.self.now k in cc))
 
@@ -19,7 +19,7 @@ returns-then-seek-clause-first c =
     let some : first_free c.args.least c.args.except.now c.args.self.now ≡ Some c.seek.new.path = sym (whole c.before) ∙ found_path _ _ _ _ c.seek.ensures.found c.root-path.ensures c.seek.ensures.path c.if-seek.true in
     first_free_is c.args.least c.args.except.now c.args.self.now c.seek.new.path some
 
-pub returns-else-seek-clause-calm : goal.returns-else-seek-clause-calm
-returns-else-seek-clause-calm c =
+pub returns-else-seek-clause-criteria : goal.returns-else-seek-clause-criteria
+returns-else-seek-clause-criteria c =
     let none : first_free c.args.least c.args.except.now c.args.self.now ≡ None = sym (whole c.before) ∙ found_none _ _ c.seek.ensures.found c.if-seek.false in
     ((λ e. clear_of_none c.args.least c.args.except.now c.args.self.now none), (λ k. refl))

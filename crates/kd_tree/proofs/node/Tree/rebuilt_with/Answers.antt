@@ -9,7 +9,7 @@ use Rattle.kd_tree.specs.Walk.{walk}
 use Rattle.kd_tree.specs.Contents.{AreKept, by_number, contents}
 use Rattle.kd_tree.specs.Criteria.{AllMeetCriteria}
 use Rattle.kd_tree.specs.Build.{IsBuilt}
-use Rattle.kd_tree.proofs.Medians.{built_calm, built_levels, built_nodes, built_numbers, contents-built}
+use Rattle.kd_tree.proofs.Medians.{built_criteria, built_levels, built_nodes, built_numbers, contents-built}
 use Rattle.kd_tree.proofs.Held.{walk_kept}
 use Rattle.kd_tree.proofs.node.Tree.rebuilt_with.Goals as goal
 use Rattle.kd_tree.proofs.node.Tree.rebuilt_with.Goals.{After-built_in}
@@ -41,11 +41,11 @@ returns-clause-contents g c =
     IfOk-weaker c.built_in.result (IsBuilt xs) (λ t. contents t ≡ by_number xs)
     (λ t k. contents-built t xs k (kept_with c.args.self c.args.more.now c.requires.kept) c.requires.distinct) (of_items g (goal.at.returns-clause-contents g c).After-built_in)
 
-pub returns-clause-calm : goal.returns-clause-calm
-returns-clause-calm g c =
+pub returns-clause-criteria : goal.returns-clause-criteria
+returns-clause-criteria g c =
     let xs = walk keep_tag c.args.self ++ c.args.more.now in
     IfOk-weaker c.built_in.result (IsBuilt xs) (λ t. AllMeetCriteria 10 t)
-    (λ t k. built_calm t xs k (kept_with c.args.self c.args.more.now c.requires.kept)) (of_items g (goal.at.returns-clause-calm g c).After-built_in)
+    (λ t k. built_criteria t xs k (kept_with c.args.self c.args.more.now c.requires.kept)) (of_items g (goal.at.returns-clause-criteria g c).After-built_in)
 
 pub returns-clause-numbers : goal.returns-clause-numbers
 returns-clause-numbers g c =

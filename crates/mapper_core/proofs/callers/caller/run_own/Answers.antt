@@ -1,5 +1,5 @@
+use Rattle.scan_log.specs.Commands.{is_by}
 use Rattle.std.proofs.Common.{◌≡◌, true, false, ◌∷◌, ◌+◌, suc, sym, ap, ◌∙◌, subst, drop, drop-cons, drop_of_length-le, add-one, arith}
-use Rattle.mapper_core.specs.Told.{is_by}
 use Rattle.mapper_core.specs.Mine.{RanTo, Answered, Tried}
 use Rattle.mapper_core.proofs.OneCaller.{ran_own, ran_other, ran_end}
 use Rattle.mapper_core.proofs.callers.caller.run_own.Goals.{then-is_own+in_ok-reply+in-Some+in_ok-put, else-is_own}

@@ -18,6 +18,6 @@ invariant_of-built-in-Ok c =
     let held = subst (λ (t : Shape). contents c.args.tree ≡ replay (contents t) ops) tree c.requires.replayed in
     let among = subst (λ (t : Shape). AreAmong (numbers c.args.tree) (numbers_put ops ++ numbers t)) tree c.requires.numbers in (
       subst (λ (os : List Op). IsLawfulBuilt (record b { done = os; tree = c.args.tree })) (sym c.in-Ok.ensures.items) (replayed_lawful b ops c.args.tree c.built.invariant.0 fit held among),
-      c.requires.even,
+      c.requires.balanced,
       c.built.invariant.2,
     )

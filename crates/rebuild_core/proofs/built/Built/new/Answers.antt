@@ -1,12 +1,12 @@
 use Rattle.std.proofs.Common.{List, sym, subst}
 use Rattle.map_fold.specs.declared.op.Op.{Op}
-use Rattle.kd_update.proofs.Update.{calm_even}
+use Rattle.kd_update.proofs.Update.{criteria_balanced}
 use Rattle.rebuild_core.specs.Built.{IsLawfulBuilt}
 use Rattle.rebuild_core.proofs.built.Built.new.Goals as goal
 
 pub invariant_of-result : goal.invariant_of-result
 invariant_of-result c = (
   subst (λ (ops : List Op). IsLawfulBuilt (record { ticket = c.args.ticket; items = c.args.items.value; done = ops; tree = c.args.tree })) (sym c.new.ensures.items) (record { fit = tt; replayed = c.requires.held; numbers = c.requires.numbers }),
-  calm_even c.args.large c.args.tree c.requires.calm,
+  criteria_balanced c.args.large c.args.tree c.requires.criteria,
   c.requires.items,
 )

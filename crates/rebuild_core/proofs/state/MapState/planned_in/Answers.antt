@@ -16,7 +16,7 @@ returns-clause-planned g c =
     let lawful = c.self.invariant.0 in
     let next = c.self.inside.next + c.points-asked.result in
     let asked : c.points-asked.result ≡ points_in u = c.points-asked.ensures in
-    let small : length s.history < 1048576 = omega (arith, c.if-len-eq-MOST_UPDATES.false, lawful.short, c.len-len.ensures) in
+    let small : length s.history < 1048576 = omega (arith, c.if-len-eq-MAX_UPDATES.false, lawful.short, c.len-len.ensures) in
     let few : next ≤ 4194304 = omega (arith, c.if-next-asked.false, lawful.few) in
     let V : ℕ → VersionAt = λ n. record { tree = d.tree; next = next; len = n + 1 } in
     let shown : c.in_ok-version.version.value ≡ record { tree = d.tree; next = next; len = length s.history + 1 } = c.in_ok-version.ensures.shown ∙ ap V (omega (arith, c.len-len.ensures, c.self.inside.history.ok)) in

@@ -16,4 +16,4 @@ returns g c =
     let shown : c.in_ok-version.version.value ≡ V (length s.history) = c.in_ok-version.ensures.shown ∙ ap V (omega (arith, c.len-len.ensures, c.self.inside.history.ok)) in
     let none = rw c.as_slice.ensures.value at c.in_ok-logs.ensures in
     settles s c.args.self.now.state t c.in_ok-version.version.value c.in_ok-logs.logs.items c.self.invariant.0 c.size-size.ensures.sound (c.in_ok-tree-2.ensures.contents ∙ ap contents same)
-    (subst (λ (u : Shape). AreAmong (numbers t) (numbers u)) same c.in_ok-tree-2.ensures.numbers) c.in_ok-tree-2.ensures.calm none shown (ap (λ (x : Stored). x.state) c.self.view_is)
+    (subst (λ (u : Shape). AreAmong (numbers t) (numbers u)) same c.in_ok-tree-2.ensures.numbers) c.in_ok-tree-2.ensures.criteria none shown (ap (λ (x : Stored). x.state) c.self.view_is)

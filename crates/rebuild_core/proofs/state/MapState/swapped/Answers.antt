@@ -93,7 +93,7 @@ returns-clause-planned g c = λ b r.
     subst (λ n. IsBalancedClear n (c.part.inside.path ∷ c.as_slice.result.now) c.in_ok-tree.tree) (sym large)
     (subst (λ (q : List Side). IsBalancedClear s.settings.large (q ∷ c.as_slice.result.now) c.in_ok-tree.tree) (sym path)
     (subst (λ (qs : List (List Side)). IsBalancedClear s.settings.large (p.path ∷ qs) c.in_ok-tree.tree) (sym others) (subst (λ (x : Shape). IsBalancedClear s.settings.large (p.path ∷ paths (without b.ticket s.parts)) x) (sym tree) outside))) in
-    let even : IsBalancedClear s.settings.large (paths (without b.ticket s.parts)) t =
+    let balanced : IsBalancedClear s.settings.large (paths (without b.ticket s.parts)) t =
     subst (λ n. IsBalancedClear n (paths (without b.ticket s.parts)) t) large (subst (λ (qs : List (List Side)). IsBalancedClear c.large-large.result qs t) others (c.in_ok-tree-2.ensures.balance outside_here c.in_ok-with.ensures.balance)) in
     let same : anew ≡ false → AreSameAt (paths (without b.ticket s.parts)) t s.tree =
     λ e. subst (λ (qs : List (List Side)). AreSameAt qs t s.tree) others (subst (λ (x : Shape). AreSameAt c.as_slice.result.now t x) tree (c.in_ok-tree-2.ensures.others e)) in
@@ -105,4 +105,4 @@ returns-clause-planned g c = λ b r.
     let one : anew ≡ false → planned_parts c.in_ok-logs.logs.items s.parts ≡ without b.ticket s.parts =
     λ e. ap (planned_parts c.in_ok-logs.logs.items) (sym parts) ∙ c.in_ok-logs.ensures.one e ∙ ap (λ n. without n c.as_slice-parts.result.now) ticket ∙ ap (without b.ticket) parts in
     swaps s b p with t anew c.self.inside.next c.in_ok-version.version.value c.in_ok-logs.logs.items lawful r.of c.size-size.ensures.sound caught held (below_both s.next (numbers t) (numbers with) (numbers s.tree) from below lawful.below) room
-    c.in_ok-tree-2.ensures.calm same even none one shown next
+    c.in_ok-tree-2.ensures.criteria same balanced none one shown next

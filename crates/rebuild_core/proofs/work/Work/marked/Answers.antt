@@ -22,5 +22,5 @@ returns-clause-worked g c =
     worked_mark c.args.choice.now c.args.tag c.args.self c.in_ok-work.work c.in_ok-tree.tree c.marked_watched.new.watches e.same e.low e.few c.in_ok-tree.ensures.refresh c.marked_watched.ensures.begins c.marked_watched.ensures.few
 
 pub returns-clause-unrebuilt : goal.returns-clause-unrebuilt
-returns-clause-unrebuilt g c = λ room quiet.
-    plain_mark c.args.large c.args.choice.now c.args.tag c.args.self c.in_ok-work.work c.in_ok-tree.tree c.marked_watched.new.watches (c.in_ok-work.ensures.same room) c.in_ok-tree.ensures.unrebuilt c.in_ok-tree.ensures.logged quiet
+returns-clause-unrebuilt g c = λ room unrebuilt.
+    plain_mark c.args.large c.args.choice.now c.args.tag c.args.self c.in_ok-work.work c.in_ok-tree.tree c.marked_watched.new.watches (c.in_ok-work.ensures.same room) c.in_ok-tree.ensures.unrebuilt c.in_ok-tree.ensures.logged unrebuilt

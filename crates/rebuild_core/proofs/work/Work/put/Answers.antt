@@ -28,5 +28,5 @@ returns-clause-worked g c =
     worked_put c.args.number c.args.point c.args.self c.in_ok-work.work c.in_ok-tree.tree c.put_watched.new.watches e.same e.lower e.fewer c.in_ok-tree.ensures.refresh c.put_watched.ensures.begins c.put_watched.ensures.few
 
 pub returns-clause-unrebuilt : goal.returns-clause-unrebuilt
-returns-clause-unrebuilt g c = λ room quiet.
-    plain_put c.args.large c.args.number c.args.point c.args.self c.in_ok-work.work c.in_ok-tree.tree c.put_watched.new.watches (c.in_ok-work.ensures.same quiet.low quiet.few room) c.in_ok-tree.ensures.unrebuilt c.in_ok-tree.ensures.logged quiet
+returns-clause-unrebuilt g c = λ room unrebuilt.
+    plain_put c.args.large c.args.number c.args.point c.args.self c.in_ok-work.work c.in_ok-tree.tree c.put_watched.new.watches (c.in_ok-work.ensures.same unrebuilt.low unrebuilt.few room) c.in_ok-tree.ensures.unrebuilt c.in_ok-tree.ensures.logged unrebuilt

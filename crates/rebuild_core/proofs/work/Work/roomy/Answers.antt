@@ -8,4 +8,4 @@ pub returns-clause-draft : goal.returns-clause-draft
 returns-clause-draft g c = λ next last ps d.
     let u = c.in_ok-tree.tree in
     subst (λ (ws : List Watch). IsDraftLeft c.args.large next last ps (record { tree = u; watches = ws })) (sym c.new.ensures)
-    (draft_anew c.args.large next last c.args.self u ps d c.in_ok-tree.ensures.numbers c.in_ok-tree.ensures.calm)
+    (draft_anew c.args.large next last c.args.self u ps d c.in_ok-tree.ensures.numbers c.in_ok-tree.ensures.criteria)

@@ -7,7 +7,7 @@ use Rattle.kd_update.specs.Refresh.{AreAmong}
 use Rattle.kd_update.specs.Several.{AreLargeAt, AreSameAt, IsBalancedClear}
 use Rattle.kd_update.specs.Watches.{paths_in}
 use Rattle.kd_update.proofs.StandsFor.{replaced_nodes}
-use Rattle.kd_update.proofs.Update.{calm_even}
+use Rattle.kd_update.proofs.Update.{criteria_balanced}
 use Rattle.rebuild_core.specs.Draft.{IsDraftLeft}
 use Rattle.rebuild_core.proofs.Working.{among_part, at_numbers, draft_anew, draft_without, levels_kept, without_of}
 use Rattle.rebuild_core.proofs.work.Work.without.Goals as goal
@@ -41,7 +41,7 @@ returns-then-anew-clause-draft g c = λ next last ps d.
     let with = c.in_ok-with.with in
     let of_node : AreAmong (numbers with) (numbers node) = subst (λ (s : Shape). AreAmong (numbers with) (numbers s)) c.in_ok-node.ensures.shape c.in_ok-with.ensures.numbers in
     let among = among_part (numbers u) (numbers with) (numbers node) (numbers t) c.in_ok-tree.ensures.numbers of_node (at_numbers c.remove-path.result.path t node c.in-Some.ensures.some) in
-    subst (λ (ws : List Watch). IsDraftLeft c.args.large next last ps (record { tree = u; watches = ws })) (sym c.new.ensures) (draft_anew c.args.large next last c.args.self u ps d among (c.in_ok-tree.ensures.calm c.if-anew.true))
+    subst (λ (ws : List Watch). IsDraftLeft c.args.large next last ps (record { tree = u; watches = ws })) (sym c.new.ensures) (draft_anew c.args.large next last c.args.self u ps d among (c.in_ok-tree.ensures.criteria c.if-anew.true))
 
 pub returns-then-anew-clause-low : goal.returns-then-anew-clause-low
 returns-then-anew-clause-low g c =
@@ -71,9 +71,9 @@ returns-clause-draft g c = λ next last ps d.
     let of_node : AreAmong (numbers with) (numbers node) = subst (λ (s : Shape). AreAmong (numbers with) (numbers s)) c.in_ok-node.ensures.shape c.in_ok-with.ensures.numbers in
     let among = among_part (numbers u) (numbers with) (numbers node) (numbers t) c.in_ok-tree.ensures.numbers of_node (at_numbers c.remove-path.result.path t node c.in-Some.ensures.some) in
     let outside = subst (λ (qs : List (List Side)). IsBalancedClear c.args.large (c.remove-path.result.path ∷ qs) t) (sym others) k.outside in
-    let even = subst (λ (qs : List (List Side)). IsBalancedClear c.args.large qs u) others (c.in_ok-tree.ensures.balance outside (calm_even c.args.large with c.in_ok-with.ensures.calm)) in
+    let balanced = subst (λ (qs : List (List Side)). IsBalancedClear c.args.large qs u) others (c.in_ok-tree.ensures.balance outside (criteria_balanced c.args.large with c.in_ok-with.ensures.criteria)) in
     let same = subst (λ (qs : List (List Side)). AreSameAt qs u t) others (c.in_ok-tree.ensures.others c.if-anew.false) in
-    draft_without c.args.large next last ps c.args.self c.remove-path.result ws u d k same even among
+    draft_without c.args.large next last ps c.args.self c.remove-path.result ws u d k same balanced among
 
 pub returns-clause-low : goal.returns-clause-low
 returns-clause-low g c =

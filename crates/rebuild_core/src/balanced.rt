@@ -7,7 +7,7 @@ use kd_tree::Tree;
 
 // Whether each node of 10 nodes and more, and fewer than these, meets the balance criterion. A subtree of fewer nodes isn't
 // looked into.
-pub(crate) fn is_even(tree: &Tree, large: u32) -> bool
+pub(crate) fn is_balanced(tree: &Tree, large: u32) -> bool
     ensures { result ≡ true ↔ IsBalancedBelow large tree.now }
 {
     let size = tree.size();
@@ -17,14 +17,14 @@ pub(crate) fn is_even(tree: &Tree, large: u32) -> bool
     let Some(top) = tree.top() else {
         return true;
     };
-    if size < large && !is_balanced(top.left, top.right) {
+    if size < large && !are_balanced(top.left, top.right) {
         return false;
     }
-    is_even(top.left, large) && is_even(top.right, large)
+    is_balanced(top.left, large) && is_balanced(top.right, large)
 }
 
 // Whether each son has fewer than three fifths of the nodes below the top.
-fn is_balanced(left: &Tree, right: &Tree) -> bool
+fn are_balanced(left: &Tree, right: &Tree) -> bool
     ensures { result ≡ true ↔ IsBalanced left.now right.now }
 {
     let (left, right) = (left.size(), right.size());

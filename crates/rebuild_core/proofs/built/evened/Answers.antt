@@ -1,7 +1,0 @@
-use Rattle.std.proofs.lemmas.Result.{IfOk-weaker}
-use Rattle.kd_update.specs.Update.{IsBalancedBelow}
-use Rattle.kd_update.proofs.Update.{calm_even}
-use Rattle.rebuild_core.proofs.built.evened.Goals as goal
-
-pub returns-clause-balance : goal.returns-clause-balance
-returns-clause-balance g c = IfOk-weaker c.rebuilt.result _ (IsBalancedBelow c.args.large) (λ t k. calm_even c.args.large t k) c.rebuilt.ensures.calm
