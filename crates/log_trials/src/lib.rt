@@ -1,5 +1,5 @@
-//! Logs that are read and written, and lines of transcripts. These tests speak of public calls alone, and stand in a crate of their
-//! own, so that reading and writing are proved once for all of them.
+//! Logs that are read and written, lines of transcripts, and verdicts on them. These tests speak of public calls alone, and stand in
+//! a crate of their own, so that what they call is proved once for all of them.
 #![tactic(auto)]
 
 #[cfg(test)]
@@ -16,5 +16,7 @@ mod poses;
 mod reading;
 #[cfg(test)]
 mod searches;
+#[cfg(test)]
+mod verdicts;
 #[cfg(test)]
 mod written;

@@ -7,7 +7,8 @@ ghost use Rattle.scan_log.specs.declared.fault.ParseFault.TheVariants.{NoMemory 
 use crate::assertions::are_bytes;
 use crate::reading::read;
 use map_fold::{
-    BoxReply, Cuboids, Hit, Hits, Item, Items, Label, NearReply, Points, Settings, Update,
+    BoxReply, Cuboids, Hit, Hits, Item, Items, Label, MAX_POINTS, NearReply, Points, Settings,
+    Update,
 };
 use point_geom::{Corner, Cuboid, Point};
 use scan_log::{Command, Format, ParseFault, Reply, Script, parse, reply_line, write_script};
@@ -19,7 +20,7 @@ use std::test::Fail;
 fn log_of(alloc: Global, format: Format, command: Command) -> Result<Vec<u8>, Fail>
     requires limits { IsCommand format command }
     requires room { submitted command ≤ 262144 }
-    requires hits { asked command ≤ 4194304 }
+    requires hits { asked command ≤ MAX_POINTS }
 {
     let mut script = Script::new(alloc, format, Settings::new(200, 1500));
     script.push(command)?;
@@ -76,7 +77,7 @@ fn is_written(
 ) -> Result<(), Fail>
     requires limits { IsCommand format command }
     requires room { submitted command ≤ 262144 }
-    requires hits { asked command ≤ 4194304 }
+    requires hits { asked command ≤ MAX_POINTS }
 {
     let log = log_of(alloc, format, command)?;
     are_bytes(rt, log.as_slice(), want);
@@ -155,7 +156,7 @@ fn a_search_has_its_distance_where_one_is_given(rt: HostRuntime) -> Result<(), F
     is_written(&rt, alloc, Format::One, inside, want)
 }
 
-// What is written is read as an equal script, or memory is wanting.
+// What is written is read as an equal script, or memory runs out.
 fn again(alloc: Global, script: &Script) -> Result<Script, ParseFault>
     ensures same { IfOk result (λ again. again ≡ script.now) }
     ensures fault { IfErr result (λ fault. fault ≡ want) }

@@ -30,5 +30,3 @@ mod schedules;
 mod snapshots;
 #[cfg(test)]
 mod steps;
-#[cfg(test)]
-mod thinning;

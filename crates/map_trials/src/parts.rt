@@ -2,7 +2,7 @@
 use crate::assertions::{holds, same};
 use crate::draws::Draws;
 use crate::looks::{cuboid, holds_from, is_breached, live, logged, suspended};
-use crate::steps::{built, detached, is_even, refused, row, settled, swapped, updated};
+use crate::steps::{built, detached, is_balanced, refused, row, settled, swapped, updated};
 use map_fold::{Cuboids, Points, Settings, Update};
 use point_geom::Point;
 use rebuild_core::{Built, Job, LogAsk, MapState, SwapFault};
@@ -109,7 +109,7 @@ fn an_action_that_is_pushed_into_a_detached_subtree_is_logged(rt: HostRuntime) -
     holds(&rt, "no breach", !is_breached(&state, 16));
     same(&rt, "live points", live(&state), 3);
     same(&rt, "suspended points", suspended(&state), 41);
-    holds(&rt, "nothing to detach", is_even(alloc, &mut state, 1)?);
+    holds(&rt, "nothing to detach", is_balanced(alloc, &mut state, 1)?);
     Ok(())
 }
 
@@ -119,7 +119,7 @@ fn a_value_that_is_behind_catches_up_and_a_stale_one_is_refused(
 ) -> Result<(), Fail> {
     let alloc = rt.alloc();
     let mut state = MapState::new(alloc, Settings::new(200, 16))?;
-    holds(&rt, "nothing to detach", is_even(alloc, &mut state, 1)?);
+    holds(&rt, "nothing to detach", is_balanced(alloc, &mut state, 1)?);
     add(alloc, &mut state, 1, 41)?;
     let job = detached(alloc, &mut state, 1)?;
     same(&rt, "the first ticket", job.ticket(), 1);

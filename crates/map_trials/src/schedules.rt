@@ -1,7 +1,7 @@
 //! A detached subtree beside hostile schedules: what its map meets between the detaching and the swap.
 use crate::assertions::{holds, same};
 use crate::looks::{cuboid, live, logged, suspended};
-use crate::steps::{add_row, built, detached, is_even, refused, settled, updated};
+use crate::steps::{add_row, built, detached, is_balanced, refused, settled, updated};
 use kd_search::nearest;
 use map_fold::{Cuboids, Points, Settings, Update};
 use point_geom::Point;
@@ -112,7 +112,7 @@ fn what_was_deleted_meanwhile_stays_so(rt: HostRuntime) -> Result<(), Fail> {
     is_swapped(&rt, alloc, &mut state, built, false);
     settled(alloc, &mut state)?;
     same(&rt, "live points", live(&state), 0);
-    holds(&rt, "nothing to detach", is_even(alloc, &mut state, 1)?);
+    holds(&rt, "nothing to detach", is_balanced(alloc, &mut state, 1)?);
     add_row(alloc, &mut state, &[5])?;
     holds_only(&rt, alloc, &state, 40)
 }
@@ -197,7 +197,7 @@ fn with_two_parts(rt: &impl Abort, alloc: Global) -> Result<(MapState, Job, Job)
     let mut state = uneven(alloc)?;
     let left = detached(alloc, &mut state, 1)?;
     let right = detached(alloc, &mut state, 2)?;
-    holds(rt, "nothing to detach", is_even(alloc, &mut state, 3)?);
+    holds(rt, "nothing to detach", is_balanced(alloc, &mut state, 3)?);
     Ok((state, left, right))
 }
 

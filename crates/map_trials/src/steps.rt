@@ -92,7 +92,7 @@ pub fn detached(alloc: Global, state: &mut MapState, slot: u8) -> Result<Job, Fa
 }
 
 // Whether nothing is left to be detached.
-pub fn is_even(alloc: Global, state: &mut MapState, slot: u8) -> Result<bool, Fail>
+pub fn is_balanced(alloc: Global, state: &mut MapState, slot: u8) -> Result<bool, Fail>
     requires slot_from { 1 ≤ slot }
     requires slot_to { slot ≤ 4 }
 {

@@ -117,8 +117,8 @@ impl<R: Wait + Abort> Trial<R> for AddedMeanwhile {
         shared: &Shared<L>,
         passes: &mut [Pass<L>],
     ) -> Result<(), Fail> {
-        let is_even = shared.detach(rt, alloc, 1)?.is_none();
-        holds(rt, "nothing to detach", is_even);
+        let is_balanced = shared.detach(rt, alloc, 1)?.is_none();
+        holds(rt, "nothing to detach", is_balanced);
         updated(rt, alloc, shared, passes, 0, row(alloc, 1, 41)?)?;
         let built = first(rt, alloc, shared)?;
         updated(rt, alloc, shared, passes, 0, row(alloc, 41, self.last)?)?;
@@ -308,7 +308,7 @@ impl<R: Wait + Abort> Trial<R> for KeptMeanwhile {
         let near = deleted(alloc, cuboid(10, 1, 1)?)?;
         updated(rt, alloc, shared, passes, 0, near)?;
         is_swapped(rt, alloc, shared, built);
-        // The step after a swap is the one that lets go of what was before it.
+        // The step after a swap is the one that drops what was before it.
         updated(rt, alloc, shared, passes, 0, row(alloc, 41, 42)?)?;
         assert_kept(rt, alloc, passes)
     }

@@ -1,5 +1,5 @@
-//! Shared maps, tried by their callers and by workers. These tests speak of public calls alone, and stand in a crate of their own,
-//! so that the shared map is proved once for all of them.
+//! Shared maps, tried by their callers and by workers, and workers at maps of other kinds. These tests speak of public calls alone,
+//! and stand in a crate of their own, so that the shared map and the worker are proved once for all of them.
 #![tactic(auto)]
 
 #[cfg(test)]
@@ -9,10 +9,16 @@ mod desk;
 #[cfg(test)]
 mod equal_points;
 #[cfg(test)]
+mod gates;
+#[cfg(test)]
 mod passes;
 #[cfg(test)]
 mod refusals;
 #[cfg(test)]
+mod rounds;
+#[cfg(test)]
 mod threads;
 #[cfg(test)]
 mod trial;
+#[cfg(test)]
+mod unbalanced;

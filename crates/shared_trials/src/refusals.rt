@@ -1,4 +1,4 @@
-//! An update that is refused for want of memory. No memory is wanting in a plain run: it is made to be wanting from outside.
+//! An update that is refused for lack of memory. No memory runs out in a plain run: it is made to be wanting from outside.
 use crate::assertions::same;
 use crate::trial::{Trial, row, tried};
 use published_map::{Ended, MapName, Pass, Shared};

@@ -10,9 +10,9 @@ use crate::assertions::{holds, same};
 use crate::draw::Draw;
 use crate::numbered::Numbered;
 use crate::watch::{are_large, became, drawn_map, grandsons, held_at, watching};
-use kd_tree::{Path, Scratch, Side, Steps};
+use kd_tree::{MAX_NODES, Path, Scratch, Side, Steps};
 use kd_update::{Watch, Watches, live_items, put_all_watched};
-use map_fold::{Choice, Item, NoMemory, Tag};
+use map_fold::{Choice, Item, MAX_POINTS, NoMemory, Tag};
 use point_geom::Point;
 use std::alloc::Global;
 use std::marker::Brand;
@@ -31,11 +31,11 @@ fn put_scan_beside<L: Ledger>(
     requires name { blank.name ≡ L.name }
     requires parts { blank.parts ≡ L.parts }
     requires some { blank.parts ≡ 1 }
-    requires next { map.next + length points.now ≤ 4194304 }
+    requires next { map.next + length points.now ≤ MAX_POINTS }
     requires small { length points.now < max 2 large }
-    requires short { length points.now < 4194304 }
+    requires short { length points.now < MAX_POINTS }
     requires low { levels map.tree ≤ 490 }
-    requires few { nodes map.tree + length points.now ≤ 4194304 }
+    requires few { nodes map.tree + length points.now ≤ MAX_NODES }
     requires there { AreLargeAt large (paths_in watches.old) map.tree }
     requires apart { AreAllApart (paths_in watches.old) }
     requires room { HaveRoomAtOnce (length points.now) watches.old }
@@ -102,7 +102,7 @@ fn are_all_apart(watches: &[Watch]) -> bool
 }
 
 fn have_room_at_once(count: usize, watches: &[Watch]) -> bool
-    requires { count ≤ 4194304 }
+    requires { count ≤ MAX_POINTS }
     ensures { result ≡ true → HaveRoomAtOnce count watches.now }
 {
     match watches.split_first() {

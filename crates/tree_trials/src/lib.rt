@@ -3,11 +3,17 @@
 #![tactic(auto)]
 
 #[cfg(test)]
+mod apart;
+#[cfg(test)]
 mod assertions;
 #[cfg(test)]
 mod beside;
 #[cfg(test)]
+mod breaches;
+#[cfg(test)]
 mod draw;
+#[cfg(test)]
+mod forty;
 #[cfg(test)]
 mod lists;
 #[cfg(test)]
@@ -18,6 +24,8 @@ mod replacing;
 mod replaying;
 #[cfg(test)]
 mod scans;
+#[cfg(test)]
+mod scratches;
 #[cfg(test)]
 mod script;
 #[cfg(test)]

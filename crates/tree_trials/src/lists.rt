@@ -24,7 +24,7 @@ fn build_anew<L: Ledger>(alloc: Global, tree: Tree, blank: Blank) -> Result<Tree
 }
 
 // The top's x, and how many nodes its sons have.
-fn top_of(tree: &Tree) -> Result<(i64, u32, u32), Fail> {
+pub fn top_of(tree: &Tree) -> Result<(i64, u32, u32), Fail> {
     match tree.top() {
         None => Err(Fail::new("no top")),
         Some(top) => Ok((top.item.point.x(), top.left.size(), top.right.size())),
@@ -101,7 +101,7 @@ fn what_is_built_anew_holds_what_was_left(rt: HostRuntime) -> Result<(), Fail> {
     Ok(())
 }
 
-fn holds_all(rt: &impl Abort, alloc: Global, tree: &Tree, held: &[Item]) -> Result<(), Fail> {
+pub fn holds_all(rt: &impl Abort, alloc: Global, tree: &Tree, held: &[Item]) -> Result<(), Fail> {
     let items = tree.flatten(alloc)?;
     let are_same = items.as_slice() == held;
     holds(rt, "what was held", are_same);

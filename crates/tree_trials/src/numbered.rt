@@ -4,7 +4,7 @@ ghost use Rattle.kd_tree.specs.Shape.{numbers};
 
 use kd_tree::{Steps, Tree};
 use kd_update::{marked, put, roomy, settled};
-use map_fold::{Choice, NoMemory, Tag};
+use map_fold::{Choice, MAX_POINTS, NoMemory, Tag};
 use point_geom::{Corner, Cuboid, Point};
 use std::alloc::Global;
 use std::marker::Brand;
@@ -85,7 +85,7 @@ fn put_next<L: Ledger>(
     requires name { blank.name ≡ L.name }
     requires parts { blank.parts ≡ L.parts }
     requires some { blank.parts ≡ 1 }
-    requires next { map.next < 4194304 }
+    requires next { map.next < MAX_POINTS }
 {
     let mut steps: Steps<L> = Steps::new(blank);
     let _size = map.tree.size();

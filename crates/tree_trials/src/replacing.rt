@@ -4,11 +4,12 @@ ghost use Rattle.kd_tree.specs.Apart.{IsClear};
 ghost use Rattle.kd_update.specs.Several.{AreLargeAt};
 
 use crate::assertions::{holds, same};
+use crate::lists::holds_all;
 use crate::script::Script;
 use crate::watch::is_large;
 use kd_tree::{Path, Side, Steps, Tree};
 use kd_update::{Replaced, replaced, replayed};
-use map_fold::{Choice, Item, Items, Tag};
+use map_fold::{Choice, Items, Tag};
 use std::alloc::Global;
 use std::marker::Brand;
 use std::process::Abort;
@@ -72,13 +73,6 @@ fn is_replaced(rt: &impl Abort, alloc: Global, start: i64, anew: bool) -> Result
     holds_all(rt, alloc, &done.tree, held.as_slice())?;
     let levels = if anew { 9 } else { start.saturating_add(400) };
     same(rt, "levels", i64::from(done.tree.levels()), levels);
-    Ok(())
-}
-
-fn holds_all(rt: &impl Abort, alloc: Global, tree: &Tree, held: &[Item]) -> Result<(), Fail> {
-    let items = tree.flatten(alloc)?;
-    let are_same = items.as_slice() == held;
-    holds(rt, "what was held", are_same);
     Ok(())
 }
 

@@ -6,7 +6,7 @@ use crate::draw::Draw;
 use crate::numbered::{Numbered, between};
 use kd_tree::{Scratch, Steps};
 use kd_update::put_points;
-use map_fold::{Choice, NoMemory, Tag};
+use map_fold::{Choice, MAX_POINTS, NoMemory, Tag};
 use point_geom::Point;
 use std::alloc::Global;
 use std::marker::Brand;
@@ -24,7 +24,7 @@ fn put_next_points<L: Ledger>(
     requires name { blank.name ≡ L.name }
     requires parts { blank.parts ≡ L.parts }
     requires some { blank.parts ≡ 1 }
-    requires few { map.next + length points.now ≤ 4194304 }
+    requires few { map.next + length points.now ≤ MAX_POINTS }
 {
     let mut steps: Steps<L> = Steps::new(blank);
     let mut scratch = Scratch::new(alloc);

@@ -8,9 +8,9 @@ ghost use Rattle.kd_update.specs.Watches.{HaveRoom, paths_in};
 use crate::assertions::{holds, same};
 use crate::draw::{Draw, mark_plainly};
 use crate::numbered::{Numbered, between, row};
-use kd_tree::{Path, Side, Steps, Tree};
+use kd_tree::{MAX_LEVELS, MAX_NODES, Path, Side, Steps, Tree};
 use kd_update::{Watch, Watches, marked_watched, put_watched};
-use map_fold::{Choice, Item, Label, NoMemory, Op, Tag};
+use map_fold::{Choice, Item, Label, MAX_POINTS, NoMemory, Op, Tag};
 use op_logger::OpLog;
 use point_geom::Point;
 use std::alloc::Global;
@@ -30,9 +30,9 @@ fn put_beside<L: Ledger>(
     requires name { blank.name ≡ L.name }
     requires parts { blank.parts ≡ L.parts }
     requires some { blank.parts ≡ 1 }
-    requires next { map.next < 4194304 }
-    requires low { levels map.tree < 512 }
-    requires few { nodes map.tree < 4194304 }
+    requires next { map.next < MAX_POINTS }
+    requires low { levels map.tree < MAX_LEVELS }
+    requires few { nodes map.tree < MAX_NODES }
     requires there { AreLargeAt large (paths_in watches.old) map.tree }
     requires room { HaveRoom watches.old }
 {
@@ -220,7 +220,7 @@ fn with_point(
 }
 
 // A settled row.
-fn even(rt: &impl Abort, alloc: Global, from: i64, to: i64) -> Result<Numbered, Fail> {
+fn balanced(rt: &impl Abort, alloc: Global, from: i64, to: i64) -> Result<Numbered, Fail> {
     let map = Numbered::new().risen(rt, alloc, 16, from, to)?;
     Ok(map.settled(alloc)?)
 }
@@ -231,7 +231,7 @@ fn an_action_is_logged_where_it_meets_a_watched_root_that_is_not_covered_from_ab
 ) -> Result<(), Fail> {
     let alloc = rt.alloc();
     // Four subtrees: 1 to 19, 21 to 39, 41 to 59 and 61 to 80.
-    let mut map = even(&rt, alloc, 1, 81)?;
+    let mut map = balanced(&rt, alloc, 1, 81)?;
     let mut watches = watching(&rt, alloc, &grandsons())?;
     for row in [
         // It covers the first root, touches the first two, and misses all.
@@ -259,7 +259,7 @@ fn an_action_that_rests_above_a_watched_root_is_logged_when_it_is_pushed_into_it
     rt: HostRuntime,
 ) -> Result<(), Fail> {
     let alloc = rt.alloc();
-    let map = even(&rt, alloc, 1, 41)?;
+    let map = balanced(&rt, alloc, 1, 41)?;
     let map = map.risen(&rt, alloc, 16, 41, 45)?;
     let right = Path::root().down(Side::Right);
     let mut watches = watching(&rt, alloc, &[right])?;
