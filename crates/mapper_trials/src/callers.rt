@@ -1,12 +1,10 @@
 //! Runs of several callers, and what gates show of their threads.
-use crate::runs::{HEADER, assert_answered, ran, words_of};
-use mapper_core::{Status, SureSink, SureSource, run};
+use crate::runs::ran;
+use mapper_core::Status;
 use rebuild_worker::{Gate, HoldGate, MeetGate};
-use std::alloc::{AllocError, Global};
-use std::sync::Wait;
 use std::sync::atomic::{AtomicBool, AtomicU64, Ordering};
 use std::test::Fail;
-use std::thread::{Threads, yield_now};
+use std::thread::yield_now;
 
 // How long a gate waits.
 const TURNS: u64 = 20_000_000;
@@ -59,47 +57,6 @@ impl Gate for TwoBuilds {
     }
 }
 
-// What a run with this gate writes.
-fn ran_with<R: Threads + Wait + Sync, G: Gate + Sync>(
-    rt: &R,
-    alloc: Global,
-    log: &[u8],
-    gate: &G,
-) -> Result<(Status, SureSink), AllocError> {
-    let words = words_of(alloc, "run")?;
-    let mut source = SureSource::new(log.to_vec(alloc)?);
-    let mut out = SureSink::new(alloc);
-    let mut notes = SureSink::new(alloc);
-    let status = run(
-        rt,
-        alloc,
-        words.as_slice(),
-        &mut source,
-        &mut out,
-        &mut notes,
-        gate,
-    );
-    Ok((status, out))
-}
-
-#[test]
-fn a_caller_reads_its_own_update(rt: HostRuntime) -> Result<(), Fail> {
-    let alloc = rt.alloc();
-    let log = "ikdmap 1 voxel 200 large 1500\n@1 add 100 0 0\n@2 add 1 0 0\n@2 near 1 0 0 0\n";
-    let ran = ran(&rt, alloc, "run", log.as_bytes())?;
-    assert_eq!(rt; ran.status, Status::Done);
-    let mut found = false;
-    for want in [
-        "@1 ok 1\n@2 ok 2\n@2 near 2 | 1 1 0 0 1\nend 2 live 2 suspended 0\n",
-        "@1 ok 2\n@2 ok 1\n@2 near 1 | 0 1 0 0 1\nend 2 live 2 suspended 0\n",
-        "@1 ok 2\n@2 ok 1\n@2 near 2 | 0 1 0 0 1\nend 2 live 2 suspended 0\n",
-    ] {
-        found |= ran.out.bytes() == want.as_bytes();
-    }
-    assert!(rt; found);
-    Ok(())
-}
-
 // The first update leaves the tree in breach, so a build begins, which is held until both later commands are replied to.
 #[test]
 fn callers_go_on_while_a_build_is_held(rt: HostRuntime) -> Result<(), Fail> {
@@ -110,7 +67,7 @@ fn callers_go_on_while_a_build_is_held(rt: HostRuntime) -> Result<(), Fail> {
     }
     log.push_str("\n@1 add 100 0 0\n@1 near 1 0 0 0\n")?;
     let gate = HoldGate::new(0, 2, TURNS);
-    let (status, out) = ran_with(&rt, alloc, log.as_bytes(), &gate)?;
+    let (status, out) = ran(&rt, alloc, log.as_bytes(), &gate)?;
     assert_eq!(rt; status, Status::Done);
     assert!(rt; gate.held());
     let want = "@1 ok 1\n@1 ok 2\n@1 near 2 | 0 1 0 0 1\nend 2 live 41 suspended 0\n";
@@ -125,7 +82,7 @@ fn callers_run_beside_each_other(rt: HostRuntime) -> Result<(), Fail> {
     let log =
         "ikdmap 1 voxel 200 large 1500\n@1 near 1 0 0 0\n@1 near 1 0 0 0\n@1 add 100 0 0\n@2 add 1 0 0\n";
     let gate = MeetGate::new(0, 3, TURNS);
-    let (status, out) = ran_with(&rt, alloc, log.as_bytes(), &gate)?;
+    let (status, out) = ran(&rt, alloc, log.as_bytes(), &gate)?;
     assert_eq!(rt; status, Status::Done);
     assert!(rt; gate.held());
     let rest = "@1 near 1 | 0 1 0 0 1\n@1 ok 2\n@2 ok 1\nend 2 live 2 suspended 0\n";
@@ -144,7 +101,7 @@ fn two_workers_build_beside_each_other(rt: HostRuntime) -> Result<(), Fail> {
     log.push_str("\nsync\n@1 add 41 0 0 42 0 0 43 0 0 44 0 0\n")?;
     log.push_str("@1 add 0 0 0 -1 0 0 -2 0 0 -3 0 0 -4 0 0\n")?;
     let gate = TwoBuilds::new(2);
-    let (status, out) = ran_with(&rt, alloc, log.as_bytes(), &gate)?;
+    let (status, out) = ran(&rt, alloc, log.as_bytes(), &gate)?;
     assert_eq!(rt; status, Status::Done);
     assert!(rt; !gate.missed.load(Ordering::SeqCst));
     assert_eq!(rt; gate.begun.load(Ordering::SeqCst), 3);
@@ -164,31 +121,11 @@ fn a_barrier_does_not_wait_for_a_build(rt: HostRuntime) -> Result<(), Fail> {
     }
     log.push_str("\nsync\n@1 add 41 0 0 42 0 0 43 0 0 44 0 0\n")?;
     let gate = TwoBuilds::new(1);
-    let (status, out) = ran_with(&rt, alloc, log.as_bytes(), &gate)?;
+    let (status, out) = ran(&rt, alloc, log.as_bytes(), &gate)?;
     assert_eq!(rt; status, Status::Done);
     assert!(rt; !gate.missed.load(Ordering::SeqCst));
     assert_eq!(rt; gate.begun.load(Ordering::SeqCst), 2);
     let want = "@1 ok 1\nsync 1 live 40 suspended 0\n@1 ok 2\nend 2 live 44 suspended 0\n";
     assert_eq!(rt; out.bytes(), want.as_bytes());
-    Ok(())
-}
-
-#[test]
-fn eight_callers_see_what_each_of_them_added(rt: HostRuntime) -> Result<(), Fail> {
-    let alloc = rt.alloc();
-    let mut log = String::from_str(alloc, HEADER)?;
-    let mut want = String::new(alloc);
-    for caller in 1..=8 {
-        log.push_str(format!(in alloc; "@{caller} add {caller} 0 0\nsync\n")?.as_str())?;
-        want.push_str(format!(in alloc; "@{caller} ok {caller}\n")?.as_str())?;
-        let held = format!(in alloc; "sync {caller} live {caller} suspended 0\n")?;
-        want.push_str(held.as_str())?;
-    }
-    for caller in 1..=8 {
-        log.push_str(format!(in alloc; "@{caller} near 1 9 0 0\n")?.as_str())?;
-        want.push_str(format!(in alloc; "@{caller} near 8 | 7 8 0 0 1\n")?.as_str())?;
-    }
-    want.push_str("end 8 live 8 suspended 0\n")?;
-    assert_answered(&rt, alloc, log.as_str(), want.as_str())?;
     Ok(())
 }

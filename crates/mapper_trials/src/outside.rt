@@ -1,5 +1,5 @@
 //! What the outside may do.
-use crate::runs::{HEADER, SMALLEST, SMALLEST_OUT, words_of};
+use crate::runs::{SMALLEST, SMALLEST_OUT, words_of};
 use mapper_core::{MemSink, MemSource, Sink, Source, Status, SureSink, SureSource, run};
 use rebuild_worker::FreeGate;
 use std::test::Fail;
@@ -50,9 +50,40 @@ fn a_failing_call_of_the_outside_ends_the_run(rt: HostRuntime) -> Result<(), Fai
 }
 
 #[test]
+fn a_failing_call_of_the_outside_ends_a_check(rt: HostRuntime) -> Result<(), Fail> {
+    let alloc = rt.alloc();
+    let words = words_of(alloc, "check 59")?;
+    let mut input = SMALLEST.to_vec(alloc)?;
+    input.extend_from_slice(SMALLEST_OUT)?;
+    for (failing_read, failing_write, want, told, note) in [
+        (0, 0, Status::Done, "legal\n", ""),
+        // Behind the log it is read as far as before.
+        (9, 0, Status::ReadFault, "", "read fault\n"),
+        (0, 2, Status::WriteFault, "leg", "write fault\n"),
+    ] {
+        let mut source = MemSource::new(input.to_vec(alloc)?, 8, vec![in alloc; failing_read]?);
+        let mut out = MemSink::new(alloc, 3, vec![in alloc; failing_write]?);
+        let mut notes = SureSink::new(alloc);
+        let status = run(
+            &rt,
+            alloc,
+            words.as_slice(),
+            &mut source,
+            &mut out,
+            &mut notes,
+            &FreeGate,
+        );
+        assert_eq!(rt; status, want);
+        assert_eq!(rt; out.bytes(), told.as_bytes());
+        assert_eq!(rt; notes.bytes(), note.as_bytes());
+    }
+    Ok(())
+}
+
+#[test]
 fn a_fault_of_notes_does_not_change_the_status(rt: HostRuntime) -> Result<(), Fail> {
     let alloc = rt.alloc();
-    let log = format!(in alloc; "{HEADER}@1 add 1000000001 0 0\n")?;
+    let log = b"ikdmap 1 voxel 200 large 1500\n@1 add 1000000001 0 0\n".as_slice();
     for (line, piece, failing, want, note) in [
         ("run", 10, 1, Status::BadLog, ""),
         ("run", 10, 2, Status::BadLog, "line 2: ou"),
@@ -60,7 +91,7 @@ fn a_fault_of_notes_does_not_change_the_status(rt: HostRuntime) -> Result<(), Fa
     ] {
         assert!(rt; 1 <= piece);
         let words = words_of(alloc, line)?;
-        let mut log = SureSource::new(log.as_bytes().to_vec(alloc)?);
+        let mut log = SureSource::new(log.to_vec(alloc)?);
         let mut out = SureSink::new(alloc);
         let mut notes = MemSink::new(alloc, piece, [failing].to_vec(alloc)?);
         let status = run(

@@ -1,0 +1,78 @@
+//! Streams that move a byte at a time.
+use crate::runs::{ran, words_of};
+use mapper_core::{MemSink, MemSource, Status, SureSink, run};
+use rebuild_worker::FreeGate;
+use std::alloc::Global;
+use std::sync::Wait;
+use std::test::Fail;
+use std::thread::Threads;
+
+// A run whose calls move a byte each.
+fn ran_by_bytes<R: Threads + Wait + Sync>(
+    rt: &R,
+    alloc: Global,
+    log: &[u8],
+) -> Result<(Status, MemSink), Fail> {
+    let words = words_of(alloc, "run")?;
+    let mut source = MemSource::new(log.to_vec(alloc)?, 1, Vec::new(alloc));
+    let mut out = MemSink::new(alloc, 1, Vec::new(alloc));
+    let mut notes = SureSink::new(alloc);
+    let status = run(
+        rt,
+        alloc,
+        words.as_slice(),
+        &mut source,
+        &mut out,
+        &mut notes,
+        &FreeGate,
+    );
+    Ok((status, out))
+}
+
+// What these logs give stands in runs/, and is compared there.
+#[test]
+fn a_byte_at_a_time_gives_the_same(rt: HostRuntime) -> Result<(), Fail> {
+    let alloc = rt.alloc();
+    for (large, commands) in [
+        ("1500", "@1 add 1 2 3\n@1 near 1 0 0 0\n"),
+        ("1500", ""),
+        (
+            "1500",
+            "@1 near 5 0 0 0\n@1 add 10 0 0 0 0 -3\n@1 near 5 0 0 0\n",
+        ),
+        ("1500", "@1 add 5 0 0 0 5 0 0 0 5\n@1 near 2 0 0 0\n"),
+        ("1500", "@1 add 7 7 7 7 7 7\n@1 near 1 7 7 7\n"),
+        (
+            "1500",
+            "@1 add 1000000000 1000000000 1000000000\n@1 near 1 -1000000000 -1000000000 -1000000000\n",
+        ),
+        (
+            "16",
+            "@1 add 1 0 0 2 0 0 3 0 0\n@1 delete 1 0 0 2 1 1\n@1 restore 0 0 0 9 9 9\n@1 suspend 0 0 0 9 9 9\n@1 near 3 0 0 0\nsync\n@1 restore 3 0 0 4 1 1\n@1 near 3 0 0 0\n",
+        ),
+        (
+            "1500",
+            "@1 add 1 2 3 1 2 3 1 2 4\n@1 erase 1 2 3\n@1 box 5 0 0 0 9 9 9\n",
+        ),
+        (
+            "1500",
+            "@1 add 0 0 0 9 0 0\n@1 box 5 0 0 0 0 9 9\n@1 box 5 0 0 0 9 9 9\n@1 box 1 0 0 0 10 9 9\n",
+        ),
+        (
+            "1500",
+            "@1 add 3 4 0 6 0 0\n@1 near 3 0 0 0 within 5\n@1 near 3 0 0 0 within 0\n",
+        ),
+        (
+            "1500",
+            "@1 add 5 0 0\nsync\n@2 add 1 0 0\nsync\n@1 near 1 0 0 0\n@2 near 1 0 0 0\n@3 near 1 0 0 0\n",
+        ),
+        ("1500", "@1 add 1 2 3"),
+    ] {
+        let log = format!(in alloc; "ikdmap 1 voxel 200 large {large}\n{commands}")?;
+        let (_, whole) = ran(&rt, alloc, log.as_bytes(), &FreeGate)?;
+        let (status, out) = ran_by_bytes(&rt, alloc, log.as_bytes())?;
+        assert_eq!(rt; status, Status::Done, "{commands}");
+        assert_eq!(rt; out.bytes(), whole.bytes(), "{commands}");
+    }
+    Ok(())
+}

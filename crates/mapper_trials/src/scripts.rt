@@ -1,0 +1,61 @@
+//! Scripts, and the replies to them.
+use crate::runs::{SMALLEST, SMALLEST_OUT};
+use map_fold::NoMemory;
+use mapper_core::{Replies, made, serial, threaded};
+use rebuild_worker::FreeGate;
+use scan_log::{Script, parse, reply_line, write_script};
+use std::alloc::Global;
+use std::test::Fail;
+
+const POSES: &'static [u8] = b"ikdmap 2 voxel 200 large 16
+@1 add 0 0 0 1 -45 0 0 2
+@1 pose 100 20 30 0 0 0
+@1 pose 100 20 30 30 0 0
+";
+
+const POSES_OUT: &'static [u8] = b"@1 ok 1\n@1 ok 2\n@1 ok 3\nend 3 live 1 suspended 0\n";
+
+// The lines of the replies to a script.
+fn told(alloc: Global, script: &Script, replies: &Replies) -> Result<Vec<u8>, NoMemory> {
+    let mut out = Vec::new(alloc);
+    let format = script.format();
+    for (command, reply) in script.commands().iter().zip(replies.as_slice()) {
+        reply_line(&mut out, format, Some(command), reply)?;
+    }
+    if let Some(end) = replies.as_slice().last() {
+        reply_line(&mut out, format, None, end)?;
+    }
+    Ok(out)
+}
+
+#[test]
+fn a_script_is_answered_command_by_command_and_at_its_end(rt: HostRuntime) -> Result<(), Fail> {
+    let alloc = rt.alloc();
+    let script = parse(alloc, SMALLEST)?;
+    let replies = serial(alloc, &script)?;
+    assert_eq!(rt; replies.len(), 3);
+    let text = told(alloc, &script, &replies)?;
+    assert_eq!(rt; text.as_slice(), SMALLEST_OUT);
+    Ok(())
+}
+
+#[test]
+fn a_script_is_run_with_its_poses_and_kept(rt: HostRuntime) -> Result<(), Fail> {
+    let alloc = rt.alloc();
+    let script = parse(alloc, POSES)?;
+    let in_turn = serial(alloc, &script)?;
+    let side_by_side = threaded(&rt, alloc, &script, &FreeGate)?;
+    assert_eq!(rt; told(alloc, &script, &in_turn)?.as_slice(), POSES_OUT);
+    assert_eq!(rt; told(alloc, &script, &side_by_side)?.as_slice(), POSES_OUT);
+    Ok(())
+}
+
+#[test]
+fn twenty_scans_are_read_back_as_they_were_made(rt: HostRuntime) -> Result<(), Fail> {
+    let alloc = rt.alloc();
+    let log = write_script(alloc, &made(alloc, 20)?)?;
+    let again = parse(alloc, log.as_slice())?;
+    assert_eq!(rt; again.commands().len(), 82);
+    assert_eq!(rt; write_script(alloc, &again)?.as_slice(), log.as_slice());
+    Ok(())
+}
