@@ -1,66 +1,156 @@
-//! What is drawn before the clock runs: scans of a robot that moves a metre along x from scan to scan.
+//! What is drawn before the clock runs.
 ghost use Rattle.std.specs.Prelude.{IfOk};
 ghost use Rattle.map_fold.specs.Contents.{AreContents};
 
 use crate::draws::Draws;
-use map_fold::{Cuboids, Item, Items, Label, NoMemory, Points};
+use map_fold::{Cuboids, Item, Items, Label, NoMemory, Points, Update};
 use point_geom::{Corner, Cuboid, Point};
 use std::alloc::Global;
+use std::ops::Range;
 
 /// How many points a scan has.
 pub const POINTS_OF_SCAN: u32 = 2_000;
 
+// As many points as one update may have.
+const MOST_AT_ONCE: u32 = 262_144;
+
 const SCANS_OF_DELETION: u32 = 10;
 
-/// What the robot sees from a place.
+// Points stand 2 mm apart along a road.
+const APART: i64 = 2;
+
+// No two numbers of points take the same place in the drawn order, unless there are as many as a multiple of this.
+const STRIDE: i64 = 514_229;
+
+/// How the points of scans lie.
+#[derive(Clone, Copy)]
+pub enum Lie {
+    /// Round a robot that moves a metre along x from scan to scan. After each tenth, what lies from 30 to 60 metres behind it is left.
+    Left,
+    /// The same, but nothing is left.
+    Kept,
+    /// Round one place, as many at once as may be, and so the next two.
+    Drawn,
+    /// In a row along x, from below.
+    Rising,
+    /// All at one place.
+    Equal,
+    /// Along a road, one after the other.
+    Road,
+    /// All over a road of so many.
+    Mixed(u32),
+}
+
+impl Lie {
+    fn points_of_scan(self) -> u32 {
+        match self {
+            Lie::Drawn | Lie::Rising | Lie::Equal => MOST_AT_ONCE,
+            Lie::Left | Lie::Kept | Lie::Road | Lie::Mixed(_) => POINTS_OF_SCAN,
+        }
+    }
+
+    fn point(self, scan: u32, number: u32, draws: &mut Draws) -> Point {
+        match self {
+            Lie::Left | Lie::Kept => draws.point(scan),
+            Lie::Drawn => draws.point(0),
+            Lie::Rising => Point::new(number as i64, 0, 0).unwrap_or_default(),
+            Lie::Equal => Point::default(),
+            Lie::Road => road_point(number as i64, draws),
+            Lie::Mixed(of) => road_point(mixed(number, of), draws),
+        }
+    }
+}
+
+// The place of a number among so many.
+fn mixed(number: u32, of: u32) -> i64 {
+    let place = (number as i64).wrapping_mul(STRIDE);
+    place.checked_rem(of as i64).unwrap_or(0)
+}
+
+fn road_point(place: i64, draws: &mut Draws) -> Point {
+    let aside = draws.point(0);
+    Point::new(APART.saturating_mul(place), aside.y(), aside.z()).unwrap_or_default()
+}
+
+/// The box round the first points of a road, so many.
+pub fn road_box(points: u32) -> Cuboid {
+    slab(0, APART.saturating_mul(points as i64))
+}
+
+/// What a map takes in at once, and what is deleted then.
 #[derive(Drop)]
 pub struct Scan {
     pub points: Points,
-    /// What it leaves behind: after each tenth scan, what lies from 30 to 60 metres behind it.
     pub left: Option<Cuboid>,
 }
 
 /// Scans of so many points together.
-pub fn scans(alloc: Global, count: u32, draws: &mut Draws) -> Result<Vec<Scan>, NoMemory> {
+pub fn scans(
+    alloc: Global,
+    lie: Lie,
+    count: u32,
+    draws: &mut Draws,
+) -> Result<Vec<Scan>, NoMemory> {
+    let at_once = lie.points_of_scan().max(1);
     let mut scans = Vec::new(alloc);
-    let mut rest = count;
-    for scan in 0..count.div_ceil(POINTS_OF_SCAN) {
-        let points = seen(alloc, rest.min(POINTS_OF_SCAN), scan, draws)?;
-        let left = left_at(scan);
+    for scan in 0..count.div_ceil(at_once) {
+        let from = scan.saturating_mul(at_once);
+        let to = from.saturating_add(at_once).min(count);
+        let points = points(alloc, lie, scan, from..to, draws)?;
+        let left = left_at(lie, scan);
         scans.push(Scan { points, left })?;
-        rest = rest.saturating_sub(POINTS_OF_SCAN);
     }
     Ok(scans)
 }
 
-/// So many points that are seen from the robot's place at this scan.
-pub fn seen(alloc: Global, count: u32, scan: u32, draws: &mut Draws) -> Result<Points, NoMemory> {
+/// The points of a scan that have these numbers.
+pub fn points(
+    alloc: Global,
+    lie: Lie,
+    scan: u32,
+    numbers: Range<u32>,
+    draws: &mut Draws,
+) -> Result<Points, NoMemory> {
     let mut points = Points::new(alloc);
-    for _ in 0..count {
-        points.push(draws.point(scan))?;
+    for number in numbers {
+        points.push(lie.point(scan, number, draws))?;
     }
     Ok(points)
 }
 
-fn left_at(scan: u32) -> Option<Cuboid> {
-    if scan % SCANS_OF_DELETION < SCANS_OF_DELETION - 1 {
-        return None;
-    }
+fn left_at(lie: Lie, scan: u32) -> Option<Cuboid> {
     let x = 1_000 * scan as i64;
+    match lie {
+        Lie::Left if scan % SCANS_OF_DELETION == SCANS_OF_DELETION - 1 => {
+            Some(slab(x - 60_000, x - 30_000))
+        }
+        _ => None,
+    }
+}
+
+// All that lies between two places along x.
+fn slab(from: i64, to: i64) -> Cuboid {
     let lo = Corner {
-        x: x - 60_000,
+        x: from,
         y: -30_000,
         z: -3_000,
     };
     let hi = Corner {
-        x: x - 30_000,
+        x: to,
         y: 30_001,
         z: 3_001,
     };
-    Cuboid::new(lo, hi).ok()
+    Cuboid::new(lo, hi).unwrap_or(Cuboid::unit(&Point::default()))
 }
 
-/// The points of such scans in one list, live, under the numbers from 0 on.
+/// What deletes what was left.
+pub fn deletion(alloc: Global, left: &Cuboid) -> Result<Update, NoMemory> {
+    let mut cuboids = Cuboids::new(alloc);
+    cuboids.push(*left)?;
+    Ok(Update::Delete(cuboids))
+}
+
+/// The points of the robot's scans in one list, live, under the numbers from 0 on.
 pub fn items(alloc: Global, count: u32, draws: &mut Draws) -> Result<Items, NoMemory>
     ensures { IfOk result (AreContents 0 count) }
 {
@@ -76,7 +166,7 @@ pub fn items(alloc: Global, count: u32, draws: &mut Draws) -> Result<Items, NoMe
     Ok(items)
 }
 
-/// So many places, in turn from all over what scans of so many points saw.
+/// So many places, in turn from all over what the robot's scans of so many points saw.
 pub fn places(
     alloc: Global,
     count: u32,
@@ -112,34 +202,4 @@ fn cube(lo: &Point) -> Cuboid {
         z: lo.z + 1_000,
     };
     Cuboid::new(lo, hi).unwrap_or(Cuboid::unit(&Point::default()))
-}
-
-/// How the points of a scan lie.
-#[derive(Clone, Copy, Debug, PartialEq, Eq)]
-pub enum Lie {
-    Drawn,
-    /// In a row along x, from below.
-    Rising,
-    /// All at one place.
-    Equal,
-}
-
-/// So many points that lie so, from a place on.
-pub fn lying(
-    alloc: Global,
-    lie: Lie,
-    from: u32,
-    count: u32,
-    draws: &mut Draws,
-) -> Result<Points, NoMemory> {
-    let mut points = Points::new(alloc);
-    for place in 0..count {
-        let point = match lie {
-            Lie::Drawn => draws.point(0),
-            Lie::Rising => Point::new(from as i64 + place as i64, 0, 0).unwrap_or_default(),
-            Lie::Equal => Point::default(),
-        };
-        points.push(point)?;
-    }
-    Ok(points)
 }

@@ -1,20 +1,21 @@
-//! A map that grows scan by scan.
+//! A tree that grows scan by scan.
 ghost use Rattle.std.specs.Prelude.{◌<◌, ◌≤◌, ℕ, Contains};
 ghost use Rattle.kd_tree.specs.Shape.{numbers};
+ghost use Rattle.map_fold.specs.declared.limits.TheConstants.{MAX_POINTS};
 
 use crate::course::Scan;
+use crate::growing::Growing;
+use crate::stop::Stop;
 use kd_tree::{Scratch, Steps, Tree};
 use kd_update::{marked, put_points};
-use map_fold::{Choice, NoMemory, Points, Tag};
+use map_fold::{Choice, MAX_POINTS, NoMemory, Points, Tag};
 use std::alloc::Global;
+use std::mem;
 use std::sync::ledger::Ledger;
 
 /// A million: the update itself rebuilds whatever lost its balance, since nothing here works beside it. The plain tree
 /// does the same.
 pub const LARGE: u32 = 1_000_000;
-
-// How many numbers there are: a tree has at most so many nodes.
-const NUMBERS: u32 = 4_194_304;
 
 /// A tree whose numbers lie below the next one.
 #[derive(Drop)]
@@ -22,86 +23,89 @@ pub struct Grown {
     pub tree: Tree,
     // What new nodes are made in.
     scratch: Scratch,
+    // Whether the version before each scan is held until the scan is done.
+    holds: bool,
     next: u32,
     ghost below: { (n : ℕ) → Contains (numbers tree) n → n < next },
-    ghost few: { next ≤ 4194304 },
+    ghost few: { next ≤ MAX_POINTS },
 }
 
 impl Grown {
-    pub fn new(alloc: Global) -> Grown {
+    pub fn new(alloc: Global, holds: bool) -> Grown {
         Grown {
             tree: Tree::empty(),
             scratch: Scratch::new(alloc),
+            holds,
             next: 0,
-        }
-    }
-
-    /// The map after a scan: its points are put at once, and then what the robot leaves is deleted.
-    pub fn after<L: Ledger>(
-        self,
-        alloc: Global,
-        scan: &Scan,
-        steps: &mut Steps<L>,
-    ) -> Result<Grown, NoMemory> {
-        let map = self.put_all(alloc, &scan.points, steps)?;
-        match &scan.left {
-            None => Ok(map),
-            Some(within) => map.without(alloc, &Choice::within(within), steps),
-        }
-    }
-
-    /// The same map. A version that is let go gives its nodes' memory to the next scan.
-    pub fn letting_go(self, version: Tree) -> Grown {
-        let Grown {
-            tree,
-            mut scratch,
-            next,
-        } = self;
-        scratch.take_in(version);
-        Grown {
-            tree,
-            scratch,
-            next,
         }
     }
 
     // Where too few numbers are left for all of them, none is put.
     fn put_all<L: Ledger>(
-        self,
+        &mut self,
         alloc: Global,
         points: &Points,
         steps: &mut Steps<L>,
-    ) -> Result<Grown, NoMemory> {
+    ) -> Result<(), NoMemory> {
         let points = points.as_slice();
-        if points.len() > (NUMBERS - self.next) as usize {
-            return Ok(self);
+        let next = self.next;
+        if points.len() > (MAX_POINTS - next) as usize {
+            return Ok(());
         }
-        let Grown {
-            tree,
-            mut scratch,
-            next,
-        } = self;
+        let tree = mem::replace(&mut self.tree, Tree::empty());
         let _size = tree.size();
-        let tree = put_points(alloc, tree, LARGE, next, points, &mut scratch, steps)?;
-        Ok(Grown {
-            tree,
-            scratch,
-            next: next + points.len() as u32,
-        })
+        self.tree = put_points(alloc, tree, LARGE, next, points, &mut self.scratch, steps)?;
+        self.next = next + points.len() as u32;
+        Ok(())
     }
 
-    /// The map without what a choice chooses.
-    pub fn without<L: Ledger>(
-        self,
+    /// Deletes what a choice chooses, as `delete` does.
+    pub fn delete<L: Ledger>(
+        &mut self,
         alloc: Global,
         choice: &Choice,
         steps: &mut Steps<L>,
-    ) -> Result<Grown, NoMemory> {
-        let tree = marked(alloc, self.tree, LARGE, choice, Tag::DELETE, steps)?;
-        Ok(Grown {
-            tree,
-            scratch: self.scratch,
-            next: self.next,
-        })
+    ) -> Result<(), NoMemory> {
+        delete(alloc, &mut self.tree, choice, steps)
+    }
+}
+
+/// Deletes what a choice chooses from a tree. Where memory runs out, nothing is left of it.
+pub fn delete<L: Ledger>(
+    alloc: Global,
+    tree: &mut Tree,
+    choice: &Choice,
+    steps: &mut Steps<L>,
+) -> Result<(), NoMemory>
+    ensures { (n : ℕ) → Contains (numbers tree.new) n → Contains (numbers tree.old) n }
+{
+    let old = mem::replace(tree, Tree::empty());
+    *tree = marked(alloc, old, LARGE, choice, Tag::DELETE, steps)?;
+    Ok(())
+}
+
+impl Growing for Grown {
+    fn tree(&self) -> &Tree {
+        &self.tree
+    }
+
+    fn take_in<L: Ledger>(
+        &mut self,
+        alloc: Global,
+        scan: &Scan,
+        steps: &mut Steps<L>,
+    ) -> Result<(), Stop> {
+        let held = if self.holds {
+            self.tree.copy(alloc, steps)?
+        } else {
+            Tree::empty()
+        };
+        self.put_all(alloc, &scan.points, steps)?;
+        if let Some(left) = &scan.left {
+            self.delete(alloc, &Choice::within(left), steps)?;
+        }
+        // A version that is dropped gives its nodes' memory to the next scan.
+        self.scratch.take_in(held);
+        Ok(())
     }
 }

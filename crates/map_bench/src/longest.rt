@@ -1,18 +1,20 @@
 //! How long one step holds a map up: a map grows by scans, and then of more scans the longest of each step is told.
-use crate::course::{POINTS_OF_SCAN, Scan, scans};
+use crate::course::{Lie, POINTS_OF_SCAN, Scan, scans};
 use crate::draws::Draws;
+use crate::growing::Growing;
 use crate::robot::{LARGE, Robot};
 use crate::stop::Stop;
+use crate::told::Told;
+use crate::words::Size;
 use kd_tree::Steps;
 use std::alloc::Global;
-use std::fmt::{Display, Error, Formatter, Write};
 use std::sync::ledger::Ledger;
 use std::time::{Clock, Instant};
 
-/// Microseconds: of the longest update, detachment, build and swap, and of the longest of all four for one scan, as they are
-/// where nothing works beside the callers.
-#[derive(Clone, Copy, Default)]
-pub struct Longest {
+// Microseconds: of an update, a detachment, a build and a swap, and of all four for one scan, as they are where nothing works
+// beside the callers.
+#[derive(Clone, Copy)]
+struct Longest {
     update: u128,
     detach: u128,
     build: u128,
@@ -20,17 +22,17 @@ pub struct Longest {
     together: u128,
 }
 
-impl Display for Longest {
-    fn fmt<W: Write>(&self, f: &mut Formatter<W>) -> Result<(), Error> {
-        write!(
-            f,
-            "update {} detach {} build {} swap {} together {}",
-            self.update, self.detach, self.build, self.swap, self.together
-        )
-    }
-}
-
 impl Longest {
+    fn none() -> Longest {
+        Longest {
+            update: 0,
+            detach: 0,
+            build: 0,
+            swap: 0,
+            together: 0,
+        }
+    }
+
     fn max(self, other: Longest) -> Longest {
         Longest {
             update: self.update.max(other.update),
@@ -46,14 +48,40 @@ impl Longest {
 pub fn longest_steps<L: Ledger>(
     rt: &impl Clock,
     alloc: Global,
-    count: u32,
-    more: u32,
+    size: Size,
+    steps: &mut Steps<L>,
+) -> Result<Told, Stop> {
+    let count = size.count.saturating_add(size.asked);
+    let scans = scans(alloc, Lie::Kept, count, &mut Draws::new())?;
+    let grown = (size.count / POINTS_OF_SCAN) as usize;
+    let longest = longest_from(rt, alloc, scans.as_slice(), grown, steps)?;
+    told(alloc, longest)
+}
+
+fn told(alloc: Global, longest: Longest) -> Result<Told, Stop> {
+    let Longest {
+        update,
+        detach,
+        build,
+        swap,
+        together,
+    } = longest;
+    let figures = format!(in alloc;
+        "update {update} detach {detach} build {build} swap {swap} together {together}"
+    )?;
+    Ok(Told { figures, sum: None })
+}
+
+// The longest of each step, from so many scans on.
+fn longest_from<L: Ledger>(
+    rt: &impl Clock,
+    alloc: Global,
+    scans: &[Scan],
+    from: usize,
     steps: &mut Steps<L>,
 ) -> Result<Longest, Stop> {
-    let scans = scans(alloc, count.saturating_add(more), &mut Draws::new())?;
-    let grown = (count / POINTS_OF_SCAN) as usize;
-    let (before, looked_at) = scans.split_at(grown.min(scans.len()));
-    let mut robot = Robot::new(alloc, LARGE)?;
+    let mut robot = Robot::new(alloc, LARGE, false)?;
+    let (before, looked_at) = scans.split_at(from.min(scans.len()));
     let _unlooked = longest_of(rt, alloc, &mut robot, before, steps)?;
     longest_of(rt, alloc, &mut robot, looked_at, steps)
 }
@@ -65,7 +93,7 @@ fn longest_of<L: Ledger>(
     scans: &[Scan],
     steps: &mut Steps<L>,
 ) -> Result<Longest, Stop> {
-    let mut longest = Longest::default();
+    let mut longest = Longest::none();
     for scan in scans {
         longest = longest.max(step_times(rt, alloc, robot, scan, steps)?);
     }
@@ -81,7 +109,7 @@ fn step_times<L: Ledger>(
     steps: &mut Steps<L>,
 ) -> Result<Longest, Stop> {
     let begun = Instant::now(rt)?;
-    robot.add(alloc, &scan.points, steps)?;
+    robot.take_in(alloc, scan, steps)?;
     let update = begun.elapsed(rt)?.as_micros();
     let Some(job) = robot.detach(alloc)? else {
         let together = begun.elapsed(rt)?.as_micros();
@@ -89,7 +117,7 @@ fn step_times<L: Ledger>(
             update,
             detach: together.saturating_sub(update),
             together,
-            ..Longest::default()
+            ..Longest::none()
         });
     };
     let detached = begun.elapsed(rt)?.as_micros();

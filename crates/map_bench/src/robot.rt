@@ -1,9 +1,10 @@
 //! A robot's map: the state of a map that one thread keeps. Large subtrees that became uneven can be detached, rebuilt and
 //! swapped in by calls of their own.
-use crate::course::Scan;
+use crate::course::{Scan, deletion};
+use crate::growing::Growing;
 use crate::stop::Stop;
 use kd_tree::{Steps, Tree};
-use map_fold::{Cuboids, Points, Settings, Update};
+use map_fold::{Settings, Update};
 use rebuild_core::{Built, Job, MapState};
 use std::alloc::Global;
 use std::sync::ledger::Ledger;
@@ -14,59 +15,23 @@ pub const LARGE: u32 = 1_500;
 // Half a metre.
 const VOXEL: u32 = 500;
 
+/// The settings of a map that leaves subtrees from so many nodes on alone.
+pub fn settings(large: u32) -> Settings {
+    Settings::new(VOXEL, large.clamp(16, 1_000_000))
+}
+
 /// A state whose updates are all of one caller.
 #[derive(Drop)]
 pub struct Robot {
     state: MapState,
+    // Whether of a scan's points those are kept that are nearest to the centres of their voxels. Else all are.
+    thins: bool,
 }
 
 impl Robot {
-    pub fn new(alloc: Global, large: u32) -> Result<Robot, Stop> {
-        let settings = Settings::new(VOXEL, large.clamp(16, 1_000_000));
-        let state = MapState::new(alloc, settings)?;
-        Ok(Robot { state })
-    }
-
-    /// What queries see.
-    pub fn tree(&self) -> &Tree {
-        self.state.version().tree()
-    }
-
-    /// Adds a scan's points.
-    pub fn add<L: Ledger>(
-        &mut self,
-        alloc: Global,
-        points: &Points,
-        steps: &mut Steps<L>,
-    ) -> Result<(), Stop> {
-        let points = points.copy(alloc)?;
-        self.update(alloc, Update::Add(points), steps)
-    }
-
-    /// Adds a scan's points, of which those are kept that are nearest to the centres of their voxels.
-    pub fn thin<L: Ledger>(
-        &mut self,
-        alloc: Global,
-        points: &Points,
-        steps: &mut Steps<L>,
-    ) -> Result<(), Stop> {
-        let points = points.copy(alloc)?;
-        self.update(alloc, Update::Thin(points), steps)
-    }
-
-    /// Deletes what the robot leaves behind, if there is something.
-    pub fn leave<L: Ledger>(
-        &mut self,
-        alloc: Global,
-        scan: &Scan,
-        steps: &mut Steps<L>,
-    ) -> Result<(), Stop> {
-        let Some(left) = &scan.left else {
-            return Ok(());
-        };
-        let mut cuboids = Cuboids::new(alloc);
-        cuboids.push(*left)?;
-        self.update(alloc, Update::Delete(cuboids), steps)
+    pub fn new(alloc: Global, large: u32, thins: bool) -> Result<Robot, Stop> {
+        let state = MapState::new(alloc, settings(large))?;
+        Ok(Robot { state, thins })
     }
 
     fn update<L: Ledger>(
@@ -86,13 +51,18 @@ impl Robot {
 
     /// How many operations the detached subtree has met since, if there is one.
     pub fn logged(&self) -> u32 {
-        self.state.part(1).map_or(0, |part| part.logged)
+        match self.state.part(1) {
+            None => 0,
+            Some(part) => part.logged,
+        }
     }
 
     /// Rebuilds a detached subtree.
     pub fn build(&self, alloc: Global, job: Job) -> Result<Built, Stop> {
-        job.build(alloc, self.state.settings().large())
-            .map_err(|_left| Stop::NoMemory)
+        match job.build(alloc, self.state.settings().large()) {
+            Ok(built) => Ok(built),
+            Err(_left) => Err(Stop::NoMemory),
+        }
     }
 
     /// Puts it back.
@@ -105,6 +75,31 @@ impl Robot {
         match self.state.swap(alloc, built, true, steps) {
             Ok(()) => Ok(()),
             Err(_left) => Err(Stop::NoMemory),
+        }
+    }
+}
+
+impl Growing for Robot {
+    fn tree(&self) -> &Tree {
+        self.state.version().tree()
+    }
+
+    fn take_in<L: Ledger>(
+        &mut self,
+        alloc: Global,
+        scan: &Scan,
+        steps: &mut Steps<L>,
+    ) -> Result<(), Stop> {
+        let points = scan.points.copy(alloc)?;
+        let update = if self.thins {
+            Update::Thin(points)
+        } else {
+            Update::Add(points)
+        };
+        self.update(alloc, update, steps)?;
+        match &scan.left {
+            None => Ok(()),
+            Some(left) => self.update(alloc, deletion(alloc, left)?, steps),
         }
     }
 }

@@ -4,7 +4,7 @@ use rebuild_core::StateFault;
 use std::alloc::AllocError;
 use std::io;
 
-#[derive(Clone, Copy, Debug, PartialEq, Eq)]
+#[derive(Clone, Copy)]
 pub enum Stop {
     /// The words ask for nothing.
     Words,

@@ -1,7 +1,7 @@
 //! Checksums of what was found and of what is held.
 use kd_search::nearest;
 use kd_tree::Tree;
-use map_fold::{HitLists, Hits, NoMemory, Points};
+use map_fold::{Groups, HitLists, Hits, Items, NoMemory, Points};
 use point_geom::{Point, dist2};
 use std::alloc::Global;
 
@@ -34,6 +34,24 @@ fn with_hits(sum: u64, hits: &Hits) -> u64 {
     let mut sum = sum;
     for hit in hits.as_slice() {
         sum = with(sum, hit.number, hit.dist2);
+    }
+    sum
+}
+
+/// The checksum after these clusters.
+pub fn with_groups(sum: u64, groups: &Groups) -> u64 {
+    let mut sum = sum;
+    for group in groups.as_slice() {
+        sum = with(sum, group.least, u128::from(group.size));
+    }
+    sum
+}
+
+/// The checksum after the numbers of these items.
+pub fn with_numbers(sum: u64, items: &Items) -> u64 {
+    let mut sum = sum;
+    for item in items.as_slice() {
+        sum = with(sum, item.number, 0);
     }
     sum
 }

@@ -1,12 +1,16 @@
 //! How long an update of one point takes while a detached subtree waits that has met so many operations.
-use crate::course::{POINTS_OF_SCAN, scans, seen};
+use crate::course::{Lie, POINTS_OF_SCAN, Scan, points, scans};
 use crate::draws::Draws;
+use crate::growing::{Growing, Look, grow};
 use crate::robot::{LARGE, Robot};
 use crate::stop::Stop;
+use crate::told::Told;
+use crate::words::Size;
 use kd_tree::Steps;
+use map_fold::NoMemory;
 use std::alloc::Global;
-use std::fmt::{Display, Error, Formatter, Write};
 use std::sync::ledger::Ledger;
+use std::thread::Threads;
 use std::time::{Clock, Instant};
 
 // So many updates are looked at.
@@ -17,59 +21,48 @@ const POINTS_AT_ONCE: u32 = 500;
 
 const TRIES: u32 = 200;
 
-/// What a thousand updates of one point took.
-#[derive(Clone, Copy)]
-pub struct Waiting {
-    /// Microseconds of all.
-    all: u128,
-    /// And of the longest.
-    longest: u128,
-    /// How many operations the detached subtree had met in the end.
-    logged: u32,
-}
-
-impl Display for Waiting {
-    fn fmt<W: Write>(&self, f: &mut Formatter<W>) -> Result<(), Error> {
-        let Waiting {
-            all,
-            longest,
-            logged,
-        } = self;
-        write!(
-            f,
-            "all {all} us, longest {longest} us, {logged} operations logged"
-        )
-    }
-}
-
 /// A map grows by scans to so many points, and a subtree is detached. Once it has met so many operations, a thousand updates of
 /// one point follow.
-pub fn update_waiting<L: Ledger>(
-    rt: &impl Clock,
+pub fn update_waiting<L: Ledger, R: Clock + Threads + Sync>(
+    rt: &R,
     alloc: Global,
-    count: u32,
-    logged: u32,
+    size: Size,
     steps: &mut Steps<L>,
-) -> Result<Waiting, Stop> {
+) -> Result<Told, Stop> {
     let mut draws = Draws::new();
-    let mut robot = grown(alloc, count, &mut draws, steps)?;
-    let _job = robot.detach(alloc)?;
-    let scan = count / POINTS_OF_SCAN;
-    log(alloc, &mut robot, logged, scan, &mut draws, steps)?;
-    add_singly(rt, alloc, &mut robot, scan, &mut draws, steps)
+    let mut robot = detached(rt, alloc, size.count, &mut draws, steps)?;
+    let scan = size.count / POINTS_OF_SCAN;
+    log(alloc, &mut robot, size.asked, scan, &mut draws, steps)?;
+    let (all, longest) = add_singly(rt, alloc, &mut robot, scan, &mut draws, steps)?;
+    told(alloc, all, longest, robot.logged())
 }
 
-fn grown<L: Ledger>(
+// The microseconds of all updates and of the longest, and how many operations the subtree had met in the end.
+fn told(alloc: Global, all: u128, longest: u128, logged: u32) -> Result<Told, Stop> {
+    let figures = format!(in alloc;
+        "all {all} us, longest {longest} us, {logged} operations logged"
+    )?;
+    Ok(Told { figures, sum: None })
+}
+
+fn detached<L: Ledger, R: Threads + Sync>(
+    rt: &R,
     alloc: Global,
     count: u32,
     draws: &mut Draws,
     steps: &mut Steps<L>,
 ) -> Result<Robot, Stop> {
-    let scans = scans(alloc, count, draws)?;
-    let mut robot = Robot::new(alloc, LARGE)?;
-    for scan in scans.as_slice() {
-        robot.add(alloc, &scan.points, steps)?;
-    }
+    let scans = scans(alloc, Lie::Kept, count, draws)?;
+    let mut robot = Robot::new(alloc, LARGE, false)?;
+    grow(
+        rt,
+        alloc,
+        &mut robot,
+        Look::Nothing,
+        scans.as_slice(),
+        steps,
+    )?;
+    let _job = robot.detach(alloc)?;
     Ok(robot)
 }
 
@@ -86,12 +79,20 @@ fn log<L: Ledger>(
         if robot.logged() >= logged {
             break;
         }
-        let points = seen(alloc, POINTS_AT_ONCE, scan, draws)?;
-        robot.add(alloc, &points, steps)?;
+        let scan = some(alloc, POINTS_AT_ONCE, scan, draws)?;
+        robot.take_in(alloc, &scan, steps)?;
     }
     Ok(())
 }
 
+fn some(alloc: Global, count: u32, scan: u32, draws: &mut Draws) -> Result<Scan, NoMemory> {
+    Ok(Scan {
+        points: points(alloc, Lie::Kept, scan, 0..count, draws)?,
+        left: None,
+    })
+}
+
+// The microseconds of all updates, and of the longest.
 fn add_singly<L: Ledger>(
     rt: &impl Clock,
     alloc: Global,
@@ -99,20 +100,26 @@ fn add_singly<L: Ledger>(
     scan: u32,
     draws: &mut Draws,
     steps: &mut Steps<L>,
-) -> Result<Waiting, Stop> {
+) -> Result<(u128, u128), Stop> {
     let mut all: u128 = 0;
     let mut longest = 0;
     for _ in 0..UPDATES {
-        let point = seen(alloc, 1, scan, draws)?;
-        let begun = Instant::now(rt)?;
-        robot.add(alloc, &point, steps)?;
-        let micros = begun.elapsed(rt)?.as_micros();
+        let scan = some(alloc, 1, scan, draws)?;
+        let micros = add(rt, alloc, robot, &scan, steps)?;
         all = all.saturating_add(micros);
         longest = micros.max(longest);
     }
-    Ok(Waiting {
-        all,
-        longest,
-        logged: robot.logged(),
-    })
+    Ok((all, longest))
+}
+
+fn add<L: Ledger>(
+    rt: &impl Clock,
+    alloc: Global,
+    robot: &mut Robot,
+    scan: &Scan,
+    steps: &mut Steps<L>,
+) -> Result<u128, Stop> {
+    let begun = Instant::now(rt)?;
+    robot.take_in(alloc, scan, steps)?;
+    Ok(begun.elapsed(rt)?.as_micros())
 }

@@ -1,4 +1,0 @@
-use Rattle.map_bench.proofs.tell_longest.Given as goal
-
-abbrev pub ghosts-looked_at : goal.ghosts-looked_at
-ghosts-looked_at g a = record { name = a.blank.name; parts = a.blank.parts }

@@ -1,0 +1,104 @@
+//! A map that threads share: a writer that adds scans, readers that ask without a pause, and workers that rebuild uneven
+//! subtrees, each on a thread of its own.
+ghost use Rattle.std.specs.Prelude.{◌≡◌};
+
+pub mod company;
+pub mod plan;
+pub mod reading;
+pub mod roles;
+pub mod telling;
+pub mod timed_desk;
+pub mod times;
+pub mod writing;
+
+use self::company::{Company, Sharing};
+use self::plan::Plan;
+use self::roles::{Bells, Stage, play, roles};
+use self::telling::told;
+use self::times::Times;
+use crate::robot::settings;
+use crate::stop::Stop;
+use crate::told::Told;
+use crate::words::Size;
+use published_map::{MapName, Opened, Pass, Shared};
+use rebuild_worker::pair;
+use std::alloc::Global;
+use std::marker::Brand;
+use std::sync::Wait;
+use std::sync::ledger::Blank;
+use std::thread::{Threads, map_vec};
+use std::time::Clock;
+
+/// A map grows by scans to so many points. Then more scans are added to it beside the others of a company.
+pub fn side_by_side<R: Threads + Wait + Clock + Sync>(
+    rt: &R,
+    alloc: Global,
+    sharing: Sharing,
+    size: Size,
+) -> Result<Told, Stop> {
+    let company = Company::of(sharing, size.asked)?;
+    let plan = Plan::drawn(alloc, company, size.count)?;
+    let times = times_of(rt, alloc, company, &plan)?;
+    told(alloc, sharing, company.scans, &times)
+}
+
+fn times_of<R: Threads + Wait + Clock + Sync>(
+    rt: &R,
+    alloc: Global,
+    company: Company,
+    plan: &Plan,
+) -> Result<Times, Stop> {
+    let callers = company.readers + 1;
+    let opened = Opened::new(alloc, settings(company.large), callers)?;
+    let blank = Blank::new(u64::from(callers));
+    on_map::<Brand, R>(rt, alloc, blank, opened, plan)
+}
+
+fn on_map<L: MapName + Send + Sync, R: Threads + Wait + Clock + Sync>(
+    rt: &R,
+    alloc: Global,
+    blank: Blank,
+    opened: Opened,
+    plan: &Plan,
+) -> Result<Times, Stop>
+    requires name { blank.name ≡ L.name }
+    requires parts { blank.parts ≡ L.parts }
+    requires one_each { blank.parts ≡ opened.callers }
+    requires callers { opened.callers ≡ L.callers }
+    requires marks { opened.marks ≡ L.marks }
+    requires voxel { opened.voxel ≡ L.voxel }
+{
+    let (shared, passes) = Shared::<L>::start(rt, alloc, blank, opened)?;
+    let done = run(rt, alloc, &shared, plan, passes);
+    shared.close(rt);
+    done
+}
+
+// Where no thread can be made, the writer is first, the others find that all is over, and a worker ends at once.
+fn run<L: MapName + Send + Sync, R: Threads + Wait + Clock + Sync>(
+    rt: &R,
+    alloc: Global,
+    shared: &Shared<L>,
+    plan: &Plan,
+    passes: Vec<Pass<L>>,
+) -> Result<Times, Stop> {
+    let (first, one) = pair(alloc)?;
+    let (second, two) = pair(alloc)?;
+    let bells = Bells { first, second };
+    let roles = roles(alloc, plan, one, two, passes)?;
+    let stage = Stage {
+        alloc,
+        shared,
+        plan,
+        bells: &bells,
+    };
+    all_times(alloc, map_vec(rt, roles, &|role| play(rt, &stage, role))?)
+}
+
+fn all_times(alloc: Global, done: Vec<Result<Times, Stop>>) -> Result<Times, Stop> {
+    let mut all = Times::new(alloc);
+    for times in done {
+        all.add(&times?)?;
+    }
+    Ok(all)
+}

@@ -1,0 +1,107 @@
+//! What each thread does.
+ghost use Rattle.std.specs.Prelude.{◌≤◌};
+
+use super::plan::Plan;
+use super::reading::read;
+use super::timed_desk::TimedDesk;
+use super::times::Times;
+use super::writing::write;
+use crate::robot::LARGE;
+use crate::stop::Stop;
+use map_fold::NoMemory;
+use published_map::{MapName, Pass, Shared};
+use rebuild_worker::{Bell, FreeGate, Rest, work};
+use std::alloc::Global;
+use std::sync::Wait;
+use std::time::Clock;
+
+/// The workers' bells. Nobody hears those for which there is no worker.
+#[derive(Drop)]
+pub struct Bells {
+    pub first: Bell,
+    pub second: Bell,
+}
+
+impl Bells {
+    /// Wakes the workers.
+    pub fn ring(&self) {
+        self.first.ring();
+        self.second.ring();
+    }
+
+    /// Tells the workers to end.
+    pub fn stop(&self) {
+        self.first.stop();
+        self.second.stop();
+    }
+}
+
+/// What all threads have.
+#[derive(Drop)]
+pub struct Stage<'a, L: MapName> {
+    pub alloc: Global,
+    pub shared: &'a Shared<L>,
+    pub plan: &'a Plan,
+    pub bells: &'a Bells,
+}
+
+/// What one thread does, and with what.
+#[derive(Drop)]
+pub enum Role<P: Drop> {
+    /// The first worker's, and where it sleeps.
+    First(Rest),
+    /// The second worker's.
+    Second(Rest),
+    /// The writer's or a reader's, and its pass.
+    Caller(P),
+}
+
+/// The roles of a plan. The last one is the writer's, which is the one that the calling thread takes. One worker alone is the second.
+pub fn roles<L: MapName>(
+    alloc: Global,
+    plan: &Plan,
+    one: Rest,
+    two: Rest,
+    passes: Vec<Pass<L>>,
+) -> Result<Vec<Role<Pass<L>>>, NoMemory> {
+    let mut roles = Vec::new(alloc);
+    if plan.company.workers > 1 {
+        roles.push(Role::First(one))?;
+    }
+    if plan.company.workers > 0 {
+        roles.push(Role::Second(two))?;
+    }
+    for pass in passes {
+        roles.push(Role::Caller(pass))?;
+    }
+    Ok(roles)
+}
+
+/// Plays a role to its end. How long its steps took.
+pub fn play<L: MapName, R: Wait + Clock>(
+    rt: &R,
+    stage: &Stage<'_, L>,
+    role: Role<Pass<L>>,
+) -> Result<Times, Stop> {
+    match role {
+        Role::First(rest) => Ok(help(rt, stage, 1, rest)),
+        Role::Second(rest) => Ok(help(rt, stage, 2, rest)),
+        Role::Caller(pass) => {
+            if pass.caller() <= stage.plan.company.readers {
+                read(rt, stage, pass)
+            } else {
+                write(rt, stage, pass)
+            }
+        }
+    }
+}
+
+fn help<L: MapName, R: Wait + Clock>(rt: &R, stage: &Stage<'_, L>, worker: u8, rest: Rest) -> Times
+    requires worker_from { 1 ≤ worker }
+    requires worker_to { worker ≤ 2 }
+{
+    let mut rest = rest;
+    let desk = TimedDesk::new(stage.alloc, stage.shared, rt, stage.plan);
+    work(rt, stage.alloc, LARGE, worker, &desk, &FreeGate, &mut rest);
+    desk.finish()
+}

@@ -1,0 +1,128 @@
+//! How long steps took.
+use map_fold::NoMemory;
+use std::alloc::Global;
+use std::fmt::{Display, Error, Formatter, Write};
+use std::time::Duration;
+
+/// What took so long.
+#[derive(Clone, Copy, PartialEq, Eq)]
+pub enum Kind {
+    /// An update that adds a scan.
+    Scan,
+    /// One that deletes what is left.
+    Deletion,
+    Query,
+    /// What a worker asks of the map: to detach a subtree, to swap it in, to tell what it has met.
+    Detach,
+    Swap,
+    Log,
+    /// All that the writer does beside the readers, with its pauses.
+    Whole,
+}
+
+#[derive(Clone, Copy)]
+struct Step {
+    kind: Kind,
+    nanos: u64,
+}
+
+/// How long each step took. A step takes 16 bytes.
+#[derive(Drop)]
+pub struct Times {
+    steps: Vec<Step>,
+    /// The checksum of answers at the end.
+    pub sum: u64,
+}
+
+impl Times {
+    pub fn new(alloc: Global) -> Times {
+        Times {
+            steps: Vec::new(alloc),
+            sum: 0,
+        }
+    }
+
+    /// One more step took so long.
+    pub fn push(&mut self, kind: Kind, took: Duration) -> Result<(), NoMemory> {
+        let nanos = u64::try_from(took.as_nanos()).unwrap_or(u64::MAX);
+        self.steps.push(Step { kind, nanos })?;
+        Ok(())
+    }
+
+    /// Forgets all steps.
+    pub fn clear(&mut self) {
+        self.steps.clear();
+    }
+
+    /// The steps of both, and the sum of the one that has one.
+    pub fn add(&mut self, other: &Times) -> Result<(), NoMemory> {
+        self.steps.extend_from_slice(other.steps.as_slice())?;
+        self.sum = self.sum.wrapping_add(other.sum);
+        Ok(())
+    }
+
+    fn of(&self, alloc: Global, kind: Kind) -> Result<Vec<u64>, NoMemory> {
+        let mut nanos = Vec::new(alloc);
+        for step in self.steps.as_slice() {
+            if step.kind == kind {
+                nanos.push(step.nanos)?;
+            }
+        }
+        Ok(nanos)
+    }
+
+    pub fn figures(&self, alloc: Global, kind: Kind) -> Result<Figures, NoMemory> {
+        let mut nanos = self.of(alloc, kind)?;
+        nanos.sort_unstable();
+        Ok(Figures::of(nanos.as_slice()))
+    }
+}
+
+// So many of a thousand don't lie above it.
+fn not_above(sorted: &[u64], thousandths: usize) -> u64 {
+    let place = sorted.len().saturating_mul(thousandths) / 1_000;
+    sorted.get(place).copied().unwrap_or(0)
+}
+
+/// How many steps there were, and nanoseconds of them all, of the median, the 99th percentile, the 99.9th, and the longest.
+#[derive(Clone, Copy)]
+pub struct Figures {
+    pub steps: usize,
+    pub all: u64,
+    median: u64,
+    p99: u64,
+    p999: u64,
+    pub longest: u64,
+}
+
+impl Figures {
+    fn of(sorted: &[u64]) -> Figures {
+        Figures {
+            steps: sorted.len(),
+            all: total(sorted),
+            median: not_above(sorted, 500),
+            p99: not_above(sorted, 990),
+            p999: not_above(sorted, 999),
+            longest: sorted.last().copied().unwrap_or(0),
+        }
+    }
+}
+
+fn total(nanos: &[u64]) -> u64 {
+    let mut all: u64 = 0;
+    for nanos in nanos {
+        all = all.saturating_add(*nanos);
+    }
+    all
+}
+
+/// In microseconds.
+impl Display for Figures {
+    fn fmt<W: Write>(&self, f: &mut Formatter<W>) -> Result<(), Error> {
+        write!(f, "{}", self.steps)?;
+        for nanos in [self.median, self.p99, self.p999, self.longest] {
+            write!(f, " {}.{}", nanos / 1_000, nanos % 1_000 / 100)?;
+        }
+        Ok(())
+    }
+}
