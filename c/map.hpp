@@ -31,7 +31,7 @@ using Hit = corv_hit;
 using Item = corv_item;
 using Totals = corv_totals;
 
-/// A call was refused, and everything is as it was. Where memory was wanting it is std::bad_alloc instead.
+/// A call was refused, and everything is as it was. Where memory ran out it is std::bad_alloc instead.
 class Refused : public std::runtime_error {
 public:
     explicit Refused(std::int32_t status) : std::runtime_error(text(status)), status_(status) {}

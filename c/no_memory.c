@@ -98,7 +98,7 @@ static bool live(long refused, corv_totals *end) {
         corv_totals before = totals_of(l);
         int32_t status = steps[i].call(l);
         if (status == CORV_NO_MEMORY) {
-            if (met || left != -1) fault(refused, steps[i].name, "memory is wanting, and none was refused", status);
+            if (met || left != -1) fault(refused, steps[i].name, "memory runs out, and none was refused", status);
             met = true;
             if (!is_same(before, totals_of(l))) fault(refused, steps[i].name, "the map has changed", status);
             status = steps[i].call(l);
