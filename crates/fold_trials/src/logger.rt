@@ -54,7 +54,8 @@ fn what_comes_after_and_what_comes_first(rt: HostRuntime) -> Result<(), Fail> {
     log.cut(1);
     has_after(&rt, alloc, &log, 0, part(ops, 0, 1)?)?;
     begins(&rt, &log, part(ops, 0, 2)?, false);
-    Ok(())
+    log.cut(0);
+    has_after(&rt, alloc, &log, 0, part(ops, 0, 0)?)
 }
 
 // Those from one place on and before another.

@@ -40,7 +40,7 @@ fn each_list_is_what_a_single_search_finds(rt: HostRuntime) -> Result<(), Fail> 
     let tree = restored(alloc, &cloud(alloc, 2_000, 1)?)?;
     // How many queries, how many hits for each, and how far these may be.
     for (count, k, within) in [
-        (4_096, 5, None),
+        (4_097, 5, None),
         (300, 17, Some(300)),
         (1, 256, None),
         (0, 1, None),
