@@ -2,10 +2,10 @@
 ghost use Rattle.std.specs.Prelude.{◌≡◌, ◌≤◌, ◌<◌, ◌+◌, length, IfOk};
 ghost use Rattle.std.specs.Option.{ForSome};
 ghost use Rattle.std.specs.Thread.{IsSync};
+ghost use Rattle.kd_search.specs.Query.{IsQuery};
 ghost use Rattle.batch_near.specs.Slabs.{slab_of, AreFilled};
-ghost use Rattle.map_fold.specs.Answers.{nearest};
+ghost use Rattle.map_fold.specs.Answers.{nearest, nearest_each};
 ghost use Rattle.kd_tree.specs.Contents.{contents};
-ghost use Rattle.map_fold.specs.Answers.{nearest_each};
 
 use kd_search::nearest;
 use kd_tree::Tree;
@@ -40,9 +40,7 @@ pub fn nearest_each<R: Threads + Sync>(
     queries: &Points,
     within: Option<u64>,
 ) -> Result<HitLists, NoMemory>
-    requires k_from { 1 ≤ k }
-    requires k_to { k ≤ 256 }
-    requires within_to { ForSome within (λ r. r ≤ 4398046511104) }
+    requires query { IsQuery k within }
     ensures found { IfOk result (λ lists. lists ≡ nearest_each (contents tree.now) k queries.now within) }
 {
     let queries = queries.as_slice();
@@ -63,9 +61,8 @@ fn in_place<R: Threads + Sync>(
     queries: &[Point],
     within: Option<u64>,
 ) -> Result<Vec<Hits>, NoMemory>
-    requires k_from { 1 ≤ k }
+    requires query { IsQuery k within }
     requires k_to { k ≤ 16 }
-    requires within_to { ForSome within (λ r. r ≤ 4398046511104) }
     ensures { IfOk result (λ lists. lists.items ≡ nearest_each (contents tree.now) k queries.now within) }
 {
     let mut lists = empty_lists(alloc, queries.len())?;
@@ -95,9 +92,8 @@ fn fill<R: Threads + Sync>(
     queries: &[Point],
     lists: &mut [Hits],
 )
-    requires k_from { 1 ≤ k }
+    requires query { IsQuery k within }
     requires k_to { k ≤ 16 }
-    requires within_to { ForSome within (λ r. r ≤ 4398046511104) }
     requires len { length lists.old ≡ length queries.now }
     ensures { lists.new ≡ nearest_each (contents tree.now) k queries.now within }
 {
@@ -130,9 +126,8 @@ fn fill_piece(
     queries: &[Point],
     lists: &mut [Hits],
 )
-    requires k_from { 1 ≤ k }
+    requires query { IsQuery k within }
     requires k_to { k ≤ 16 }
-    requires within_to { ForSome within (λ r. r ≤ 4398046511104) }
     requires len { length lists.old ≡ length queries.now }
     ensures { lists.new ≡ nearest_each (contents tree.now) k queries.now within }
 {
@@ -150,9 +145,8 @@ fn fill_slab(
     queries: &[Point],
     lists: &mut [Hits],
 )
-    requires k_from { 1 ≤ k }
+    requires query { IsQuery k within }
     requires k_to { k ≤ 16 }
-    requires within_to { ForSome within (λ r. r ≤ 4398046511104) }
     requires len { length lists.old ≡ length queries.now }
     requires filled { AreFilled (λ q. nearest (contents tree.now) k q within) slab queries.now lists.old }
     ensures { AreFilled (λ q. nearest (contents tree.now) k q within) (slab + 1) queries.now lists.new }
@@ -190,9 +184,7 @@ fn in_pieces<R: Threads + Sync>(
     queries: &[Point],
     within: Option<u64>,
 ) -> Result<Vec<Hits>, NoMemory>
-    requires k_from { 1 ≤ k }
-    requires k_to { k ≤ 256 }
-    requires within_to { ForSome within (λ r. r ≤ 4398046511104) }
+    requires query { IsQuery k within }
     ensures { IfOk result (λ lists. lists.items ≡ nearest_each (contents tree.now) k queries.now within) }
 {
     let lists: Result<Vec<Hits>, NoMemory> = queries

@@ -3,24 +3,4 @@
 #![tactic(auto)]
 
 #[cfg(test)]
-mod assertions;
-#[cfg(test)]
-mod boxes;
-#[cfg(test)]
-mod hits;
-#[cfg(test)]
-mod labels;
-#[cfg(test)]
-mod lists;
-#[cfg(test)]
-mod logger;
-#[cfg(test)]
-mod maps;
-#[cfg(test)]
-mod places;
-#[cfg(test)]
-mod points;
-#[cfg(test)]
-mod regions;
-#[cfg(test)]
-mod thinning;
+mod tests;

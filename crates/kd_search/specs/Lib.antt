@@ -4,3 +4,4 @@ pub mod Sides
 pub mod Inserted
 pub mod Nearest
 pub mod Best
+pub mod Query

@@ -1,10 +1,11 @@
 //! The live points of a box by number.
-ghost use Rattle.std.specs.Prelude.{◌≡◌, ◌≤◌, [], ◌∷◌, length, take, IfOk, OnOk};
+ghost use Rattle.std.specs.Prelude.{◌≡◌, ◌≤◌, [], ◌∷◌, length, take, IfOk, None, OnOk};
 ghost use Rattle.std.specs.List.{insert};
 ghost use Rattle.map_fold.specs.Answers.{inside, inside_all};
 ghost use Rattle.kd_tree.specs.Contents.{contents, insert_item};
 ghost use Rattle.kd_search.specs.Inserted.{insert_all};
 ghost use Rattle.kd_search.specs.Part.{items_of};
+ghost use Rattle.kd_search.specs.Query.{IsQuery};
 
 use crate::part::Part;
 use kd_tree::Tree;
@@ -15,8 +16,7 @@ use std::alloc::Global;
 /// The live items in the cuboid, in the order of their numbers; the first `most` where there are more. A subtree that the
 /// cuboid doesn't meet, or that has no live item, is left out, and each item that is met costs at most `most` steps.
 pub fn in_cuboid(alloc: Global, tree: &Tree, c: &Cuboid, most: u32) -> Result<Items, NoMemory>
-    requires most_from { 1 ≤ most }
-    requires most_to { most ≤ 256 }
+    requires query { IsQuery most None }
     ensures found { IfOk result (λ items. items ≡ inside (contents tree.now) c.now most) }
 {
     let mut items = Vec::new(alloc);

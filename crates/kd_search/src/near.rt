@@ -1,11 +1,11 @@
 //! The nearest live points.
 ghost use Rattle.std.specs.Prelude.{◌≡◌, ◌≤◌, [], ◌∷◌, take, IfOk, IsOk, OnOk};
-ghost use Rattle.std.specs.Option.{ForSome};
 ghost use Rattle.map_fold.specs.Answers.{candidates, nearest, put_hit};
 ghost use Rattle.map_fold.specs.Nearest.{AreNearest};
 ghost use Rattle.kd_tree.specs.Contents.{contents};
 ghost use Rattle.kd_tree.specs.Walk.{walk};
 ghost use Rattle.kd_search.specs.Nearest.{IsBound, put_all};
+ghost use Rattle.kd_search.specs.Query.{IsQuery};
 
 use crate::part::live;
 use crate::sides::Sides;
@@ -25,9 +25,7 @@ pub fn nearest(
     q: &Point,
     within: Option<u64>,
 ) -> Result<Hits, NoMemory>
-    requires k_from { 1 ≤ k }
-    requires k_to { k ≤ 256 }
-    requires within_to { ForSome within (λ r. r ≤ 4398046511104) }
+    requires query { IsQuery k within }
     ensures found { IfOk result (λ hits. hits ≡ nearest (contents tree.now) k q.now within) }
 
     // What that list is, said without the way it is made.

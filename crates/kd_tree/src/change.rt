@@ -1,16 +1,15 @@
 //! Changes at the top of a tree. An action on all of a tree is done to its top alone, which owes it to its sons.
-ghost use Rattle.std.specs.Prelude.{◌≡◌, ℕ, ◌+◌, ◌<◌, ◌≤◌, ◌≤ℤ◌, ◌∷◌, ◌++◌, max, IfOk, IfSome, IsNone, ◌↔◌};
-ghost use Rattle.point_geom.specs.Axes.{on};
+ghost use Rattle.std.specs.Prelude.{◌≡◌, ◌+◌, ◌≤◌, ◌∷◌, ◌++◌, IfOk, IfSome, IsNone, ◌↔◌};
 ghost use Rattle.node_labels.specs.Labels.{keep_tag};
 ghost use Rattle.map_fold.specs.Contents.{everything, mark};
-ghost use Rattle.kd_tree.specs.Shape.{leaf, levels, nodes, numbers};
-ghost use Rattle.kd_tree.specs.Walk.{AllKept, tagged, times};
+ghost use Rattle.kd_tree.specs.Shape.{leaf, numbers};
+ghost use Rattle.kd_tree.specs.Walk.{tagged};
 ghost use Rattle.kd_tree.specs.Sound.{IsSound, IsTopSound};
 ghost use Rattle.kd_tree.specs.Contents.{contents};
 ghost use Rattle.kd_tree.specs.Parts.{contents_of_parts, joined, pushed, with_son};
 
 use crate::open_node::{Block, OpenNode, Opened};
-use crate::{MAX_LEVELS, MAX_NODES, Side, Steps, Tree};
+use crate::{Side, Steps, Tree};
 use map_fold::{Item, NoMemory, Tag};
 use point_geom::Axis;
 use std::alloc::Global;
@@ -149,11 +148,7 @@ impl Tree {
         fork: Fork,
         steps: &mut Steps<L>,
     ) -> Result<Tree, NoMemory>
-        requires below { AllKept (λ p. on fork.axis p ≤ℤ on fork.axis fork.item.point) keep_tag fork.left }
-        requires above { AllKept (λ p. on fork.axis fork.item.point ≤ℤ on fork.axis p) keep_tag fork.right }
-        requires once { (n : ℕ) → times n keep_tag (joined fork) ≤ 1 }
-        requires low { max (levels fork.left) (levels fork.right) < MAX_LEVELS }
-        requires few { nodes fork.left + nodes fork.right < MAX_NODES }
+        requires sound { IsTopSound (joined fork) }
         ensures shape { IfOk result (λ t. t ≡ joined fork) }
         ensures contents { IfOk result (λ t. contents t ≡ contents_of_parts fork) }
         ensures numbers { IfOk result (λ t. numbers t ≡ fork.item.number ∷ (numbers fork.left ++ numbers fork.right)) }

@@ -1,18 +1,15 @@
 //! Nodes taken apart and put together. Only this file and `twin` know that a node is shared: the block of one that nobody else
 //! holds is kept meanwhile, and takes the node that is made of the parts. A shared node is never written.
-ghost use Rattle.std.specs.Prelude.{◌≡◌, ℕ, ◌+◌, ◌<◌, ◌≤◌, ◌≤ℤ◌, ◌∷◌, ◌++◌, max, Some, IfOk, IfErr, IfSome, IsNone, ◌↔◌};
+ghost use Rattle.std.specs.Prelude.{◌≡◌, ◌+◌, ◌≤◌, ◌∷◌, ◌++◌, Some, IfOk, IfErr, IfSome, IsNone, ◌↔◌};
 ghost use Rattle.std.specs.Arc.{arc_value};
-ghost use Rattle.point_geom.specs.Axes.{on};
-ghost use Rattle.node_labels.specs.Labels.{keep_tag};
-ghost use Rattle.kd_tree.specs.Shape.{leaf, fork, levels, nodes, numbers};
-ghost use Rattle.kd_tree.specs.Walk.{AllKept, times};
-ghost use Rattle.kd_tree.specs.Sound.{IsSound, IsSoundFork};
+ghost use Rattle.kd_tree.specs.Shape.{leaf, fork, numbers};
+ghost use Rattle.kd_tree.specs.Sound.{IsSound, IsSoundFork, IsTopSound};
 ghost use Rattle.kd_tree.specs.Contents.{contents};
 ghost use Rattle.kd_tree.specs.Parts.{contents_of_parts, fork_in, fork_of, joined, pushed};
 ghost use Rattle.kd_tree.specs.View.{IsKeptAt, IsOpened, IsTakenOf, shape_at, top_of};
 
 use crate::node::{Node, Root};
-use crate::{MAX_LEVELS, MAX_NODES, Scratch, Steps, Tree};
+use crate::{Scratch, Steps, Tree};
 use map_fold::{Item, NoMemory, Tag};
 use point_geom::Axis;
 use std::alloc::Global;
@@ -89,11 +86,7 @@ impl Tree {
         node: OpenNode,
         steps: &mut Steps<L>,
     ) -> Result<Tree, NoMemory>
-        requires below { AllKept (λ p. on node.axis p ≤ℤ on node.axis node.item.point) keep_tag node.left }
-        requires above { AllKept (λ p. on node.axis node.item.point ≤ℤ on node.axis p) keep_tag node.right }
-        requires once { (n : ℕ) → times n keep_tag (joined (fork_of node)) ≤ 1 }
-        requires low { max (levels node.left) (levels node.right) < MAX_LEVELS }
-        requires few { nodes node.left + nodes node.right < MAX_NODES }
+        requires sound { IsTopSound (joined (fork_of node)) }
         ensures shape { IfOk result (λ t. t ≡ joined (fork_of node)) }
         ensures contents { IfOk result (λ t. contents t ≡ contents_of_parts (fork_of node)) }
         ensures numbers { IfOk result (λ t. numbers t ≡ node.item.number ∷ (numbers node.left ++ numbers node.right)) }

@@ -5,9 +5,11 @@ use Rattle.std.proofs.lemmas.Bool.{cond_both, eq-eqb}
 use Rattle.std.proofs.lemmas.List.{take-append-drop, append-nil}
 use Rattle.std.proofs.lemmas.List.Elements.{All-cons, All-head, All-nil, All-tail, All-filter, All-weaker, filter-append, recursion_from_All}
 use Rattle.std.specs.List.{AllByRecursion}
-use Rattle.std.proofs.lemmas.List.Sorted.{Contains-permutation, IsPermutation-append_comm, length_permutation, sum_by-IsPermutation, IsPermutation-middle, IsPermutation-sym, IsPermutation-trans}
+use Rattle.std.proofs.lemmas.List.Sorted.{length_permutation, sum_by-IsPermutation, IsPermutation-middle, IsPermutation-sym, IsPermutation-trans}
 use Rattle.std.proofs.lemmas.List.Sums.{sum_by-append, sum_by-cons}
+use Rattle.point_geom.specs.declared.axis.Axis.{Axis}
 use Rattle.node_labels.specs.Labels.{composed, keep_tag}
+use Rattle.node_labels.specs.declared.label.Label.TheVariants.{Live}
 use Rattle.node_labels.proofs.Laws.{composed-keep_right}
 use Rattle.map_fold.specs.declared.item.Item.{Item}
 use Rattle.map_fold.specs.declared.op.Op.{Op}
@@ -23,29 +25,27 @@ use Rattle.kd_tree.specs.Parts.{at, pushed}
 use Rattle.kd_tree.specs.declared.change.Fork.{Fork}
 use Rattle.kd_tree.specs.declared.path.Side.{Side}
 use Rattle.kd_tree.specs.declared.path.Side.TheVariants.{Left, Right}
-use Rattle.kd_tree.proofs.Actions.{tagged_nodes}
+use Rattle.kd_tree.proofs.Apart.{clear_onward}
 use Rattle.kd_tree.proofs.Held.{walk_few}
 use Rattle.kd_tree.proofs.Numbered.{by_number-filter, by_number-moved, by_number_moves, once_moved}
-use Rattle.kd_update.specs.Put.{goes_left, put_from}
-use Rattle.kd_update.specs.Refresh.{AreAmong}
-use Rattle.kd_update.specs.Scan.{AreLive, IsGrown, IsPiece, MayJoin, numbers_in, put_each}
-use Rattle.kd_update.specs.Update.{IsBalancedBelow, IsUpdated}
-use Rattle.kd_update.specs.Several.{AreLargeAt, AreWatched}
+use Rattle.kd_update.specs.Put.{RebuildsNoneOnRoute, goes_left, put_from}
+use Rattle.kd_update.specs.Scan.{AreLive, IsGrown, IsPiece, put_each}
+use Rattle.kd_update.specs.Update.{IsBalancedBelow}
+use Rattle.kd_update.specs.Several.{AreLargeAt, AreWatched, IsUpdatedClear}
 use Rattle.kd_update.specs.Watch.{IsWatched, goes_to, handed, is_keep, son}
-use Rattle.kd_update.specs.declared.watch.Watch.{Watch}
 use Rattle.node_labels.specs.declared.tag.Tag.{Tag}
 use Rattle.map_fold.specs.declared.op.Op.TheVariants.{Mark}
-use Rattle.kd_update.specs.Crossing.{AreMet, AreMore, IsCrossed, IsMet, IsWholeGrown, going, logged_scan, puts_of}
-use Rattle.kd_update.proofs.Criteria.{apart, route_none}
+use Rattle.kd_update.specs.Crossing.{AreMet, IsCrossed, IsMet, IsWholeGrown, going, logged_scan, puts_of}
+use Rattle.kd_update.proofs.Criteria.{apart}
 use Rattle.kd_update.proofs.Grown.{GoBeside, IsLive, IsStep, distinct_back, distinct_front, grown_built, grown_moved, grown_none, grown_put, step_grown}
-use Rattle.kd_update.proofs.Joins.{by_number-put_each, put_new, walk_distinct}
+use Rattle.kd_update.proofs.Joins.{grown_held, put_new}
 use Rattle.kd_update.proofs.Refresh.{head}
-use Rattle.kd_update.proofs.Route.{nodes-put}
+use Rattle.kd_update.proofs.Route.{nodes-put, route_none}
 use Rattle.kd_update.proofs.Large.{large_after}
 use Rattle.kd_update.proofs.Logged.{handed_puts}
 use Rattle.kd_update.proofs.Several.{clear_balanced, balanced_clear, balanced_here, passed_by, some_of}
-use Rattle.kd_update.proofs.Trees.{forked, some_fork, walk-tagged_keep}
-use Rattle.kd_update.proofs.Watched.{at-tagged, watched_handed, watched_left, watched_right, watched_same}
+use Rattle.kd_update.proofs.Trees.{at_pushed, pushed_nodes, walk-tagged_keep}
+use Rattle.kd_update.proofs.Watched.{at-tagged, at_son, watched_handed, watched_same, watched_son}
 
 -- lists
 
@@ -76,18 +76,13 @@ whole_none s = record { grown = grown_none s; many = omega arith }
 pub whole_moved : (s t : Shape) (is js : List Item) → IsPermutation is js → IsWholeGrown s js t → IsWholeGrown s is t
 whole_moved s t is js m k = record { grown = grown_moved s t is js m k.grown; many = omega (arith, k.many, length_permutation is js m) }
 
-pub whole_built : (large : ℕ) (s t : Shape) (is : List Item) → nodes s ≡ 0 → IsPiece large s is → IsBuilt (walk keep_tag s ++ is) t → IsPermutation (map (λ i. i.number) (walk keep_tag s ++ is)) (Rattle.kd_tree.specs.Shape.numbers t) → nodes t ≡ length (walk keep_tag s ++ is) → IsWholeGrown s is t
+pub whole_built : (large : ℕ) (s t : Shape) (is : List Item) → nodes s ≡ 0 → IsPiece large s is → IsBuilt (walk keep_tag s ++ is) t → IsPermutation (map (λ i. i.number) (walk keep_tag s ++ is)) (numbers t) → nodes t ≡ length (walk keep_tag s ++ is) → IsWholeGrown s is t
 whole_built large s t is none p b ns n = record { grown = grown_built large s t is p b ns; many = omega (arith, none, n, length-append (walk keep_tag s) is) }
 
-pub whole_put : (i : Item) (axis : Rattle.point_geom.specs.declared.axis.Axis.Axis) (s t : Shape) → i.label ≡ Rattle.node_labels.specs.declared.label.Label.TheVariants.Live → IsUpdated 0 s (put_from i.number i.point axis s) (Rattle.kd_update.specs.Put.RebuildsNoneOnRoute 0 i.point (put_from i.number i.point axis s)) t → IsWholeGrown s (i ∷ []) t
-whole_put i axis s t live u =
+pub whole_put : (ps : List (List Side)) (i : Item) (axis : Axis) (s t : Shape) → i.label ≡ Live → IsUpdatedClear 0 ps s (put_from i.number i.point axis s) (RebuildsNoneOnRoute 0 i.point (put_from i.number i.point axis s)) t → IsWholeGrown s (i ∷ []) t
+whole_put ps i axis s t live u =
     let p = put_from i.number i.point axis s in
-    record { grown = grown_put 0 i axis s t _ live u; many = omega (arith, ap nodes (u.unrebuilt (route_none i.point p)), nodes-put i.number i.point axis keep_tag s) }
-
-pushed_nodes : (s : Shape) (f : Fork) → Some f ≡ pushed s → nodes s ≡ nodes f.left + nodes f.right + 1
-pushed_nodes leaf f x = absurd (cc)
-pushed_nodes (fork h l r) f x =
-    subst (λ (g : Fork). nodes (fork h l r) ≡ nodes g.left + nodes g.right + 1) (sym (some_fork f (forked h l r) x)) (omega (arith, tagged_nodes h.pending l, tagged_nodes h.pending r))
+    record { grown = grown_put i axis s t live u.refresh; many = omega (arith, ap nodes (u.unrebuilt (route_none i.point p)), nodes-put i.number i.point axis keep_tag s) }
 
 pub step_from : (s : Shape) (f : Fork) (n : ℕ) (is js xs ys : List Item) → Some f ≡ pushed s → IsSound s → IsPermutation is js
     → All (λ i. goes_left f.axis i.point f.item.point ≡ true) (take n js) → All (λ i. goes_left f.axis i.point f.item.point ≡ false) (drop n js) → xs ≡ take n js → ys ≡ drop n js → IsStep s is f xs ys
@@ -149,17 +144,15 @@ pub record MayCome (s : Shape) (is : List Item) : Type 0 where
 
 -- the watched root itself
 met_root : (s t : Shape) (is : List Item) → MayCome s is → IsWholeGrown s is t → IsWatched [] s t (puts_of is)
-met_root s t is k w =
-    let distinct = k.distinct in
-    record {
-      before = s;
-      after = t;
-      was = refl;
-      is = refl;
-      size = omega (arith, w.many);
-      fit = fit_puts (walk keep_tag s) is distinct k.live (k.room);
-      replayed = (sym (by_number-moved (walk keep_tag s ++ is) (walk keep_tag t) w.grown.same distinct) ∙ by_number-put_each (walk keep_tag s) is distinct k.live) ∙ sym (replay_puts (contents s) is);
-    }
+met_root s t is k w = record {
+  before = s;
+  after = t;
+  was = refl;
+  is = refl;
+  size = omega (arith, w.many);
+  fit = fit_puts (walk keep_tag s) is k.distinct k.live k.room;
+  replayed = grown_held s t is k.live k.distinct w.grown ∙ sym (replay_puts (contents s) is);
+}
 
 filter_short : (p : Item → Bool) (xs : List Item) → length (filter p xs) ≤ length xs
 filter_short p [] = omega arith
@@ -178,20 +171,18 @@ come_side p k a b is s e live d room = record {
   room = omega (arith, room, filter_short p is, length-append k (a ++ b), length-append a b, ap length e);
 }
 
-come_left : (p : Item → Bool) (h : Head) (l r : Shape) (is : List Item) → MayCome (fork h l r) is → MayCome (tagged h.pending l) (filter p is)
-come_left p h l r is k =
+come_on : (side : Side) (p : Item → Bool) (h : Head) (l r : Shape) (is : List Item) → MayCome (fork h l r) is → MayCome (tagged h.pending (son side l r)) (filter p is)
+come_on Left p h l r is k =
     come_side p (kept (relabelled keep_tag h.item ∷ [])) (walk (composed h.pending keep_tag) l) (walk (composed h.pending keep_tag) r) is (tagged h.pending l)
     (walk-tagged_keep h.pending l ∙ ap (λ q. walk q l) (sym (composed-keep_right h.pending))) k.live k.distinct k.room
-
-come_right : (p : Item → Bool) (h : Head) (l r : Shape) (is : List Item) → MayCome (fork h l r) is → MayCome (tagged h.pending r) (filter p is)
-come_right p h l r is k =
+come_on Right p h l r is k =
     let own = kept (relabelled keep_tag h.item ∷ []) in
     let a = walk (composed h.pending keep_tag) l in
     let b = walk (composed h.pending keep_tag) r in
+    let same : own ++ (a ++ b) ≡ (own ++ a) ++ (b ++ []) = sym (append_assoc own a (b ++ []) ∙ ap (λ z. own ++ (a ++ z)) (append-nil b)) in
     come_side p (own ++ a) b [] is (tagged h.pending r)
     (walk-tagged_keep h.pending r ∙ ap (λ q. walk q r) (sym (composed-keep_right h.pending))) k.live
-    (subst (λ w. AreDistinct (w ++ is)) (sym (append_assoc own a (b ++ []) ∙ ap (λ z. own ++ (a ++ z)) (append-nil b))) k.distinct)
-    (subst (λ w. length w + length is ≤ 4194304) (sym (append_assoc own a (b ++ []) ∙ ap (λ z. own ++ (a ++ z)) (append-nil b))) k.room)
+    (subst (λ w. AreDistinct (w ++ is)) same k.distinct) (subst (λ w. length w + length is ≤ 4194304) same k.room)
 
 -- A scan put into a tree is, for the subtree at a path, what is logged of it.
 pub watched_scan : (path : List Side) (is : List Item) (s t q : Shape) → at path s ≡ Some q → MayCome s is → IsMet path is s t → IsWatched path s t (logged_scan path is s)
@@ -199,16 +190,12 @@ watched_scan [] is s t q e k m = met_root s t is k m
 watched_scan (side ∷ path) [] s t q e k m = subst (λ u. IsWatched (side ∷ path) s u []) m (watched_same (side ∷ path) s q e)
 watched_scan (side ∷ path) (i ∷ is) leaf t q e k m = absurd m
 watched_scan (side ∷ path) (i ∷ is) (fork h l r) leaf q e k m = absurd m
-watched_scan (Left ∷ path) (i ∷ is) (fork h l r) (fork g l' r') q e k m =
-    let u = at-tagged path h.pending l q e in
-    let xs = going Left h.axis h.item.point (i ∷ is) in
-    watched_left path h g l r l' r' (handed path h.pending ++ logged_scan path xs (tagged h.pending l))
-    (watched_handed path h.pending l l' q (logged_scan path xs (tagged h.pending l)) e (watched_scan path xs (tagged h.pending l) l' u.0 u.1 (come_left (λ x. goes_to Left (goes_left h.axis x.point h.item.point)) h l r (i ∷ is) k) m))
-watched_scan (Right ∷ path) (i ∷ is) (fork h l r) (fork g l' r') q e k m =
-    let u = at-tagged path h.pending r q e in
-    let xs = going Right h.axis h.item.point (i ∷ is) in
-    watched_right path h g l r l' r' (handed path h.pending ++ logged_scan path xs (tagged h.pending r))
-    (watched_handed path h.pending r r' q (logged_scan path xs (tagged h.pending r)) e (watched_scan path xs (tagged h.pending r) r' u.0 u.1 (come_right (λ x. goes_to Right (goes_left h.axis x.point h.item.point)) h l r (i ∷ is) k) m))
+watched_scan (side ∷ path) (i ∷ is) (fork h l r) (fork g l' r') q e k m =
+    let u = at-tagged path h.pending (son side l r) q (at_son side path h l r q e) in
+    let xs = going side h.axis h.item.point (i ∷ is) in
+    let come = come_on side (λ x. goes_to side (goes_left h.axis x.point h.item.point)) h l r (i ∷ is) k in
+    watched_son side path h g l r l' r' (handed path h.pending ++ logged_scan path xs (tagged h.pending (son side l r)))
+    (watched_handed path h.pending (son side l r) (son side l' r') q (logged_scan path xs (tagged h.pending (son side l r))) (at_son side path h l r q e) (watched_scan path xs (tagged h.pending (son side l r)) (son side l' r') u.0 u.1 come m))
 
 pub piece_comes : (large : ℕ) (s : Shape) (is : List Item) → IsPiece large s is → MayCome s is
 piece_comes large s is p = record { live = p.live; distinct = p.distinct; room = omega (arith, p.few, walk_few keep_tag s) }
@@ -229,29 +216,14 @@ here_alone ([] ∷ []) k e = refl
 here_alone ([] ∷ (q ∷ ps)) k e = absurd k.0.0
 here_alone ((side ∷ p) ∷ ps) k e = absurd (subst (λ (qs : List (List Side)). IsClear (side ∷ p) qs) (here_alone ps k.1 e) k.0).0
 
-clear_left : (p : List Side) (ps : List (List Side)) → IsClear (Left ∷ p) ps → IsClear p (onward Left ps)
-clear_left p [] k = tt
-clear_left p ([] ∷ ps) k = absurd k.0
-clear_left p ((Left ∷ q) ∷ ps) k = (k.0, clear_left p ps k.1)
-clear_left p ((Right ∷ q) ∷ ps) k = clear_left p ps k.1
-
-clear_right : (p : List Side) (ps : List (List Side)) → IsClear (Right ∷ p) ps → IsClear p (onward Right ps)
-clear_right p [] k = tt
-clear_right p ([] ∷ ps) k = absurd k.0
-clear_right p ((Left ∷ q) ∷ ps) k = clear_right p ps k.1
-clear_right p ((Right ∷ q) ∷ ps) k = (k.0, clear_right p ps k.1)
-
-pub apart_left : (ps : List (List Side)) → AreAllApart ps → AreAllApart (onward Left ps)
-apart_left [] k = tt
-apart_left ([] ∷ ps) k = apart_left ps k.1
-apart_left ((Left ∷ p) ∷ ps) k = (clear_left p ps k.0, apart_left ps k.1)
-apart_left ((Right ∷ p) ∷ ps) k = apart_left ps k.1
-
-pub apart_right : (ps : List (List Side)) → AreAllApart ps → AreAllApart (onward Right ps)
-apart_right [] k = tt
-apart_right ([] ∷ ps) k = apart_right ps k.1
-apart_right ((Left ∷ p) ∷ ps) k = apart_right ps k.1
-apart_right ((Right ∷ p) ∷ ps) k = (clear_right p ps k.0, apart_right ps k.1)
+pub apart_on : (side : Side) (ps : List (List Side)) → AreAllApart ps → AreAllApart (onward side ps)
+apart_on side [] k = tt
+apart_on Left ([] ∷ ps) k = apart_on Left ps k.1
+apart_on Right ([] ∷ ps) k = apart_on Right ps k.1
+apart_on Left ((Left ∷ p) ∷ ps) k = (clear_onward Left p ps k.0, apart_on Left ps k.1)
+apart_on Left ((Right ∷ p) ∷ ps) k = apart_on Left ps k.1
+apart_on Right ((Left ∷ p) ∷ ps) k = apart_on Right ps k.1
+apart_on Right ((Right ∷ p) ∷ ps) k = (clear_onward Right p ps k.0, apart_on Right ps k.1)
 
 -- what all watched subtrees meet
 
@@ -305,11 +277,10 @@ met_fork ps i is h l0 r0 l r xs ys d m b e u v =
 
 met_step : (ps : List (List Side)) (s : Shape) (is : List Item) (f : Fork) (xs ys : List Item) (l r : Shape) → Some f ≡ pushed s → AreDistinct is → (is ≡ [] → ⊥) → IsPermutation is (xs ++ ys) → GoBeside f.item f.axis xs ys → is_here ps ≡ false
     → AreMet (onward Left ps) xs f.left l → AreMet (onward Right ps) ys f.right r → AreMet ps is s (fork (head f.item f.axis) l r)
-met_step ps leaf is f xs ys l r x d some m b e u v = absurd (cc)
-met_step ps (fork h l0 r0) [] f xs ys l r x d some m b e u v = absurd (some refl)
-met_step ps (fork h l0 r0) (i ∷ is) f xs ys l r x d some m b e u v =
-    subst (λ (g : Fork). GoBeside g.item g.axis xs ys → AreMet (onward Left ps) xs g.left l → AreMet (onward Right ps) ys g.right r → AreMet ps (i ∷ is) (fork h l0 r0) (fork (head g.item g.axis) l r))
-    (sym (some_fork f (forked h l0 r0) x)) (λ b u v. met_fork ps i is h l0 r0 l r xs ys d m b e u v) b u v
+met_step ps s [] f xs ys l r x d some m b e u v = absurd (some refl)
+met_step ps s (i ∷ is) f xs ys l r x d some m b e u v =
+    at_pushed (λ z g. GoBeside g.item g.axis xs ys → AreMet (onward Left ps) xs g.left l → AreMet (onward Right ps) ys g.right r → AreMet ps (i ∷ is) z (fork (head g.item g.axis) l r)) s f x
+    (λ h l0 r0 b u v. met_fork ps i is h l0 r0 l r xs ys d m b e u v) b u v
 
 -- crossings
 
@@ -337,14 +308,6 @@ crossed_step large ps s is f xs ys l r x k p there here any some u v =
       met = met;
       balance = λ e. let both = (passed_by large ps s f x there).balanced here e in λ _. ((λ many few. absurd (omega (arith, few, big))), u.balance both.0, v.balance both.1);
     }
-
-pub crossed_contents : (s t : Shape) (is : List Item) → MayJoin (contents s) is → IsGrown s is t → contents t ≡ put_each (contents s) is
-crossed_contents s t is k g =
-    let distinct = walk_distinct s is k.distinct in
-    sym (by_number-moved (walk keep_tag s ++ is) (walk keep_tag t) g.same distinct) ∙ by_number-put_each (walk keep_tag s) is distinct k.live
-
-pub crossed_numbers : (s t : Shape) (is : List Item) → IsGrown s is t → AreAmong (numbers t) (numbers_in is ++ numbers s)
-crossed_numbers s t is g = λ n c. Contains-permutation _ _ n (IsPermutation-append_comm (numbers s) (numbers_in is)) (g.from n c)
 
 -- logs
 
@@ -391,10 +354,3 @@ scan_puts P (side ∷ path) (i ∷ is) (fork h l r) k =
     let p : Item → Bool = λ x. goes_to side (goes_left h.axis x.point h.item.point) in
     let ops = logged_scan path (filter p (i ∷ is)) (tagged h.pending (son side l r)) in
     subst (All P) (sym (handed_puts path h.pending ops)) (scan_puts P path (filter p (i ∷ is)) (tagged h.pending (son side l r)) (All-filter p (λ j. P j.number) (i ∷ is) k))
-
-pub more_itself : (n : ℕ) (ws : List Watch) → AreMore n ws ws
-more_itself n [] = tt
-more_itself n (w ∷ ws) = (omega arith, more_itself n ws)
-
-pub more_front : (n : ℕ) (all ws new : List Watch) (w : Watch) (log : List Op) → all ≡ w ∷ ws → length log ≤ length w.log + n → AreMore n ws new → AreMore n all (record w { log = log } ∷ new)
-more_front n all ws new w log e k f = rw e (k, f)

@@ -1,6 +1,7 @@
 -- Trees with more items than before, some subtrees rebuilt.
 use Rattle.std.proofs.Common.{◌≡◌, ℕ, ◌+◌, ◌≤◌, ◌≤ℤ◌, true, false, cond, inl, inr, refl, ap, sym, subst, arith, List, [], ◌∷◌, ◌++◌, Some, map, length, take, drop, length-append, append_assoc}
 use Rattle.std.specs.Prelude.{All, Contains, IsPermutation, ◌==◌}
+use Rattle.std.proofs.lemmas.Bool.{eqb-true}
 use Rattle.std.proofs.lemmas.List.{map-append, take-append-drop, append-nil, get_or_append_left, get_or-append-add}
 use Rattle.std.proofs.lemmas.List.Elements.{All-append, All-map, All-weaker, All-contains, All-contains_itself, recursion_from_All, Contains-append_left, Contains-append_right}
 use Rattle.std.proofs.lemmas.List.Sorted.{All-permutation, Contains-permutation, length_permutation, IsPermutation-refl, IsPermutation-sym, IsPermutation-trans, IsPermutation-append, IsPermutation-append_left, IsPermutation-append_right, IsPermutation-append_comm, IsPermutation-map}
@@ -26,19 +27,16 @@ use Rattle.kd_tree.proofs.Left.{all_left, left_all}
 use Rattle.kd_tree.proofs.Medians.{built_nodes, built_levels, built_walk}
 use Rattle.kd_tree.proofs.Numbered.{counted_in, once_moved}
 use Rattle.kd_update.specs.Refresh.{AreAmong, IsRefresh, RefreshesIfDue}
-use Rattle.kd_update.specs.Update.{IsBalancedBelow, IsUpdated}
+use Rattle.kd_update.specs.Update.{IsBalancedBelow}
 use Rattle.kd_update.specs.Put.{goes_left, put_from}
 use Rattle.kd_update.specs.Scan.{AreLive, IsGrown, IsParted, IsPiece, numbers_in}
-use Rattle.kd_update.proofs.Trees.{among_same, among_append, among_fork, forked, some_fork}
+use Rattle.kd_update.proofs.Trees.{among_same, among_append, among_fork, at_pushed, swapped}
 use Rattle.kd_update.proofs.Refresh.{head, refreshed_refresh}
 use Rattle.kd_update.proofs.Update.{criteria_balanced, balanced_sons}
 use Rattle.kd_update.proofs.Criteria.{IsApart, apart}
 use Rattle.kd_update.proofs.Route.{le_of_true, le_of_false, walk-put, nodes-put, levels-put, numbers-put}
 
 -- lists
-
-swapped : {X : Type 0} (b c d : List X) → IsPermutation (b ++ (c ++ d)) (c ++ (b ++ d))
-swapped b c d = simp append_assoc at (IsPermutation-append_left d (b ++ c) (c ++ b) (IsPermutation-append_comm b c))
 
 -- two lists more, each brought to its place
 pub spread : {X : Type 0} (k a b c d : List X) → IsPermutation ((k ++ (a ++ b)) ++ (c ++ d)) (k ++ ((a ++ c) ++ (b ++ d)))
@@ -98,8 +96,8 @@ pub live_of : (i : Item) → i.label ≡ Live → i ≡ live_at i.number i.point
 live_of i e = ap (λ x. record i { label = x }) e
 
 -- a single point that is put
-pub grown_put : (large : ℕ) (i : Item) (axis : Axis) (s t : Shape) (C : Type 0) → i.label ≡ Live → IsUpdated large s (put_from i.number i.point axis s) C t → IsGrown s (i ∷ []) t
-grown_put large i axis s t C live u =
+pub grown_put : (i : Item) (axis : Axis) (s t : Shape) → i.label ≡ Live → IsRefresh (put_from i.number i.point axis s) t → IsGrown s (i ∷ []) t
+grown_put i axis s t live f =
     let p = put_from i.number i.point axis s in
     let one : IsPermutation (i ∷ walk keep_tag s) (walk keep_tag p) =
     subst (λ (j : Item). IsPermutation (j ∷ walk keep_tag s) (walk keep_tag p)) (sym (live_of i live)) (walk-put i.number i.point axis keep_tag s) in
@@ -109,7 +107,7 @@ grown_put large i axis s t C live u =
       few = omega (arith, nodes-put i.number i.point axis keep_tag s);
       low = omega (arith, levels-put i.number i.point axis keep_tag s);
       from = λ n k. Contains-permutation _ _ n (IsPermutation-append_comm (i.number ∷ []) (numbers s)) (numbers-put i.number i.point axis keep_tag s n k);
-    }) u.refresh
+    }) f
 
 abbrev pub IsLive : Item → Type 0
 IsLive i = i.label ≡ Live
@@ -119,12 +117,6 @@ live_kept is k = All-weaker IsLive (λ i. is_dropped i.label ≡ false) (λ i e.
 
 pub kept_with : (s : Shape) (is : List Item) → AreLive is → AreKept (walk keep_tag s ++ is)
 kept_with s is k = All-append (λ (i : Item). is_dropped i.label ≡ false) (walk keep_tag s) is (walk_kept keep_tag s) (live_kept is k)
-
-built_low : (large : ℕ) (s t : Shape) (is : List Item) → IsPiece large s is → IsBuilt (walk keep_tag s ++ is) t → levels t ≤ levels s + 22
-built_low large leaf t is p b = built_levels t is 22 b (omega (arith, p.short))
-built_low large (fork h l r) t is p b =
-    let all = walk keep_tag (fork h l r) ++ is in
-    omega (arith, built_levels t all 23 b (omega (arith, length-append (walk keep_tag (fork h l r)) is, walk_few keep_tag (fork h l r), p.few)))
 
 built_from : (s t : Shape) (is : List Item) → IsPermutation (map (λ i. i.number) (walk keep_tag s ++ is)) (numbers t) → AreAmong (numbers t) (numbers s ++ numbers_in is)
 built_from s t is ns = λ n k.
@@ -136,27 +128,30 @@ built_from s t is ns = λ n k.
     let all : All F (map number (walk keep_tag s ++ is)) = subst (All F) (sym (map-append number (walk keep_tag s) is)) (All-append F _ _ left new) in
     All-contains F (numbers t) n (All-permutation F _ (numbers t) ns all) k
 
--- what is left and the items, built by medians
-pub grown_built : (large : ℕ) (s t : Shape) (is : List Item) → IsPiece large s is → IsBuilt (walk keep_tag s ++ is) t → IsPermutation (map (λ i. i.number) (walk keep_tag s ++ is)) (numbers t) → IsGrown s is t
-grown_built large s t is p b ns = record {
-  same = built_walk t (walk keep_tag s ++ is) b (kept_with s is p.live);
+built_grown : (s t : Shape) (is : List Item) → AreLive is → levels t ≤ levels s + 22 → IsBuilt (walk keep_tag s ++ is) t → IsPermutation (map (λ i. i.number) (walk keep_tag s ++ is)) (numbers t) → IsGrown s is t
+built_grown s t is live low b ns = record {
+  same = built_walk t (walk keep_tag s ++ is) b (kept_with s is live);
   few = omega (arith, built_nodes t (walk keep_tag s ++ is) b, length-append (walk keep_tag s) is, walk_few keep_tag s);
-  low = built_low large s t is p b;
+  low = low;
   from = built_from s t is ns;
 }
 
--- Where the tree had a node, so much may be built.
+-- what is left and the items, built by medians: where the tree had a node, so much may be built
 pub grown_anew : (s t : Shape) (is : List Item) → AreLive is → length (walk keep_tag s) + length is ≤ 4194304 → 1 ≤ nodes s + levels s → IsBuilt (walk keep_tag s ++ is) t → IsPermutation (map (λ i. i.number) (walk keep_tag s ++ is)) (numbers t) → IsGrown s is t
 grown_anew leaf t is live few some b ns = absurd (omega (arith, some))
 grown_anew (fork h l r) t is live few some b ns =
-    let s = fork h l r in
-    let all = walk keep_tag s ++ is in
-    record {
-      same = built_walk t all b (kept_with s is live);
-      few = omega (arith, built_nodes t all b, length-append (walk keep_tag s) is, walk_few keep_tag s);
-      low = omega (arith, built_levels t all 23 b (omega (arith, length-append (walk keep_tag s) is, few)));
-      from = built_from s t is ns;
-    }
+    let all = walk keep_tag (fork h l r) ++ is in
+    built_grown (fork h l r) t is live (omega (arith, built_levels t all 23 b (omega (arith, length-append (walk keep_tag (fork h l r)) is, few)))) b ns
+
+-- and fewer items than a pass puts where it had none
+pub grown_built : (large : ℕ) (s t : Shape) (is : List Item) → IsPiece large s is → IsBuilt (walk keep_tag s ++ is) t → IsPermutation (map (λ i. i.number) (walk keep_tag s ++ is)) (numbers t) → IsGrown s is t
+grown_built large leaf t is p b ns = built_grown leaf t is p.live (built_levels t is 22 b (omega (arith, p.short))) b ns
+grown_built large (fork h l r) t is p b ns = grown_anew (fork h l r) t is p.live (omega (arith, walk_few keep_tag (fork h l r), p.few)) (omega arith) b ns
+
+-- a list whose rest is empty
+pub alone : (is rest : List Item) (i : Item) → is ≡ i ∷ rest → (length rest == 0) ≡ true → is ≡ i ∷ []
+alone is [] i e k = e
+alone is (j ∷ rest) i e k = absurd (let h = eqb-true (length (j ∷ rest)) 0 k in omega arith)
 
 -- pieces
 
@@ -168,25 +163,23 @@ piece_new large s is rest i e p =
     let here = counted_in i i.number is (subst (Member i) (sym e) (inl refl)) refl in
     omega (arith, once, here, times_walk i.number keep_tag s, sum_by-append g (walk keep_tag s) is)
 
-pub piece_moved : (large : ℕ) (s : Shape) (is js : List Item) → IsPermutation is js → IsPiece large s is → IsPiece large s js
-piece_moved large s is js m p = record {
-  live = All-permutation IsLive is js m p.live;
-  distinct = once_moved _ _ (IsPermutation-append_right (walk keep_tag s) _ _ m) p.distinct;
-  small = omega (arith, p.small, length_permutation is js m);
-  short = omega (arith, p.short, length_permutation is js m);
-  low = p.low;
-  few = omega (arith, p.few, length_permutation is js m);
+-- no more items may be put in a tree that is no larger
+piece_part : (large : ℕ) (s t : Shape) (is js : List Item) → IsPiece large s is → AreLive js → AreDistinct (walk keep_tag t ++ js) → length js ≤ length is → nodes t ≤ nodes s → levels t ≤ levels s → IsPiece large t js
+piece_part large s t is js p live distinct short few low = record {
+  live = live;
+  distinct = distinct;
+  small = omega (arith, p.small, short);
+  short = omega (arith, p.short, short);
+  low = omega (arith, p.low, low);
+  few = omega (arith, p.few, short, few);
 }
 
+pub piece_moved : (large : ℕ) (s : Shape) (is js : List Item) → IsPermutation is js → IsPiece large s is → IsPiece large s js
+piece_moved large s is js m p =
+    piece_part large s s is js p (All-permutation IsLive is js m p.live) (once_moved _ _ (IsPermutation-append_right (walk keep_tag s) _ _ m) p.distinct) (omega (arith, length_permutation is js m)) (omega arith) (omega arith)
+
 piece_after : (large : ℕ) (s t : Shape) (is : List Item) → IsRefresh s t → IsPiece large s is → IsPiece large t is
-piece_after large s t is f p = record {
-  live = p.live;
-  distinct = once_moved _ _ (IsPermutation-append_left is _ _ f.same) p.distinct;
-  small = p.small;
-  short = p.short;
-  low = omega (arith, f.low, p.low);
-  few = omega (arith, f.few, p.few);
-}
+piece_after large s t is f p = piece_part large s t is is p p.live (once_moved _ _ (IsPermutation-append_left is _ _ f.same) p.distinct) (omega arith) f.few f.low
 
 pub all_first : (P : Item → Type 0) (xs ys : List Item) → All P (xs ++ ys) → All P xs
 all_first P xs ys k = λ n d below. subst P (get_or_append_left xs ys d n below) (k n d (omega (arith, length-append xs ys)))
@@ -209,23 +202,10 @@ piece_sons : (large : ℕ) (i : Item) (a : Axis) (l r : Shape) (xs ys : List Ite
 piece_sons large i a l r xs ys p =
     let own = kept (relabelled keep_tag i ∷ []) in
     let parts = distinct_parts own (walk keep_tag l ++ xs) (walk keep_tag r ++ ys) (once_moved _ _ (spread own (walk keep_tag l) (walk keep_tag r) xs ys) p.distinct) in
-    let size = length-append xs ys in (
-      record {
-        live = all_first IsLive xs ys p.live;
-        distinct = parts.0;
-        small = omega (arith, p.small);
-        short = omega (arith, p.short);
-        low = omega (arith, p.low);
-        few = omega (arith, p.few);
-      },
-      record {
-        live = all_last IsLive xs ys p.live;
-        distinct = parts.1;
-        small = omega (arith, p.small);
-        short = omega (arith, p.short);
-        low = omega (arith, p.low);
-        few = omega (arith, p.few);
-      },
+    let size = length-append xs ys in
+    let s = fork (head i a) l r in (
+      piece_part large s l (xs ++ ys) xs p (all_first IsLive xs ys p.live) parts.0 (omega (arith, size)) (omega arith) (omega arith),
+      piece_part large s r (xs ++ ys) ys p (all_last IsLive xs ys p.live) parts.1 (omega (arith, size)) (omega arith) (omega arith),
     )
 
 -- the first list goes left of the item, the second right
@@ -261,8 +241,7 @@ parted_fork : (h : Head) (l r : Shape) (n : ℕ) (js : List Item) → IsParted (
 parted_fork h l r n js k = record { left = k.1; right = k.2 }
 
 parted_at : (s : Shape) (f : Fork) (n : ℕ) (js : List Item) → Some f ≡ pushed s → IsParted s n js → GoBeside f.item f.axis (take n js) (drop n js)
-parted_at leaf f n js x k = absurd k
-parted_at (fork h l r) f n js x k = subst (λ (g : Fork). GoBeside g.item g.axis (take n js) (drop n js)) (sym (some_fork f (forked h l r) x)) (parted_fork h l r n js k)
+parted_at s f n js x = at_pushed (λ z g. IsParted z n js → GoBeside g.item g.axis (take n js) (drop n js)) s f x (λ h l r. parted_fork h l r n js)
 
 pub step_at : (s : Shape) (f : Fork) (n : ℕ) (is js xs ys : List Item) → Some f ≡ pushed s → IsSound s → IsPermutation is js → IsParted s n js → xs ≡ take n js → ys ≡ drop n js → IsStep s is f xs ys
 step_at s f n is js xs ys x k m p e e' = record {
@@ -289,8 +268,7 @@ step_grown large s is f xs ys l r t k left right done =
 -- balance
 
 apart_balanced : (large : ℕ) (s : Shape) (f : Fork) → Some f ≡ pushed s → IsBalancedBelow large s → IsBalancedBelow large f.left × IsBalancedBelow large f.right
-apart_balanced large leaf f x k = absurd (cc)
-apart_balanced large (fork h l r) f x k = subst (λ (g : Fork). IsBalancedBelow large g.left × IsBalancedBelow large g.right) (sym (some_fork f (forked h l r) x)) (balanced_sons large h l r k)
+apart_balanced large s f x = at_pushed (λ z g. IsBalancedBelow large z → IsBalancedBelow large g.left × IsBalancedBelow large g.right) s f x (balanced_sons large)
 
 balanced_due : (large : ℕ) (h : Head) (l r t : Shape) → IsBalancedBelow large l → IsBalancedBelow large r → RefreshesIfDue large (fork h l r) t → IsBalancedBelow large t
 balanced_due large h l r t left right (inl k) = subst (IsBalancedBelow large) k.1 ((λ many few. (k.0 many few).0), left, right)

@@ -23,7 +23,7 @@ use Rattle.kd_tree.specs.Sound.{IsSound, IsSoundFork}
 use Rattle.kd_tree.specs.Contents.{contents, by_number}
 use Rattle.kd_tree.specs.Parts.{pushed}
 use Rattle.kd_tree.specs.declared.change.Fork.{Fork}
-use Rattle.kd_tree.proofs.Actions.{tagged-keep, tagged_nodes, tagged_levels}
+use Rattle.kd_tree.proofs.Actions.{tagged-keep, tagged_nodes, tagged_levels, sound_once}
 use Rattle.kd_tree.specs.Numbers.{one_number, widened, range}
 use Rattle.kd_tree.specs.declared.numbers.Numbers.{Numbers}
 use Rattle.kd_tree.proofs.Extents.{walk_in}
@@ -31,13 +31,11 @@ use Rattle.kd_tree.proofs.Ranges.{IsInRange, ranged_itself, walk_ranged}
 use Rattle.kd_tree.proofs.Held.{walk_kept}
 use Rattle.kd_tree.proofs.Contents.{parts_alike, mark-append, by_number-mark, relabelled-keep, walk-composed, walk-tagged, times_walk}
 use Rattle.kd_update.specs.Mark.{marked_under, marked_shape, is_entered, RebuildsNoneEntered}
-use Rattle.kd_update.specs.Refresh.{IsNotDue}
-use Rattle.kd_update.specs.Update.{IsBalancedBelow, IsUpdated}
+use Rattle.kd_update.specs.Refresh.{AreAmong, IsNotDue, IsRefresh}
 use Rattle.kd_tree.proofs.Left.{all_left, left_all}
 use Rattle.kd_update.proofs.Trees.{forked, some_fork, walk-tagged_keep}
 use Rattle.kd_update.proofs.Lists.{marked-point, marked-number, own-marked, mark_agree, mark_none, mark_points, mark_counts}
-use Rattle.kd_update.proofs.Refresh.{head}
-use Rattle.kd_update.proofs.Update.{balanced_sons, balanced_tagged, updated_plain}
+use Rattle.kd_update.proofs.Refresh.{head, refresh_contents}
 
 -- an action on chosen items after one on all
 pub marked-tagged : (c : Choice) (a p : Tag) (t : Shape) → marked_under c a keep_tag (tagged p t) ≡ marked_under c a p t
@@ -49,38 +47,32 @@ marked-tagged c a p (fork h l r) =
     ∙ ap (λ i. F (tagged p (fork h l r)) i (composed (composed h.pending p) keep_tag)) (relabelled-keep (relabelled p h.item))
     ∙ ap (λ q. F (tagged p (fork h l r)) (relabelled p h.item) q) (composed-keep_right (composed h.pending p))
 
+-- what holds where the choice misses a node, covers it or enters it
+marked_cases : (P : Shape → Type 0) (c : Choice) (a p : Tag) (h : Head) (l r : Shape) → P (tagged p (fork h l r)) → P (tagged a (tagged p (fork h l r)))
+    → P (fork (record h { item = marked_item (chosen_by c) a (relabelled p h.item); pending = keep_tag }) (marked_under c a (composed h.pending p) l) (marked_under c a (composed h.pending p) r)) → P (marked_under c a p (fork h l r))
+unfolding marked_under
+marked_cases P c a p h l r missed covered entered = cond_both (meets c (reach_of h l r)) _ _ P (λ _. cond_both (covers c (reach_of h l r)) _ _ P (λ _. covered) (λ _. entered)) (λ _. missed)
+
 pub nodes-marked : (c : Choice) (a p : Tag) (t : Shape) → nodes (marked_under c a p t) ≡ nodes t
 unfolding marked_under
 nodes-marked c a p leaf = refl
 nodes-marked c a p (fork h l r) =
-    let P : Shape → Type 0 = λ s. nodes s ≡ nodes l + nodes r + 1 in
-    cond_both (meets c (reach_of h l r)) _ _ P
-    (λ _. cond_both (covers c (reach_of h l r)) _ _ P (λ _. refl)
-    (λ _. omega (arith, nodes-marked c a (composed h.pending p) l, nodes-marked c a (composed h.pending p) r)))
-    (λ _. refl)
+    marked_cases (λ s. nodes s ≡ nodes l + nodes r + 1) c a p h l r refl refl (omega (arith, nodes-marked c a (composed h.pending p) l, nodes-marked c a (composed h.pending p) r))
 
 pub levels-marked : (c : Choice) (a p : Tag) (t : Shape) → levels (marked_under c a p t) ≡ levels t
 unfolding marked_under
 levels-marked c a p leaf = refl
 levels-marked c a p (fork h l r) =
-    let P : Shape → Type 0 = λ s. levels s ≡ max (levels l) (levels r) + 1 in
-    cond_both (meets c (reach_of h l r)) _ _ P
-    (λ _. cond_both (covers c (reach_of h l r)) _ _ P (λ _. refl)
-    (λ _. omega (arith, levels-marked c a (composed h.pending p) l, levels-marked c a (composed h.pending p) r)))
-    (λ _. refl)
+    marked_cases (λ s. levels s ≡ max (levels l) (levels r) + 1) c a p h l r refl refl (omega (arith, levels-marked c a (composed h.pending p) l, levels-marked c a (composed h.pending p) r))
 
 pub numbers-marked : (c : Choice) (a p : Tag) (t : Shape) → numbers (marked_under c a p t) ≡ numbers t
 unfolding marked_under
 numbers-marked c a p leaf = refl
 numbers-marked c a p (fork h l r) =
-    let P : Shape → Type 0 = λ s. numbers s ≡ h.item.number ∷ (numbers l ++ numbers r) in
-    cond_both (meets c (reach_of h l r)) _ _ P
-    (λ _. cond_both (covers c (reach_of h l r)) _ _ P (λ _. refl)
-    (λ _.
-    ap (λ n. n ∷ (numbers (marked_under c a (composed h.pending p) l) ++ numbers (marked_under c a (composed h.pending p) r))) (marked-number (chosen_by c) a (relabelled p h.item))
+    marked_cases (λ s. numbers s ≡ h.item.number ∷ (numbers l ++ numbers r)) c a p h l r refl refl
+    (ap (λ n. n ∷ (numbers (marked_under c a (composed h.pending p) l) ++ numbers (marked_under c a (composed h.pending p) r))) (marked-number (chosen_by c) a (relabelled p h.item))
     ∙ ap (λ x. h.item.number ∷ (x ++ numbers (marked_under c a (composed h.pending p) r))) (numbers-marked c a (composed h.pending p) l)
-    ∙ ap (λ x. h.item.number ∷ (numbers l ++ x)) (numbers-marked c a (composed h.pending p) r)))
-    (λ _. refl)
+    ∙ ap (λ x. h.item.number ∷ (numbers l ++ x)) (numbers-marked c a (composed h.pending p) r))
 
 extents_alike : (p q : Place) (a b c d : Option Span) → p ≡ q → a ≡ b → c ≡ d → grown (grown (spot p) a) c ≡ grown (grown (spot q) b) d
 extents_alike p q a b c d e f g = ap (λ x. grown (grown (spot x) a) c) e ∙ ap (λ x. grown (grown (spot q) x) c) f ∙ ap (λ x. grown (grown (spot q) b) x) g
@@ -89,11 +81,8 @@ extent-marked : (c : Choice) (a p : Tag) (t : Shape) → extent (marked_under c 
 unfolding marked_under
 extent-marked c a p leaf = refl
 extent-marked c a p (fork h l r) =
-    let P : Shape → Type 0 = λ s. extent s ≡ Some (grown (grown (spot h.item.point) (extent l)) (extent r)) in
-    cond_both (meets c (reach_of h l r)) _ _ P
-    (λ _. cond_both (covers c (reach_of h l r)) _ _ P (λ _. refl)
-    (λ _. ap Some (extents_alike _ _ _ _ _ _ (marked-point (chosen_by c) a (relabelled p h.item)) (extent-marked c a (composed h.pending p) l) (extent-marked c a (composed h.pending p) r))))
-    (λ _. refl)
+    marked_cases (λ s. extent s ≡ Some (grown (grown (spot h.item.point) (extent l)) (extent r))) c a p h l r refl refl
+    (ap Some (extents_alike _ _ _ _ _ _ (marked-point (chosen_by c) a (relabelled p h.item)) (extent-marked c a (composed h.pending p) l) (extent-marked c a (composed h.pending p) r)))
 
 ranges_alike : (n m : ℕ) (a b c d : Option Numbers) → n ≡ m → a ≡ b → c ≡ d → widened (widened (one_number n) a) c ≡ widened (widened (one_number m) b) d
 ranges_alike n m a b c d e f g = ap (λ x. widened (widened (one_number x) a) c) e ∙ ap (λ x. widened (widened (one_number m) x) c) f ∙ ap (λ x. widened (widened (one_number m) b) x) g
@@ -102,11 +91,8 @@ range-marked : (c : Choice) (a p : Tag) (t : Shape) → range (marked_under c a 
 unfolding marked_under
 range-marked c a p leaf = refl
 range-marked c a p (fork h l r) =
-    let P : Shape → Type 0 = λ s. range s ≡ Some (widened (widened (one_number h.item.number) (range l)) (range r)) in
-    cond_both (meets c (reach_of h l r)) _ _ P
-    (λ _. cond_both (covers c (reach_of h l r)) _ _ P (λ _. refl)
-    (λ _. ap Some (ranges_alike _ _ _ _ _ _ (marked-number (chosen_by c) a (relabelled p h.item)) (range-marked c a (composed h.pending p) l) (range-marked c a (composed h.pending p) r))))
-    (λ _. refl)
+    marked_cases (λ s. range s ≡ Some (widened (widened (one_number h.item.number) (range l)) (range r))) c a p h l r refl refl
+    (ap Some (ranges_alike _ _ _ _ _ _ (marked-number (chosen_by c) a (relabelled p h.item)) (range-marked c a (composed h.pending p) l) (range-marked c a (composed h.pending p) r)))
 
 extent-tagged : (a : Tag) (t : Shape) → extent (tagged a t) ≡ extent t
 extent-tagged a leaf = refl
@@ -206,7 +192,6 @@ pub record IsEntered (c : Choice) (a : Tag) (s : Shape) (f : Fork) : Type 0 wher
   pub value : fork (head (marked_item (chosen_by c) a f.item) f.axis) (marked_shape c a f.left) (marked_shape c a f.right) ≡ marked_shape c a s
   pub sound : IsSoundFork (head (marked_item (chosen_by c) a f.item) f.axis) (marked_shape c a f.left) (marked_shape c a f.right)
   pub criteria : (large : ℕ) → RebuildsNoneEntered large c (marked_shape c a s) → IsNotDue large (fork (head (marked_item (chosen_by c) a f.item) f.axis) (marked_shape c a f.left) (marked_shape c a f.right)) × RebuildsNoneEntered large c (marked_shape c a f.left) × RebuildsNoneEntered large c (marked_shape c a f.right)
-  pub balanced : (large : ℕ) → IsBalancedBelow large s → IsBalancedBelow large f.left × IsBalancedBelow large f.right
 
 enters : (c : Choice) (a : Tag) (h : Head) (l r : Shape) → meets c (reach_of h l r) ≡ true → covers c (reach_of h l r) ≡ false → fork (head (marked_item (chosen_by c) a h.item) h.axis) (marked_shape c a (tagged h.pending l)) (marked_shape c a (tagged h.pending r)) ≡ marked_shape c a (fork h l r)
 unfolding marked_under
@@ -254,7 +239,6 @@ entered_fork c a h l r m k s =
         low = omega (arith, s.low, levels-marked c a keep_tag (tagged h.pending l), levels-marked c a keep_tag (tagged h.pending r), tagged_levels h.pending l, tagged_levels h.pending r);
       };
       criteria = λ large all. criteria_parts large c (head i h.axis) ml mr (entered_is c (reach_of (head i h.axis) ml mr) (subst (λ (e : Reach). meets c e ≡ true) (sym (reach-entered c a h l r)) m) (subst (λ (e : Reach). covers c e ≡ false) (sym (reach-entered c a h l r)) k)) (subst (RebuildsNoneEntered large c) (sym value) all);
-      balanced = λ large e. balanced_sons large h l r e;
     }
 
 some_reach : (a b : Reach) → ◌≡◌ {A = Option Reach} (Some a) (Some b) → a ≡ b
@@ -286,14 +270,9 @@ marked_covered c a (fork h l r) e x m k =
     let b = some_reach e (reach_of h l r) x in
     sym (cond-true (meets c (reach_of h l r)) _ _ (rw b at m) ∙ cond-true (covers c (reach_of h l r)) _ _ (rw b at k) ∙ ap (tagged a) (tagged-keep (fork h l r)))
 
--- an empty tree stays so
-pub updated_none : (large : ℕ) (c : Choice) (a : Tag) (s : Shape) (C : Type 0) → ◌≡◌ {A = Option Reach} None (reach s) → IsUpdated large s (marked_shape c a s) C s
-updated_none large c a s C x = subst (λ t. IsUpdated large s t C s) (marked_none c a s x) (updated_plain large s s C (λ e. e))
+-- where some subtrees are rebuilt besides, the contents are those after the action
+pub marked_contents : (c : Choice) (a : Tag) (s t : Shape) → IsSound s → IsRefresh (marked_shape c a s) t → contents t ≡ mark (contents s) (chosen_by c) a
+marked_contents c a s t sound f = refresh_contents (marked_shape c a s) t (once-marked c a s (sound_once s sound)) f ∙ contents-marked c a s
 
--- and so does what the choice misses
-pub updated_missed : (large : ℕ) (c : Choice) (a : Tag) (s : Shape) (C : Type 0) (e : Reach) → Some e ≡ reach s → meets c e ≡ false → IsUpdated large s (marked_shape c a s) C s
-updated_missed large c a s C e x m = subst (λ t. IsUpdated large s t C s) (marked_missed c a s e x m) (updated_plain large s s C (λ e. e))
-
--- what it covers has the action done to it
-pub updated_covered : (large : ℕ) (c : Choice) (a : Tag) (s : Shape) (C : Type 0) (e : Reach) → Some e ≡ reach s → meets c e ≡ true → covers c e ≡ true → IsUpdated large s (marked_shape c a s) C (tagged a s)
-updated_covered large c a s C e x m k = subst (λ t. IsUpdated large s t C (tagged a s)) (marked_covered c a s e x m k) (updated_plain large s (tagged a s) C (balanced_tagged large a s))
+pub marked_numbers : (c : Choice) (a : Tag) (s t : Shape) → IsRefresh (marked_shape c a s) t → AreAmong (numbers t) (numbers s)
+marked_numbers c a s t f = subst (AreAmong (numbers t)) (numbers-marked c a keep_tag s) f.from

@@ -1,9 +1,9 @@
 -- Items put to those that are held, one after the other and at once.
-use Rattle.std.proofs.Common.{◌≡◌, ℕ, ◌+◌, ◌<◌, ◌≤◌, max, cond, inl, inr, refl, ap, ◌∙◌, sym, subst, arith, List, [], ◌∷◌, ◌++◌, length, length-append, append_assoc}
-use Rattle.std.specs.Prelude.{Contains, IsPermutation, count_by, ◌==◌}
+use Rattle.std.proofs.Common.{◌≡◌, ℕ, ◌+◌, ◌<◌, ◌≤◌, max, cond, inl, refl, ap, ◌∙◌, sym, subst, arith, List, [], ◌∷◌, ◌++◌, length, length-append, append_assoc}
+use Rattle.std.specs.Prelude.{IsPermutation, count_by, ◌==◌}
 use Rattle.std.proofs.lemmas.Bool.{eq-eqb}
 use Rattle.std.proofs.lemmas.List.{map-append, append-nil}
-use Rattle.std.proofs.lemmas.List.Elements.{All-cons, All-head, All-nil, All-tail, Contains-append_left, Contains-append_right, Contains-append_cases}
+use Rattle.std.proofs.lemmas.List.Elements.{All-cons, All-head, All-nil, All-tail}
 use Rattle.std.proofs.lemmas.List.Sorted.{Contains-permutation, length_permutation, IsPermutation-sym, IsPermutation-append_left, IsPermutation-append_comm, IsPermutation-middle}
 use Rattle.std.proofs.lemmas.List.Sums.{sum_by-append, sum_by-cons}
 use Rattle.point_geom.specs.Place.{Place}
@@ -20,9 +20,10 @@ use Rattle.kd_tree.specs.Contents.{AreDistinct, by_number, contents, insert_item
 use Rattle.kd_tree.proofs.Contents.{times_contents}
 use Rattle.kd_tree.proofs.Held.{are_distinct}
 use Rattle.kd_tree.proofs.Numbered.{by_number-moved, by_number_moves, counted_in, insert-put, numbered_from, once_moved}
+use Rattle.kd_update.specs.Refresh.{AreAmong}
 use Rattle.kd_update.specs.Update.{IsBalancedBelow}
 use Rattle.kd_update.specs.Scan.{AreLive, IsGrown, IsPiece, IsPut, MayJoin, live_from, numbers_in, put_each}
-use Rattle.kd_update.proofs.Trees.{among_same}
+use Rattle.kd_update.proofs.Trees.{among_same, among_then}
 use Rattle.kd_update.proofs.Grown.{IsLive, all_first, all_last, distinct_front, live_of}
 
 -- items put one after the other
@@ -63,22 +64,10 @@ put_none large s = record { held = refl; from = among_same (numbers s); few = om
 pub put_then : (large : ℕ) (s t u : Shape) (xs ys : List Item) → IsPut large s xs t → IsPut large t ys u → IsPut large s (xs ++ ys) u
 put_then large s t u xs ys f g = record {
   held = g.held ∙ ap (λ m. put_each m ys) f.held ∙ sym (put_each-append (contents s) xs ys);
-  from = λ n k. subst (λ z. Contains (z ++ numbers s) n) (sym (map-append (λ (i : Item). i.number) xs ys)) (elim (Contains-append_cases b (numbers t) n (g.from n k)) [
-    | inl x ↦ Contains-append_left (a ++ b) (numbers s) n (Contains-append_right a b n x)
-    | inr y ↦ elim (Contains-append_cases a (numbers s) n (f.from n y)) [
-      | inl x ↦ Contains-append_left (a ++ b) (numbers s) n (Contains-append_left a b n x)
-      | inr z ↦ Contains-append_right (a ++ b) (numbers s) n z
-    ]
-  ]);
+  from = subst (λ z. AreAmong (numbers u) (z ++ numbers s)) (sym (map-append (λ (i : Item). i.number) xs ys)) (among_then (numbers_in xs) (numbers_in ys) (numbers s) (numbers t) (numbers u) f.from g.from);
   few = omega (arith, f.few, g.few, length-append xs ys);
   balanced = λ k. g.balanced (f.balanced k);
 }
-  where
-    a : List ℕ
-    a = numbers_in xs
-
-    b : List ℕ
-    b = numbers_in ys
 
 -- items that may join what a tree holds
 
@@ -91,16 +80,16 @@ contents_size s = length_permutation (walk keep_tag s) (contents s) (by_number_m
 pub join_piece : (large : ℕ) (s : Shape) (is : List Item) → MayJoin (contents s) is → length is < max 2 large → length is < 4194304 → levels s ≤ 490 → nodes s + length is ≤ 4194304 → IsPiece large s is
 join_piece large s is k small short low few = record { live = k.live; distinct = walk_distinct s is k.distinct; small = small; short = short; low = low; few = few }
 
+-- what a tree that has grown by them holds, and what numbers it has
+pub grown_held : (s t : Shape) (is : List Item) → AreLive is → AreDistinct (walk keep_tag s ++ is) → IsGrown s is t → contents t ≡ put_each (contents s) is
+grown_held s t is live distinct g = sym (by_number-moved (walk keep_tag s ++ is) (walk keep_tag t) g.same distinct) ∙ by_number-put_each (walk keep_tag s) is distinct live
+
+pub grown_numbers : (s t : Shape) (is : List Item) → IsGrown s is t → AreAmong (numbers t) (numbers_in is ++ numbers s)
+grown_numbers s t is g n c = Contains-permutation _ _ n (IsPermutation-append_comm (numbers s) (numbers_in is)) (g.from n c)
+
 -- a tree that has grown by them has them put
 pub join_grown : (large : ℕ) (s t : Shape) (is : List Item) → MayJoin (contents s) is → IsGrown s is t → (IsBalancedBelow large s → IsBalancedBelow large t) → IsPut large s is t
-join_grown large s t is k g balanced =
-    let distinct = walk_distinct s is k.distinct in
-    record {
-      held = sym (by_number-moved (walk keep_tag s ++ is) (walk keep_tag t) g.same distinct) ∙ by_number-put_each (walk keep_tag s) is distinct k.live;
-      from = λ n c. Contains-permutation _ _ n (IsPermutation-append_comm (numbers s) (numbers_in is)) (g.from n c);
-      few = g.few;
-      balanced = balanced;
-    }
+join_grown large s t is k g balanced = record { held = grown_held s t is k.live (walk_distinct s is k.distinct) g; from = grown_numbers s t is g; few = g.few; balanced = balanced }
 
 pub join_first : (m xs ys : List Item) → MayJoin m (xs ++ ys) → MayJoin m xs
 join_first m xs ys k = record {

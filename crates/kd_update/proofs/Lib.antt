@@ -8,6 +8,7 @@ pub mod Lists
 pub mod Logged
 pub mod Made
 pub mod ManyLogs
+pub mod Near
 pub mod Numbers
 pub mod OpRuns
 pub mod Performed

@@ -126,20 +126,6 @@ is_covered c e k = rw k (and_none (meets c e))
     and_none true = refl
     and_none false = refl
 
-logged_missed : (c : Choice) (a : Tag) (side : Side) (path : List Side) (s : Shape) (e : Reach) → Some e ≡ reach s → meets c e ≡ false → logged_mark c a (side ∷ path) s ≡ []
-logged_missed c a side path s e x m = logged_passed c a side path s e x (not_met c e m)
-
-logged_covered : (c : Choice) (a : Tag) (side : Side) (path : List Side) (s : Shape) (e : Reach) → Some e ≡ reach s → covers c e ≡ true → logged_mark c a (side ∷ path) s ≡ []
-logged_covered c a side path s e x k = logged_passed c a side path s e x (is_covered c e k)
-
-logged_met : (c : Choice) (a : Tag) (t : Shape) → is_met c t ≡ true → logged_mark c a [] t ≡ Mark c a ∷ []
-unfolding logged_mark
-logged_met c a t e = cond-true (is_met c t) _ _ e
-
-logged_unmet : (c : Choice) (a : Tag) (t : Shape) → is_met c t ≡ false → logged_mark c a [] t ≡ []
-unfolding logged_mark
-logged_unmet c a t e = cond-false (is_met c t) _ _ e
-
 met_tagged : (c : Choice) (q : Tag) (t : Shape) → is_met c (tagged q t) ≡ is_met c t
 met_tagged c q leaf = refl
 met_tagged c q (fork h l r) = refl
@@ -149,10 +135,12 @@ reach_tagged q leaf = refl
 reach_tagged q (fork h l r) = refl
 
 pub ahead_met : (c : Choice) (a q : Tag) (t : Shape) → is_met c t ≡ true → logged_mark c a [] (tagged q t) ≡ Mark c a ∷ []
-ahead_met c a q t e = logged_met c a (tagged q t) (met_tagged c q t ∙ e)
+unfolding logged_mark
+ahead_met c a q t e = cond-true (is_met c (tagged q t)) _ _ (met_tagged c q t ∙ e)
 
 pub ahead_unmet : (c : Choice) (a q : Tag) (t : Shape) → is_met c t ≡ false → logged_mark c a [] (tagged q t) ≡ []
-ahead_unmet c a q t e = logged_unmet c a (tagged q t) (met_tagged c q t ∙ e)
+unfolding logged_mark
+ahead_unmet c a q t e = cond-false (is_met c (tagged q t)) _ _ (met_tagged c q t ∙ e)
 
 pub ahead_none : (c : Choice) (a q : Tag) (side : Side) (path : List Side) (t : Shape) → ◌≡◌ {A = Option Reach} None (reach t) → logged_mark c a (side ∷ path) (tagged q t) ≡ []
 unfolding logged_mark
@@ -160,10 +148,10 @@ ahead_none c a q side path leaf x = refl
 ahead_none c a q side path (fork h l r) x = absurd (cc)
 
 pub ahead_missed : (c : Choice) (a q : Tag) (side : Side) (path : List Side) (t : Shape) (e : Reach) → Some e ≡ reach t → meets c e ≡ false → logged_mark c a (side ∷ path) (tagged q t) ≡ []
-ahead_missed c a q side path t e x m = logged_missed c a side path (tagged q t) e (x ∙ sym (reach_tagged q t)) m
+ahead_missed c a q side path t e x m = logged_passed c a side path (tagged q t) e (x ∙ sym (reach_tagged q t)) (not_met c e m)
 
 pub ahead_covered : (c : Choice) (a q : Tag) (side : Side) (path : List Side) (t : Shape) (e : Reach) → Some e ≡ reach t → covers c e ≡ true → logged_mark c a (side ∷ path) (tagged q t) ≡ []
-ahead_covered c a q side path t e x k = logged_covered c a side path (tagged q t) e (x ∙ sym (reach_tagged q t)) k
+ahead_covered c a q side path t e x k = logged_passed c a side path (tagged q t) e (x ∙ sym (reach_tagged q t)) (is_covered c e k)
 
 pub ahead_entered : (c : Choice) (a q p : Tag) (side : Side) (path : List Side) (t s : Shape) (e : Reach) (h : Head) (l r : Shape) → Some e ≡ reach t → meets c e ≡ true → covers c e ≡ false → t ≡ fork h l r → p ≡ composed h.pending q → s ≡ son side l r
     → logged_mark c a (side ∷ path) (tagged q t) ≡ handed path p ++ logged_mark c a path (tagged p s)
@@ -187,27 +175,12 @@ pub ahead_put_none : (n : ℕ) (p : Place) (q : Tag) (side : Side) (path : List 
 unfolding logged_put
 ahead_put_none n p q side path t e = ap (λ z. logged_put n p (side ∷ path) (tagged q z)) e
 
-pub ahead_put_begins : (n : ℕ) (p : Place) (q o : Tag) (side : Side) (path : List Side) (t : Shape) (h : Head) (l r : Shape) → t ≡ fork h l r → o ≡ composed h.pending q → (ops : List Op) × (logged_put n p (side ∷ path) (tagged q t) ≡ handed path o ++ ops)
+pub ahead_put : (n : ℕ) (p : Place) (q o : Tag) (side : Side) (path : List Side) (t s : Shape) (h : Head) (l r : Shape) (b : Bool) → t ≡ fork h l r → o ≡ composed h.pending q → s ≡ son side l r → b ≡ goes_to side (goes_left h.axis p h.item.point)
+    → logged_put n p (side ∷ path) (tagged q t) ≡ handed path o ++ cond b (logged_put n p path (tagged o s)) []
 unfolding logged_put
-ahead_put_begins n p q o side path t h l r is owed =
-    let ops = cond (goes_to side (goes_left h.axis p h.item.point)) (logged_put n p path (tagged (composed h.pending q) (son side l r))) [] in
-    (ops, ap (λ z. logged_put n p (side ∷ path) (tagged q z)) is ∙ ap (λ z. handed path z ++ ops) (sym owed))
-
-pub ahead_put_on : (n : ℕ) (p : Place) (q o : Tag) (side : Side) (path : List Side) (t s : Shape) (h : Head) (l r : Shape) → t ≡ fork h l r → o ≡ composed h.pending q → s ≡ son side l r → goes_to side (goes_left h.axis p h.item.point) ≡ true
-    → logged_put n p (side ∷ path) (tagged q t) ≡ handed path o ++ logged_put n p path (tagged o s)
-unfolding logged_put
-ahead_put_on n p q o side path t s h l r is owed on e =
+ahead_put n p q o side path t s h l r b is owed on goes =
     let c = composed h.pending q in
     ap (λ z. logged_put n p (side ∷ path) (tagged q z)) is
-    ∙ ap (λ z. handed path c ++ z) (cond-true (goes_to side (goes_left h.axis p h.item.point)) (logged_put n p path (tagged c (son side l r))) [] e)
-    ∙ ap (λ z. handed path z ++ logged_put n p path (tagged z (son side l r))) (sym owed)
-    ∙ ap (λ z. handed path o ++ logged_put n p path (tagged o z)) (sym on)
-
-pub ahead_put_off : (n : ℕ) (p : Place) (q o : Tag) (side : Side) (path : List Side) (t : Shape) (h : Head) (l r : Shape) → t ≡ fork h l r → o ≡ composed h.pending q → goes_to side (goes_left h.axis p h.item.point) ≡ false
-    → logged_put n p (side ∷ path) (tagged q t) ≡ handed path o ++ []
-unfolding logged_put
-ahead_put_off n p q o side path t h l r is owed e =
-    let c = composed h.pending q in
-    ap (λ z. logged_put n p (side ∷ path) (tagged q z)) is
-    ∙ ap (λ z. handed path c ++ z) (cond-false (goes_to side (goes_left h.axis p h.item.point)) (logged_put n p path (tagged c (son side l r))) [] e)
-    ∙ ap (λ z. handed path z ++ []) (sym owed)
+    ∙ ap (λ z. handed path c ++ cond z (logged_put n p path (tagged c (son side l r))) []) (sym goes)
+    ∙ ap (λ z. handed path z ++ cond b (logged_put n p path (tagged z (son side l r))) []) (sym owed)
+    ∙ ap (λ z. handed path o ++ cond b (logged_put n p path (tagged o z)) []) (sym on)

@@ -1,7 +1,6 @@
 -- Operations done on trees, one after the other.
-use Rattle.std.proofs.Common.{◌≡◌, ℕ, ◌+◌, ◌≤◌, List, [], ◌++◌, length, length-append, refl, ap, ◌∙◌, sym, subst, inl, inr, arith}
+use Rattle.std.proofs.Common.{◌≡◌, ℕ, ◌+◌, ◌≤◌, List, [], ◌++◌, length, length-append, refl, ap, ◌∙◌, sym, subst, arith}
 use Rattle.std.specs.Prelude.{Result, Ok, Err, IfOk}
-use Rattle.std.proofs.lemmas.List.Elements.{Contains-append_left, Contains-append_right, Contains-append_cases}
 use Rattle.map_fold.specs.declared.op.Op.{Op}
 use Rattle.map_fold.specs.Ops.{numbers_put, replay}
 use Rattle.map_fold.proofs.Replays.{numbers_put-append, replay-append}
@@ -10,22 +9,13 @@ use Rattle.kd_tree.specs.Contents.{contents}
 use Rattle.kd_update.specs.Refresh.{AreAmong}
 use Rattle.kd_update.specs.Update.{IsBalancedBelow}
 use Rattle.kd_update.specs.Replay.{IsPerformed}
-use Rattle.kd_update.proofs.Trees.{among_same}
+use Rattle.kd_update.proofs.Trees.{among_same, among_then}
 
 pub performed_none : (large : ℕ) (s : Shape) → IsPerformed large s [] s
 performed_none large s = record { held = refl; from = among_same (numbers s); balanced = λ k. k; low = omega arith; few = omega arith }
 
 puts-append : (a b : List Op) → length (numbers_put (a ++ b)) ≡ length (numbers_put a) + length (numbers_put b)
 puts-append a b = ap length (numbers_put-append a b) ∙ length-append (numbers_put a) (numbers_put b)
-
-among_then : (a b s t u : List ℕ) → AreAmong t (a ++ s) → AreAmong u (b ++ t) → AreAmong u ((a ++ b) ++ s)
-among_then a b s t u f g n k = elim (Contains-append_cases b t n (g n k)) [
-  | inl x ↦ Contains-append_left (a ++ b) s n (Contains-append_right a b n x)
-  | inr y ↦ elim (Contains-append_cases a s n (f n y)) [
-    | inl x ↦ Contains-append_left (a ++ b) s n (Contains-append_left a b n x)
-    | inr z ↦ Contains-append_right (a ++ b) s n z
-  ]
-]
 
 -- some operations, and then others
 pub performed_then : (large : ℕ) (s t u : Shape) (a b : List Op) → IsPerformed large s a t → IsPerformed large t b u → IsPerformed large s (a ++ b) u

@@ -1,10 +1,10 @@
 -- A tree with one more point, without rebuilding.
-use Rattle.std.proofs.Common.{◌≡◌, ℕ, ℤ, ◌+◌, ◌≤◌, ◌<◌, ◌≤ℤ◌, max, true, false, cond, refl, ap, ◌∙◌, sym, arith, subst, Option, Some, None, List, [], ◌∷◌, ◌++◌, inl, inr}
+use Rattle.std.proofs.Common.{◌≡◌, ℕ, ℤ, ◌+◌, ◌*◌, ◌≤◌, ◌<◌, ◌≤ℤ◌, max, true, false, cond, refl, ap, ◌∙◌, sym, arith, subst, Some, List, [], ◌∷◌, ◌++◌}
 use Rattle.std.specs.Prelude.{count_by, int_lt, IsPermutation, ◌==◌}
 use Rattle.std.proofs.lemmas.Bool.{cond_both, cond-true, cond-false}
 use Rattle.std.proofs.lemmas.Bool.Decides.{nat_tests}
 use Rattle.std.proofs.lemmas.Int.{ints}
-use Rattle.std.proofs.lemmas.List.Elements.{All-cons, Contains-append_left, Contains-append_right, Contains-append_cases}
+use Rattle.std.proofs.lemmas.List.Elements.{All-cons}
 use Rattle.std.proofs.lemmas.List.Sorted.{All-permutation, sum_by-IsPermutation, IsPermutation-refl, IsPermutation-sym, IsPermutation-trans, IsPermutation-append_left, IsPermutation-append_right, IsPermutation-middle}
 use Rattle.std.proofs.lemmas.List.Sums.{sum_by-cons}
 use Rattle.point_geom.specs.Place.{Place}
@@ -17,20 +17,24 @@ use Rattle.map_fold.specs.declared.item.Item.{Item}
 use Rattle.map_fold.specs.Contents.{live_at, put, relabelled, kept}
 use Rattle.kd_tree.specs.Shape.{Head, Shape, leaf, fork, nodes, levels, numbers}
 use Rattle.kd_tree.specs.Walk.{walk, tagged, AllKept, times}
-use Rattle.kd_tree.specs.Sound.{IsSound, IsSoundFork}
+use Rattle.kd_tree.specs.Sound.{IsSound, IsSoundFork, IsTopSound}
 use Rattle.kd_tree.specs.Contents.{contents}
 use Rattle.kd_tree.specs.Parts.{pushed}
+use Rattle.kd_tree.specs.Apart.{is_here}
 use Rattle.kd_tree.specs.declared.change.Fork.{Fork}
-use Rattle.kd_tree.proofs.Actions.{tagged_nodes, tagged_levels, tagged_numbers, times-tagged, pushed_sound}
+use Rattle.kd_tree.specs.declared.path.Side.{Side}
+use Rattle.kd_tree.specs.declared.path.Side.TheVariants.{Left, Right}
+use Rattle.kd_tree.proofs.Actions.{tagged_nodes, tagged_levels, tagged_numbers, times-tagged, pushed_sound, sound_once}
 use Rattle.kd_tree.proofs.Numbered.{by_number_moves, by_number-moved, counted_in, insert-put}
 use Rattle.kd_tree.proofs.Contents.{relabelled-keep, times_walk, once_walk, parts_alike}
-use Rattle.kd_update.specs.Refresh.{AreAmong, IsNotDue, RefreshesIfDue}
-use Rattle.kd_update.specs.Update.{IsBalancedBelow, IsUpdated}
-use Rattle.kd_update.specs.Put.{goes_left, leaf_of, put_under, put_from, RebuildsNoneOnRoute}
+use Rattle.kd_update.specs.Refresh.{AreAmong, IsNotDue, IsRefresh}
+use Rattle.kd_update.specs.Made.{entered_put}
+use Rattle.kd_update.specs.Put.{goes_left, put_under, put_from, side_of, RebuildsNoneOnRoute}
+use Rattle.kd_update.specs.Several.{large_at}
 use Rattle.kd_tree.proofs.Left.{all_left, left_all}
-use Rattle.kd_update.proofs.Trees.{forked, some_fork, walk-tagged_keep, among_same}
-use Rattle.kd_update.proofs.Refresh.{head}
-use Rattle.kd_update.proofs.Update.{balanced_sons, updated_plain, updated_fork}
+use Rattle.kd_update.proofs.Trees.{forked, at_pushed, walk-tagged_keep, among_same, among_left, among_right}
+use Rattle.kd_update.proofs.Refresh.{head, refresh_contents}
+use Rattle.kd_update.proofs.Near.{near, with_near}
 
 -- a put after an action on all
 pub put-tagged : (n : ℕ) (p : Place) (axis : Axis) (a : Tag) (t : Shape) → put_under n p axis keep_tag (tagged a t) ≡ put_under n p axis a t
@@ -63,32 +67,6 @@ levels-put n p axis a (fork h l r) =
     (λ _. omega (arith, levels-put n p (next_axis h.axis) owed l, tagged_levels owed r))
     (λ _. omega (arith, levels-put n p (next_axis h.axis) owed r, tagged_levels owed l))
 
-new_left : (n : ℕ) (i : ℕ) (xs l r : List ℕ) → AreAmong xs (n ∷ l) → AreAmong (i ∷ (xs ++ r)) (n ∷ i ∷ (l ++ r))
-new_left n i xs l r f m k =
-    elim (Contains-append_cases (i ∷ []) (xs ++ r) m k) [
-      | inl u ↦ Contains-append_right (n ∷ []) (i ∷ (l ++ r)) m (Contains-append_left (i ∷ []) (l ++ r) m u)
-      | inr v ↦ elim (Contains-append_cases xs r m v) [
-        | inl u ↦ elim (Contains-append_cases (n ∷ []) l m (f m u)) [
-          | inl w ↦ Contains-append_left (n ∷ []) (i ∷ (l ++ r)) m w
-          | inr w ↦ Contains-append_right (n ∷ []) (i ∷ (l ++ r)) m (Contains-append_right (i ∷ []) (l ++ r) m (Contains-append_left l r m w))
-        ]
-        | inr u ↦ Contains-append_right (n ∷ []) (i ∷ (l ++ r)) m (Contains-append_right (i ∷ []) (l ++ r) m (Contains-append_right l r m u))
-      ]
-    ]
-
-new_right : (n : ℕ) (i : ℕ) (xs l r : List ℕ) → AreAmong xs (n ∷ r) → AreAmong (i ∷ (l ++ xs)) (n ∷ i ∷ (l ++ r))
-new_right n i xs l r f m k =
-    elim (Contains-append_cases (i ∷ []) (l ++ xs) m k) [
-      | inl u ↦ Contains-append_right (n ∷ []) (i ∷ (l ++ r)) m (Contains-append_left (i ∷ []) (l ++ r) m u)
-      | inr v ↦ elim (Contains-append_cases l xs m v) [
-        | inr u ↦ elim (Contains-append_cases (n ∷ []) r m (f m u)) [
-          | inl w ↦ Contains-append_left (n ∷ []) (i ∷ (l ++ r)) m w
-          | inr w ↦ Contains-append_right (n ∷ []) (i ∷ (l ++ r)) m (Contains-append_right (i ∷ []) (l ++ r) m (Contains-append_right l r m w))
-        ]
-        | inl u ↦ Contains-append_right (n ∷ []) (i ∷ (l ++ r)) m (Contains-append_right (i ∷ []) (l ++ r) m (Contains-append_left l r m u))
-      ]
-    ]
-
 -- each number is the new one or was there
 pub numbers-put : (n : ℕ) (p : Place) (axis : Axis) (a : Tag) (t : Shape) → AreAmong (numbers (put_under n p axis a t)) (n ∷ numbers t)
 unfolding put_under
@@ -98,9 +76,9 @@ numbers-put n p axis a (fork h l r) =
     let owed = composed h.pending a in
     cond_both (goes_left h.axis p h.item.point) _ _ P
     (λ _. subst (λ z. AreAmong (h.item.number ∷ (numbers (put_under n p (next_axis h.axis) owed l) ++ z)) (n ∷ h.item.number ∷ (numbers l ++ numbers r))) (sym (tagged_numbers owed r))
-    (new_left n h.item.number (numbers (put_under n p (next_axis h.axis) owed l)) (numbers l) (numbers r) (numbers-put n p (next_axis h.axis) owed l)))
+    (among_left h.item.number (numbers (put_under n p (next_axis h.axis) owed l)) (numbers l) (numbers r) (n ∷ []) (numbers-put n p (next_axis h.axis) owed l)))
     (λ _. subst (λ z. AreAmong (h.item.number ∷ (z ++ numbers (put_under n p (next_axis h.axis) owed r))) (n ∷ h.item.number ∷ (numbers l ++ numbers r))) (sym (tagged_numbers owed l))
-    (new_right n h.item.number (numbers (put_under n p (next_axis h.axis) owed r)) (numbers l) (numbers r) (numbers-put n p (next_axis h.axis) owed r)))
+    (among_right h.item.number (numbers (put_under n p (next_axis h.axis) owed r)) (numbers l) (numbers r) (n ∷ []) (numbers-put n p (next_axis h.axis) owed r)))
 
 moved_left : {X : Type 0} (x : X) (k l r l' : List X) → IsPermutation (x ∷ l) l' → IsPermutation (x ∷ (k ++ (l ++ r))) (k ++ (l' ++ r))
 moved_left x k l r l' m =
@@ -153,6 +131,15 @@ contents-put n p axis t once none =
     let distinct = once_walk (put_from n p axis t) (once-put n p axis t once none) in
     by_number-moved _ _ (IsPermutation-sym _ _ walked) distinct ∙ insert-put (contents t) n p (λ i m e. absurd (omega (arith, new, counted_in i n (contents t) m e)))
 
+-- so it is where some subtrees are rebuilt besides
+pub put_contents : (n : ℕ) (p : Place) (axis : Axis) (s t : Shape) → IsSound s → times n keep_tag s ≡ 0 → IsRefresh (put_from n p axis s) t → contents t ≡ put (contents s) n p
+put_contents n p axis s t sound new f =
+    let once = sound_once s sound in
+    refresh_contents (put_from n p axis s) t (once-put n p axis s once new) f ∙ contents-put n p axis s once new
+
+pub put_numbers : (n : ℕ) (p : Place) (axis : Axis) (s t : Shape) → IsRefresh (put_from n p axis s) t → AreAmong (numbers t) (n ∷ numbers s)
+put_numbers n p axis s t f m k = numbers-put n p axis keep_tag s m (f.from m k)
+
 -- the route
 
 pub le_of_true : (a b : ℤ) → int_lt a b ≡ true → a ≤ℤ b
@@ -167,12 +154,14 @@ pub record IsFree (n : ℕ) (son : Shape) : Type 0 where
   pub few : nodes son < 4194304
   pub new : times n keep_tag son ≡ 0
 
--- what holds where the top of s, which is taken apart to f, is made anew with the sons l and r
-pub record IsOnRoute (n : ℕ) (p : Place) (axis : Axis) (s : Shape) (f : Fork) (l r : Shape) : Type 0 where
-  pub value : fork (head f.item f.axis) l r ≡ put_from n p axis s
-  pub sound : IsSoundFork (head f.item f.axis) l r
-  pub criteria : (large : ℕ) → RebuildsNoneOnRoute large p (put_from n p axis s) → IsNotDue large (fork (head f.item f.axis) l r) × (goes_left f.axis p f.item.point ≡ true → RebuildsNoneOnRoute large p l) × (goes_left f.axis p f.item.point ≡ false → RebuildsNoneOnRoute large p r)
-  pub balanced : (large : ℕ) → IsBalancedBelow large s → IsBalancedBelow large f.left × IsBalancedBelow large f.right
+-- what holds where the point goes on to the son on the side, when the top of s is taken apart to f
+pub record IsOnRoute (n : ℕ) (p : Place) (axis : Axis) (s : Shape) (f : Fork) (side : Side) : Type 0 where
+  pub value : with_near side f (put_from n p (next_axis f.axis) (near side f)) ≡ put_from n p axis s
+  pub sound : IsTopSound (with_near side f (put_from n p (next_axis f.axis) (near side f)))
+  pub criteria : (large : ℕ) → RebuildsNoneOnRoute large p (put_from n p axis s)
+      → IsNotDue large (with_near side f (put_from n p (next_axis f.axis) (near side f))) × RebuildsNoneOnRoute large p (put_from n p (next_axis f.axis) (near side f))
+  pub free : IsFree n (near side f)
+  pub entered : entered_put p s ≡ 1 + entered_put p (near side f)
 
 criteria_parts : (large : ℕ) (p : Place) (h : Head) (l r : Shape) → RebuildsNoneOnRoute large p (fork h l r) → IsNotDue large (fork h l r) × (goes_left h.axis p h.item.point ≡ true → RebuildsNoneOnRoute large p l) × (goes_left h.axis p h.item.point ≡ false → RebuildsNoneOnRoute large p r)
 unfolding RebuildsNoneOnRoute
@@ -207,87 +196,86 @@ free_sons n h l r k =
       record { low = omega (arith, k.low, tagged_levels h.pending r); few = omega (arith, k.few, tagged_nodes h.pending r); new = new.1 },
     )
 
-left_fork : (n : ℕ) (p : Place) (axis : Axis) (h : Head) (l r : Shape) → goes_left h.axis p h.item.point ≡ true → IsSound (fork h l r) → IsFree n (fork h l r)
-    → IsOnRoute n p axis (fork h l r) (forked h l r) (put_from n p (next_axis h.axis) (tagged h.pending l)) (tagged h.pending r)
+entered_put-tagged : (p : Place) (a : Tag) (t : Shape) → entered_put p (tagged a t) ≡ entered_put p t
+unfolding entered_put
+entered_put-tagged p a leaf = refl
+entered_put-tagged p a (fork h l r) = refl
+
+entered_left : (p : Place) (h : Head) (l r : Shape) → goes_left h.axis p h.item.point ≡ true → entered_put p (fork h l r) ≡ 1 + entered_put p (tagged h.pending l)
+unfolding entered_put
+entered_left p h l r e = ap (λ n. 1 + n) (cond-true (goes_left h.axis p h.item.point) (entered_put p l) (entered_put p r) e ∙ sym (entered_put-tagged p h.pending l))
+
+entered_right : (p : Place) (h : Head) (l r : Shape) → goes_left h.axis p h.item.point ≡ false → entered_put p (fork h l r) ≡ 1 + entered_put p (tagged h.pending r)
+unfolding entered_put
+entered_right p h l r e = ap (λ n. 1 + n) (cond-false (goes_left h.axis p h.item.point) (entered_put p l) (entered_put p r) e ∙ sym (entered_put-tagged p h.pending r))
+
+-- a node with the point put below it is sound, where its sons lie on their sides
+route_sound : (n : ℕ) (p : Place) (axis : Axis) (h : Head) (l r l' r' : Shape) → IsSound (fork h l r) → IsFree n (fork h l r) → fork (head h.item h.axis) l' r' ≡ put_from n p axis (fork h l r)
+    → AllKept (λ q. on h.axis q ≤ℤ on h.axis h.item.point) keep_tag l' → AllKept (λ q. on h.axis h.item.point ≤ℤ on h.axis q) keep_tag r' → IsSoundFork (head h.item h.axis) l' r'
+route_sound n p axis h l r l' r' s k value below above = record {
+  below = below;
+  above = above;
+  once = λ m. subst (λ z. times m keep_tag z ≤ 1) (sym value) (once-put n p axis (fork h l r) s.0.once k.new m);
+  few = omega (arith, k.few, ap nodes value, nodes-put n p axis keep_tag (fork h l r));
+  low = omega (arith, k.low, ap levels value, levels-put n p axis keep_tag (fork h l r));
+}
+
+left_fork : (n : ℕ) (p : Place) (axis : Axis) (h : Head) (l r : Shape) → goes_left h.axis p h.item.point ≡ true → IsSound (fork h l r) → IsFree n (fork h l r) → IsOnRoute n p axis (fork h l r) (forked h l r) Left
 left_fork n p axis h l r e s k =
     let value = value_left n p axis h l r e in
     let next = next_axis h.axis in
     let P : Place → Type 0 = λ q. on h.axis q ≤ℤ on h.axis h.item.point in
     record {
       value = value;
-      sound = record {
-        below = rw (put-tagged n p next h.pending l) (AllKept-put P n p next h.pending l (le_of_true (on h.axis p) (on h.axis h.item.point) e) s.0.below);
-        above = (pushed_sound h l r s).0.above;
-        once = λ m. subst (λ z. times m keep_tag z ≤ 1) (sym value) (once-put n p axis (fork h l r) s.0.once k.new m);
-        few = omega (arith, k.few, nodes-put n p next keep_tag (tagged h.pending l), tagged_nodes h.pending l, tagged_nodes h.pending r);
-        low = omega (arith, k.low, levels-put n p next keep_tag (tagged h.pending l), tagged_levels h.pending l, tagged_levels h.pending r);
-      };
-      criteria = λ large all. criteria_parts large p (head h.item h.axis) (put_from n p next (tagged h.pending l)) (tagged h.pending r) (subst (RebuildsNoneOnRoute large p) (sym value) all);
-      balanced = λ large k. balanced_sons large h l r k;
+      sound = route_sound n p axis h l r (put_from n p next (tagged h.pending l)) (tagged h.pending r) s k value
+          (rw (put-tagged n p next h.pending l) (AllKept-put P n p next h.pending l (le_of_true (on h.axis p) (on h.axis h.item.point) e) s.0.below)) (pushed_sound h l r s).0.above;
+      criteria = λ large all. let parts = criteria_parts large p (head h.item h.axis) (put_from n p next (tagged h.pending l)) (tagged h.pending r) (subst (RebuildsNoneOnRoute large p) (sym value) all) in (parts.0, parts.1 e);
+      free = (free_sons n h l r k).0;
+      entered = entered_left p h l r e;
     }
 
-right_fork : (n : ℕ) (p : Place) (axis : Axis) (h : Head) (l r : Shape) → goes_left h.axis p h.item.point ≡ false → IsSound (fork h l r) → IsFree n (fork h l r)
-    → IsOnRoute n p axis (fork h l r) (forked h l r) (tagged h.pending l) (put_from n p (next_axis h.axis) (tagged h.pending r))
+right_fork : (n : ℕ) (p : Place) (axis : Axis) (h : Head) (l r : Shape) → goes_left h.axis p h.item.point ≡ false → IsSound (fork h l r) → IsFree n (fork h l r) → IsOnRoute n p axis (fork h l r) (forked h l r) Right
 right_fork n p axis h l r e s k =
     let value = value_right n p axis h l r e in
     let next = next_axis h.axis in
     let P : Place → Type 0 = λ q. on h.axis h.item.point ≤ℤ on h.axis q in
     record {
       value = value;
-      sound = record {
-        below = (pushed_sound h l r s).0.below;
-        above = rw (put-tagged n p next h.pending r) (AllKept-put P n p next h.pending r (le_of_false (on h.axis p) (on h.axis h.item.point) e) s.0.above);
-        once = λ m. subst (λ z. times m keep_tag z ≤ 1) (sym value) (once-put n p axis (fork h l r) s.0.once k.new m);
-        few = omega (arith, k.few, nodes-put n p next keep_tag (tagged h.pending r), tagged_nodes h.pending l, tagged_nodes h.pending r);
-        low = omega (arith, k.low, levels-put n p next keep_tag (tagged h.pending r), tagged_levels h.pending l, tagged_levels h.pending r);
-      };
-      criteria = λ large all. criteria_parts large p (head h.item h.axis) (tagged h.pending l) (put_from n p next (tagged h.pending r)) (subst (RebuildsNoneOnRoute large p) (sym value) all);
-      balanced = λ large k. balanced_sons large h l r k;
+      sound = route_sound n p axis h l r (tagged h.pending l) (put_from n p next (tagged h.pending r)) s k value (pushed_sound h l r s).0.below
+          (rw (put-tagged n p next h.pending r) (AllKept-put P n p next h.pending r (le_of_false (on h.axis p) (on h.axis h.item.point) e) s.0.above));
+      criteria = λ large all. let parts = criteria_parts large p (head h.item h.axis) (tagged h.pending l) (put_from n p next (tagged h.pending r)) (subst (RebuildsNoneOnRoute large p) (sym value) all) in (parts.0, parts.2 e);
+      free = (free_sons n h l r k).1;
+      entered = entered_right p h l r e;
     }
 
--- both sons are free where the tree is
-pub route_free : (n : ℕ) (s : Shape) (f : Fork) → Some f ≡ pushed s → IsFree n s → IsFree n f.left × IsFree n f.right
-route_free n leaf f x k = absurd (cc)
-route_free n (fork h l r) f x k = subst (λ (g : Fork). IsFree n g.left × IsFree n g.right) (sym (some_fork f (forked h l r) x)) (free_sons n h l r k)
+pub on_route : (n : ℕ) (p : Place) (axis : Axis) (s : Shape) (f : Fork) (side : Side) → Some f ≡ pushed s → side ≡ side_of f.axis p f.item.point → IsSound s → IsFree n s → IsOnRoute n p axis s f side
+on_route n p axis s f side x e = subst (λ (w : Side). IsSound s → IsFree n s → IsOnRoute n p axis s f w) (sym e)
+    (at_pushed (λ z g. IsSound z → IsFree n z → IsOnRoute n p axis z g (side_of g.axis p g.item.point)) s f x
+    (λ h l r. cond_both (goes_left h.axis p h.item.point) Left Right (λ (w : Side). IsSound (fork h l r) → IsFree n (fork h l r) → IsOnRoute n p axis (fork h l r) (forked h l r) w) (left_fork n p axis h l r) (right_fork n p axis h l r)))
 
-pub on_left : (n : ℕ) (p : Place) (axis : Axis) (s : Shape) (f : Fork) → Some f ≡ pushed s → goes_left f.axis p f.item.point ≡ true → IsSound s → IsFree n s
-    → IsOnRoute n p axis s f (put_from n p (next_axis f.axis) f.left) f.right
-on_left n p axis leaf f x e s k = absurd (cc)
-on_left n p axis (fork h l r) f x e s k =
-    let is = some_fork f (forked h l r) x in
-    subst (λ (g : Fork). IsOnRoute n p axis (fork h l r) g (put_from n p (next_axis g.axis) g.left) g.right) (sym is)
-    (left_fork n p axis h l r (subst (λ (g : Fork). goes_left g.axis p g.item.point ≡ true) is e) s k)
+-- no tree has fewer than 0 nodes, so with 0 for the large ones no node of a route is to be rebuilt
+pub route_none : (p : Place) (t : Shape) → RebuildsNoneOnRoute 0 p t
+unfolding RebuildsNoneOnRoute
+route_none p leaf = tt
+route_none p (fork h l r) = ((λ many few. absurd (omega arith)), (λ e. route_none p l), (λ e. route_none p r))
 
-pub on_right : (n : ℕ) (p : Place) (axis : Axis) (s : Shape) (f : Fork) → Some f ≡ pushed s → goes_left f.axis p f.item.point ≡ false → IsSound s → IsFree n s
-    → IsOnRoute n p axis s f f.left (put_from n p (next_axis f.axis) f.right)
-on_right n p axis leaf f x e s k = absurd (cc)
-on_right n p axis (fork h l r) f x e s k =
-    let is = some_fork f (forked h l r) x in
-    subst (λ (g : Fork). IsOnRoute n p axis (fork h l r) g g.left (put_from n p (next_axis g.axis) g.right)) (sym is)
-    (right_fork n p axis h l r (subst (λ (g : Fork). goes_left g.axis p g.item.point ≡ false) is e) s k)
+-- and none is where a path ends, besides those where none is anyway
+pub route_spared : (large m : ℕ) (ps : List (List Side)) (p : Place) (t : Shape) → m ≡ large_at ps large → RebuildsNoneOnRoute large p t → RebuildsNoneOnRoute m p t
+route_spared large m ps p t e all = subst (λ k. RebuildsNoneOnRoute k p t) (sym e) (cond_both (is_here ps) 0 large (λ k. RebuildsNoneOnRoute k p t) (λ _. route_none p t) (λ _. all))
 
--- the first node of an empty tree
-pub updated_leaf : (large n : ℕ) (p : Place) (axis : Axis) (s : Shape) (C : Type 0) → ◌≡◌ {A = Option Fork} None (pushed s) → IsUpdated large s (put_from n p axis s) C (leaf_of (live_at n p) axis)
-unfolding put_under
-updated_leaf large n p axis leaf C x = updated_plain large leaf (leaf_of (live_at n p) axis) C (λ _. ((λ many few. absurd (omega arith)), tt, tt))
-updated_leaf large n p axis (fork h l r) C x = absurd (cc)
+-- taking the top apart makes at most two
+pub apart_put : (p : Place) (s : Shape) (a b : ℕ) → b ≤ a + 2 → (s ≡ leaf → b ≡ a) → b ≤ a + (3 * entered_put p s + 1)
+unfolding entered_put
+apart_put p leaf a b k e = omega (arith, e refl)
+apart_put p (fork h l r) a b k e = omega (arith, k)
 
--- where the point went left
-pub updated_left : (large n : ℕ) (p : Place) (axis : Axis) (s : Shape) (f : Fork) (l t : Shape) → IsOnRoute n p axis s f (put_from n p (next_axis f.axis) f.left) f.right → goes_left f.axis p f.item.point ≡ true
-    → IsUpdated large f.left (put_from n p (next_axis f.axis) f.left) (RebuildsNoneOnRoute large p (put_from n p (next_axis f.axis) f.left)) l
-    → RefreshesIfDue large (fork (head f.item f.axis) l f.right) t → IsUpdated large s (put_from n p axis s) (RebuildsNoneOnRoute large p (put_from n p axis s)) t
-updated_left large n p axis s f l t k e u done =
-    let plain = put_from n p (next_axis f.axis) f.left in
-    subst (λ v. IsUpdated large s v (RebuildsNoneOnRoute large p (put_from n p axis s)) t) k.value
-    (updated_fork large s f.item f.axis f.left f.right plain f.right l f.right t (RebuildsNoneOnRoute large p (put_from n p axis s)) (RebuildsNoneOnRoute large p plain) (Unit {0})
-    u (updated_plain large f.right f.right (Unit {0}) (λ v. v)) (k.balanced large) (λ all. let parts = k.criteria large all in (parts.0, parts.1 e, tt)) done)
-
--- where it went right
-pub updated_right : (large n : ℕ) (p : Place) (axis : Axis) (s : Shape) (f : Fork) (r t : Shape) → IsOnRoute n p axis s f f.left (put_from n p (next_axis f.axis) f.right) → goes_left f.axis p f.item.point ≡ false
-    → IsUpdated large f.right (put_from n p (next_axis f.axis) f.right) (RebuildsNoneOnRoute large p (put_from n p (next_axis f.axis) f.right)) r
-    → RefreshesIfDue large (fork (head f.item f.axis) f.left r) t → IsUpdated large s (put_from n p axis s) (RebuildsNoneOnRoute large p (put_from n p axis s)) t
-updated_right large n p axis s f r t k e u done =
-    let plain = put_from n p (next_axis f.axis) f.right in
-    subst (λ v. IsUpdated large s v (RebuildsNoneOnRoute large p (put_from n p axis s)) t) k.value
-    (updated_fork large s f.item f.axis f.left f.right f.left plain f.left r t (RebuildsNoneOnRoute large p (put_from n p axis s)) (Unit {0}) (RebuildsNoneOnRoute large p plain)
-    (updated_plain large f.left f.left (Unit {0}) (λ v. v)) u (k.balanced large) (λ all. let parts = k.criteria large all in (parts.0, tt, parts.2 e)) done)
+-- a node on the route: two for the sons, those of the way below it, and one for itself
+pub route_ticks : (large : ℕ) (n : ℕ) (p : Place) (axis next : Axis) (s x : Shape) (f : Fork) (side : Side) (a b d e : ℕ) → IsOnRoute n p axis s f side → next ≡ next_axis f.axis → x ≡ near side f
+    → b ≤ a + 2 → (RebuildsNoneOnRoute large p (put_from n p next x) → d ≤ b + (3 * entered_put p x + 1))
+    → (RebuildsNoneOnRoute large p (put_from n p next x) → IsNotDue large (with_near side f (put_from n p next x)) → e ≤ d + 1)
+    → RebuildsNoneOnRoute large p (put_from n p axis s) → e ≤ a + (3 * entered_put p s + 1)
+route_ticks large n p axis next s x f side a b d e w axes same two below own all =
+    let parts = w.criteria large all in
+    let calm : RebuildsNoneOnRoute large p (put_from n p next x) = rw (axes, same) parts.1 in
+    let spared : IsNotDue large (with_near side f (put_from n p next x)) = rw (axes, same) parts.0 in
+    omega (arith, two, below calm, own calm spared, w.entered, ap (entered_put p) same)

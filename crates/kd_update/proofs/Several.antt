@@ -1,5 +1,6 @@
 -- Updates while several subtrees are watched.
-use Rattle.std.proofs.Common.{◌≡◌, ℕ, ◌+◌, ◌≤◌, ◌<◌, true, false, refl, ap, sym, subst, arith, List, [], ◌∷◌, Option, Some, None}
+use Rattle.std.proofs.Common.{◌≡◌, ℕ, ◌≤◌, ◌<◌, true, false, inl, inr, refl, ap, ◌∙◌, sym, subst, arith, List, [], ◌∷◌, Option, Some, None}
+use Rattle.std.proofs.lemmas.Bool.{cond_both}
 use Rattle.point_geom.specs.Place.{Place}
 use Rattle.map_fold.specs.declared.choice.Choice.{Choice}
 use Rattle.kd_update.specs.Reach.{covers, meets, reach}
@@ -17,29 +18,39 @@ use Rattle.kd_tree.specs.Apart.{is_here, onward}
 use Rattle.kd_tree.specs.declared.change.Fork.{Fork}
 use Rattle.kd_tree.specs.declared.path.Side.{Side}
 use Rattle.kd_tree.specs.declared.path.Side.TheVariants.{Left, Right}
-use Rattle.map_fold.specs.Contents.{chosen_by, marked_item}
+use Rattle.map_fold.specs.Contents.{chosen_by, live_at, marked_item}
 use Rattle.kd_update.specs.Mark.{marked_shape, RebuildsNoneEntered}
-use Rattle.kd_update.specs.Put.{goes_left, put_from, RebuildsNoneOnRoute}
-use Rattle.kd_update.specs.Update.{IsBalancedBelow, IsUpdated}
+use Rattle.kd_update.specs.Put.{leaf_of, put_from, put_under, RebuildsNoneOnRoute}
+use Rattle.kd_update.specs.Refresh.{IsNotDue, RefreshesIfDue}
+use Rattle.kd_update.specs.Update.{IsBalancedBelow}
 use Rattle.kd_update.specs.Watch.{IsLargeAt, IsWatched, logged_mark, logged_put}
-use Rattle.kd_update.specs.Several.{IsBalancedClear, AreLargeAt, AreSameAt, AreWatched, IsUpdatedClear}
+use Rattle.kd_update.specs.Several.{IsBalancedClear, AreLargeAt, AreSameAt, AreWatched, IsUpdatedClear, large_at}
 use Rattle.kd_update.proofs.InBox.{IsEntered, marked_none, marked_missed, marked_covered}
-use Rattle.kd_update.proofs.Route.{IsOnRoute}
-use Rattle.kd_update.proofs.Trees.{forked, some_fork}
-use Rattle.kd_update.proofs.Refresh.{head, refresh_same, refresh_fork}
-use Rattle.kd_update.proofs.Update.{sons_alike}
+use Rattle.kd_update.proofs.Criteria.{criteria_none}
+use Rattle.kd_update.proofs.Route.{IsOnRoute, route_none}
+use Rattle.kd_update.proofs.Near.{near, with_near}
+use Rattle.kd_update.proofs.Trees.{at_pushed, forked}
+use Rattle.kd_update.proofs.Refresh.{head, refresh_same, refresh_trans, refresh_fork, refreshed_refresh}
+use Rattle.kd_update.proofs.Update.{criteria_balanced, sons_alike}
 use Rattle.kd_update.proofs.Watched.{watched-mark, watched-put}
 use Rattle.kd_update.proofs.Large.{large_nodes, large_same, large_after, watched_new}
 
 -- without a path
 
+-- what is balanced is balanced outside whatever paths
+pub balanced_outside : (large : ℕ) (ps : List (List Side)) (t : Shape) → IsBalancedBelow large t → IsBalancedClear large ps t
+balanced_outside large ps leaf k = tt
+balanced_outside large ps (fork h l r) k = λ _. (k.0, balanced_outside large (onward Left ps) l k.1, balanced_outside large (onward Right ps) r k.2)
+
 pub balanced_clear : (large : ℕ) (t : Shape) → IsBalancedBelow large t → IsBalancedClear large [] t
-balanced_clear large leaf k = tt
-balanced_clear large (fork h l r) k = λ _. (k.0, balanced_clear large l k.1, balanced_clear large r k.2)
+balanced_clear large t = balanced_outside large [] t
 
 pub clear_balanced : (large : ℕ) (t : Shape) → IsBalancedClear large [] t → IsBalancedBelow large t
 clear_balanced large leaf k = tt
 clear_balanced large (fork h l r) k = let all = k refl in (all.0, clear_balanced large l all.1, clear_balanced large r all.2)
+
+pub balanced_free : (large : ℕ) (ps : List (List Side)) (old plain new : Shape) (C : Type 0) → ps ≡ [] → IsUpdatedClear large ps old plain C new → IsBalancedBelow large old → IsBalancedBelow large new
+balanced_free large ps old plain new C e u k = clear_balanced large new (subst (λ (qs : List (List Side)). IsBalancedClear large qs new) e (u.balance (balanced_outside large ps old k)))
 
 pub balanced_clear_tagged : (large : ℕ) (ps : List (List Side)) (q : Tag) (t : Shape) → IsBalancedClear large ps t → IsBalancedClear large ps (tagged q t)
 balanced_clear_tagged large ps q leaf k = tt
@@ -59,22 +70,23 @@ large_tagged_at large [] q (fork h l r) k =
 large_tagged_at large (Left ∷ path) q (fork h l r) k = record { node = k.node; there = k.there; size = k.size }
 large_tagged_at large (Right ∷ path) q (fork h l r) k = record { node = k.node; there = k.there; size = k.size }
 
-large_all_tagged : (large : ℕ) (ps : List (List Side)) (q : Tag) (t : Shape) → AreLargeAt large ps t → AreLargeAt large ps (tagged q t)
-large_all_tagged large [] q t k = tt
-large_all_tagged large (p ∷ ps) q t k = (large_tagged_at large p q t k.0, large_all_tagged large ps q t k.1)
+-- the paths that go on to a son lead to large subtrees of it
+large_on : (large : ℕ) (side : Side) (ps : List (List Side)) (h : Head) (l r : Shape) → AreLargeAt large ps (fork h l r) → AreLargeAt large (onward side ps) (near side (forked h l r))
+large_on large side [] h l r k = tt
+large_on large Left ([] ∷ ps) h l r k = large_on large Left ps h l r k.1
+large_on large Right ([] ∷ ps) h l r k = large_on large Right ps h l r k.1
+large_on large Left ((Left ∷ p) ∷ ps) h l r k = (large_tagged_at large p h.pending l (record { node = k.0.node; there = k.0.there; size = k.0.size }), large_on large Left ps h l r k.1)
+large_on large Left ((Right ∷ p) ∷ ps) h l r k = large_on large Left ps h l r k.1
+large_on large Right ((Left ∷ p) ∷ ps) h l r k = large_on large Right ps h l r k.1
+large_on large Right ((Right ∷ p) ∷ ps) h l r k = (large_tagged_at large p h.pending r (record { node = k.0.node; there = k.0.there; size = k.0.size }), large_on large Right ps h l r k.1)
 
--- where none of the paths ends here, each goes on in a son
-large_left : (large : ℕ) (ps : List (List Side)) (h : Head) (l r : Shape) → AreLargeAt large ps (fork h l r) → AreLargeAt large (onward Left ps) l
-large_left large [] h l r k = tt
-large_left large ([] ∷ ps) h l r k = large_left large ps h l r k.1
-large_left large ((Left ∷ p) ∷ ps) h l r k = (record { node = k.0.node; there = k.0.there; size = k.0.size }, large_left large ps h l r k.1)
-large_left large ((Right ∷ p) ∷ ps) h l r k = large_left large ps h l r k.1
+pub large_nowhere : (large : ℕ) (ps : List (List Side)) (t : Shape) → ps ≡ [] → AreLargeAt large ps t
+large_nowhere large ps t e = subst (λ (qs : List (List Side)). AreLargeAt large qs t) (sym e) tt
 
-large_right : (large : ℕ) (ps : List (List Side)) (h : Head) (l r : Shape) → AreLargeAt large ps (fork h l r) → AreLargeAt large (onward Right ps) r
-large_right large [] h l r k = tt
-large_right large ([] ∷ ps) h l r k = large_right large ps h l r k.1
-large_right large ((Left ∷ p) ∷ ps) h l r k = large_right large ps h l r k.1
-large_right large ((Right ∷ p) ∷ ps) h l r k = (record { node = k.0.node; there = k.0.there; size = k.0.size }, large_right large ps h l r k.1)
+-- each subtree has 0 nodes at least
+large_any : (large : ℕ) (ps : List (List Side)) (t : Shape) → AreLargeAt large ps t → AreLargeAt 0 ps t
+large_any large [] t k = tt
+large_any large (p ∷ ps) t k = (record { node = k.0.node; there = k.0.there; size = omega arith }, large_any large ps t k.1)
 
 pub same_sons : (ps : List (List Side)) (h : Head) (l r l' r' : Shape) → is_here ps ≡ false → AreSameAt (onward Left ps) l' l → AreSameAt (onward Right ps) r' r → AreSameAt ps (fork h l' r') (fork h l r)
 same_sons [] h l r l' r' e u v = tt
@@ -82,13 +94,24 @@ same_sons ([] ∷ ps) h l r l' r' e u v = absurd (cc)
 same_sons ((Left ∷ p) ∷ ps) h l r l' r' e u v = (u.0, same_sons ps h l r l' r' e u.1 v)
 same_sons ((Right ∷ p) ∷ ps) h l r l' r' e u v = (v.0, same_sons ps h l r l' r' e u v.1)
 
-same_itself : (ps : List (List Side)) (t : Shape) → AreSameAt ps t t
+pub same_itself : (ps : List (List Side)) (t : Shape) → AreSameAt ps t t
 same_itself [] t = tt
 same_itself (p ∷ ps) t = (refl, same_itself ps t)
 
--- one path at least
-pub some_large : (large : ℕ) (p : List Side) (ps : List (List Side)) (t : Shape) → AreLargeAt large (p ∷ ps) t → large ≤ nodes t
-some_large large p ps t k = large_nodes large p t k.0
+same_then : (ps : List (List Side)) (t u v : Shape) → AreSameAt ps t u → AreSameAt ps u v → AreSameAt ps t v
+same_then [] t u v e f = tt
+same_then (p ∷ ps) t u v e f = (e.0 ∙ f.0, same_then ps t u v e.1 f.1)
+
+-- a node above large subtrees is spared
+spared_same : (large : ℕ) (ps : List (List Side)) (s t : Shape) → AreLargeAt large ps s → RefreshesIfDue large s t → AreSameAt ps t s
+spared_same large ps s t k (inl e) = subst (λ z. AreSameAt ps z s) e.1 (same_itself ps s)
+spared_same large [] s t k (inr e) = tt
+spared_same large (p ∷ ps) s t k (inr e) = absurd (e.0 (λ many few. absurd (omega (arith, few, large_nodes large p s k.0))))
+
+-- a node with sons that are balanced outside the paths, rebuilt where it is to be
+pub refreshed_outside : (large : ℕ) (ps : List (List Side)) (h : Head) (l r t : Shape) → RefreshesIfDue large (fork h l r) t → (is_here ps ≡ false → IsBalancedClear large (onward Left ps) l × IsBalancedClear large (onward Right ps) r) → IsBalancedClear large ps t
+refreshed_outside large ps h l r t (inl k) e = subst (IsBalancedClear large ps) k.1 (λ here. ((λ many few. (k.0 many few).0), (e here).0, (e here).1))
+refreshed_outside large ps h l r t (inr k) e = balanced_outside large ps t (criteria_balanced large t k.2)
 
 -- nothing is rebuilt
 pub clear_plain : (large : ℕ) (ps : List (List Side)) (old t : Shape) (C : Type 0) → (IsBalancedClear large ps old → IsBalancedClear large ps t) → IsUpdatedClear large ps old t C t
@@ -102,39 +125,60 @@ balanced_here large ps (fork h l r) e = λ n. absurd (cc)
 pub clear_here : (large : ℕ) (ps : List (List Side)) (old plain new : Shape) (C : Type 0) → is_here ps ≡ true → new ≡ plain → IsUpdatedClear large ps old plain C new
 clear_here large ps old plain new C e k = subst (λ t. IsUpdatedClear large ps old plain C t) (sym k) (clear_plain large ps old plain C (λ _. balanced_here large ps plain e))
 
--- without a path it is an update as it was
-pub clear_none : (large : ℕ) (old plain new : Shape) (C : Type 0) → IsUpdated large old plain C new → IsUpdatedClear large [] old plain C new
-clear_none large old plain new C u = record { refresh = u.refresh; same = tt; unrebuilt = u.unrebuilt; balance = λ e. balanced_clear large new (u.balance (clear_balanced large old e)) }
-
--- what is known of a tree when its top is taken apart and no path ends there
+-- what is known of a tree when its top is taken apart
 pub record IsPassedBy (large : ℕ) (ps : List (List Side)) (s : Shape) (f : Fork) : Type 0 where
-  pub left : AreLargeAt large (onward Left ps) f.left
-  pub right : AreLargeAt large (onward Right ps) f.right
+  pub there : (side : Side) → AreLargeAt large (onward side ps) (near side f)
   pub balanced : is_here ps ≡ false → IsBalancedClear large ps s → IsBalancedClear large (onward Left ps) f.left × IsBalancedClear large (onward Right ps) f.right
 
 passed_fork : (large : ℕ) (ps : List (List Side)) (h : Head) (l r : Shape) → AreLargeAt large ps (fork h l r) → IsPassedBy large ps (fork h l r) (forked h l r)
 passed_fork large ps h l r k = record {
-  left = large_all_tagged large (onward Left ps) h.pending l (large_left large ps h l r k);
-  right = large_all_tagged large (onward Right ps) h.pending r (large_right large ps h l r k);
+  there = λ side. large_on large side ps h l r k;
   balanced = λ e all. let parts = all e in (balanced_clear_tagged large (onward Left ps) h.pending l parts.1, balanced_clear_tagged large (onward Right ps) h.pending r parts.2);
 }
 
 pub passed_by : (large : ℕ) (ps : List (List Side)) (s : Shape) (f : Fork) → Some f ≡ pushed s → AreLargeAt large ps s → IsPassedBy large ps s f
-passed_by large ps leaf f x k = absurd (cc)
-passed_by large ps (fork h l r) f x k = subst (λ (g : Fork). IsPassedBy large ps (fork h l r) g) (sym (some_fork f (forked h l r) x)) (passed_fork large ps h l r k)
+passed_by large ps s f x = at_pushed (λ z g. AreLargeAt large ps z → IsPassedBy large ps z g) s f x (passed_fork large ps)
 
--- sons updated clear of the paths that go on to them, joined
-pub clear_fork : (large : ℕ) (ps : List (List Side)) (old : Shape) (i : Item) (a : Axis) (ol or l r l' r' : Shape) (C Cl Cr : Type 0)
-    → is_here ps ≡ false → large ≤ nodes l' + nodes r' + 1
-    → IsUpdatedClear large (onward Left ps) ol l Cl l' → IsUpdatedClear large (onward Right ps) or r Cr r'
-    → (IsBalancedClear large ps old → IsBalancedClear large (onward Left ps) ol × IsBalancedClear large (onward Right ps) or)
-    → (C → Cl × Cr) → IsUpdatedClear large ps old (fork (head i a) l r) C (fork (head i a) l' r')
-clear_fork large ps old i a ol or l r l' r' C Cl Cr here big u v balanced criteria = record {
-  refresh = refresh_fork i a l r l' r' u.refresh v.refresh;
-  same = same_sons ps (head i a) l r l' r' here u.same v.same;
-  unrebuilt = λ c. let both = criteria c in sons_alike (head i a) l r l' r' (u.unrebuilt both.0) (v.unrebuilt both.1);
-  balance = λ e. let both = balanced e in λ _. ((λ many few. absurd (omega (arith, few, big))), u.balance both.0, v.balance both.1);
-}
+-- below it the same is asked of the paths that go on
+pub large_next : (large m : ℕ) (ps qs : List (List Side)) (s x : Shape) (f : Fork) (side : Side) → Some f ≡ pushed s → AreLargeAt large ps s → m ≡ large_at ps large → qs ≡ onward side ps → x ≡ near side f → AreLargeAt m qs x
+large_next large m ps qs s x f side e k a b d =
+    let there = (passed_by large ps s f e k).there side in
+    rw (a, b, d) (cond_both (is_here ps) 0 large (λ (z : ℕ). AreLargeAt z (onward side ps) (near side f)) (λ _. large_any large (onward side ps) (near side f) there) (λ _. there))
+
+-- sons updated clear of the paths that go on to them, joined, and their father rebuilt where he is to be
+clear_fork : (large : ℕ) (ps : List (List Side)) (old : Shape) (i : Item) (a : Axis) (ol or l r l' r' t : Shape) (C Cl Cr : ℕ → Type 0)
+    → (is_here ps ≡ false → IsBalancedClear large ps old → IsBalancedClear large (onward Left ps) ol × IsBalancedClear large (onward Right ps) or)
+    → ((m : ℕ) → C m → IsNotDue m (fork (head i a) l r) × Cl m × Cr m) → C 0 → AreLargeAt large ps (fork (head i a) l r)
+    → IsUpdatedClear (large_at ps large) (onward Left ps) ol l (Cl (large_at ps large)) l' → IsUpdatedClear (large_at ps large) (onward Right ps) or r (Cr (large_at ps large)) r'
+    → RefreshesIfDue (large_at ps large) (fork (head i a) l' r') t → IsUpdatedClear large ps old (fork (head i a) l r) (C large) t
+clear_fork large ps old i a ol or l r l' r' t C Cl Cr balanced criteria none there =
+    cond_both (is_here ps) 0 large
+    (λ (m : ℕ). IsUpdatedClear m (onward Left ps) ol l (Cl m) l' → IsUpdatedClear m (onward Right ps) or r (Cr m) r' → RefreshesIfDue m (fork (head i a) l' r') t → IsUpdatedClear large ps old (fork (head i a) l r) (C large) t)
+    (λ e u v done. clear_here large ps old (fork (head i a) l r) t (C large) e (unrebuilt 0 u v done none))
+    (λ e u v done.
+    let sons = same_sons ps (head i a) l r l' r' e u.same v.same in
+    record {
+      refresh = refresh_trans (fork (head i a) l r) (fork (head i a) l' r') t (refresh_fork i a l r l' r' u.refresh v.refresh) (refreshed_refresh large (fork (head i a) l' r') t done);
+      same = same_then ps t (fork (head i a) l' r') (fork (head i a) l r) (spared_same large ps (fork (head i a) l' r') t (large_all_same large ps (fork (head i a) l r) (fork (head i a) l' r') sons there) done) sons;
+      unrebuilt = unrebuilt large u v done;
+      balance = λ k. let both = balanced e k in refreshed_outside large ps (head i a) l' r' t done (λ _. (u.balance both.0, v.balance both.1));
+    })
+  where
+    unrebuilt : (m : ℕ) → IsUpdatedClear m (onward Left ps) ol l (Cl m) l' → IsUpdatedClear m (onward Right ps) or r (Cr m) r' → RefreshesIfDue m (fork (head i a) l' r') t → C m → t ≡ fork (head i a) l r
+    unrebuilt m u v (inl k) c = let all = criteria m c in sym k.1 ∙ sons_alike (head i a) l r l' r' (u.unrebuilt all.1) (v.unrebuilt all.2)
+    unrebuilt m u v (inr k) c = let all = criteria m c in absurd (k.0 (subst (IsNotDue m) (sym (sons_alike (head i a) l r l' r' (u.unrebuilt all.1) (v.unrebuilt all.2))) all.0))
+
+-- the son on one side updated, the other as it was
+clear_son : (large : ℕ) (ps : List (List Side)) (s : Shape) (f : Fork) (side : Side) (plain y t : Shape) (C Cs : ℕ → Type 0) → IsPassedBy large ps s f
+    → ((m : ℕ) → C m → IsNotDue m (with_near side f plain) × Cs m) → C 0 → AreLargeAt large ps (with_near side f plain)
+    → IsUpdatedClear (large_at ps large) (onward side ps) (near side f) plain (Cs (large_at ps large)) y
+    → RefreshesIfDue (large_at ps large) (with_near side f y) t → IsUpdatedClear large ps s (with_near side f plain) (C large) t
+clear_son large ps s f Left plain y t C Cs pass criteria none there u done =
+    clear_fork large ps s f.item f.axis f.left f.right plain f.right y f.right t C Cs (λ _. Unit {0}) pass.balanced (λ m c. let all = criteria m c in (all.0, all.1, tt)) none there
+    u (clear_plain (large_at ps large) (onward Right ps) f.right f.right (Unit {0}) (λ k. k)) done
+clear_son large ps s f Right plain y t C Cs pass criteria none there u done =
+    clear_fork large ps s f.item f.axis f.left f.right f.left plain f.left y t C (λ _. Unit {0}) Cs pass.balanced (λ m c. let all = criteria m c in (all.0, tt, all.1)) none there
+    (clear_plain (large_at ps large) (onward Left ps) f.left f.left (Unit {0}) (λ k. k)) u done
 
 -- each watch by itself
 
@@ -167,57 +211,35 @@ clear_covered large c a ps s C e x m k = subst (λ t. IsUpdatedClear large ps s 
 
 pub some_of : (large : ℕ) (ps : List (List Side)) (t : Shape) → (ps ≡ [] → ⊥) → AreLargeAt large ps t → large ≤ nodes t
 some_of large [] t n k = absurd (n refl)
-some_of large (p ∷ ps) t n k = some_large large p ps t k
+some_of large (p ∷ ps) t n k = large_nodes large p t k.0
 
--- an entered node, above the ends of the paths
-pub marked_joined : (large : ℕ) (c : Choice) (a : Tag) (ps : List (List Side)) (s : Shape) (f : Fork) (l r : Shape) → IsEntered c a s f → Some f ≡ pushed s → AreLargeAt large ps s → is_here ps ≡ false → (ps ≡ [] → ⊥)
-    → IsUpdatedClear large (onward Left ps) f.left (marked_shape c a f.left) (RebuildsNoneEntered large c (marked_shape c a f.left)) l
-    → IsUpdatedClear large (onward Right ps) f.right (marked_shape c a f.right) (RebuildsNoneEntered large c (marked_shape c a f.right)) r
-    → IsUpdatedClear large ps s (marked_shape c a s) (RebuildsNoneEntered large c (marked_shape c a s)) (fork (head (marked_item (chosen_by c) a f.item) f.axis) l r)
-marked_joined large c a ps s f l r w x k here some u v =
-    let i = marked_item (chosen_by c) a f.item in
-    let ml = marked_shape c a f.left in
-    let mr = marked_shape c a f.right in
-    let C = RebuildsNoneEntered large c (marked_shape c a s) in
-    let same = same_sons ps (head i f.axis) ml mr l r here u.same v.same in
+-- an entered node
+pub marked_joined : (large m : ℕ) (c : Choice) (a : Tag) (ps lefts rights : List (List Side)) (s : Shape) (f : Fork) (l r t : Shape) → IsEntered c a s f → Some f ≡ pushed s → AreLargeAt large ps s
+    → m ≡ large_at ps large → lefts ≡ onward Left ps → rights ≡ onward Right ps
+    → IsUpdatedClear m lefts f.left (marked_shape c a f.left) (RebuildsNoneEntered m c (marked_shape c a f.left)) l
+    → IsUpdatedClear m rights f.right (marked_shape c a f.right) (RebuildsNoneEntered m c (marked_shape c a f.right)) r
+    → RefreshesIfDue m (fork (head (marked_item (chosen_by c) a f.item) f.axis) l r) t → IsUpdatedClear large ps s (marked_shape c a s) (RebuildsNoneEntered large c (marked_shape c a s)) t
+marked_joined large m c a ps lefts rights s f l r t w x k e el er u v done =
     let there = subst (AreLargeAt large ps) (sym w.value) (large_all_marked large c a ps s k) in
-    let big = some_of large ps (fork (head i f.axis) l r) some (large_all_same large ps (fork (head i f.axis) ml mr) (fork (head i f.axis) l r) same there) in
-    subst (λ p. IsUpdatedClear large ps s p C (fork (head i f.axis) l r)) w.value
-    (clear_fork large ps s i f.axis f.left f.right ml mr l r C _ _ here big u v ((passed_by large ps s f x k).balanced here) (λ criteria. let all = w.criteria large criteria in (all.1, all.2)))
+    subst (λ p. IsUpdatedClear large ps s p (RebuildsNoneEntered large c (marked_shape c a s)) t) w.value
+    (clear_fork large ps s (marked_item (chosen_by c) a f.item) f.axis f.left f.right (marked_shape c a f.left) (marked_shape c a f.right) l r t
+    (λ n. RebuildsNoneEntered n c (marked_shape c a s)) (λ n. RebuildsNoneEntered n c (marked_shape c a f.left)) (λ n. RebuildsNoneEntered n c (marked_shape c a f.right))
+    (passed_by large ps s f x k).balanced w.criteria (criteria_none c (marked_shape c a s)) there (rw (e, el) at u) (rw (e, er) at v) (rw e at done))
 
--- a node on the route, above the ends of the paths, where the point goes left
-pub put_joined_left : (large n : ℕ) (p : Place) (axis : Axis) (ps : List (List Side)) (s : Shape) (f : Fork) (t : Shape) → IsOnRoute n p axis s f (put_from n p (next_axis f.axis) f.left) f.right → goes_left f.axis p f.item.point ≡ true → Some f ≡ pushed s
-    → IsSound s → times n keep_tag s ≡ 0 → nodes s < 4194304 → AreLargeAt large ps s → is_here ps ≡ false → (ps ≡ [] → ⊥)
-    → IsUpdatedClear large (onward Left ps) f.left (put_from n p (next_axis f.axis) f.left) (RebuildsNoneOnRoute large p (put_from n p (next_axis f.axis) f.left)) t
-    → IsUpdatedClear large ps s (put_from n p axis s) (RebuildsNoneOnRoute large p (put_from n p axis s)) (fork (head f.item f.axis) t f.right)
-put_joined_left large n p axis ps s f t w e x sound none few k here some u =
-    let plain = put_from n p (next_axis f.axis) f.left in
-    let C = RebuildsNoneOnRoute large p (put_from n p axis s) in
-    let h = head f.item f.axis in
-    let same = same_sons ps h plain f.right t f.right here u.same (same_itself (onward Right ps) f.right) in
+-- the first node of an empty tree
+pub clear_leaf : (large n : ℕ) (p : Place) (axis : Axis) (ps : List (List Side)) (s : Shape) (C : Type 0) → ◌≡◌ {A = Option Fork} None (pushed s) → IsUpdatedClear large ps s (put_from n p axis s) C (leaf_of (live_at n p) axis)
+unfolding put_under
+clear_leaf large n p axis ps leaf C x = clear_plain large ps leaf (leaf_of (live_at n p) axis) C (λ _ _. ((λ many few. absurd (omega arith)), tt, tt))
+clear_leaf large n p axis ps (fork h l r) C x = absurd (cc)
+
+-- a node on the route
+pub put_joined : (large m n : ℕ) (p : Place) (axis next : Axis) (ps qs : List (List Side)) (s x y t : Shape) (f : Fork) (side : Side) → IsOnRoute n p axis s f side → Some f ≡ pushed s
+    → IsSound s → times n keep_tag s ≡ 0 → nodes s < 4194304 → AreLargeAt large ps s → m ≡ large_at ps large → next ≡ next_axis f.axis → qs ≡ onward side ps → x ≡ near side f
+    → IsUpdatedClear m qs x (put_from n p next x) (RebuildsNoneOnRoute m p (put_from n p next x)) y
+    → RefreshesIfDue m (with_near side f y) t → IsUpdatedClear large ps s (put_from n p axis s) (RebuildsNoneOnRoute large p (put_from n p axis s)) t
+put_joined large m n p axis next ps qs s x y t f side w e sound none few k limit axes ways same u done =
+    let plain = put_from n p (next_axis f.axis) (near side f) in
     let there = subst (AreLargeAt large ps) (sym w.value) (large_all_put large n p axis ps s sound none few k) in
-    let big = some_of large ps (fork h t f.right) some (large_all_same large ps (fork h plain f.right) (fork h t f.right) same there) in
-    subst (λ v. IsUpdatedClear large ps s v C (fork h t f.right)) w.value
-    (clear_fork large ps s f.item f.axis f.left f.right plain f.right t f.right C (RebuildsNoneOnRoute large p plain) (Unit {0}) here big u (clear_plain large (onward Right ps) f.right f.right (Unit {0}) (λ v. v)) ((passed_by large ps s f x k).balanced here) (λ all. let parts = w.criteria large all in (parts.1 e, tt)))
-
--- a node on the route, above the ends of the paths, where the point goes right
-pub put_joined_right : (large n : ℕ) (p : Place) (axis : Axis) (ps : List (List Side)) (s : Shape) (f : Fork) (t : Shape) → IsOnRoute n p axis s f f.left (put_from n p (next_axis f.axis) f.right) → goes_left f.axis p f.item.point ≡ false → Some f ≡ pushed s
-    → IsSound s → times n keep_tag s ≡ 0 → nodes s < 4194304 → AreLargeAt large ps s → is_here ps ≡ false → (ps ≡ [] → ⊥)
-    → IsUpdatedClear large (onward Right ps) f.right (put_from n p (next_axis f.axis) f.right) (RebuildsNoneOnRoute large p (put_from n p (next_axis f.axis) f.right)) t
-    → IsUpdatedClear large ps s (put_from n p axis s) (RebuildsNoneOnRoute large p (put_from n p axis s)) (fork (head f.item f.axis) f.left t)
-put_joined_right large n p axis ps s f t w e x sound none few k here some u =
-    let plain = put_from n p (next_axis f.axis) f.right in
-    let C = RebuildsNoneOnRoute large p (put_from n p axis s) in
-    let h = head f.item f.axis in
-    let same = same_sons ps h f.left plain f.left t here (same_itself (onward Left ps) f.left) u.same in
-    let there = subst (AreLargeAt large ps) (sym w.value) (large_all_put large n p axis ps s sound none few k) in
-    let big = some_of large ps (fork h f.left t) some (large_all_same large ps (fork h f.left plain) (fork h f.left t) same there) in
-    subst (λ v. IsUpdatedClear large ps s v C (fork h f.left t)) w.value
-    (clear_fork large ps s f.item f.axis f.left f.right f.left plain f.left t C (Unit {0}) (RebuildsNoneOnRoute large p plain) here big (clear_plain large (onward Left ps) f.left f.left (Unit {0}) (λ v. v)) u ((passed_by large ps s f x k).balanced here) (λ all. let parts = w.criteria large all in (tt, parts.2 e)))
-
--- a path that goes on needs a node
-pub nowhere : (large : ℕ) (ps : List (List Side)) (s : Shape) → ◌≡◌ {A = Option Fork} None (pushed s) → AreLargeAt large ps s → is_here ps ≡ false → (ps ≡ [] → ⊥) → ⊥
-nowhere large ps (fork h l r) x k here some = cc
-nowhere large [] leaf x k here some = some refl
-nowhere large ([] ∷ ps) leaf x k here some = cc
-nowhere large ((side ∷ p) ∷ ps) leaf x k here some = let e = k.0.there in cc
+    subst (λ v. IsUpdatedClear large ps s v (RebuildsNoneOnRoute large p (put_from n p axis s)) t) w.value
+    (clear_son large ps s f side plain y t (λ z. RebuildsNoneOnRoute z p (put_from n p axis s)) (λ z. RebuildsNoneOnRoute z p plain)
+    (passed_by large ps s f e k) w.criteria (route_none p (put_from n p axis s)) there (rw (limit, axes, ways, same) at u) (rw limit at done))

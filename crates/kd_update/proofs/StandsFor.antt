@@ -1,8 +1,8 @@
 -- A subtree that another tree stands in for.
-use Rattle.std.proofs.Common.{◌≡◌, ℕ, ◌+◌, ◌≤◌, false, inl, inr, refl, ap, ◌∙◌, sym, subst, arith, List, [], ◌∷◌, ◌++◌, length, Some}
+use Rattle.std.proofs.Common.{◌≡◌, ℕ, ◌+◌, ◌≤◌, inl, inr, refl, ap, ◌∙◌, sym, subst, arith, List, [], ◌∷◌, length, Some}
 use Rattle.std.specs.Prelude.{cond, ◌==◌, ◌≤ℤ◌, IsPermutation}
 use Rattle.std.proofs.lemmas.Bool.{cases_lt}
-use Rattle.std.proofs.lemmas.List.Elements.{Contains-append_left, Contains-append_right, Contains-append_cases}
+use Rattle.std.proofs.lemmas.List.Elements.{Contains-append_left}
 use Rattle.std.proofs.lemmas.List.Sorted.{All-permutation, sum_by-IsPermutation, IsPermutation-sym, IsPermutation-trans, IsPermutation-append_left, IsPermutation-append_right}
 use Rattle.point_geom.specs.Place.{Place}
 use Rattle.point_geom.specs.Axes.{on}
@@ -16,21 +16,20 @@ use Rattle.kd_tree.specs.Walk.{walk, AllKept, times}
 use Rattle.kd_tree.specs.Sound.{IsSound, IsSoundFork, IsTopSound}
 use Rattle.kd_tree.specs.Contents.{by_number, contents}
 use Rattle.kd_tree.specs.Parts.{at, replaced_at, with_son}
-use Rattle.kd_tree.specs.Apart.{AreApart, IsClear, is_here, onward}
+use Rattle.kd_tree.specs.Apart.{AreApart, IsClear, onward}
 use Rattle.kd_tree.specs.declared.path.Side.{Side}
 use Rattle.kd_tree.specs.declared.path.Side.TheVariants.{Left, Right}
 use Rattle.kd_tree.proofs.Contents.{walk-composed, by_number-mark, times_walk, once_walk}
 use Rattle.kd_tree.proofs.Held.{contents_few}
 use Rattle.kd_tree.proofs.Numbered.{by_number_moves, by_number-moved}
-use Rattle.kd_update.specs.Refresh.{AreAmong, IsNotDue, RefreshesIfDue}
-use Rattle.kd_update.specs.Update.{IsBalancedBelow}
+use Rattle.kd_update.specs.Refresh.{IsNotDue, RefreshesIfDue}
 use Rattle.kd_update.specs.Watch.{IsLargeAt}
-use Rattle.kd_update.specs.Several.{IsBalancedClear, AreLargeAt, AreSameAt}
-use Rattle.kd_update.specs.Replace.{StandsFor, HasRoomAt, RebuildsNoneAbove, IsNoLarger, IsReplaced}
+use Rattle.kd_update.specs.Several.{AreLargeAt, AreSameAt}
+use Rattle.kd_update.specs.Replace.{StandsFor, HasRoomAt, IsNoLarger, IsReplaced}
 use Rattle.kd_tree.proofs.Left.{all_left, left_all}
-use Rattle.kd_update.proofs.Trees.{nodes_below}
+use Rattle.kd_update.proofs.Trees.{among_left, among_right, nodes_below}
 use Rattle.kd_update.proofs.Refresh.{refresh_contents, refreshed_refresh}
-use Rattle.kd_update.proofs.Update.{criteria_balanced}
+use Rattle.kd_update.proofs.Several.{balanced_outside, refreshed_outside}
 use Rattle.kd_update.proofs.Large.{large_nodes, large_same, some_shape}
 
 -- what is left under an action, by number, is what it leaves of the contents
@@ -68,45 +67,6 @@ same_fork h l r l' r' once e f =
     IsPermutation-append_right own _ _ (IsPermutation-trans _ _ _ (IsPermutation-append_left (walk q r) _ _ (moved_under q l l' e)) (IsPermutation-append_right (walk q l') _ _ (moved_under q r r' f))) in
     sym (by_number-moved _ _ moved (once_walk (fork h l r) once))
 
--- numbers of a node, one of whose sons has others
-from_left : (n : ℕ) (l' l r w : List ℕ) → AreAmong l' (w ++ l) → AreAmong (n ∷ (l' ++ r)) (w ++ n ∷ (l ++ r))
-from_left n l' l r w f m k =
-    let tail = n ∷ (l ++ r) in
-    elim (Contains-append_cases (n ∷ []) (l' ++ r) m k) [
-      | inl u ↦ Contains-append_right w tail m (Contains-append_left (n ∷ []) (l ++ r) m u)
-      | inr v ↦ elim (Contains-append_cases l' r m v) [
-        | inl u ↦ elim (Contains-append_cases w l m (f m u)) [
-          | inl x ↦ Contains-append_left w tail m x
-          | inr x ↦ Contains-append_right w tail m (Contains-append_right (n ∷ []) (l ++ r) m (Contains-append_left l r m x))
-        ]
-        | inr u ↦ Contains-append_right w tail m (Contains-append_right (n ∷ []) (l ++ r) m (Contains-append_right l r m u))
-      ]
-    ]
-
-from_right : (n : ℕ) (r' l r w : List ℕ) → AreAmong r' (w ++ r) → AreAmong (n ∷ (l ++ r')) (w ++ n ∷ (l ++ r))
-from_right n r' l r w f m k =
-    let tail = n ∷ (l ++ r) in
-    elim (Contains-append_cases (n ∷ []) (l ++ r') m k) [
-      | inl u ↦ Contains-append_right w tail m (Contains-append_left (n ∷ []) (l ++ r) m u)
-      | inr v ↦ elim (Contains-append_cases l r' m v) [
-        | inr u ↦ elim (Contains-append_cases w r m (f m u)) [
-          | inl x ↦ Contains-append_left w tail m x
-          | inr x ↦ Contains-append_right w tail m (Contains-append_right (n ∷ []) (l ++ r) m (Contains-append_right l r m x))
-        ]
-        | inl u ↦ Contains-append_right w tail m (Contains-append_right (n ∷ []) (l ++ r) m (Contains-append_left l r m u))
-      ]
-    ]
-
--- what is balanced is balanced outside whatever paths
-pub balanced_outside : (large : ℕ) (ps : List (List Side)) (t : Shape) → IsBalancedBelow large t → IsBalancedClear large ps t
-balanced_outside large ps leaf k = tt
-balanced_outside large ps (fork h l r) k = λ _. (k.0, balanced_outside large (onward Left ps) l k.1, balanced_outside large (onward Right ps) r k.2)
-
--- a node with sons that are balanced outside the paths, rebuilt where it is to be
-refreshed_outside : (large : ℕ) (ps : List (List Side)) (h : Head) (l r t : Shape) → RefreshesIfDue large (fork h l r) t → (is_here ps ≡ false → IsBalancedClear large (onward Left ps) l × IsBalancedClear large (onward Right ps) r) → IsBalancedClear large ps t
-refreshed_outside large ps h l r t (inl k) e = subst (IsBalancedClear large ps) k.1 (λ here. ((λ many few. (k.0 many few).0), (e here).0, (e here).1))
-refreshed_outside large ps h l r t (inr k) e = balanced_outside large ps t (criteria_balanced large t k.2)
-
 -- a tree that is to be spared stays
 refreshed_spared : (large : ℕ) (s t : Shape) → RefreshesIfDue large s t → IsNotDue large s → t ≡ s
 refreshed_spared large s t (inl k) c = sym k.1
@@ -124,7 +84,7 @@ replaced_left large path h l r other l' t s u k sound =
     record {
       held = refresh_contents (fork h l' r) t sound.once f ∙ same_fork h l r l' r s.0.once (sym u.held) refl;
       size = record { few = omega (arith, f.few, u.size.few); low = omega (arith, f.low, u.size.low) };
-      from = λ n c. from_left h.item.number (numbers l') (numbers l) (numbers r) (numbers other) u.from n (f.from n c);
+      from = λ n c. among_left h.item.number (numbers l') (numbers l) (numbers r) (numbers other) u.from n (f.from n c);
       beside = beside;
       balance = λ ps e o. refreshed_outside large ps h l' r t k (λ here. let all = e here in (u.balance (onward Left ps) all.1 o, all.2));
       unrebuilt = λ c. let same = u.unrebuilt c.1 in refreshed_spared large _ t k (subst (λ x. IsNotDue large (fork h x r)) (sym same) c.0) ∙ ap (λ x. fork h x r) same;
@@ -145,7 +105,7 @@ replaced_right large path h l r other r' t s u k sound =
     record {
       held = refresh_contents (fork h l r') t sound.once f ∙ same_fork h l r l r' s.0.once refl (sym u.held);
       size = record { few = omega (arith, f.few, u.size.few); low = omega (arith, f.low, u.size.low) };
-      from = λ n c. from_right h.item.number (numbers r') (numbers l) (numbers r) (numbers other) u.from n (f.from n c);
+      from = λ n c. among_right h.item.number (numbers r') (numbers l) (numbers r) (numbers other) u.from n (f.from n c);
       beside = beside;
       balance = λ ps e o. refreshed_outside large ps h l r' t k (λ here. let all = e here in (all.1, u.balance (onward Right ps) all.2 o));
       unrebuilt = λ c. let same = u.unrebuilt c.1 in refreshed_spared large _ t k (subst (λ x. IsNotDue large (fork h l x)) (sym same) c.0) ∙ ap (λ x. fork h l x) same;
@@ -192,11 +152,6 @@ son_stands side path leaf other s e k = absurd (cc)
 son_stands Left path (fork h l r) other s e k = record { node = k.node; there = subst (λ x. at path x ≡ Some k.node) (some_shape l s e) k.there; same = k.same }
 son_stands Right path (fork h l r) other s e k = record { node = k.node; there = subst (λ x. at path x ≡ Some k.node) (some_shape r s e) k.there; same = k.same }
 
-pub son_room : (side : Side) (path : List Side) (t other s : Shape) → at (side ∷ []) t ≡ Some s → HasRoomAt (side ∷ path) other t → HasRoomAt path other s
-son_room side path leaf other s e k = absurd (cc)
-son_room Left path (fork h l r) other s e k = subst (HasRoomAt path other) (some_shape l s e) (record { low = omega (arith, k.low); few = omega (arith, k.few) })
-son_room Right path (fork h l r) other s e k = subst (HasRoomAt path other) (some_shape r s e) (record { low = omega (arith, k.low); few = omega (arith, k.few) })
-
 sound_left : (large : ℕ) (path : List Side) (h : Head) (l r other l' : Shape) → IsSound (fork h l r) → HasRoomAt (Left ∷ path) other (fork h l r) → IsReplaced large path l other l' → IsSoundFork h l' r
 sound_left large path h l r other l' s k u = same_sound h l r l' r s.0 (sym u.held) refl (omega (arith, k.few, u.size.few)) (omega (arith, k.low, u.size.low)) (omega (arith, k.low))
 
@@ -219,18 +174,6 @@ son_replaced large Left path (fork h l r) other s new u e sound k f g =
 son_replaced large Right path (fork h l r) other s new u e sound k f g =
     let f' = subst (λ x. IsReplaced large path x other new) (sym (some_shape r s e)) f in
     replaced_right large path h l r other new u sound f' g (sound_right large path h l r other new sound k f')
-
--- what meets the criteria above a path does so in the son
-pub son_criteria : (large : ℕ) (side : Side) (path : List Side) (t other s : Shape) → at (side ∷ []) t ≡ Some s → RebuildsNoneAbove large (side ∷ path) (replaced_at (side ∷ path) other t) → RebuildsNoneAbove large path (replaced_at path other s)
-son_criteria large side path leaf other s e k = absurd (cc)
-son_criteria large Left path (fork h l r) other s e k = subst (λ x. RebuildsNoneAbove large path (replaced_at path other x)) (some_shape l s e) k.1
-son_criteria large Right path (fork h l r) other s e k = subst (λ x. RebuildsNoneAbove large path (replaced_at path other x)) (some_shape r s e) k.1
-
--- and its father is spared
-pub son_spared : (large : ℕ) (side : Side) (path : List Side) (t other s new : Shape) → at (side ∷ []) t ≡ Some s → RebuildsNoneAbove large (side ∷ path) (replaced_at (side ∷ path) other t) → new ≡ replaced_at path other s → IsNotDue large (with_son side new t)
-son_spared large side path leaf other s new e k f = absurd (cc)
-son_spared large Left path (fork h l r) other s new e k f = subst (λ x. IsNotDue large (fork h x r)) (ap (replaced_at path other) (some_shape l s e) ∙ sym f) k.0
-son_spared large Right path (fork h l r) other s new e k f = subst (λ x. IsNotDue large (fork h l x)) (ap (replaced_at path other) (some_shape r s e) ∙ sym f) k.0
 
 -- several paths
 

@@ -1,5 +1,5 @@
 -- What an update does to a watched subtree.
-use Rattle.std.proofs.Common.{◌≡◌, ℕ, ◌≤◌, ◌<◌, true, false, not, ◌&&◌, cond, refl, ap, ◌∙◌, sym, subst, arith, List, [], ◌∷◌, ◌++◌, Some}
+use Rattle.std.proofs.Common.{◌≡◌, ℕ, ◌≤◌, ◌<◌, Bool, true, false, not, ◌&&◌, cond, refl, ap, ◌∙◌, sym, subst, arith, List, [], ◌∷◌, ◌++◌, Some}
 use Rattle.std.specs.Prelude.{◌==◌}
 use Rattle.std.proofs.lemmas.Bool.{cond_both, and_parts}
 use Rattle.std.proofs.lemmas.List.Sorted.{sum_by-IsPermutation}
@@ -31,7 +31,7 @@ use Rattle.kd_tree.proofs.Held.{contents_few}
 use Rattle.kd_tree.proofs.Numbered.{by_number_moves}
 use Rattle.kd_update.specs.Mark.{marked_under, marked_shape}
 use Rattle.kd_update.specs.Put.{goes_left, put_under, put_from}
-use Rattle.kd_update.specs.Watch.{is_keep, handed, is_met, logged_mark, logged_put, IsWatched}
+use Rattle.kd_update.specs.Watch.{is_keep, goes_to, handed, is_met, logged_mark, logged_put, son, IsWatched}
 use Rattle.kd_update.proofs.Large.{some_shape}
 use Rattle.kd_update.proofs.InBox.{marked-tagged, nodes-marked, contents-marked, marked_missed}
 use Rattle.kd_update.proofs.Route.{put-tagged, nodes-put, contents-put, new_sons}
@@ -75,11 +75,18 @@ watched_handed (Left ∷ path) q (fork h l r) u s ops e w = record { before = w.
 watched_handed (Right ∷ path) q (fork h l r) u s ops e w = record { before = w.before; after = w.after; was = w.was; is = w.is; size = w.size; fit = w.fit; replayed = w.replayed }
 
 -- what is watched in a son is watched in the tree
-pub watched_left : (path : List Side) (h g : Head) (l r l' r' : Shape) (ops : List Op) → IsWatched path l l' ops → IsWatched (Left ∷ path) (fork h l r) (fork g l' r') ops
-watched_left path h g l r l' r' ops w = record { before = w.before; after = w.after; was = w.was; is = w.is; size = w.size; fit = w.fit; replayed = w.replayed }
+pub watched_son : (side : Side) (path : List Side) (h g : Head) (l r l' r' : Shape) (ops : List Op) → IsWatched path (son side l r) (son side l' r') ops → IsWatched (side ∷ path) (fork h l r) (fork g l' r') ops
+watched_son Left path h g l r l' r' ops w = record { before = w.before; after = w.after; was = w.was; is = w.is; size = w.size; fit = w.fit; replayed = w.replayed }
+watched_son Right path h g l r l' r' ops w = record { before = w.before; after = w.after; was = w.was; is = w.is; size = w.size; fit = w.fit; replayed = w.replayed }
 
-pub watched_right : (path : List Side) (h g : Head) (l r l' r' : Shape) (ops : List Op) → IsWatched path r r' ops → IsWatched (Right ∷ path) (fork h l r) (fork g l' r') ops
-watched_right path h g l r l' r' ops w = record { before = w.before; after = w.after; was = w.was; is = w.is; size = w.size; fit = w.fit; replayed = w.replayed }
+pub at_son : (side : Side) (path : List Side) (h : Head) (l r s : Shape) → at (side ∷ path) (fork h l r) ≡ Some s → at path (son side l r) ≡ Some s
+at_son Left path h l r s e = e
+at_son Right path h l r s e = e
+
+-- what is done to both sons is done to this one
+son_done : (f : Shape → Shape) (side : Side) (l r : Shape) → f (son side l r) ≡ son side (f l) (f r)
+son_done f Left l r = refl
+son_done f Right l r = refl
 
 -- there is a subtree at the path of a tree that had an action done to it
 pub at-tagged : (path : List Side) (q : Tag) (t s : Shape) → at path t ≡ Some s → (u : Shape) × (at path (tagged q t) ≡ Some u)
@@ -114,37 +121,20 @@ pub watched-mark : (c : Choice) (a : Tag) (path : List Side) (t s : Shape) → a
 unfolding marked_under logged_mark
 watched-mark c a [] t s e = mark_root c a t
 watched-mark c a (side ∷ path) leaf s e = absurd (cc)
-watched-mark c a (Left ∷ path) (fork h l r) s e =
+watched-mark c a (side ∷ path) (fork h l r) s e =
     let top : Head = record h { item = marked_item (chosen_by c) a (relabelled keep_tag h.item); pending = keep_tag } in
+    let x = son side l r in
     let l' = marked_under c a (composed h.pending keep_tag) l in
     let r' = marked_under c a (composed h.pending keep_tag) r in
-    let same : IsWatched (Left ∷ path) (fork h l r) (tagged keep_tag (fork h l r)) [] = watched_left path h _ l r l r [] (watched_same path l s e) in
-    let covered : IsWatched (Left ∷ path) (fork h l r) (tagged a (tagged keep_tag (fork h l r))) [] = watched_left path h _ l r l r [] (watched_same path l s e) in
-    let u = at-tagged path h.pending l s e in
-    let below = watched_handed path h.pending l l' s (logged_mark c a path (tagged h.pending l)) e
-    (subst (λ x. IsWatched path (tagged h.pending l) x (logged_mark c a path (tagged h.pending l))) (son-marked c a h.pending l) (watched-mark c a path (tagged h.pending l) u.0 u.1)) in
-    let entered = watched_left path h top l r l' r' _ below in
-    let ops = handed path h.pending ++ logged_mark c a path (tagged h.pending l) in
-    elim (meets c (reach_of h l r)) as (λ m. IsWatched (Left ∷ path) (fork h l r) (cond m (cond (covers c (reach_of h l r)) (tagged a (tagged keep_tag (fork h l r))) (fork top l' r')) (tagged keep_tag (fork h l r))) (cond (m && not (covers c (reach_of h l r))) ops [])) [
-      | true ↦ elim (covers c (reach_of h l r)) as (λ k. IsWatched (Left ∷ path) (fork h l r) (cond k (tagged a (tagged keep_tag (fork h l r))) (fork top l' r')) (cond (true && not k) ops [])) [
-        | true ↦ covered
-        | false ↦ entered
-      ]
-      | false ↦ same
-    ]
-watched-mark c a (Right ∷ path) (fork h l r) s e =
-    let top : Head = record h { item = marked_item (chosen_by c) a (relabelled keep_tag h.item); pending = keep_tag } in
-    let l' = marked_under c a (composed h.pending keep_tag) l in
-    let r' = marked_under c a (composed h.pending keep_tag) r in
-    let same : IsWatched (Right ∷ path) (fork h l r) (tagged keep_tag (fork h l r)) [] = watched_right path h _ l r l r [] (watched_same path r s e) in
-    let covered : IsWatched (Right ∷ path) (fork h l r) (tagged a (tagged keep_tag (fork h l r))) [] = watched_right path h _ l r l r [] (watched_same path r s e) in
-    let u = at-tagged path h.pending r s e in
-    let below = watched_handed path h.pending r r' s (logged_mark c a path (tagged h.pending r)) e
-    (subst (λ x. IsWatched path (tagged h.pending r) x (logged_mark c a path (tagged h.pending r))) (son-marked c a h.pending r) (watched-mark c a path (tagged h.pending r) u.0 u.1)) in
-    let entered = watched_right path h top l r l' r' _ below in
-    let ops = handed path h.pending ++ logged_mark c a path (tagged h.pending r) in
-    elim (meets c (reach_of h l r)) as (λ m. IsWatched (Right ∷ path) (fork h l r) (cond m (cond (covers c (reach_of h l r)) (tagged a (tagged keep_tag (fork h l r))) (fork top l' r')) (tagged keep_tag (fork h l r))) (cond (m && not (covers c (reach_of h l r))) ops [])) [
-      | true ↦ elim (covers c (reach_of h l r)) as (λ k. IsWatched (Right ∷ path) (fork h l r) (cond k (tagged a (tagged keep_tag (fork h l r))) (fork top l' r')) (cond (true && not k) ops [])) [
+    let here : at path x ≡ Some s = at_son side path h l r s e in
+    let same : IsWatched (side ∷ path) (fork h l r) (tagged keep_tag (fork h l r)) [] = watched_son side path h _ l r l r [] (watched_same path x s here) in
+    let covered : IsWatched (side ∷ path) (fork h l r) (tagged a (tagged keep_tag (fork h l r))) [] = watched_son side path h _ l r l r [] (watched_same path x s here) in
+    let u = at-tagged path h.pending x s here in
+    let ops = handed path h.pending ++ logged_mark c a path (tagged h.pending x) in
+    let entered = watched_son side path h top l r l' r' ops (watched_handed path h.pending x (son side l' r') s (logged_mark c a path (tagged h.pending x)) here
+    (subst (λ z. IsWatched path (tagged h.pending x) z (logged_mark c a path (tagged h.pending x))) (son-marked c a h.pending x ∙ son_done (marked_under c a (composed h.pending keep_tag)) side l r) (watched-mark c a path (tagged h.pending x) u.0 u.1))) in
+    elim (meets c (reach_of h l r)) as (λ m. IsWatched (side ∷ path) (fork h l r) (cond m (cond (covers c (reach_of h l r)) (tagged a (tagged keep_tag (fork h l r))) (fork top l' r')) (tagged keep_tag (fork h l r))) (cond (m && not (covers c (reach_of h l r))) ops [])) [
+      | true ↦ elim (covers c (reach_of h l r)) as (λ k. IsWatched (side ∷ path) (fork h l r) (cond k (tagged a (tagged keep_tag (fork h l r))) (fork top l' r')) (cond (true && not k) ops [])) [
         | true ↦ covered
         | false ↦ entered
       ]
@@ -166,6 +156,23 @@ at_son_tagged path q t s e =
     let u = at-tagged path q t s e in
     subst (λ b. IsWatched path t (tagged b t) (handed path q ++ [])) (sym (composed-keep_right q)) (watched_handed path q t (tagged q t) s [] e (watched_same path (tagged q t) u.0 u.1))
 
+-- a son of a sound tree that a point may go on to
+sound_on : (side : Side) (h : Head) (l r : Shape) → IsSound (fork h l r) → IsSound (tagged h.pending (son side l r))
+sound_on Left h l r sound = (pushed_sound h l r sound).1
+sound_on Right h l r sound = (pushed_sound h l r sound).2
+
+free_on : (n : ℕ) (side : Side) (h : Head) (l r : Shape) → times n keep_tag (fork h l r) ≡ 0 → nodes (fork h l r) < 4194304 → (times n keep_tag (tagged h.pending (son side l r)) ≡ 0) × (nodes (tagged h.pending (son side l r)) < 4194304)
+free_on n Left h l r new few = ((new_sons n h l r new).0, omega (arith, few, tagged_nodes h.pending l))
+free_on n Right h l r new few = ((new_sons n h l r new).1, omega (arith, few, tagged_nodes h.pending r))
+
+-- the watched son of a node on the route, whether the point goes on to it or not
+route_watched : (side : Side) (b : Bool) (path : List Side) (h g : Head) (l r l' r' lo ro : Shape) (xs ops : List Op) → IsWatched path (son side l r) (son side l' r') (xs ++ ops) → IsWatched path (son side l r) (son side lo ro) (xs ++ [])
+    → IsWatched (side ∷ path) (fork h l r) (cond b (fork g l' ro) (fork g lo r')) (xs ++ cond (goes_to side b) ops [])
+route_watched Left true path h g l r l' r' lo ro xs ops u v = watched_son Left path h g l r l' ro (xs ++ ops) u
+route_watched Left false path h g l r l' r' lo ro xs ops u v = watched_son Left path h g l r lo r' (xs ++ []) v
+route_watched Right true path h g l r l' r' lo ro xs ops u v = watched_son Right path h g l r l' ro (xs ++ []) v
+route_watched Right false path h g l r l' r' lo ro xs ops u v = watched_son Right path h g l r lo r' (xs ++ ops) u
+
 -- A point put into a tree is, for the subtree at a path, what is logged of it.
 pub watched-put : (n : ℕ) (p : Place) (axis : Axis) (path : List Side) (t s : Shape) → at path t ≡ Some s → IsSound t → times n keep_tag t ≡ 0 → nodes t < 4194304
     → IsWatched path t (put_from n p axis t) (logged_put n p path t)
@@ -180,33 +187,16 @@ watched-put n p axis [] t s e sound new few = record {
   replayed = contents-put n p axis t (sound_once t sound) new;
 }
 watched-put n p axis (side ∷ path) leaf s e sound new few = absurd (cc)
-watched-put n p axis (Left ∷ path) (fork h l r) s e sound new few =
-    let top : Head = record h { item = relabelled keep_tag h.item; pending = keep_tag } in
+watched-put n p axis (side ∷ path) (fork h l r) s e sound new few =
     let owed = composed h.pending keep_tag in
     let next = next_axis h.axis in
+    let x = son side l r in
     let l' = put_under n p next owed l in
     let r' = put_under n p next owed r in
-    let u = at-tagged path h.pending l s e in
-    let free = new_sons n h l r new in
-    let below = watched_handed path h.pending l l' s (logged_put n p path (tagged h.pending l)) e
-    (subst (λ x. IsWatched path (tagged h.pending l) x (logged_put n p path (tagged h.pending l))) (son-put n p next h.pending l)
-    (watched-put n p next path (tagged h.pending l) u.0 u.1 (pushed_sound h l r sound).1 free.0 (omega (arith, tagged_nodes h.pending l)))) in
-    elim (goes_left h.axis p h.item.point) as (λ b. IsWatched (Left ∷ path) (fork h l r) (cond b (fork top l' (tagged owed r)) (fork top (tagged owed l) r')) (handed path h.pending ++ cond b (logged_put n p path (tagged h.pending l)) [])) [
-      | true ↦ watched_left path h top l r l' (tagged owed r) _ below
-      | false ↦ watched_left path h top l r (tagged owed l) r' _ (at_son_tagged path h.pending l s e)
-    ]
-watched-put n p axis (Right ∷ path) (fork h l r) s e sound new few =
-    let top : Head = record h { item = relabelled keep_tag h.item; pending = keep_tag } in
-    let owed = composed h.pending keep_tag in
-    let next = next_axis h.axis in
-    let l' = put_under n p next owed l in
-    let r' = put_under n p next owed r in
-    let u = at-tagged path h.pending r s e in
-    let free = new_sons n h l r new in
-    let below = watched_handed path h.pending r r' s (logged_put n p path (tagged h.pending r)) e
-    (subst (λ x. IsWatched path (tagged h.pending r) x (logged_put n p path (tagged h.pending r))) (son-put n p next h.pending r)
-    (watched-put n p next path (tagged h.pending r) u.0 u.1 (pushed_sound h l r sound).2 free.1 (omega (arith, tagged_nodes h.pending r)))) in
-    elim (goes_left h.axis p h.item.point) as (λ b. IsWatched (Right ∷ path) (fork h l r) (cond b (fork top l' (tagged owed r)) (fork top (tagged owed l) r')) (handed path h.pending ++ cond (not b) (logged_put n p path (tagged h.pending r)) [])) [
-      | true ↦ watched_right path h top l r l' (tagged owed r) _ (at_son_tagged path h.pending r s e)
-      | false ↦ watched_right path h top l r (tagged owed l) r' _ below
-    ]
+    let here : at path x ≡ Some s = at_son side path h l r s e in
+    let u = at-tagged path h.pending x s here in
+    let free = free_on n side h l r new few in
+    let ops = logged_put n p path (tagged h.pending x) in
+    let below = subst (λ z. IsWatched path (tagged h.pending x) z ops) (son-put n p next h.pending x ∙ son_done (put_under n p next owed) side l r) (watched-put n p next path (tagged h.pending x) u.0 u.1 (sound_on side h l r sound) free.0 free.1) in
+    route_watched side (goes_left h.axis p h.item.point) path h (record h { item = relabelled keep_tag h.item; pending = keep_tag }) l r l' r' (tagged owed l) (tagged owed r) (handed path h.pending) ops
+    (watched_handed path h.pending x (son side l' r') s ops here below) (subst (λ z. IsWatched path x z (handed path h.pending ++ [])) (son_done (tagged owed) side l r) (at_son_tagged path h.pending x s here))

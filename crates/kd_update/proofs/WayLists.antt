@@ -1,19 +1,8 @@
 -- Lists of paths in parts.
-use Rattle.std.proofs.Common.{◌≡◌, true, false, ◌&&◌, ◌||◌, refl, ap, length, List, [], ◌∷◌, ◌++◌}
+use Rattle.std.proofs.Common.{◌≡◌, true, false, refl, ap, List, [], ◌∷◌, ◌++◌}
 use Rattle.kd_tree.specs.declared.path.Side.{Side}
 use Rattle.kd_tree.specs.declared.path.Side.TheVariants.{Left, Right}
-use Rattle.kd_tree.specs.Apart.{is_here, is_none_left, onward}
-use Rattle.kd_update.specs.declared.watch.Watch.{Watch}
-use Rattle.kd_update.specs.Watches.{paths_in}
-
-pub here-append : (ps qs : List (List Side)) → is_here (ps ++ qs) ≡ is_here ps || is_here qs
-here-append [] qs = refl
-here-append ([] ∷ ps) qs = refl
-here-append ((side ∷ p) ∷ ps) qs = here-append ps qs
-
-pub none-append : (ps qs : List (List Side)) → is_none_left (ps ++ qs) ≡ is_none_left ps && is_none_left qs
-none-append [] qs = refl
-none-append (p ∷ ps) qs = refl
+use Rattle.kd_tree.specs.Apart.{is_none_left, onward}
 
 pub onward-append : (side : Side) (ps qs : List (List Side)) → onward side (ps ++ qs) ≡ onward side ps ++ onward side qs
 onward-append side [] qs = refl
@@ -32,11 +21,6 @@ none_of (p ∷ ps) e = absurd (cc)
 pub some_of : (ps : List (List Side)) → is_none_left ps ≡ false → ps ≡ [] → ⊥
 some_of [] n e = cc
 some_of (p ∷ ps) n e = cc
-
--- no watch, no path
-pub no_paths : (ws : List Watch) → length ws ≡ 0 → paths_in ws ≡ []
-no_paths [] e = refl
-no_paths (w ∷ ws) e = absurd (cc)
 
 -- four lists of paths in a row, of each of which those that go on to the side are known
 pub onward_four : (side : Side) (a b c d w x y z : List (List Side)) → w ≡ onward side a → x ≡ onward side b → y ≡ onward side c → z ≡ onward side d → w ++ (x ++ (y ++ z)) ≡ onward side (a ++ (b ++ (c ++ d)))

@@ -13,12 +13,6 @@ IsBalancedBelow large (fork h l r) = (10 ≤ nodes l + nodes r + 1 → nodes l +
 abbrev pub KeepsBalance : Shape → Shape → Type 0
 KeepsBalance s t = (large : ℕ) → IsBalancedBelow large s → IsBalancedBelow large t
 
--- The new tree is the plain result with some subtrees rebuilt: none where the fact holds, and enough to stay balanced.
-pub record IsUpdated (large : ℕ) (old plain : Shape) (Calm : Type 0) (new : Shape) : Type 0 where
-  pub refresh : IsRefresh plain new
-  pub unrebuilt : Calm → new ≡ plain
-  pub balance : IsBalancedBelow large old → IsBalancedBelow large new
-
 -- The new tree is the old one with subtrees rebuilt, no node from 10 nodes on breaches a criterion, and without a breach it is the same.
 pub record IsSettled (old new : Shape) : Type 0 where
   pub refresh : IsRefresh old new

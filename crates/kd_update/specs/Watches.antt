@@ -8,6 +8,7 @@ use Rattle.kd_tree.specs.Shape.{Shape}
 use Rattle.kd_tree.specs.declared.path.Side.{Side}
 use Rattle.kd_update.specs.declared.watch.Watch.{Watch}
 use Rattle.kd_update.specs.Watch.{logged_mark, logged_put}
+use Rattle.kd_update.specs.Crossing.{AreMore}
 use Rattle.op_logger.specs.declared.log.TheConstants.{MAX_LOGGED}
 
 -- the paths of the watches
@@ -38,6 +39,4 @@ AreExtended (w ∷ ws) (v ∷ vs) = (v.path ≡ w.path) × Extends w.log v.log �
 
 -- no log has more than two operations more than it had
 abbrev pub AreFewMore : List Watch → List Watch → Type 0
-AreFewMore [] vs = Unit {0}
-AreFewMore (w ∷ ws) [] = Unit {0}
-AreFewMore (w ∷ ws) (v ∷ vs) = (length v.log ≤ length w.log + 2) × AreFewMore ws vs
+AreFewMore ws vs = AreMore 2 ws vs

@@ -1,4 +1,5 @@
-//! Points put into a tree. A new node is a leaf: no node is moved to make room for it.
+//! Points put into a tree, with watched subtrees left as they stand. A new node is a leaf: no node is moved to make room for it.
+//! Nothing here knows what is logged of watched subtrees.
 ghost use Rattle.std.specs.Prelude.{◌≡◌, ◌+◌, ◌*◌, ◌<◌, ◌≤◌, ◌∷◌, IfOk};
 ghost use Rattle.node_labels.specs.Labels.{keep_tag};
 ghost use Rattle.map_fold.specs.Contents.{live_at, put};
@@ -6,12 +7,16 @@ ghost use Rattle.kd_tree.specs.Shape.{levels, nodes, numbers};
 ghost use Rattle.kd_tree.specs.Walk.{times};
 ghost use Rattle.kd_tree.specs.Contents.{contents};
 ghost use Rattle.kd_update.specs.Refresh.{AreAmong, IsRefresh};
-ghost use Rattle.kd_update.specs.Update.{IsBalancedBelow, IsUpdated};
+ghost use Rattle.kd_update.specs.Update.{IsBalancedBelow};
 ghost use Rattle.kd_update.specs.Made.{entered_put};
-ghost use Rattle.kd_update.specs.Put.{RebuildsNoneOnRoute, goes_left, leaf_of, put_from, put_shape};
+ghost use Rattle.kd_update.specs.Put.{RebuildsNoneOnRoute, goes_left, leaf_of, put_from, put_shape, side_of};
+ghost use Rattle.kd_update.specs.Several.{AreLargeAt, IsUpdatedClear};
+ghost use Rattle.kd_update.specs.Ways.{paths_of};
 
 use crate::rebuild::rejoined;
-use kd_tree::{Block, MAX_LEVELS, MAX_NODES, OpenNode, Steps, Tree};
+use crate::sides::by_side;
+use crate::ways::Ways;
+use kd_tree::{Block, MAX_LEVELS, MAX_NODES, OpenNode, Side, Steps, Tree};
 use map_fold::{Item, Label, NoMemory};
 use point_geom::{Axis, Point};
 use std::alloc::Global;
@@ -53,16 +58,28 @@ pub fn put<L: Ledger>(
         point,
         label: Label::Live,
     };
-    put_below(alloc, tree, large, item, Axis::X, Block::none(), steps)
+    let ways = Ways::none();
+    put_below(
+        alloc,
+        tree,
+        large,
+        item,
+        Axis::X,
+        &ways,
+        Block::none(),
+        steps,
+    )
 }
 
-// The same, by shape. The axis is that of the new leaf, should the tree be empty, and the block is what the leaf is made in.
+// The same, by shape, where nothing is rebuilt above the ends of the ways, at them or below them. The axis is that of the new
+// leaf, should the tree be empty, and the block is what the leaf is made in.
 pub(crate) fn put_below<L: Ledger>(
     alloc: Global,
     tree: Tree,
     large: u32,
     item: Item,
     axis: Axis,
+    ways: &Ways<'_>,
     block: Block,
     steps: &mut Steps<L>,
 ) -> Result<Tree, NoMemory>
@@ -70,8 +87,9 @@ pub(crate) fn put_below<L: Ledger>(
     requires low { levels tree < MAX_LEVELS }
     requires few { nodes tree < MAX_NODES }
     requires new { times item.number keep_tag tree ≡ 0 }
+    requires there { AreLargeAt large (paths_of ways.now) tree }
     ensures updated { let plain = put_from item.number item.point axis tree in
-        IfOk result (λ t. IsUpdated large tree plain (RebuildsNoneOnRoute large item.point plain) t) }
+        IfOk result (λ t. IsUpdatedClear large (paths_of ways.now) tree plain (RebuildsNoneOnRoute large item.point plain) t) }
     ensures ticks { RebuildsNoneOnRoute large item.point (put_from item.number item.point axis tree)
         → steps.new ≤ steps.old + (3 * entered_put item.point tree + 1) }
 {
@@ -79,16 +97,19 @@ pub(crate) fn put_below<L: Ledger>(
     let Some(node) = tree.take_apart(alloc, steps)? else {
         return leaf(alloc, item, axis, block, steps);
     };
-    let axis = node.axis;
-    if goes_left(&item.point, axis, &node.item.point) {
-        let next = axis.next();
-        let left = put_below(alloc, node.left, large, item, next, block, steps)?;
-        rejoined(alloc, OpenNode { left, ..node }, large, steps)
-    } else {
-        let next = axis.next();
-        let right = put_below(alloc, node.right, large, item, next, block, steps)?;
-        rejoined(alloc, OpenNode { right, ..node }, large, steps)
-    }
+    let large = ways.spared_from(large);
+    let next = node.axis.next();
+    let side = side_of(&item.point, node.axis, &node.item.point);
+    let below = ways.onward(side);
+    let (near, far) = by_side(side, node.left, node.right);
+    let near = put_below(alloc, near, large, item, next, &below, block, steps)?;
+    let (left, right) = by_side(side, near, far);
+    let node = OpenNode {
+        left,
+        right,
+        ..node
+    };
+    rejoined(alloc, node, large, steps)
 }
 
 pub(crate) fn leaf<L: Ledger>(
@@ -116,4 +137,16 @@ pub(crate) fn goes_left(point: &Point, axis: Axis, other: &Point) -> bool
     ensures { result ≡ goes_left axis point.now other.now }
 {
     point.on(axis) < other.on(axis)
+}
+
+// The side of a node at the other point, with this axis, to which the point belongs.
+#[inline]
+pub(crate) fn side_of(point: &Point, axis: Axis, other: &Point) -> Side
+    ensures { result ≡ side_of axis point.now other.now }
+{
+    if goes_left(point, axis, other) {
+        Side::Left
+    } else {
+        Side::Right
+    }
 }

@@ -13,10 +13,10 @@ ghost use Rattle.kd_update.specs.Watch.{IsWatched, logged_put};
 ghost use Rattle.kd_update.specs.Watches.{AreExtended, AreFewMore, HaveRoom, paths_in, with_puts};
 
 use crate::Watches;
+use crate::insert::put_below;
 use crate::log_put::log_puts;
-use crate::put_clear::put_clear;
 use crate::ways::Ways;
-use kd_tree::{MAX_LEVELS, MAX_NODES, Steps, Tree};
+use kd_tree::{Block, MAX_LEVELS, MAX_NODES, Steps, Tree};
 use map_fold::{Item, Label, NoMemory};
 use point_geom::{Axis, Point};
 use std::alloc::Global;
@@ -67,5 +67,14 @@ pub fn put_watched<L: Ledger>(
         point,
         label: Label::Live,
     };
-    put_clear(alloc, tree, large, item, Axis::X, &ways, steps)
+    put_below(
+        alloc,
+        tree,
+        large,
+        item,
+        Axis::X,
+        &ways,
+        Block::none(),
+        steps,
+    )
 }

@@ -6,6 +6,7 @@ ghost use Rattle.kd_update.specs.Watch.{handed, is_met, logged_mark};
 ghost use Rattle.kd_update.specs.Watches.{AreExtended, AreFewMore, HaveRoom, with_marks};
 
 use crate::reach::{covers, meets, reach_of};
+use crate::sides::son;
 use crate::watch::{is_keep, note_mark};
 use crate::{Watch, Watches};
 use kd_tree::{Side, Tree};
@@ -84,11 +85,9 @@ fn log_mark(
         return Ok(());
     };
     let owed = top.pending.then(owed);
+    let next = son(&top, *side);
     note_owed(owed, rest, log)?;
-    match side {
-        Side::Left => log_mark(top.left, owed, rest, choice, tag, log),
-        Side::Right => log_mark(top.right, owed, rest, choice, tag, log),
-    }
+    log_mark(next, owed, rest, choice, tag, log)
 }
 
 // Logs an action that is handed down to a son from which the path goes on, where that son is the watched root.

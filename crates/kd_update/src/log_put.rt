@@ -7,6 +7,7 @@ ghost use Rattle.kd_update.specs.Watches.{AreExtended, AreFewMore, HaveRoom, wit
 
 use crate::insert::goes_left;
 use crate::log_mark::note_owed;
+use crate::sides::{goes_to, son};
 use crate::watch::note_put;
 use crate::{Watch, Watches};
 use kd_tree::{Side, Tree};
@@ -74,20 +75,11 @@ fn log_put(
         return Ok(());
     };
     let owed = top.pending.then(owed);
+    let next = son(&top, *side);
+    let goes_on = goes_to(*side, goes_left(&point, top.axis, &top.item.point));
     note_owed(owed, rest, log)?;
-    let on_left = goes_left(&point, top.axis, &top.item.point);
-    match side {
-        Side::Left => {
-            if !on_left {
-                return Ok(());
-            }
-            log_put(top.left, owed, rest, number, point, log)
-        }
-        Side::Right => {
-            if on_left {
-                return Ok(());
-            }
-            log_put(top.right, owed, rest, number, point, log)
-        }
+    if !goes_on {
+        return Ok(());
     }
+    log_put(next, owed, rest, number, point, log)
 }

@@ -2,12 +2,12 @@
 ghost use Rattle.std.specs.Prelude.{◌≡◌, ◌+◌, ◌≤◌, true, false, [], ◌++◌, length, OnOk};
 ghost use Rattle.map_fold.specs.Ops.{Extends};
 ghost use Rattle.kd_tree.specs.Walk.{tagged};
-ghost use Rattle.kd_update.specs.Watch.{goes_to};
 ghost use Rattle.kd_update.specs.Watches.{AreExtended};
 ghost use Rattle.kd_update.specs.Crossing.{AreMore, HaveRoomAtOnce, going, logged_scan, puts_of, with_scan};
 
 use crate::insert::goes_left;
 use crate::log_mark::note_owed;
+use crate::sides::{goes_to, son};
 use crate::watch::note_put;
 use crate::{Watch, Watches};
 use kd_tree::{Side, Tree};
@@ -78,12 +78,10 @@ fn log_scan(
         return Ok(());
     };
     let owed = top.pending.then(owed);
+    let next = son(&top, *side);
     note_owed(owed, rest, log)?;
     keep_going(items, *side, top.axis, &top.item.point);
-    match side {
-        Side::Left => log_scan(top.left, owed, rest, items, log),
-        Side::Right => log_scan(top.right, owed, rest, items, log),
-    }
+    log_scan(next, owed, rest, items, log)
 }
 
 fn is_none(items: &[Item]) -> bool
@@ -98,15 +96,6 @@ fn keep_going(items: &mut Vec<Item>, side: Side, axis: Axis, point: &Point)
     ensures { items.new.items ≡ going side axis point.now items.old.items }
 {
     items.retain(|i| goes_to(side, goes_left(&i.point, axis, point)));
-}
-
-fn goes_to(side: Side, on_left: bool) -> bool
-    ensures { result ≡ goes_to side on_left }
-{
-    match side {
-        Side::Left => on_left,
-        Side::Right => !on_left,
-    }
 }
 
 fn note_puts(log: &mut OpLog, items: &[Item]) -> Result<(), NoMemory>

@@ -1,16 +1,20 @@
-//! Actions on chosen items. What the choice covers is labelled at its top, and what it misses is left alone.
+//! Actions on chosen items, with watched subtrees left as they stand. What the choice covers is labelled at its top, and what it
+//! misses is left alone. Nothing here knows what is logged of watched subtrees.
 ghost use Rattle.std.specs.Prelude.{◌≡◌, ◌+◌, ◌*◌, ◌≤◌, IfOk};
 ghost use Rattle.map_fold.specs.Contents.{chosen_by, mark, marked_item};
 ghost use Rattle.kd_tree.specs.Shape.{numbers};
 ghost use Rattle.kd_tree.specs.Contents.{contents};
 ghost use Rattle.kd_update.specs.Refresh.{AreAmong, IsRefresh};
-ghost use Rattle.kd_update.specs.Update.{IsBalancedBelow, IsUpdated};
+ghost use Rattle.kd_update.specs.Update.{IsBalancedBelow};
 ghost use Rattle.kd_update.specs.Made.{entered_mark, made_mark};
 ghost use Rattle.kd_update.specs.Mark.{RebuildsNoneEntered, marked_shape};
+ghost use Rattle.kd_update.specs.Several.{AreLargeAt, IsUpdatedClear};
+ghost use Rattle.kd_update.specs.Ways.{paths_of};
 
 use crate::reach::{covers, meets, reach_of};
 use crate::rebuild::rejoined;
-use kd_tree::{OpenNode, Steps, Tree};
+use crate::ways::Ways;
+use kd_tree::{OpenNode, Side, Steps, Tree};
 use map_fold::{Choice, Item, NoMemory, Tag};
 use std::alloc::Global;
 use std::sync::ledger::Ledger;
@@ -43,20 +47,23 @@ pub fn marked<L: Ledger>(
         → steps.new ≤ steps.old + 5 * entered_mark choice.now tree + 1 }
 {
     let _size = tree.size();
-    marked_within(alloc, tree, large, choice, tag, steps)
+    let ways = Ways::none();
+    marked_within(alloc, tree, large, choice, tag, &ways, steps)
 }
 
-// The same, by shape.
+// The same, by shape, where nothing is rebuilt above the ends of the ways, at them or below them.
 pub(crate) fn marked_within<L: Ledger>(
     alloc: Global,
     tree: Tree,
     large: u32,
     choice: &Choice,
     tag: Tag,
+    ways: &Ways<'_>,
     steps: &mut Steps<L>,
 ) -> Result<Tree, NoMemory>
+    requires { AreLargeAt large (paths_of ways.now) tree }
     ensures updated { let plain = marked_shape choice.now tag tree in
-        IfOk result (λ t. IsUpdated large tree plain (RebuildsNoneEntered large choice.now plain) t) }
+        IfOk result (λ t. IsUpdatedClear large (paths_of ways.now) tree plain (RebuildsNoneEntered large choice.now plain) t) }
     ensures ticks { RebuildsNoneEntered large choice.now (marked_shape choice.now tag tree)
         → steps.new ≤ steps.old + made_mark choice.now tree }
 {
@@ -73,9 +80,12 @@ pub(crate) fn marked_within<L: Ledger>(
     let Some(node) = tree.take_apart(alloc, steps)? else {
         return Ok(Tree::empty());
     };
+    let large = ways.spared_from(large);
     let item = marked_item(node.item, choice, tag);
-    let left = marked_within(alloc, node.left, large, choice, tag, steps)?;
-    let right = marked_within(alloc, node.right, large, choice, tag, steps)?;
+    let lefts = ways.onward(Side::Left);
+    let left = marked_within(alloc, node.left, large, choice, tag, &lefts, steps)?;
+    let rights = ways.onward(Side::Right);
+    let right = marked_within(alloc, node.right, large, choice, tag, &rights, steps)?;
     let node = OpenNode {
         item,
         left,

@@ -12,7 +12,7 @@ ghost use Rattle.kd_update.specs.Watches.{AreExtended, AreFewMore, HaveRoom, pat
 
 use crate::Watches;
 use crate::log_mark::log_marks;
-use crate::mark_clear::marked_clear;
+use crate::mark::marked_within;
 use crate::ways::Ways;
 use kd_tree::{Steps, Tree};
 use map_fold::{Choice, NoMemory, Tag};
@@ -56,5 +56,5 @@ pub fn marked_watched<L: Ledger>(
     let _size = tree.size();
     log_marks(&tree, watches, choice, tag)?;
     let ways = Ways::of(watches.as_slice());
-    marked_clear(alloc, tree, large, choice, tag, &ways, steps)
+    marked_within(alloc, tree, large, choice, tag, &ways, steps)
 }

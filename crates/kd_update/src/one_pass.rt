@@ -9,6 +9,7 @@ ghost use Rattle.kd_update.specs.Scan.{IsGrown, IsPiece};
 use crate::insert::put_below;
 use crate::part_items::parted;
 use crate::rebuild::rejoined;
+use crate::ways::Ways;
 use kd_tree::{OpenNode, Scratch, Steps, Tree};
 use map_fold::{Item, NoMemory};
 use point_geom::Axis;
@@ -36,7 +37,8 @@ pub(crate) fn put_at_once<L: Ledger>(
     };
     if size == 0 && rest.is_empty() {
         let block = scratch.block();
-        return put_below(alloc, tree, large, *first, axis, block, steps);
+        let ways = Ways::none();
+        return put_below(alloc, tree, large, *first, axis, &ways, block, steps);
     }
     let Some(count) = parted(&tree, large, items) else {
         return built_with(alloc, tree, large, items, scratch, steps);

@@ -86,7 +86,8 @@ fn put_within<L: Ledger>(
     if size == 0 {
         if rest.is_empty() {
             let block = scratch.block();
-            return put_below(alloc, tree, NEVER, *first, axis, block, steps);
+            let ways = Ways::none();
+            return put_below(alloc, tree, NEVER, *first, axis, &ways, block, steps);
         }
         return tree.rebuilt_with(alloc, items, scratch, steps);
     }

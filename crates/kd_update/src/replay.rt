@@ -3,6 +3,7 @@ ghost use Rattle.std.specs.Prelude.{◌≡◌, ◌+◌, ◌<◌, ◌≤◌, [], 
 ghost use Rattle.map_fold.specs.Ops.{Fit, numbers_put, perform, replay};
 ghost use Rattle.kd_tree.specs.Shape.{levels, nodes, numbers};
 ghost use Rattle.kd_tree.specs.Contents.{contents};
+ghost use Rattle.kd_tree.specs.Counter.{IsBlankOf};
 ghost use Rattle.kd_update.specs.Refresh.{AreAmong};
 ghost use Rattle.kd_update.specs.Update.{IsBalancedBelow};
 ghost use Rattle.kd_update.specs.Replay.{IsPerformed, IsRun};
@@ -38,9 +39,7 @@ fn replayed_by<L: Ledger>(
     ops: &[Op],
     blank: Blank,
 ) -> Result<Tree, NoMemory>
-    requires name { blank.name ≡ L.name }
-    requires parts { blank.parts ≡ L.parts }
-    requires some { blank.parts ≡ 1 }
+    requires blank { IsBlankOf L.name L.parts blank }
     requires fit { Fit (contents tree) ops.now }
     ensures { IfOk result (λ t. IsPerformed large tree ops.now t) }
 {

@@ -9,6 +9,7 @@ ghost use Rattle.kd_update.specs.Scan.{IsPut, MayJoin, numbers_in, put_each};
 use crate::insert::put_below;
 use crate::one_pass::put_at_once;
 use crate::roomy;
+use crate::ways::Ways;
 use kd_tree::{Block, MAX_LEVELS, MAX_NODES, Scratch, Steps, Tree};
 use map_fold::{Item, NoMemory};
 use point_geom::Axis;
@@ -155,5 +156,15 @@ fn put_one<L: Ledger>(
 {
     let _size = tree.size();
     let tree = roomy(alloc, tree, steps)?;
-    put_below(alloc, tree, large, *item, Axis::X, Block::none(), steps)
+    let ways = Ways::none();
+    put_below(
+        alloc,
+        tree,
+        large,
+        *item,
+        Axis::X,
+        &ways,
+        Block::none(),
+        steps,
+    )
 }

@@ -1,10 +1,12 @@
 //! At most four paths at once: which of them end at a node, and which go on to a son.
 ghost use Rattle.std.specs.Prelude.{◌≡◌, ◌-◌, ◌≤◌, [], ◌∷◌, ◌++◌, length};
 ghost use Rattle.kd_tree.specs.Apart.{is_here, is_none_left, onward};
+ghost use Rattle.kd_update.specs.Several.{large_at};
 ghost use Rattle.kd_update.specs.Watches.{paths_in};
 ghost use Rattle.kd_update.specs.Ways.{paths_of, way_of};
 
 use crate::Watch;
+use crate::rebuild::NEVER;
 use kd_tree::Side;
 
 // The sides that each of them still takes. A list would take memory at each node above the ends.
@@ -17,6 +19,18 @@ pub(crate) struct Ways<'a> {
 }
 
 impl<'a> Ways<'a> {
+    // No path.
+    pub(crate) fn none() -> Ways<'a>
+        ensures { paths_of result ≡ [] }
+    {
+        Ways {
+            first: None,
+            second: None,
+            third: None,
+            fourth: None,
+        }
+    }
+
     // The paths of the watches.
     pub(crate) fn of(watches: &'a [Watch]) -> Ways<'a>
         requires { length watches.now ≤ 4 }
@@ -50,10 +64,20 @@ impl<'a> Ways<'a> {
         ends(self.first) || ends(self.second) || ends(self.third) || ends(self.fourth)
     }
 
+    // From how many nodes on none is rebuilt: at the end of a path and below it that is any, and elsewhere it is as before.
+    pub(crate) fn spared_from(&self, large: u32) -> u32
+        ensures { result ≡ large_at (paths_of self.now) large }
+    {
+        if self.is_here() { NEVER } else { large }
+    }
+
     // Those that go on to this side, from there.
     pub(crate) fn onward(&self, side: Side) -> Ways<'a>
         ensures { paths_of result ≡ onward side (paths_of self.now) }
     {
+        if self.is_empty() {
+            return *self;
+        }
         Ways {
             first: below(self.first, side),
             second: below(self.second, side),

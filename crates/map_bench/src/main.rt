@@ -33,7 +33,7 @@
 //! the waiting for the lock with them.
 #![tactic(auto)]
 
-ghost use Rattle.std.specs.Prelude.{◌≡◌, ◌<◌};
+ghost use Rattle.kd_tree.specs.Counter.{IsBlankOf};
 
 mod course;
 mod draws;
@@ -104,9 +104,7 @@ fn worked<L: Ledger, R: AllocGlobal + Clock + Threads + Wait + Sync>(
     size: Size,
     blank: Blank,
 ) -> Result<Told, Stop>
-    requires name { blank.name ≡ L.name }
-    requires parts { blank.parts ≡ L.parts }
-    requires some { 0 < blank.parts }
+    requires blank { IsBlankOf L.name L.parts blank }
 {
     let alloc = rt.alloc();
     let steps: &mut Steps<L> = &mut Steps::new(blank);

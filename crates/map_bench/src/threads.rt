@@ -1,6 +1,6 @@
 //! A map that threads share: a writer that adds scans, readers that ask without a pause, and workers that rebuild uneven
 //! subtrees, each on a thread of its own.
-ghost use Rattle.std.specs.Prelude.{◌≡◌};
+ghost use Rattle.published_map.specs.Held.{IsOpenedAs};
 
 pub mod company;
 pub mod plan;
@@ -61,12 +61,7 @@ fn on_map<L: MapName + Send + Sync, R: Threads + Wait + Clock + Sync>(
     opened: Opened,
     plan: &Plan,
 ) -> Result<Times, Stop>
-    requires name { blank.name ≡ L.name }
-    requires parts { blank.parts ≡ L.parts }
-    requires one_each { blank.parts ≡ opened.callers }
-    requires callers { opened.callers ≡ L.callers }
-    requires marks { opened.marks ≡ L.marks }
-    requires voxel { opened.voxel ≡ L.voxel }
+    requires opened { IsOpenedAs L.name L.parts L.callers L.marks L.voxel blank opened }
 {
     let (shared, passes) = Shared::<L>::start(rt, alloc, blank, opened)?;
     let done = run(rt, alloc, &shared, plan, passes);

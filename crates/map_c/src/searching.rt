@@ -1,6 +1,7 @@
 //! The nearest points to a place, and to each of several.
 ghost use Rattle.std.specs.Prelude.{◌≡◌, ◌≢◌, ◌+◌, ◌*◌, ◌<◌, ◌≤◌, ◌⊎◌, ◌≤ℤ◌, ◌++◌, All, Any, IfErr, IfOk, OnOk, Some, None, false, length, pos, take, true};
 ghost use Rattle.std.specs.Option.{ForSome};
+ghost use Rattle.kd_search.specs.Query.{IsQuery};
 ghost use Rattle.map_c.specs.Answers.{AreSearchesRefusal, IsNearest, IsNearestEach, IsNearestEachRefusal, IsNearestRefusal, IsSearch, IsSearchRefusal, all_hits, hit_counts, nearest_hits, within_at};
 ghost use Rattle.map_c.specs.Forms.{IsRightPlace};
 ghost use Rattle.map_c.specs.Status.{code, done, no_memory, out_of_range};
@@ -209,9 +210,7 @@ fn add_each(
     hits: &mut [Hit],
     counts: &mut [u32],
 ) -> Result<usize, Refusal>
-    requires k_from { 1 ≤ k }
-    requires k_to { k ≤ 256 }
-    requires within_to { ForSome within (λ r. r ≤ 4398046511104) }
+    requires query { IsQuery k within }
     requires room { length places.now * k ≤ length hits.old }
     requires counts_room { length places.now ≤ length counts.old }
     ensures list { IfOk result (λ n. take n hits.new ≡ all_hits version.now k within places.now) }
@@ -241,9 +240,7 @@ fn add_nearest(
     at: usize,
     hits: &mut [Hit],
 ) -> Result<usize, Refusal>
-    requires k_from { 1 ≤ k }
-    requires k_to { k ≤ 256 }
-    requires within_to { ForSome within (λ r. r ≤ 4398046511104) }
+    requires query { IsQuery k within }
     requires room { at + k ≤ length hits.old }
     ensures list { IfOk result (λ n. take n hits.new ≡ take at hits.old ++ nearest_hits version.now k within place.now) }
     ensures count { IfOk result (λ n. n ≡ at + length (nearest_hits version.now k within place.now)) }

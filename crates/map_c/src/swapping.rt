@@ -1,5 +1,6 @@
 //! Built subtrees, swapped in.
-ghost use Rattle.std.specs.Prelude.{◌≡◌, ◌≢◌, ◌<◌, ◌==◌, ◌⊎◌, IfErr, IfOk, None, OnErr, OnOk, Some, not};
+ghost use Rattle.std.specs.Prelude.{◌≡◌, ◌≢◌, ◌==◌, ◌⊎◌, IfErr, IfOk, None, OnErr, OnOk, Some, not};
+ghost use Rattle.kd_tree.specs.Counter.{IsBlankOf};
 ghost use Rattle.map_c.specs.Building.{IsBehind, IsLeft, IsStaleAs, IsSwapRefusal, IsSwapped};
 ghost use Rattle.map_c.specs.Status.{behind, code, done};
 ghost use Rattle.map_fold.specs.Ops.{Fit};
@@ -119,9 +120,7 @@ fn counted<L: Ledger>(
     force: bool,
     blank: Blank,
 ) -> Result<(), SwapLeft>
-    requires name { blank.name ≡ L.name }
-    requires parts { blank.parts ≡ L.parts }
-    requires some { 0 < blank.parts }
+    requires blank { IsBlankOf L.name L.parts blank }
     ensures swapped { OnOk result (IsSwapStep built state.old.state state.new.state) }
     ensures may { OnOk result (MaySwap built force state.old.state) }
     ensures refused { IfErr result (λ l. IsSwapFault built force state.old.state l.fault) }

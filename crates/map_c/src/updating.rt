@@ -1,6 +1,7 @@
 //! Updates of a map. All updates of C are those of one caller.
-ghost use Rattle.std.specs.Prelude.{◌≡◌, ◌≢◌, ◌<◌, All, IfErr, OnOk, OnErr, Some};
+ghost use Rattle.std.specs.Prelude.{◌≡◌, ◌≢◌, All, IfErr, OnOk, OnErr, Some};
 ghost use Rattle.map_fold.specs.declared.update.Update.TheVariants.{Add, Delete, Expire, Restore, Suspend, Thin};
+ghost use Rattle.kd_tree.specs.Counter.{IsBlankOf};
 ghost use Rattle.rebuild_core.specs.Steps.{HasRoom, IsFault, IsUpdateStep};
 ghost use Rattle.map_c.specs.Forms.{IsRightBox, IsRightPoint, boxes_at, points_at};
 ghost use Rattle.map_c.specs.Maps.{IsBoxesRefusal, IsMade, IsPointsRefusal, IsUpdateRefusal};
@@ -146,9 +147,7 @@ fn counted<L: Ledger>(
     update: Update,
     blank: Blank,
 ) -> Result<u64, StateFault>
-    requires name { blank.name ≡ L.name }
-    requires parts { blank.parts ≡ L.parts }
-    requires some { 0 < blank.parts }
+    requires blank { IsBlankOf L.name L.parts blank }
     ensures stepped { OnOk result (IsUpdateStep 1 update state.old.state state.new.state) }
     ensures room { OnOk result (HasRoom update state.old.state) }
     ensures refused { IfErr result (IsFault update state.old.state) }

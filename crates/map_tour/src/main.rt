@@ -1,7 +1,7 @@
 //! A tour of the library: a map takes scans, a version of it is kept while the map goes on, and both are asked.
 #![tactic(auto)]
 
-ghost use Rattle.std.specs.Prelude.{◌≡◌, ◌<◌};
+ghost use Rattle.kd_tree.specs.Counter.{IsBlankOf};
 
 use kd_search::nearest;
 use kd_tree::Steps;
@@ -22,9 +22,7 @@ fn main(rt: HostRuntime) -> io::Result<()> {
 
 // What is near the origin before a box is hidden, and after.
 fn tour<L: Ledger>(alloc: Global, blank: Blank) -> Result<(Hits, Hits), StateFault>
-    requires name { blank.name ≡ L.name }
-    requires parts { blank.parts ≡ L.parts }
-    requires some { 0 < blank.parts }
+    requires blank { IsBlankOf L.name L.parts blank }
 {
     // Counts the nodes that are made, for whoever wants to prove a bound on them.
     let steps: &mut Steps<L> = &mut Steps::new(blank);

@@ -1,8 +1,9 @@
 //! One command, on the state of a map.
-ghost use Rattle.std.specs.Prelude.{◌≡◌, ◌≤◌, ◌<◌, ◌+◌, length, IfOk, OnOk};
-ghost use Rattle.std.specs.Option.{ForSome};
+ghost use Rattle.std.specs.Prelude.{◌≡◌, ◌≤◌, ◌<◌, ◌+◌, length, IfOk, OnOk, Some, None};
 ghost use Rattle.kd_tree.specs.Contents.{contents};
 ghost use Rattle.map_fold.specs.Answers.{nears};
+ghost use Rattle.kd_tree.specs.Counter.{IsBlankOf};
+ghost use Rattle.kd_search.specs.Query.{IsQuery};
 ghost use Rattle.rebuild_core.specs.Steps.{HasRoom, IsUpdateStep};
 ghost use Rattle.scan_log.specs.Plain.{IsPlain};
 ghost use Rattle.scan_log.specs.Scripts.{submitted};
@@ -77,9 +78,7 @@ fn updated<L: Ledger>(
     requires caller_from { 1 ≤ caller }
     requires caller_to { caller ≤ 8 }
     requires room { HasRoom update state.old.state }
-    requires name { blank.name ≡ L.name }
-    requires parts { blank.parts ≡ L.parts }
-    requires some { 0 < blank.parts }
+    requires blank { IsBlankOf L.name L.parts blank }
     ensures stepped { OnOk result (IsUpdateStep caller update state.old.state state.new.state) }
     ensures len { IfOk result (λ n. n ≡ length state.new.state.history) }
 {
@@ -112,9 +111,7 @@ fn put_back<L: Ledger>(
     built: Built,
     blank: Blank,
 ) -> Result<(), NoMemory>
-    requires name { blank.name ≡ L.name }
-    requires parts { blank.parts ≡ L.parts }
-    requires some { blank.parts ≡ 1 }
+    requires blank { IsBlankOf L.name L.parts blank }
     ensures { OnOk result (IsTended state.old.state state.new.state) }
 {
     let mut steps: Steps<L> = Steps::new(blank);
@@ -134,9 +131,7 @@ fn near(
     point: &Point,
     within: Option<u64>,
 ) -> Result<Reply, NoMemory>
-    requires k_from { 1 ≤ k }
-    requires k_to { k ≤ 256 }
-    requires within_to { ForSome within (λ r. r ≤ 4398046511104) }
+    requires query { IsQuery k within }
     ensures { IfOk result (λ r. r ≡ reply_of state.now.state (Command.Near 1 k point.now within)) }
 {
     let mark = state.history().len() as u64;
@@ -145,8 +140,7 @@ fn near(
 }
 
 fn nears(alloc: Global, state: &MapState, k: u32, points: &Points) -> Result<Reply, NoMemory>
-    requires k_from { 1 ≤ k }
-    requires k_to { k ≤ 256 }
+    requires query { IsQuery k None }
     ensures { IfOk result (λ r. r ≡ reply_of state.now.state (Command.Nears 1 k points.now)) }
 {
     let mark = state.history().len() as u64;
@@ -161,8 +155,7 @@ fn nearest_in_turn(
     k: u32,
     points: &[Point],
 ) -> Result<HitLists, NoMemory>
-    requires k_from { 1 ≤ k }
-    requires k_to { k ≤ 256 }
+    requires query { IsQuery k None }
     ensures { IfOk result (λ lists. lists ≡ nears (contents tree.now) k points.now) }
 {
     let mut lists = HitLists::new(alloc);
@@ -173,8 +166,7 @@ fn nearest_in_turn(
 }
 
 fn inside(alloc: Global, state: &MapState, k: u32, cuboid: &Cuboid) -> Result<Reply, NoMemory>
-    requires k_from { 1 ≤ k }
-    requires k_to { k ≤ 256 }
+    requires query { IsQuery k None }
     ensures { IfOk result (λ r. r ≡ reply_of state.now.state (Command.Inside 1 k cuboid.now)) }
 {
     let mark = state.history().len() as u64;
@@ -185,9 +177,7 @@ fn inside(alloc: Global, state: &MapState, k: u32, cuboid: &Cuboid) -> Result<Re
 }
 
 fn ball(alloc: Global, state: &MapState, k: u32, r: u64, point: &Point) -> Result<Reply, NoMemory>
-    requires k_from { 1 ≤ k }
-    requires k_to { k ≤ 256 }
-    requires r_to { r ≤ 4398046511104 }
+    requires query { IsQuery k (Some r) }
     ensures { IfOk result (λ z. z ≡ reply_of state.now.state (Command.Ball 1 k r point.now)) }
 {
     let mark = state.history().len() as u64;
@@ -196,9 +186,7 @@ fn ball(alloc: Global, state: &MapState, k: u32, r: u64, point: &Point) -> Resul
 }
 
 fn lonely(alloc: Global, state: &MapState, k: u32, r: u64) -> Result<Reply, NoMemory>
-    requires k_from { 1 ≤ k }
-    requires k_to { k ≤ 256 }
-    requires r_to { r ≤ 4398046511104 }
+    requires query { IsQuery k (Some r) }
     ensures { IfOk result (λ z. z ≡ reply_of state.now.state (Command.Lonely 1 k r)) }
 {
     let mark = state.history().len() as u64;
@@ -207,9 +195,7 @@ fn lonely(alloc: Global, state: &MapState, k: u32, r: u64) -> Result<Reply, NoMe
 }
 
 fn clusters(alloc: Global, state: &MapState, k: u32, r: u64) -> Result<Reply, NoMemory>
-    requires k_from { 1 ≤ k }
-    requires k_to { k ≤ 256 }
-    requires r_to { r ≤ 4398046511104 }
+    requires query { IsQuery k (Some r) }
     ensures { IfOk result (λ z. z ≡ reply_of state.now.state (Command.Clusters 1 k r)) }
 {
     let mark = state.history().len() as u64;

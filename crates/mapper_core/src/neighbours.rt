@@ -1,8 +1,9 @@
 //! Replies to the queries for neighbours, of one tree and at the mark that is given.
-ghost use Rattle.std.specs.Prelude.{◌≡◌, ◌≤◌, IfOk};
+ghost use Rattle.std.specs.Prelude.{◌≡◌, IfOk, Some};
 ghost use Rattle.kd_tree.specs.Contents.{contents};
 ghost use Rattle.map_fold.specs.Clusters.{clusters};
 ghost use Rattle.map_fold.specs.Neighbours.{ball, lonely};
+ghost use Rattle.kd_search.specs.Query.{IsQuery};
 ghost use Rattle.scan_log.specs.Transcript.{clusters_reply, found_reply};
 
 use kd_tree::Tree;
@@ -20,9 +21,7 @@ pub fn ball_reply(
     r: u64,
     point: &Point,
 ) -> Result<BoxReply, NoMemory>
-    requires k_from { 1 ≤ k }
-    requires k_to { k ≤ 256 }
-    requires r_to { r ≤ 4398046511104 }
+    requires query { IsQuery k (Some r) }
     ensures { IfOk result (λ found. found ≡ found_reply mark (ball (contents tree.now) point.now r) k) }
 {
     let count = count_ball(tree, point, r);
@@ -38,9 +37,7 @@ pub fn lonely_reply(
     k: u32,
     r: u64,
 ) -> Result<BoxReply, NoMemory>
-    requires k_from { 1 ≤ k }
-    requires k_to { k ≤ 256 }
-    requires r_to { r ≤ 4398046511104 }
+    requires query { IsQuery k (Some r) }
     ensures { IfOk result (λ found. found ≡ found_reply mark (lonely (contents tree.now) r) k) }
 {
     let found = lonely(alloc, tree, r, k)?;
@@ -59,9 +56,7 @@ pub fn clusters_reply(
     k: u32,
     r: u64,
 ) -> Result<ClusterReply, NoMemory>
-    requires k_from { 1 ≤ k }
-    requires k_to { k ≤ 256 }
-    requires r_to { r ≤ 4398046511104 }
+    requires query { IsQuery k (Some r) }
     ensures { IfOk result (λ found. found ≡ clusters_reply mark (clusters (contents tree.now) r) k) }
 {
     let found = clusters(alloc, tree, r, k)?;

@@ -1,6 +1,7 @@
 //! A script's callers on a shared map of the test's own, which is ended once they have: its passes are those that came back.
 ghost use Rattle.std.specs.Prelude.{◌≡◌, ◌<◌};
 ghost use Rattle.std.specs.List.{AllByRecursion};
+ghost use Rattle.published_map.specs.Held.{IsOpenedAs};
 ghost use Rattle.mapper_core.specs.Meetings.{HasCaller};
 
 use map_fold::NoMemory;
@@ -42,13 +43,8 @@ fn ended_on<L: MapName + Send + Sync, R: Threads + Wait + Sync>(
     opened: Opened,
     script: &Script,
 ) -> Result<(MapState, Vec<Ended>), NoMemory>
-    requires name { blank.name ≡ L.name }
-    requires parts { blank.parts ≡ L.parts }
-    requires one_each { blank.parts ≡ opened.callers }
-    requires callers { opened.callers ≡ L.callers }
+    requires opened { IsOpenedAs L.name L.parts L.callers L.marks L.voxel blank opened }
     requires some { 0 < opened.callers }
-    requires marks { opened.marks ≡ L.marks }
-    requires voxel { opened.voxel ≡ L.voxel }
     requires sizes { opened.voxel ≡ script.now.sizes.voxel }
     requires named { AllByRecursion (HasCaller L.callers) script.now.commands }
 {

@@ -1,4 +1,7 @@
 //! Why an operation isn't taken.
+ghost use Rattle.std.specs.Prelude.{◌≡◌};
+ghost use Rattle.op_logger.specs.declared.fault.PushFault.TheVariants.{NoMemory};
+
 use std::alloc::AllocError;
 use std::fmt::{Display, Error, Formatter, Write};
 
@@ -11,10 +14,7 @@ pub enum PushFault {
 }
 
 impl From<AllocError> for PushFault {
-    ghost use Rattle.std.specs.Prelude.{◌≡◌};
-    ghost use Rattle.op_logger.specs.declared.fault.PushFault.TheVariants.{NoMemory};
-
-    ghost from_gives = { λ error fault. fault ≡ NoMemory };
+    ghost from_gives = { λ _ e. e ≡ NoMemory };
 
     fn from(_error: AllocError) -> PushFault {
         PushFault::NoMemory

@@ -1,16 +1,15 @@
 -- What a refused swap tells.
-use Rattle.std.proofs.Common.{◌≡◌, ℕ, ◌≤◌, List, [], ◌∷◌, length, subst, ap, arith, Option, Some, Result, Ok, Err}
-use Rattle.std.specs.Prelude.{◌==◌, IfErr}
+use Rattle.std.proofs.Common.{◌≡◌, ℕ, ◌≤◌, List, [], ◌∷◌, length, subst, ap, arith, Option, Some}
+use Rattle.std.specs.Prelude.{◌==◌}
 use Rattle.std.proofs.lemmas.Bool.{cond_both}
 use Rattle.std.proofs.lemmas.List.{length-drop}
 use Rattle.kd_tree.specs.Shape.{Shape}
 use Rattle.rebuild_core.specs.Built.{BuiltAt}
 use Rattle.rebuild_core.specs.Lawful.{IsLawful, StateAt}
 use Rattle.rebuild_core.specs.Parts.{AreEachLawful, PartAt, part_of}
-use Rattle.rebuild_core.specs.Steps.{PlannedAt}
 use Rattle.rebuild_core.specs.Swap.{IsLate}
-use Rattle.rebuild_core.specs.declared.swap.Late.{Late}
-use Rattle.rebuild_core.specs.declared.swap.Late.TheVariants.{Stale, Behind, NoMemory}
+use Rattle.rebuild_core.specs.declared.fault.Late.{Late}
+use Rattle.rebuild_core.specs.declared.fault.Late.TheVariants.{Stale, Behind, NoMemory}
 use Rattle.published_map.specs.Late.{IsLateCause}
 
 some_part : (a b : PartAt) → ◌≡◌ {A = Option PartAt} (Some a) (Some b) → a ≡ b
@@ -23,7 +22,8 @@ few_logged large next last t ticket (r ∷ ps) p e k =
     cond_both (ticket == r.ticket) (Some r) (part_of ticket ps) (λ o. o ≡ Some p → length p.log ≤ 65536) (λ _ f. subst (λ (x : PartAt). length x.log ≤ 65536) (some_part r p f) k.0.few)
     (λ _ f. few_logged large next last t ticket ps p f k.1) e
 
-late_cause : (b : BuiltAt) (most : ℕ) (s : StateAt) (l : Late) → IsLawful s → IsLate b most s l → IsLateCause b most l
+-- a refusal by a lawful state
+pub late_cause : (b : BuiltAt) (most : ℕ) (s : StateAt) (l : Late) → IsLawful s → IsLate b most s l → IsLateCause b most l
 late_cause b most s (Stale built) k u = u.0
 late_cause b most s NoMemory k u = tt
 late_cause b most s (Behind built ops) k u =
@@ -32,8 +32,3 @@ late_cause b most s (Behind built ops) k u =
     let logged = few_logged _ _ _ _ b.ticket s.parts after.part after.of.found k.parts.each in
     let lacks = ap length after.after in
     let left = length-drop (length b.done) log in (u.0, u.1, u.3, omega (arith, logged, lacks, left))
-
--- a refusal by a lawful state
-pub late : (b : BuiltAt) (most : ℕ) (s : StateAt) (r : Result PlannedAt Late) → IsLawful s → IfErr r (IsLate b most s) → IfErr r (IsLateCause b most)
-late b most s (Ok p) k u = tt
-late b most s (Err l) k u = late_cause b most s l k u

@@ -1,6 +1,7 @@
 -- What a pass, a map that isn't shared yet, and what lies under the lock keep true of themselves.
 use Rattle.std.specs.Prelude.{◌≡◌, ℕ, ◌≤◌, List, [], length}
 use mathlib.Core.List.{IsPrefix}
+use Rattle.std.specs.declared.sync.ledger.Blank.{Blank}
 use Rattle.logbook.specs.Pages.{Book}
 use Rattle.map_fold.specs.declared.entry.Entry.{Entry}
 use Rattle.map_fold.specs.declared.item.Item.{Item}
@@ -32,6 +33,16 @@ pub record IsOpened (callers : ℕ) (history : List Entry) : Type 0 where
   pub callers_from : 1 ≤ callers
   pub callers_to : callers ≤ 8
   pub none : history ≡ []
+
+-- The blank is that of the ledger of this name and these parts, one for each caller of the map, and the map is the one of so many
+-- callers, these marks and this edge of voxels.
+pub record IsOpenedAs (n m c : ℕ) (b : Book) (v : ℕ) (blank : Blank) (o : OpenedAt) : Type 0 where
+  pub name : blank.name ≡ n
+  pub parts : blank.parts ≡ m
+  pub one_each : blank.parts ≡ o.callers
+  pub callers : o.callers ≡ c
+  pub marks : o.marks ≡ b
+  pub voxel : o.voxel ≡ v
 
 -- Under the lock the published version is that of the stored history, which the writer knows, and all updates are counted. The
 -- audit_share has no part, and so nothing.

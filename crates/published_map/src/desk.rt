@@ -9,8 +9,10 @@ use crate::name::MapName;
 use crate::shared::Shared;
 use map_fold::{NoMemory, Ops};
 use op_logger::MAX_LOGGED;
-use rebuild_core::{Built, Desk, Job, Late, LogAsk, SwapFault, SwapLeft};
+use rebuild_core::{Built, Desk, Job, Late, LogAsk, SwapFault, SwapLeft, SwapOrLate, Swapped};
 use std::alloc::Global;
+use std::marker::Brand;
+use std::sync::ledger::Blank;
 use std::sync::{MutexGuard, Wait};
 
 // As many operations are done in a swap that isn't forced.
@@ -44,13 +46,7 @@ impl<L: MapName> Desk for Shared<L> {
     }
 
     /// The operations are done on a copy of the value, which shares its nodes: so each node that they touch is copied.
-    fn swap<R: Wait>(
-        &self,
-        rt: &R,
-        alloc: Global,
-        built: Built,
-        force: bool,
-    ) -> Result<(), SwapLeft> {
+    fn swap<R: Wait>(&self, rt: &R, alloc: Global, built: Built, force: bool) -> Swapped {
         let most = if force { MAX_LOGGED } else { FEW };
         match self.swap_copy(rt, alloc, &built, most) {
             Ok(()) => Ok(()),
@@ -61,13 +57,7 @@ impl<L: MapName> Desk for Shared<L> {
         }
     }
 
-    fn swap_or_log<R: Wait>(
-        &self,
-        rt: &R,
-        alloc: Global,
-        built: Built,
-        most: u32,
-    ) -> Result<(), Late> {
+    fn swap_or_log<R: Wait>(&self, rt: &R, alloc: Global, built: Built, most: u32) -> SwapOrLate {
         self.swap_within(rt, alloc, built, most)
     }
 }
@@ -88,13 +78,7 @@ impl<L: MapName> Shared<L> {
     }
 
     // Swaps a copy of the value in, where it is at most so many operations behind.
-    fn swap_copy<R: Wait>(
-        &self,
-        rt: &R,
-        alloc: Global,
-        built: &Built,
-        most: u32,
-    ) -> Result<(), Late>
+    fn swap_copy<R: Wait>(&self, rt: &R, alloc: Global, built: &Built, most: u32) -> SwapOrLate
         ensures { IfErr result (IsLateCause built.now most) }
     {
         let twin = built.again(alloc)?;
@@ -103,13 +87,7 @@ impl<L: MapName> Shared<L> {
 
     // Swaps the value in, where it is at most so many operations behind. The first turn takes hold of what the subtree of its
     // ticket held, which is compared after it.
-    fn swap_within<R: Wait>(
-        &self,
-        rt: &R,
-        alloc: Global,
-        built: Built,
-        most: u32,
-    ) -> Result<(), Late>
+    fn swap_within<R: Wait>(&self, rt: &R, alloc: Global, built: Built, most: u32) -> SwapOrLate
         ensures { IfErr result (IsLateCause built most) }
     {
         let locked = self.lock.lock(rt);
@@ -132,14 +110,14 @@ impl<L: MapName> Shared<L> {
         built: Built,
         mark: &Mark<L>,
         most: u32,
-    ) -> Result<(), Late>
+    ) -> SwapOrLate
         requires { mark.now.items ≡ built.items }
         ensures { IfErr result (IsLateCause built most) }
     {
         let mut locked = self.lock.lock(rt);
         let (left, holdings) = (locked.leave(), locked.holdings());
         let former = locked.version();
-        let done = locked.swap(rt, alloc, built, mark, most);
+        let done = locked.swap::<Brand, R>(rt, alloc, built, mark, most, Blank::new(1));
         let spent = locked.keep(former, done.is_ok(), false);
         MutexGuard::unlock(locked);
         drop((left, holdings, spent));

@@ -17,7 +17,6 @@ mod meet;
 mod name;
 mod opened;
 mod pass;
-mod plans;
 mod rule;
 mod shared;
 mod shown;

@@ -1,6 +1,7 @@
 //! What lies under the lock.
 ghost use Rattle.std.specs.Prelude.{◌≡◌, None, IfErr, IfOk, OnErr};
 ghost use mathlib.Core.List.{IsPrefix};
+ghost use Rattle.kd_tree.specs.Counter.{IsBlankOf};
 ghost use Rattle.rebuild_core.specs.Lawful.{IsLawful};
 ghost use Rattle.rebuild_core.specs.Steps.{IsFault, entered};
 ghost use Rattle.published_map.specs.Answers.{Updated};
@@ -11,16 +12,16 @@ use crate::kinds::MapWriter;
 use crate::mark::MarkList;
 use crate::name::MapName;
 use crate::pass::Pass;
-use crate::plans::plan_update;
 use crate::shown::Shown;
 use crate::turn::{catch_up, take_step};
 use core::mem::replace;
+use kd_tree::Steps;
 use left_right::Absorb;
 use map_fold::{Entry, NoMemory, Update};
 use rebuild_core::{Holding, MapState, Planned, StateFault, Version};
 use std::alloc::Global;
-use std::marker::Model;
-use std::sync::ledger::{Book, Share};
+use std::marker::{Brand, Model};
+use std::sync::ledger::{Blank, Book, Ledger, Share};
 use std::sync::{Arc, Wait};
 
 /// The state, beside the writer's seat, the marks of the versions and the book of all updates. Contracts see the state.
@@ -158,7 +159,7 @@ impl<L: MapName> Locked<L> {
     {
         let _history = self.state.history();
         self.agree(rt, pass);
-        let fault = match self.make(rt, alloc, pass, update) {
+        let fault = match self.make::<Brand, R>(rt, alloc, pass, update, Blank::new(1)) {
             Ok(mark) => return Ok(mark),
             Err(fault) => fault,
         };
@@ -168,15 +169,17 @@ impl<L: MapName> Locked<L> {
         Err(fault)
     }
 
-    // Makes the update, where the pass has seen no more than there is.
-    fn make<R: Wait>(
+    // Makes the update, where the pass has seen no more than there is, with a counter that nothing looks at.
+    fn make<C: Ledger, R: Wait>(
         &mut self,
         rt: &R,
         alloc: Global,
         pass: &mut Pass<L>,
         update: Update,
+        blank: Blank,
     ) -> Result<u64, StateFault>
-        requires { IsPrefix pass.old.seen self.old.state.history }
+        requires blank { IsBlankOf C.name C.parts blank }
+        requires begins { IsPrefix pass.old.seen self.old.state.history }
         ensures made { IfOk result (Added pass.old pass.new update) }
 
         ensures refused { IfErr result (IsFault update self.old.state) }
@@ -184,7 +187,10 @@ impl<L: MapName> Locked<L> {
         ensures pass { OnErr result (pass.new ≡ pass.old) }
     {
         let place = self.state.history().len() as u64;
-        let planned = plan_update(alloc, &mut self.state, pass.caller, update)?;
+        let mut steps: Steps<C> = Steps::new(blank);
+        let planned = self
+            .state
+            .plan_update(alloc, pass.caller, update, &mut steps)?;
         pass.marks.reserve(1)?;
         let mark = take_step(
             rt,
@@ -222,5 +228,28 @@ impl<L: MapName> Locked<L> {
             planned,
         )?;
         Ok(())
+    }
+
+    /// Ends the map: its state is what is left of it.
+    pub fn end<R: Wait>(self, rt: &R) -> MapState
+        ensures same { result ≡ self }
+        ensures lawful { IsLawful result.state }
+        ensures voxel { result.state.settings.voxel ≡ L.voxel }
+    {
+        let Locked {
+            state,
+            writer,
+            marks: _marks,
+            book: _book,
+            audit_share: _audit_share,
+            former: _former,
+            by_update: _by_update,
+            left: _left,
+            kept: _kept,
+            holds: _holds,
+        } = self;
+        writer.take(rt);
+        let _history = state.history();
+        state
     }
 }

@@ -1,6 +1,6 @@
 //! What a caller holds.
 ghost use Rattle.std.specs.Prelude.{◌≡◌, ◌≤◌, [], length, IfOk, IsOk};
-ghost use Rattle.std.specs.Option.{ForSome};
+ghost use Rattle.kd_search.specs.Query.{IsQuery};
 ghost use Rattle.published_map.specs.Answers.{box_reply, near_reply};
 ghost use Rattle.published_map.specs.Marks.{Grown, IsMade, seen_by_new};
 ghost use Rattle.published_map.specs.Versions.{IsVersionOf};
@@ -118,9 +118,7 @@ impl<L: MapName> Pass<L> {
         q: &Point,
         within: Option<u64>,
     ) -> Result<NearReply, NoMemory>
-        requires k_from { 1 ≤ k }
-        requires k_to { k ≤ 256 }
-        requires within_to { ForSome within (λ r. r ≤ 4398046511104) }
+        requires query { IsQuery k within }
         ensures seen { Grown self.old self.new }
         ensures near { IfOk result (λ r. r ≡ near_reply L.voxel self.new.seen k q.now within) }
         ensures inline { k ≤ 16 → IsOk result }

@@ -4,6 +4,7 @@ ghost use Rattle.rebuild_core.specs.Lawful.{IsLawful};
 ghost use Rattle.published_map.specs.Answers.{Updated};
 ghost use Rattle.published_map.specs.Ends.{ended_of};
 ghost use Rattle.published_map.specs.Marks.{seen_by_new, callers_of, IsDistinct, AllMetNow, AllEnded};
+ghost use Rattle.published_map.specs.Held.{IsOpenedAs};
 
 use crate::ended::{Ended, ended_all};
 use crate::locked::Locked;
@@ -35,12 +36,7 @@ impl<L: MapName> Shared<L> {
         blank: Blank,
         opened: Opened,
     ) -> Result<(Shared<L>, Vec<Pass<L>>), NoMemory>
-        requires name { blank.name ≡ L.name }
-        requires parts { blank.parts ≡ L.parts }
-        requires one_each { blank.parts ≡ opened.callers }
-        requires callers { opened.callers ≡ L.callers }
-        requires marks { opened.marks ≡ L.marks }
-        requires voxel { opened.voxel ≡ L.voxel }
+        requires opened { IsOpenedAs L.name L.parts L.callers L.marks L.voxel blank opened }
         ensures passes { IfOk result (λ r. length r.1.items ≡ L.callers) }
         ensures new { IfOk result (λ r. (k : ℕ) → k < L.callers → slice_get r.1.items k ≡ Some (seen_by_new (k + 1))) }
     {
@@ -148,38 +144,14 @@ impl<L: MapName> Shared<L> {
         let mut passes = passes;
         let ended = ended_all(alloc, passes.as_slice());
         meet_last(rt, &mut locked, passes.as_mut_slice());
-        let Locked {
-            state,
-            writer,
-            marks: _marks,
-            book: _book,
-            audit_share: _purse,
-            former: _former,
-            by_update: _by_update,
-            left: _left,
-            kept: _kept,
-            holds: _holds,
-        } = locked;
-        writer.take(rt);
-        let _history = state.history();
+        let state = locked.end(rt);
         Ok((state, ended?))
     }
 
     /// Ends the map without its passes.
     pub fn close<R: Wait>(self, rt: &R) {
         let Shared { lock } = self;
-        let Locked {
-            state: _state,
-            writer,
-            marks: _marks,
-            book: _book,
-            audit_share: _purse,
-            former: _former,
-            by_update: _by_update,
-            left: _left,
-            kept: _kept,
-            holds: _holds,
-        } = lock.into_inner();
-        writer.take(rt);
+        let locked = lock.into_inner();
+        let _state = locked.end(rt);
     }
 }

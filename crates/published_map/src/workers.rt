@@ -1,8 +1,8 @@
 //! The turns of the lock that workers take. Between two of them the lists of detached subtrees are made and compared: nothing here
 //! takes time that depends on how many points such a subtree holds.
 ghost use Rattle.std.specs.Prelude.{◌≡◌, ◌≤◌, true, IfErr, IfOk, IfSome};
-ghost use Rattle.map_fold.specs.Ops.{Fit};
-ghost use Rattle.kd_tree.specs.Contents.{contents};
+ghost use Rattle.kd_tree.specs.Counter.{IsBlankOf};
+ghost use Rattle.rebuild_core.specs.Built.{CanBeDoneOn};
 ghost use Rattle.rebuild_core.specs.Desk.{IsAskCause};
 ghost use Rattle.rebuild_core.specs.Parts.{AreItemsOf};
 ghost use Rattle.published_map.specs.Late.{IsLateCause};
@@ -11,12 +11,13 @@ use crate::hold::{Hold, hold_of, keep_hold};
 use crate::locked::Locked;
 use crate::mark::Mark;
 use crate::name::MapName;
-use crate::plans::plan_swap_or_log;
 use crate::shown::Shown;
 use crate::story::ShownHistory;
+use kd_tree::Steps;
 use map_fold::{NoMemory, Ops};
-use rebuild_core::{Built, Holding, Late, LogAsk, Snapshot, Version};
+use rebuild_core::{Built, Holding, Late, LogAsk, Snapshot, SwapOrLate, Version};
 use std::alloc::Global;
+use std::sync::ledger::{Blank, Ledger};
 use std::sync::{Arc, Wait};
 
 impl<L: MapName> Locked<L> {
@@ -89,16 +90,18 @@ impl<L: MapName> Locked<L> {
     }
 
     /// One turn of the lock that swaps the value in, where it is at most so many operations behind. It was built of what the mark
-    /// is of. What comes back is to be dropped after the lock was given back.
-    pub fn swap<R: Wait>(
+    /// is of. What comes back is to be dropped after the lock was given back. The counter of nodes is one that nothing looks at.
+    pub fn swap<C: Ledger, R: Wait>(
         &mut self,
         rt: &R,
         alloc: Global,
         built: Built,
         mark: &Mark<L>,
         most: u32,
-    ) -> Result<(), Late>
-        requires { mark.now.items ≡ built.items }
+        blank: Blank,
+    ) -> SwapOrLate
+        requires blank { IsBlankOf C.name C.parts blank }
+        requires of { mark.now.items ≡ built.items }
         ensures history { self.new.state.history ≡ self.old.state.history }
 
         ensures refused { IfErr result (IsLateCause built most) }
@@ -106,14 +109,19 @@ impl<L: MapName> Locked<L> {
         if !self.is_known(built.ticket(), mark) {
             return Err(Late::Stale { built });
         }
-        let planned = plan_swap_or_log(alloc, &self.state, built, most)?;
+        let _history = self.state.history();
+        let mut steps: Steps<C> = Steps::new(blank);
+        let planned = match self.state.plan_swap_or_log(alloc, built, most, &mut steps) {
+            Ok(planned) => planned,
+            Err(late) => return Err(late),
+        };
         self.step(rt, planned)?;
         Ok(())
     }
 
     /// The operations that the built value hasn't done.
     pub fn log_after(&self, alloc: Global, built: &Built) -> Result<Ops, LogAsk>
-        ensures fit { IfOk result (Fit (contents built.now.tree)) }
+        ensures fit { IfOk result (CanBeDoneOn built.now) }
 
         ensures refused { IfErr result (IsAskCause built.now) }
     {

@@ -6,7 +6,7 @@ use Rattle.kd_update.specs.Several.{IsBalancedClear}
 use Rattle.kd_update.specs.Update.{IsBalancedBelow}
 use Rattle.kd_update.proofs.Several.{clear_balanced, balanced_clear}
 use Rattle.rebuild_core.specs.Draft.{IsDraft, IsDraftLeft, watches_of}
-use Rattle.rebuild_core.specs.declared.work.Work.{Work}
+use Rattle.rebuild_core.specs.declared.update.work.Work.{Work}
 use Rattle.rebuild_core.specs.Parts.{PartAt, paths}
 use Rattle.rebuild_core.proofs.Detached.{left_none}
 

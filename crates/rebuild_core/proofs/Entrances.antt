@@ -8,7 +8,7 @@ use Rattle.point_geom.specs.Boxes.{holds, voxel}
 use Rattle.point_geom.proofs.Laws.{voxel_held}
 use Rattle.map_fold.specs.declared.item.Item.{Item}
 use Rattle.map_fold.specs.Contents.{in_box}
-use Rattle.rebuild_core.specs.declared.waiting.Waiting.{Waiting}
+use Rattle.rebuild_core.specs.declared.update.waiting.Waiting.{Waiting}
 use Rattle.rebuild_core.specs.Waiting.{AreClear, IsClear, IsJoined}
 use Rattle.rebuild_core.proofs.Voxels.{voxel_of}
 

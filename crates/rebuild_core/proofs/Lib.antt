@@ -1,6 +1,7 @@
 pub mod Drafts
 pub mod Histories
 pub mod Plans
+pub mod Outcome
 pub mod Winners
 pub mod OnePoint
 pub mod ApartPaths

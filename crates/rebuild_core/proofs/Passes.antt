@@ -19,7 +19,7 @@ use Rattle.kd_update.specs.Watches.{AreExtended, paths_in}
 use Rattle.kd_update.proofs.Crossing.{logged_scan_few, scan_puts}
 use Rattle.rebuild_core.specs.Draft.{AreStill, IsDraft, IsDraftLeft, IsWorked, watch_of, watches_of}
 use Rattle.rebuild_core.specs.Parts.{PartAt}
-use Rattle.rebuild_core.specs.declared.work.Work.{Work}
+use Rattle.rebuild_core.specs.declared.update.work.Work.{Work}
 use Rattle.rebuild_core.proofs.Detached.{HaveLogRoomOf, logged}
 use Rattle.rebuild_core.proofs.Drafts.{among_below}
 use Rattle.rebuild_core.proofs.Working.{draft_logged, paths-watched}

@@ -29,7 +29,7 @@ use Rattle.map_fold.proofs.Centre.{neither, not_itself, order}
 use Rattle.map_fold.proofs.Found.{member-map, member-map_of}
 use Rattle.map_fold.proofs.Order.{then_equal}
 use Rattle.kd_update.specs.Scan.{live_from}
-use Rattle.rebuild_core.specs.declared.entrants.Entrant.{Entrant}
+use Rattle.rebuild_core.specs.declared.update.entrants.Entrant.{Entrant}
 use Rattle.rebuild_core.specs.Entrants.{AreApart, AreFirsts}
 use Rattle.rebuild_core.specs.Ranks.{HaveVoxels, Rank, entrant_of, items_in, rank_cmp, rank_of, spot_cmp}
 use Rattle.rebuild_core.proofs.Voxels.{corners_alike, voxel_of}

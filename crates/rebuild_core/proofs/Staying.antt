@@ -17,7 +17,7 @@ use Rattle.rebuild_core.specs.Parts.{AreLawfulParts, AreLeft, PartAt, paths}
 use Rattle.rebuild_core.specs.Single.{RebuildsNothing, only_op}
 use Rattle.rebuild_core.specs.Stays.{HasRoomBeside, HaveLogRoomFor, logged_by, most_ops}
 use Rattle.rebuild_core.specs.Steps.{IsUnrebuiltUpdate}
-use Rattle.rebuild_core.specs.declared.work.Work.{Work}
+use Rattle.rebuild_core.specs.declared.update.work.Work.{Work}
 use Rattle.rebuild_core.proofs.Detached.{left_logged}
 use Rattle.rebuild_core.proofs.Working.{marks-watched, paths-watched, puts-watched, watched_room}
 

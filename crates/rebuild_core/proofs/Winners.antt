@@ -21,7 +21,7 @@ use Rattle.kd_tree.specs.Contents.{contents}
 use Rattle.kd_tree.proofs.Held.{are_contents}
 use Rattle.kd_search.specs.Best.{IsBest}
 use Rattle.rebuild_core.specs.Draft.{IsWork}
-use Rattle.rebuild_core.specs.declared.work.Work.{Work}
+use Rattle.rebuild_core.specs.declared.update.work.Work.{Work}
 use Rattle.rebuild_core.specs.Lawful.{map_of}
 use Rattle.rebuild_core.specs.OnePoint.{IsTurnedAway}
 

@@ -18,7 +18,7 @@ use Rattle.kd_update.proofs.InBox.{levels-marked, nodes-marked}
 use Rattle.kd_update.proofs.Route.{levels-put, nodes-put}
 use Rattle.rebuild_core.specs.Draft.{AreStill, HasRoomFor, HaveRoomFor, IsWorked, plain_work}
 use Rattle.rebuild_core.specs.Single.{RebuildsNothing}
-use Rattle.rebuild_core.specs.declared.work.Work.{Work}
+use Rattle.rebuild_core.specs.declared.update.work.Work.{Work}
 
 -- what is watched
 

@@ -31,7 +31,7 @@ use Rattle.kd_update.proofs.Several.{balanced_clear}
 use Rattle.kd_update.proofs.Update.{criteria_balanced}
 use Rattle.rebuild_core.specs.Draft.{IsDraft, IsDraftLeft, watch_of, watches_of}
 use Rattle.rebuild_core.specs.Parts.{AreLawfulParts, AreLeft, HaveLogRoom, PartAt, paths}
-use Rattle.rebuild_core.specs.declared.work.Work.{Work}
+use Rattle.rebuild_core.specs.declared.update.work.Work.{Work}
 use Rattle.rebuild_core.proofs.ApartPaths.{clear_of_others, balanced_more, ones_moved}
 use Rattle.rebuild_core.proofs.Detached.{HaveLogRoomOf, each_at, each_large, each_logged, each_more, each_same, each_without, left_itself, left_lawful, left_logged, left_none, left_trans, left_without, logged, paths-logged, room_of_two}
 use Rattle.rebuild_core.proofs.Drafts.{among_below}

@@ -60,6 +60,10 @@ IsStale b ps = (p : PartAt) → IsPartOf b ps p → ⊥
 abbrev pub undone : BuiltAt → PartAt → List Op
 undone b p = drop (length b.done) p.log
 
+-- the operations can be done on the value's tree
+abbrev pub CanBeDoneOn : BuiltAt → List Op → Type 0
+CanBeDoneOn b ops = Fit (contents b.tree) ops
+
 -- the tree is that of a value of this part, and these are the operations that the value hasn't done
 pub record IsTreeOf (b : BuiltAt) (p : PartAt) (ps : List PartAt) (t : Shape) (ops : List Op) : Type 0 where
   pub of : IsPartOf b ps p

@@ -7,8 +7,8 @@ use Rattle.rebuild_core.specs.declared.fault.LogAsk.{LogAsk}
 use Rattle.rebuild_core.specs.declared.fault.LogAsk.TheVariants as ask_of
 use Rattle.rebuild_core.specs.declared.fault.SwapFault.{SwapFault}
 use Rattle.rebuild_core.specs.declared.fault.SwapFault.TheVariants as fault_of
-use Rattle.rebuild_core.specs.declared.swap.Late.{Late}
-use Rattle.rebuild_core.specs.declared.swap.Late.TheVariants as late_of
+use Rattle.rebuild_core.specs.declared.fault.Late.{Late}
+use Rattle.rebuild_core.specs.declared.fault.Late.TheVariants as late_of
 
 -- a stale value's ticket is told
 abbrev pub IsAskCause : BuiltAt → LogAsk → Type 0

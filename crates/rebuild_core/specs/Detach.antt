@@ -1,14 +1,15 @@
 -- What detaching a subtree does to a state.
-use Rattle.std.specs.Prelude.{◌≡◌, ℕ, ◌+◌, ◌<◌, ◌⊎◌, List, [], ◌∷◌, Option, Some, None, nat_lt, ◌==◌, if◌then◌else◌}
+use Rattle.std.specs.Prelude.{◌≡◌, ℕ, ◌+◌, ◌<◌, ◌≤◌, ◌⊎◌, ◌↔◌, List, [], ◌∷◌, Option, Some, None, Result, IfOk, IfSome, IsNone, OnErr, nat_lt, ◌==◌, if◌then◌else◌}
 use Rattle.kd_tree.specs.Shape.{Shape}
 use Rattle.kd_tree.specs.Sound.{IsSound}
 use Rattle.kd_tree.specs.Contents.{contents}
 use Rattle.kd_tree.specs.Parts.{at}
 use Rattle.kd_tree.specs.Apart.{AllClearMeetCriteria, IsFirstFree}
 use Rattle.kd_tree.specs.declared.path.Side.{Side}
+use Rattle.map_fold.specs.declared.memory.NoMemory as memory
 use Rattle.map_fold.specs.declared.op.Op.{Op}
 use Rattle.rebuild_core.specs.Built.{BuiltAt, IsPartOf, IsStale, JobAt, undone}
-use Rattle.rebuild_core.specs.Lawful.{StateAt}
+use Rattle.rebuild_core.specs.Lawful.{StateAt, Stored}
 use Rattle.rebuild_core.specs.declared.fault.LogAsk.{LogAsk}
 use Rattle.rebuild_core.specs.declared.fault.LogAsk.TheVariants.{Stale, NoMemory}
 use Rattle.rebuild_core.specs.Parts.{PartAt, part_in, paths}
@@ -52,6 +53,20 @@ pub record IsDetachStep (slot : ℕ) (s : StateAt) (job : JobAt) (t : StateAt) :
   pub ticket : job.ticket ≡ s.last + 1
   pub items : job.items ≡ contents node
   pub state : t ≡ record s { last = s.last + 1; parts = with_part (record { slot = slot; path = path; ticket = s.last + 1; items = contents node; log = [] }) s.parts }
+
+-- the slots are four
+pub record IsSlot (slot : ℕ) : Type 0 where
+  pub slot_from : 1 ≤ slot
+  pub slot_to : slot ≤ 4
+
+-- What detaching into the slot answers, and makes of a state: a refusal leaves it as it was, and so does an answer that there is
+-- nothing to be detached.
+pub record Detaches (slot : ℕ) (s : Stored) (found : Result (Option JobAt) memory.NoMemory) (t : Stored) : Type 0 where
+  pub none : IfOk found (λ o. IsNone o ↔ IsNoDetach slot s.state)
+  pub detached : IfOk found (λ o. IfSome o (λ job. IsDetachStep slot s.state job t.state))
+  pub stays : IfOk found (λ o. IsNone o → t.state ≡ s.state)
+  pub same : OnErr found (t.state ≡ s.state)
+  pub spare : t.spare ≡ s.spare
 
 -- these are the operations that the value, which is of one of the state's parts, hasn't done
 pub record IsLogAfter (b : BuiltAt) (s : StateAt) (ops : List Op) : Type 0 where

@@ -7,6 +7,7 @@ pub mod OnePoint
 pub mod Built
 pub mod Steps
 pub mod Stays
+pub mod Outcome
 pub mod Desk
 pub mod Detach
 pub mod Holding

@@ -2,7 +2,7 @@
 use Rattle.std.specs.Prelude.{ℕ, ◌+◌, ◌<◌, ◌≤◌, max}
 use Rattle.kd_tree.specs.Shape.{levels, nodes}
 use Rattle.kd_update.specs.Crossing.{HaveRoomAtOnce}
-use Rattle.rebuild_core.specs.declared.work.Work.{Work}
+use Rattle.rebuild_core.specs.declared.update.work.Work.{Work}
 use Rattle.kd_tree.specs.declared.limits.TheConstants.{MAX_NODES}
 
 -- So many items may be put in one pass: they are fewer than large nodes are, the tree's bounds aren't near, and each log has room.

@@ -5,7 +5,7 @@ use Rattle.std.specs.declared.cmp.Ordering.{Ordering}
 use Rattle.point_geom.specs.Boxes.{voxel}
 use Rattle.point_geom.specs.Distances.{centre_dist2}
 use Rattle.map_fold.specs.declared.item.Item.{Item}
-use Rattle.rebuild_core.specs.declared.entrants.Entrant.{Entrant}
+use Rattle.rebuild_core.specs.declared.update.entrants.Entrant.{Entrant}
 
 -- an item with its voxel
 abbrev pub entrant_of : ℕ → Item → Entrant

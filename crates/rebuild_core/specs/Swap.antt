@@ -9,8 +9,8 @@ use Rattle.kd_update.specs.Replace.{HasRoomAt, RebuildsNoneAbove}
 use Rattle.kd_update.specs.Update.{IsBalancedBelow}
 use Rattle.rebuild_core.specs.declared.fault.SwapFault.{SwapFault}
 use Rattle.rebuild_core.specs.declared.fault.SwapFault.TheVariants.{Stale, Behind, NoMemory}
-use Rattle.rebuild_core.specs.declared.swap.Late.{Late}
-use Rattle.rebuild_core.specs.declared.swap.Late.TheVariants as late_of
+use Rattle.rebuild_core.specs.declared.fault.Late.{Late}
+use Rattle.rebuild_core.specs.declared.fault.Late.TheVariants as late_of
 use Rattle.rebuild_core.specs.Built.{BuiltAt, IsPartOf, IsStale, undone}
 use Rattle.rebuild_core.specs.Detach.{IsLogAfter}
 use Rattle.rebuild_core.specs.Lawful.{IsLawful, StateAt}
@@ -81,3 +81,11 @@ pub record IsUnrebuiltSwap (b : BuiltAt) (p : PartAt) (s : StateAt) : Type 0 whe
   pub balanced : IsBalancedBelow s.settings.large b.tree
   pub room : HasRoomAt p.path b.tree s.tree
   pub criteria : RebuildsNoneAbove s.settings.large p.path (replaced_at p.path b.tree s.tree)
+
+-- This is the tree that a swap leaves: one that rebuilds nothing puts the value's at the path of its part.
+abbrev pub IsLeftUnrebuilt : BuiltAt → StateAt → Shape → Type 0
+IsLeftUnrebuilt b s t = (p : PartAt) → IsUnrebuiltSwap b p s → t ≡ replaced_at p.path b.tree s.tree
+
+-- A swap that rebuilds nothing makes at most a node for each side of the path: the counter rises from the one number to the other.
+abbrev pub MakesPath : BuiltAt → StateAt → ℕ → ℕ → Type 0
+MakesPath b s before after = (p : PartAt) → IsUnrebuiltSwap b p s → after ≤ before + length p.path

@@ -7,7 +7,7 @@ use Rattle.map_fold.specs.Contents.{AreContents, in_box}
 use Rattle.kd_tree.specs.Contents.{by_number, contents}
 use Rattle.kd_update.specs.Scan.{AreLive}
 use Rattle.rebuild_core.specs.Draft.{IsWork}
-use Rattle.rebuild_core.specs.declared.waiting.Waiting.{Waiting}
+use Rattle.rebuild_core.specs.declared.update.waiting.Waiting.{Waiting}
 
 -- what the tree holds and what waits, by number
 abbrev pub held_by : Waiting → List Item

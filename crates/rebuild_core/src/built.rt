@@ -5,6 +5,7 @@ ghost use Rattle.map_fold.specs.Ops.{Fit, numbers_put, replay};
 ghost use Rattle.kd_tree.specs.Shape.{levels, nodes, numbers};
 ghost use Rattle.kd_tree.specs.Contents.{contents};
 ghost use Rattle.kd_tree.specs.Criteria.{AllMeetCriteria};
+ghost use Rattle.kd_tree.specs.Counter.{IsBlankOf};
 ghost use Rattle.kd_update.specs.Refresh.{AreAmong};
 ghost use Rattle.kd_update.specs.Update.{IsBalancedBelow};
 ghost use Rattle.rebuild_core.specs.Built.{AreNumbersOf, IsLawfulBuilt, IsReplayOf};
@@ -135,10 +136,13 @@ impl Built {
         ensures balance { IfOk result (λ b. IsBalancedBelow large b.tree) }
         ensures left { IfErr result (λ l. l.built ≡ self) }
     {
-        match self.replayed_by::<Brand>(alloc, large, ops, Blank::new(1)) {
-            Err(_) => Err(BuiltLeft { built: self }),
-            Ok(tree) => self.advanced(large, ops, tree),
-        }
+        let Ok(twin) = self.again(alloc) else {
+            return Err(BuiltLeft { built: self });
+        };
+        let Ok(built) = twin.replay_in_place(alloc, large, ops) else {
+            return Err(BuiltLeft { built: self });
+        };
+        Ok(built)
     }
 
     /// `replay`, done in the place of the value's own nodes, so that none of them is copied: the value is dropped where memory runs
@@ -165,48 +169,6 @@ impl Built {
             large,
         })
     }
-
-    // The tree after the operations, with a counter that nothing looks at.
-    fn replayed_by<L: Ledger>(
-        &self,
-        alloc: Global,
-        large: u32,
-        ops: &[Op],
-        blank: Blank,
-    ) -> Result<Tree, NoMemory>
-        requires name { blank.name ≡ L.name }
-        requires parts { blank.parts ≡ L.parts }
-        requires some { blank.parts ≡ 1 }
-        requires fit { Fit (contents self.now.tree) ops.now }
-        ensures contents { IfOk result (λ t. contents t ≡ replay (contents self.now.tree) ops.now) }
-        ensures numbers { IfOk result (λ t. AreAmong (numbers t) (numbers_put ops.now ++ numbers self.now.tree)) }
-        ensures balance { IfOk result (λ t. IsBalancedBelow large t) }
-    {
-        let mut steps: Steps<L> = Steps::new(blank);
-        let twin = self.tree.copy(alloc, &mut steps)?;
-        caught_up(alloc, twin, self.large, large, ops, &mut steps)
-    }
-
-    // The value with this tree, in which the operations are done.
-    fn advanced(self, large: u32, ops: &[Op], tree: Tree) -> Result<Built, BuiltLeft>
-        requires fit { Fit (contents self.tree) ops.now }
-        requires replayed { contents tree ≡ replay (contents self.tree) ops.now }
-        requires numbers { AreAmong (numbers tree) (numbers_put ops.now ++ numbers self.tree) }
-        requires balanced { IsBalancedBelow large tree }
-        ensures replayed { IfOk result (IsReplayOf self ops.now) }
-        ensures balance { IfOk result (λ b. IsBalancedBelow large b.tree) }
-        ensures left { IfErr result (λ l. l.built ≡ self) }
-    {
-        let mut built = self;
-        match built.done.extend_from_slice(ops) {
-            Err(_) => Err(BuiltLeft { built }),
-            Ok(()) => {
-                built.tree = tree;
-                built.large = large;
-                Ok(built)
-            }
-        }
-    }
 }
 
 // The tree after the operations, with a counter that nothing looks at.
@@ -218,9 +180,7 @@ fn replayed_from<L: Ledger>(
     ops: &[Op],
     blank: Blank,
 ) -> Result<Tree, NoMemory>
-    requires name { blank.name ≡ L.name }
-    requires parts { blank.parts ≡ L.parts }
-    requires some { blank.parts ≡ 1 }
+    requires blank { IsBlankOf L.name L.parts blank }
     requires balanced { IsBalancedBelow made_with tree }
     requires fit { Fit (contents tree) ops.now }
     ensures contents { IfOk result (λ t. contents t ≡ replay (contents tree) ops.now) }

@@ -1,13 +1,18 @@
 //! What a worker asks of a map that others use too.
 ghost use Rattle.std.specs.Prelude.{◌≡◌, ◌≤◌, IfErr, IfOk, IfSome};
-ghost use Rattle.map_fold.specs.Ops.{Fit};
-ghost use Rattle.kd_tree.specs.Contents.{contents};
+ghost use Rattle.rebuild_core.specs.Built.{CanBeDoneOn};
 ghost use Rattle.rebuild_core.specs.Desk.{IsAskCause, IsHandedBack, IsSwapCause};
 
 use crate::{Built, Job, Late, LogAsk, SwapFault, SwapLeft};
 use map_fold::{NoMemory, Ops};
 use std::alloc::Global;
 use std::sync::Wait;
+
+/// What a swap answers: a value that isn't swapped in comes back.
+pub type Swapped = Result<(), SwapLeft>;
+
+/// What a swap answers that does few operations: a value that is further behind comes back with those that it lacks.
+pub type SwapOrLate = Result<(), Late>;
 
 /// A map that several threads use, as a worker sees it: each call is one step of its state, and may wait for those of others.
 /// Since the state isn't lent, no clause ties an answer to what a call found there; those of `MapState` do.
@@ -20,17 +25,11 @@ pub trait Desk {
 
     /// The operations that a built value hasn't done, as `MapState::log_after` answers them. A stale value's ticket is told.
     fn log_after<R: Wait>(&self, rt: &R, alloc: Global, built: &Built) -> Result<Ops, LogAsk>
-        ensures fit { IfOk result (Fit (contents built.now.tree)) }
+        ensures fit { IfOk result (CanBeDoneOn built.now) }
         ensures refused { IfErr result (IsAskCause built.now) };
 
     /// Swaps a built value in, as `MapState::swap` does. A refused value comes back as it was, with the cause.
-    fn swap<R: Wait>(
-        &self,
-        rt: &R,
-        alloc: Global,
-        built: Built,
-        force: bool,
-    ) -> Result<(), SwapLeft>
+    fn swap<R: Wait>(&self, rt: &R, alloc: Global, built: Built, force: bool) -> Swapped
         ensures left { IfErr result (λ l. l.built ≡ built) }
         ensures refused { IfErr result (λ l. IsSwapCause built force l.fault) };
 
@@ -40,13 +39,7 @@ pub trait Desk {
     /// By itself it asks `swap` without force and then `log_after`, which are two steps, and does as many operations as `swap`
     /// does, whatever is asked for. A map that can do it in one step compares the value's items once, and may do the operations
     /// in the value's own nodes.
-    fn swap_or_log<R: Wait>(
-        &self,
-        rt: &R,
-        alloc: Global,
-        built: Built,
-        _most: u32,
-    ) -> Result<(), Late>
+    fn swap_or_log<R: Wait>(&self, rt: &R, alloc: Global, built: Built, _most: u32) -> SwapOrLate
         ensures refused { IfErr result (IsHandedBack built) }
     {
         let SwapLeft { built, fault } = match self.swap(rt, alloc, built, false) {

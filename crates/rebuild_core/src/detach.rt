@@ -1,10 +1,8 @@
 //! Subtrees, detached to be rebuilt elsewhere, and what they have met since.
-ghost use Rattle.std.specs.Prelude.{◌≡◌, ◌+◌, ◌<◌, ◌≤◌, ◌↔◌, true, length, slice_set, Some, IfErr, IfOk, IfSome, IsNone, OnErr, OnOk};
+ghost use Rattle.std.specs.Prelude.{◌≡◌, ◌+◌, ◌<◌, ◌≤◌, ◌↔◌, length, slice_set, Some, IfErr, IfOk, IfSome, IsNone, OnErr, OnOk};
 ghost use Rattle.std.specs.List.{insert};
-ghost use Rattle.map_fold.specs.Ops.{Fit};
-ghost use Rattle.kd_tree.specs.Contents.{contents};
-ghost use Rattle.rebuild_core.specs.Built.{IsPartOf, IsStale, undone};
-ghost use Rattle.rebuild_core.specs.Detach.{IsDetachStep, IsDetachable, IsDetachedAt, IsLogAfter, IsLogFault, IsNoDetach, IsNoneToDetach, with_part};
+ghost use Rattle.rebuild_core.specs.Built.{IsPartOf, IsStale, CanBeDoneOn, undone};
+ghost use Rattle.rebuild_core.specs.Detach.{Detaches, IsDetachStep, IsDetachable, IsDetachedAt, IsLogAfter, IsLogFault, IsNoDetach, IsNoneToDetach, IsSlot, with_part};
 ghost use Rattle.rebuild_core.specs.Parts.{AreItemsOf, PartAt, part_in};
 
 use crate::part::{Part, part_in, part_of, paths_of};
@@ -20,14 +18,8 @@ impl MapState {
     /// subtree nor in one. None where there is no such node, or all tickets were given. n items take time in the order of
     /// n log n, since they are sorted by number.
     pub fn detach(&mut self, alloc: Global, slot: u8) -> Result<Option<Job>, NoMemory>
-        requires slot_from { 1 ≤ slot }
-        requires slot_to { slot ≤ 4 }
-        ensures none { IfOk result (λ o. IsNone o ↔ IsNoDetach slot self.old.state) }
-        ensures detached { IfOk result (λ o. IfSome o (λ job. IsDetachStep slot self.old.state job self.new.state)) }
-        ensures stays { IfOk result (λ o. IsNone o → self.new.state ≡ self.old.state) }
-
-        ensures same { OnErr result (self.new.state ≡ self.old.state) }
-        ensures spare { self.new.spare ≡ self.old.spare }
+        requires slot { IsSlot slot }
+        ensures { Detaches slot self.old result self.new }
     {
         let Some((path, snapshot)) = self.detachable(alloc, slot)? else {
             return Ok(None);
@@ -43,14 +35,8 @@ impl MapState {
     /// Does the same, and lists nothing: the subtree is handed out as the tree that it is, and the state keeps that too. So it
     /// takes no time that depends on how many nodes the subtree has. `hold` can give the state the list later.
     pub fn snapshot(&mut self, alloc: Global, slot: u8) -> Result<Option<Snapshot>, NoMemory>
-        requires slot_from { 1 ≤ slot }
-        requires slot_to { slot ≤ 4 }
-        ensures none { IfOk result (λ o. IsNone o ↔ IsNoDetach slot self.old.state) }
-        ensures detached { IfOk result (λ o. IfSome o (λ snapshot. IsDetachStep slot self.old.state snapshot self.new.state)) }
-        ensures stays { IfOk result (λ o. IsNone o → self.new.state ≡ self.old.state) }
-
-        ensures same { OnErr result (self.new.state ≡ self.old.state) }
-        ensures spare { self.new.spare ≡ self.old.spare }
+        requires slot { IsSlot slot }
+        ensures { Detaches slot self.old result self.new }
     {
         let Some((path, snapshot)) = self.detachable(alloc, slot)? else {
             return Ok(None);
@@ -89,8 +75,7 @@ impl MapState {
         path: Path,
         held: Holding,
     ) -> Result<(), NoMemory>
-        requires slot_from { 1 ≤ slot }
-        requires slot_to { slot ≤ 4 }
+        requires slot { IsSlot slot }
         requires there { IsDetachable slot self.old.state path (record { ticket = self.old.state.last + 1; items = held }) }
         ensures detached { OnOk result (IsDetachStep slot self.old.state (record { ticket = self.old.state.last + 1; items = held }) self.new.state) }
         ensures same { OnErr result (self.new.state ≡ self.old.state) }
@@ -126,7 +111,7 @@ impl MapState {
     /// The operations that a built value hasn't done, in order: it is brought up to date by them.
     pub fn log_after(&self, alloc: Global, built: &Built) -> Result<Ops, LogAsk>
         ensures after { IfOk result (IsLogAfter built.now self.now.state) }
-        ensures fit { IfOk result (Fit (contents built.now.tree)) }
+        ensures fit { IfOk result (CanBeDoneOn built.now) }
 
         ensures refused { IfErr result (IsLogFault built.now self.now.state) }
     {
@@ -149,7 +134,7 @@ impl MapState {
         ensures some { IfSome result (λ p. IsPartOf built.now self.now.state.parts p.now) }
         ensures done { IfSome result (λ p. length built.now.done ≤ length p.now.log) }
         ensures few { IfSome result (λ p. length p.now.log ≤ MAX_LOGGED) }
-        ensures fit { IfSome result (λ p. Fit (contents built.now.tree) (undone built.now p.now)) }
+        ensures fit { IfSome result (λ p. CanBeDoneOn built.now (undone built.now p.now)) }
     {
         let part = part_of(self.parts.as_slice(), built.ticket)?;
         if !part.held.is_of(built) {
@@ -165,7 +150,7 @@ impl MapState {
         ensures some { IfSome result (λ p. IsPartOf built.now self.now.state.parts p.now) }
         ensures done { IfSome result (λ p. length built.now.done ≤ length p.now.log) }
         ensures few { IfSome result (λ p. length p.now.log ≤ MAX_LOGGED) }
-        ensures fit { IfSome result (λ p. Fit (contents built.now.tree) (undone built.now p.now)) }
+        ensures fit { IfSome result (λ p. CanBeDoneOn built.now (undone built.now p.now)) }
     {
         let part = part_of(self.parts.as_slice(), built.ticket)?;
         if !part.log.begins_with(built.done.as_slice()) {

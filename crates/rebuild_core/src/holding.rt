@@ -2,6 +2,7 @@
 ghost use Rattle.std.specs.Prelude.{◌≡◌, ◌↔◌, true, IfOk};
 ghost use Rattle.map_fold.specs.Contents.{AreContents};
 ghost use Rattle.kd_tree.specs.Contents.{contents};
+ghost use Rattle.kd_tree.specs.Counter.{IsBlankOf};
 
 use crate::Built;
 use crate::same_items::{are_same, holds};
@@ -106,9 +107,7 @@ impl Holding {
 
 // A tree with the same nodes, with a counter that nothing looks at.
 pub(crate) fn twin_by<L: Ledger>(alloc: Global, tree: &Tree, blank: Blank) -> Result<Tree, NoMemory>
-    requires name { blank.name ≡ L.name }
-    requires parts { blank.parts ≡ L.parts }
-    requires some { blank.parts ≡ 1 }
+    requires blank { IsBlankOf L.name L.parts blank }
     ensures { IfOk result (λ t. t ≡ tree.now) }
 {
     let mut steps: Steps<L> = Steps::new(blank);

@@ -2,6 +2,7 @@
 ghost use Rattle.std.specs.Prelude.{◌≡◌, IfErr, IfOk};
 ghost use Rattle.kd_tree.specs.Contents.{contents};
 ghost use Rattle.kd_tree.specs.Criteria.{AllMeetCriteria};
+ghost use Rattle.kd_tree.specs.Counter.{IsBlankOf};
 ghost use Rattle.rebuild_core.specs.Built.{AreNumbersOf, IsBuiltOf};
 
 use crate::{Built, Holding};
@@ -78,9 +79,7 @@ impl Job {
 
     // The tree, with a counter that nothing looks at.
     fn tree_by<L: Ledger>(&self, alloc: Global, blank: Blank) -> Result<Tree, NoMemory>
-        requires name { blank.name ≡ L.name }
-        requires parts { blank.parts ≡ L.parts }
-        requires some { blank.parts ≡ 1 }
+        requires blank { IsBlankOf L.name L.parts blank }
         ensures contents { IfOk result (λ t. contents t ≡ self.now.items) }
         ensures criteria { IfOk result (λ t. AllMeetCriteria 10 t) }
         ensures numbers { IfOk result (λ t. AreNumbersOf self.now.items t) }

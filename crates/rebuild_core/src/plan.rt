@@ -1,19 +1,15 @@
 //! Steps of a state: worked out by a plan, which may be refused, and then entered, which may not.
-ghost use Rattle.std.specs.Prelude.{◌≡◌, ◌+◌, ◌*◌, ◌<◌, ◌≤◌, [], ◌∷◌, length, IfOk, IfErr, OnOk, OnErr};
-ghost use Rattle.point_geom.specs.Place.{Place};
-ghost use Rattle.map_fold.specs.declared.op.Op.{Op};
+ghost use Rattle.std.specs.Prelude.{◌≡◌, ◌+◌, ◌≤◌, length, IfOk, IfErr, OnOk, OnErr};
 ghost use Rattle.map_fold.specs.Fold.{points_in};
-ghost use Rattle.rebuild_core.specs.OnePoint.{IsThinnedFrom, IsTurnedAwayFrom};
+ghost use Rattle.kd_tree.specs.Counter.{IsBlankOf};
 ghost use Rattle.rebuild_core.specs.Logs.{planned_parts};
-ghost use Rattle.rebuild_core.specs.Parts.{paths};
-ghost use Rattle.rebuild_core.specs.Single.{entered_nodes, unrebuilt};
-ghost use Rattle.rebuild_core.specs.Stays.{HasRoomBeside, logged_by};
-ghost use Rattle.rebuild_core.specs.Steps.{HasRoom, IsDrafted, IsFault, IsUnrebuiltUpdate, IsSettlePlan, IsSettleStep, IsUpdatePlan, IsUpdateStep};
+ghost use Rattle.rebuild_core.specs.Outcome.{IsLeftByUpdate, MakesNodes};
+ghost use Rattle.rebuild_core.specs.Steps.{HasRoom, IsDrafted, IsFault, IsSettlePlan, IsSettleStep, IsUpdatePlan, IsUpdateStep};
 
-use crate::draft::changed;
 use crate::logs::{PartLog, forgotten, logs_of};
 use crate::part::watched;
-use crate::work::Work;
+use crate::update::draft::changed;
+use crate::update::work::Work;
 use crate::{MapState, Planned, StateFault, Version};
 use kd_tree::{Scratch, Steps, Tree};
 use kd_update::settled;
@@ -54,27 +50,13 @@ impl MapState {
         ensures stepped { OnOk result (IsUpdateStep caller update self.old.state self.new.state) }
         ensures len { IfOk result (λ n. n ≡ length self.new.state.history) }
         ensures room { OnOk result (HasRoom update self.old.state) }
+        ensures leaves { OnOk result (IsLeftByUpdate update self.old.state self.new.state.parts self.new.state.tree) }
 
         ensures refused { IfErr result (IsFault update self.old.state) }
         ensures same { OnErr result (self.new.state ≡ self.old.state) }
 
-        // No part is forgotten where neither the tree nor a log can be full before an operation. Of one operation that builds
-        // nothing anew each part logs exactly what that is to it.
-        ensures kept { HasRoomBeside update self.old.state → OnOk result (paths self.new.state.parts ≡ paths self.old.state.parts) }
-        ensures logged { (op : Op) → IsUnrebuiltUpdate update op self.old.state
-            → OnOk result (self.new.state.parts ≡ logged_by op self.old.state.tree self.old.state.parts) }
-
-        // An update of one operation that rebuilds nothing makes at most so many nodes, whatever the call answers.
-        ensures unrebuilt { (op : Op) → IsUnrebuiltUpdate update op self.old.state
-            → OnOk result (self.new.state.tree ≡ unrebuilt op self.old.state.tree) }
-        ensures ticks { (op : Op) → IsUnrebuiltUpdate update op self.old.state
-            → steps.new ≤ steps.old + (5 * entered_nodes op self.old.state.tree + 1) }
-
-        // What is left where one point thins its voxel, said without the way it is made. One that is turned away makes no node.
-        ensures thinned { (p : Place) → update ≡ Update.Thin (p ∷ []) → OnOk result (IsThinnedFrom self.old.state p self.new.state.tree) }
-        ensures turned_away { (p : Place) → update ≡ Update.Thin (p ∷ []) → IsTurnedAwayFrom self.old.state p
-            → OnOk result (self.new.state.tree ≡ self.old.state.tree) }
-        ensures still { (p : Place) → update ≡ Update.Thin (p ∷ []) → IsTurnedAwayFrom self.old.state p → steps.new ≡ steps.old }
+        // Whatever the call answers.
+        ensures nodes { MakesNodes update self.old.state steps.old steps.new }
     {
         let planned = self.plan_update(alloc, caller, update, steps)?;
         Ok(self.enter_step(planned))
@@ -95,74 +77,19 @@ impl MapState {
         ensures planned { IfOk result (IsUpdatePlan caller update self.old.state) }
         ensures room { OnOk result (HasRoom update self.old.state) }
         ensures spare { OnOk result (1 ≤ self.new.spare) }
+        ensures leaves { IfOk result (λ p. IsLeftByUpdate update self.old.state (planned_parts p.logs self.old.state.parts) p.tree) }
 
         ensures refused { IfErr result (IsFault update self.old.state) }
-
-        // As of `update`.
-        ensures kept { HasRoomBeside update self.old.state
-            → IfOk result (λ p. paths (planned_parts p.logs self.old.state.parts) ≡ paths self.old.state.parts) }
-        ensures logged { (op : Op) → IsUnrebuiltUpdate update op self.old.state
-            → IfOk result (λ p. planned_parts p.logs self.old.state.parts ≡ logged_by op self.old.state.tree self.old.state.parts) }
-        ensures unrebuilt { (op : Op) → IsUnrebuiltUpdate update op self.old.state
-            → IfOk result (λ p. p.tree ≡ unrebuilt op self.old.state.tree) }
-        ensures ticks { (op : Op) → IsUnrebuiltUpdate update op self.old.state
-            → steps.new ≤ steps.old + (5 * entered_nodes op self.old.state.tree + 1) }
-        ensures thinned { (p : Place) → update ≡ Update.Thin (p ∷ []) → IfOk result (λ q. IsThinnedFrom self.old.state p q.tree) }
-        ensures turned_away { (p : Place) → update ≡ Update.Thin (p ∷ []) → IsTurnedAwayFrom self.old.state p
-            → IfOk result (λ q. q.tree ≡ self.old.state.tree) }
-        ensures still { (p : Place) → update ≡ Update.Thin (p ∷ []) → IsTurnedAwayFrom self.old.state p → steps.new ≡ steps.old }
+        ensures nodes { MakesNodes update self.old.state steps.old steps.new }
     {
+        let next = self.next_after(&update)?;
         let mut scratch = self.lent(alloc);
-        let planned = self.planned_in(alloc, caller, update, &mut scratch, steps);
+        let draft = self.drafted(alloc, &update, &mut scratch, steps);
         self.returned(scratch);
-        planned
-    }
-
-    // The same. The nodes are made in the memory of the scratch, as far as that goes.
-    fn planned_in<L: Ledger>(
-        &mut self,
-        alloc: Global,
-        caller: u8,
-        update: Update,
-        scratch: &mut Scratch,
-        steps: &mut Steps<L>,
-    ) -> Result<Planned, StateFault>
-        requires caller_from { 1 ≤ caller }
-        requires caller_to { caller ≤ 8 }
-        ensures same { self.new.state ≡ self.old.state }
-        ensures planned { IfOk result (IsUpdatePlan caller update self.old.state) }
-        ensures room { OnOk result (HasRoom update self.old.state) }
-        ensures spare { OnOk result (1 ≤ self.new.spare) }
-
-        ensures refused { IfErr result (IsFault update self.old.state) }
-
-        // As of `update`.
-        ensures kept { HasRoomBeside update self.old.state
-            → IfOk result (λ p. paths (planned_parts p.logs self.old.state.parts) ≡ paths self.old.state.parts) }
-        ensures logged { (op : Op) → IsUnrebuiltUpdate update op self.old.state
-            → IfOk result (λ p. planned_parts p.logs self.old.state.parts ≡ logged_by op self.old.state.tree self.old.state.parts) }
-        ensures unrebuilt { (op : Op) → IsUnrebuiltUpdate update op self.old.state
-            → IfOk result (λ p. p.tree ≡ unrebuilt op self.old.state.tree) }
-        ensures ticks { (op : Op) → IsUnrebuiltUpdate update op self.old.state
-            → steps.new ≤ steps.old + (5 * entered_nodes op self.old.state.tree + 1) }
-        ensures thinned { (p : Place) → update ≡ Update.Thin (p ∷ []) → IfOk result (λ q. IsThinnedFrom self.old.state p q.tree) }
-        ensures turned_away { (p : Place) → update ≡ Update.Thin (p ∷ []) → IsTurnedAwayFrom self.old.state p
-            → IfOk result (λ q. q.tree ≡ self.old.state.tree) }
-        ensures still { (p : Place) → update ≡ Update.Thin (p ∷ []) → IsTurnedAwayFrom self.old.state p → steps.new ≡ steps.old }
-    {
-        let len = self.history.len() as u64;
-        if len == MAX_UPDATES {
-            return Err(StateFault::TooManyUpdates { len });
-        }
-        let next = self.next;
-        let asked = update.points() as u64;
-        if ((MAX_POINTS - next) as u64) < asked {
-            return Err(StateFault::TooManyPoints { next, asked });
-        }
-        let Drafted { tree, logs } = self.drafted(alloc, &update, scratch, steps)?;
+        let Drafted { tree, logs } = draft?;
         let _size = tree.size();
+        let len = self.history.len() as u64;
         self.history.reserve(1)?;
-        let next = next + asked as u32;
         let version = Version::shared(alloc, &tree, next, len + 1, steps)?;
         let seq = self.made[caller as usize - 1];
         let entry = Some(Entry {
@@ -179,7 +106,26 @@ impl MapState {
         })
     }
 
-    // A copy of the tree after the update.
+    // How many points are submitted after the update, where there is room for it.
+    fn next_after(&self, update: &Update) -> Result<u32, StateFault>
+        ensures next { IfOk result (λ n. n ≡ self.now.state.next + points_in update.now) }
+        ensures room { OnOk result (HasRoom update.now self.now.state) }
+
+        ensures refused { IfErr result (IsFault update.now self.now.state) }
+    {
+        let len = self.history.len() as u64;
+        if len == MAX_UPDATES {
+            return Err(StateFault::TooManyUpdates { len });
+        }
+        let next = self.next;
+        let asked = update.points() as u64;
+        if ((MAX_POINTS - next) as u64) < asked {
+            return Err(StateFault::TooManyPoints { next, asked });
+        }
+        Ok(next + asked as u32)
+    }
+
+    // A copy of the tree after the update. Its nodes are made in the memory of the scratch, as far as that goes.
     fn drafted<L: Ledger>(
         &self,
         alloc: Global,
@@ -189,17 +135,8 @@ impl MapState {
     ) -> Result<Drafted, NoMemory>
         requires few { self.now.state.next + points_in update.now ≤ MAX_POINTS }
         ensures drafted { IfOk result (IsDrafted update.now self.now.state) }
-        ensures kept { HasRoomBeside update.now self.now.state
-            → IfOk result (λ d. paths (planned_parts d.logs.items self.now.state.parts) ≡ paths self.now.state.parts) }
-        ensures logged { (op : Op) → IsUnrebuiltUpdate update.now op self.now.state
-            → IfOk result (λ d. planned_parts d.logs.items self.now.state.parts ≡ logged_by op self.now.state.tree self.now.state.parts) }
-        ensures unrebuilt { (op : Op) → IsUnrebuiltUpdate update.now op self.now.state
-            → IfOk result (λ d. d.tree ≡ unrebuilt op self.now.state.tree) }
-        ensures ticks { (op : Op) → IsUnrebuiltUpdate update.now op self.now.state
-            → steps.new ≤ steps.old + (5 * entered_nodes op self.now.state.tree + 1) }
-        ensures turned_away { (p : Place) → update.now ≡ Update.Thin (p ∷ []) → IsTurnedAwayFrom self.now.state p
-            → IfOk result (λ d. d.tree ≡ self.now.state.tree) }
-        ensures still { (p : Place) → update.now ≡ Update.Thin (p ∷ []) → IsTurnedAwayFrom self.now.state p → steps.new ≡ steps.old }
+        ensures leaves { IfOk result (λ d. IsLeftByUpdate update.now self.now.state (planned_parts d.logs.items self.now.state.parts) d.tree) }
+        ensures nodes { MakesNodes update.now self.now.state steps.old steps.new }
     {
         let parts = self.parts.as_slice();
         let tree = self.tree.copy(alloc, steps)?;
@@ -235,9 +172,7 @@ impl MapState {
 
     // The same, with a counter that nothing looks at.
     fn settled_by<L: Ledger>(&self, alloc: Global, blank: Blank) -> Result<Planned, NoMemory>
-        requires name { blank.name ≡ L.name }
-        requires parts { blank.parts ≡ L.parts }
-        requires some { 0 < blank.parts }
+        requires blank { IsBlankOf L.name L.parts blank }
         ensures { IfOk result (IsSettlePlan self.now.state) }
     {
         let mut steps: Steps<L> = Steps::new(blank);

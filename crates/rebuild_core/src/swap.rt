@@ -3,13 +3,13 @@ ghost use Rattle.std.specs.Prelude.{◌≡◌, ◌+◌, ◌≤◌, length, IfErr
 ghost use Rattle.kd_tree.specs.Parts.{replaced_at};
 ghost use Rattle.kd_update.specs.Update.{IsBalancedBelow};
 ghost use Rattle.rebuild_core.specs.Built.{BuiltAt, IsTreeOf};
-ghost use Rattle.rebuild_core.specs.Parts.{AreItemsOf, PartAt};
-ghost use Rattle.rebuild_core.specs.Swap.{IsLate, IsNear, IsUnrebuiltSwap, IsSwapFault, IsSwapPlan, IsSwapStep, MaySwap};
+ghost use Rattle.rebuild_core.specs.Parts.{AreItemsOf};
+ghost use Rattle.rebuild_core.specs.Swap.{IsLate, IsLeftUnrebuilt, IsNear, IsUnrebuiltSwap, IsSwapFault, IsSwapPlan, IsSwapStep, MakesPath, MaySwap};
 
 use crate::built::caught_up;
 use crate::logs::forgotten_for;
 use crate::part::{Part, others_of};
-use crate::{Built, MapState, Planned, SwapFault, Version};
+use crate::{Built, Late, MapState, Planned, SwapFault, Version};
 use kd_tree::{Steps, Tree};
 use kd_update::{Replaced, replaced};
 use map_fold::{NoMemory, Op, Ops};
@@ -24,28 +24,6 @@ const MOST_LEFT: u32 = 64;
 pub struct SwapLeft {
     pub built: Built,
     pub fault: SwapFault,
-}
-
-/// Why a value isn't swapped in that may be so many operations behind. But for lack of memory it is handed back as it was.
-#[derive(Debug, Drop)]
-pub enum Late {
-    /// No detached subtree has the value's ticket and items, and a log that begins with what the value has done.
-    Stale { built: Built },
-    /// It hasn't done these operations, which are more than are to be done in the swap.
-    Behind { built: Built, ops: Ops },
-    /// The value was dropped.
-    NoMemory,
-}
-
-impl From<NoMemory> for Late {
-    ghost use Rattle.std.specs.Prelude.{◌≡◌};
-    ghost use Rattle.rebuild_core.specs.declared.swap.Late.TheVariants.{NoMemory};
-
-    ghost from_gives = { λ none late. late ≡ NoMemory };
-
-    fn from(_none: NoMemory) -> Late {
-        Late::NoMemory
-    }
 }
 
 impl MapState {
@@ -71,10 +49,9 @@ impl MapState {
         ensures spare { self.new.spare ≡ self.old.spare }
         ensures left { IfErr result (λ l. l.built ≡ built) }
 
-        // A swap that rebuilds nothing makes at most a node for each side of the path, whatever the call answers.
-        ensures unrebuilt { (p : PartAt) → IsUnrebuiltSwap built p self.old.state
-            → OnOk result (self.new.state.tree ≡ replaced_at p.path built.tree self.old.state.tree) }
-        ensures ticks { (p : PartAt) → IsUnrebuiltSwap built p self.old.state → steps.new ≤ steps.old + length p.path }
+        // The nodes are as many whatever the call answers.
+        ensures unrebuilt { OnOk result (IsLeftUnrebuilt built self.old.state self.new.state.tree) }
+        ensures ticks { MakesPath built self.old.state steps.old steps.new }
     {
         match self.plan_swap(alloc, &built, force, steps) {
             Err(fault) => Err(SwapLeft { built, fault }),
@@ -99,11 +76,8 @@ impl MapState {
         ensures may { OnOk result (MaySwap built.now force self.old.state) }
 
         ensures refused { IfErr result (IsSwapFault built.now force self.old.state) }
-
-        // As of `swap`.
-        ensures unrebuilt { (p : PartAt) → IsUnrebuiltSwap built.now p self.old.state
-            → IfOk result (λ x. x.tree ≡ replaced_at p.path built.now.tree self.old.state.tree) }
-        ensures ticks { (p : PartAt) → IsUnrebuiltSwap built.now p self.old.state → steps.new ≤ steps.old + length p.path }
+        ensures unrebuilt { IfOk result (λ x. IsLeftUnrebuilt built.now self.old.state x.tree) }
+        ensures ticks { MakesPath built.now self.old.state steps.old steps.new }
     {
         let Some(part) = self.part_built(built) else {
             return Err(SwapFault::Stale {
@@ -137,11 +111,8 @@ impl MapState {
         ensures near { OnOk result (IsNear built most self.now.state) }
 
         ensures refused { IfErr result (IsLate built most self.now.state) }
-
-        // As of `swap`.
-        ensures unrebuilt { (p : PartAt) → IsUnrebuiltSwap built p self.now.state
-            → IfOk result (λ x. x.tree ≡ replaced_at p.path built.tree self.now.state.tree) }
-        ensures ticks { (p : PartAt) → IsUnrebuiltSwap built p self.now.state → steps.new ≤ steps.old + length p.path }
+        ensures unrebuilt { IfOk result (λ x. IsLeftUnrebuilt built self.now.state x.tree) }
+        ensures ticks { MakesPath built self.now.state steps.old steps.new }
     {
         let Some(part) = self.part_known(&built) else {
             return Err(Late::Stale { built });

@@ -1,12 +1,13 @@
 //! A map for tests of a worker.
 ghost use Rattle.std.specs.Prelude.{◌≡◌, ◌+◌, ◌<◌, ◌↔◌, true, IfErr, OnErr, OnOk};
 ghost use Rattle.std.specs.List.{Contains};
+ghost use Rattle.kd_tree.specs.Counter.{IsBlankOf};
 ghost use Rattle.rebuild_core.specs.Desk.{IsSwapCause};
 ghost use Rattle.rebuild_core.specs.Swap.{IsSwapStep};
 
 use kd_tree::Steps;
 use map_fold::{NoMemory, Ops};
-use rebuild_core::{Built, Desk, Job, LogAsk, MapState, SwapFault, SwapLeft};
+use rebuild_core::{Built, Desk, Job, LogAsk, MapState, SwapFault, SwapLeft, Swapped};
 use std::alloc::Global;
 use std::marker::Brand;
 use std::sync::ledger::{Blank, Ledger};
@@ -65,21 +66,9 @@ impl Desk for CountDesk {
         counted.state.log_after(alloc, built)
     }
 
-    fn swap<R: Wait>(
-        &self,
-        rt: &R,
-        alloc: Global,
-        built: Built,
-        force: bool,
-    ) -> Result<(), SwapLeft> {
+    fn swap<R: Wait>(&self, rt: &R, alloc: Global, built: Built, force: bool) -> Swapped {
         let mut counted = self.counted.lock(rt);
-        if counted.refuses() {
-            return Err(SwapLeft {
-                built,
-                fault: SwapFault::NoMemory,
-            });
-        }
-        swapped::<Brand>(alloc, &mut counted.state, built, force, Blank::new(1))
+        counted.swap::<Brand>(alloc, built, force, Blank::new(1))
     }
 }
 
@@ -94,24 +83,20 @@ impl Counted {
         self.calls = self.calls.saturating_add(1);
         self.refused.as_slice().contains(&self.calls)
     }
-}
 
-// Swaps the value in, with a counter that nothing looks at.
-pub(crate) fn swapped<L: Ledger>(
-    alloc: Global,
-    state: &mut MapState,
-    built: Built,
-    force: bool,
-    blank: Blank,
-) -> Result<(), SwapLeft>
-    requires name { blank.name ≡ L.name }
-    requires parts { blank.parts ≡ L.parts }
-    requires some { blank.parts ≡ 1 }
-    ensures swapped { OnOk result (IsSwapStep built state.old.state state.new.state) }
-    ensures left { IfErr result (λ l. l.built ≡ built) }
-    ensures refused { IfErr result (λ l. IsSwapCause built force l.fault) }
-    ensures same { OnErr result (state.new.state ≡ state.old.state) }
-{
-    let mut steps: Steps<L> = Steps::new(blank);
-    state.swap(alloc, built, force, &mut steps)
+    // Swaps the value in, with a counter that nothing looks at, or refuses that.
+    fn swap<L: Ledger>(&mut self, alloc: Global, built: Built, force: bool, blank: Blank) -> Swapped
+        requires blank { IsBlankOf L.name L.parts blank }
+        ensures swapped { OnOk result (IsSwapStep built self.old.state.state self.new.state.state) }
+        ensures left { IfErr result (λ l. l.built ≡ built) }
+        ensures refused { IfErr result (λ l. IsSwapCause built force l.fault) }
+        ensures same { OnErr result (self.new.state.state ≡ self.old.state.state) }
+    {
+        if self.refuses() {
+            let fault = SwapFault::NoMemory;
+            return Err(SwapLeft { built, fault });
+        }
+        let mut steps: Steps<L> = Steps::new(blank);
+        self.state.swap(alloc, built, force, &mut steps)
+    }
 }

@@ -4,15 +4,17 @@ use Rattle.std.specs.Prelude.{◌++◌, MatchOption}
 use Rattle.std.specs.Option.{option_to_list}
 use Rattle.std.proofs.lemmas.Bool.Decides.{nat_tests}
 use Rattle.std.specs.List.{AllByRecursion}
+use Rattle.map_fold.specs.declared.item.Item.{Item}
 use Rattle.map_fold.specs.declared.update.Update.{Update}
 use Rattle.scan_log.specs.declared.command.Command.{Command}
 use Rattle.scan_log.specs.declared.command.Command.TheVariants.{Change, Near, Nears, Inside, Ball, Lonely, Clusters, Pose, Sync}
-use Rattle.scan_log.specs.Commands.{Concerns, command_caller, command_update, updates_made}
+use Rattle.scan_log.specs.Commands.{command_update, updates_made}
 use Rattle.scan_log.specs.Scripts.{ScriptAt}
 use Rattle.scan_log.specs.Poses.{plain_script}
 use Rattle.scan_log.specs.Spelling.{Spells}
-use Rattle.scan_log.specs.Transcript.{updates_in, mark_from, put_if, put_update, marked_updates, serial_marks_from, serial_marks, history, reply_to, replies_from, replies, mark_of, text}
-use Rattle.scan_log.specs.Legal.{counted, MayFollow, IsLater, AllFollow, AreInOrder, IsLegal, AreLegalReplies, IsLegalTranscript}
+use Rattle.scan_log.specs.Transcript.{updates_in, mark_from, put_if, put_update, marked_updates, serial_marks_from, serial_marks, held_at, history, reply_on, replies_from, replies, mark_of, text}
+use Rattle.scan_log.specs.Legal.{counted, AllFollow, AreInOrder, IsLegal, AreLegalReplies, IsLegalTranscript}
+use Rattle.scan_log.proofs.Whose.{may_follow}
 
 abbrev Above : ℕ → List (ℕ × Update) → Type 0
 Above n hs = AllByRecursion (λ h. n < h.0) hs
@@ -54,14 +56,6 @@ pub serial_history : (n : ℕ) (cs : List Command) → history cs (serial_marks_
 serial_history n [] = refl
 serial_history n (c ∷ cs) = let m = mark_from n (command_update c) in history_put n (command_update c) _ (updates_made cs) (serial_above m cs) (serial_history m cs)
 
-follows_any : (o : Option ℕ) (d : Command) (A : Type 0) → A → MatchOption o A (λ x. Concerns x d → A)
-follows_any (Some x) d A l = λ _. l
-follows_any None d A l = l
-
--- what is late enough for a command is so whoever asks
-may_follow : (c : Command) (m : ℕ) (d : Command) (n : ℕ) → IsLater m d n → MayFollow c m d n
-may_follow c m d n l = follows_any (command_caller c) d (IsLater m d n) l
-
 -- a mark isn't below those before it, and that of an update is above
 mark_after : (m n : ℕ) (made : Option Update) → m ≤ n → m ≤ mark_from n made
 mark_after m n (Some u) le = omega arith
@@ -73,7 +67,7 @@ mark_later m n None le = le
 
 all_follow : (c : Command) (m n : ℕ) (cs : List Command) → m ≤ n → AllFollow c m cs (serial_marks_from n cs)
 all_follow c m n [] le = tt
-all_follow c m n (d ∷ cs) le = let made = command_update d in (may_follow c m d (mark_from n made) (mark_later m n made le), all_follow c m (mark_from n made) cs (mark_after m n made le))
+all_follow c m n (d ∷ cs) le = let made = command_update d in (may_follow c m d (mark_from n made) (λ x asks of. mark_later m n made le), all_follow c m (mark_from n made) cs (mark_after m n made le))
 
 in_order : (n : ℕ) (cs : List Command) → AreInOrder cs (serial_marks_from n cs)
 in_order n [] = tt
@@ -109,16 +103,16 @@ serial_is_legal s = record {
   at_end = at_end 0 s.commands ∙ ap (λ k. Some k) (omega arith);
 }
 
-mark_of-reply_to : (voxel : ℕ) (h : List Update) (c : Command) (m : ℕ) → mark_of (reply_to voxel h c m) ≡ m
-mark_of-reply_to voxel h (Change caller u) m = refl
-mark_of-reply_to voxel h (Near caller k p within) m = refl
-mark_of-reply_to voxel h (Nears caller k ps) m = refl
-mark_of-reply_to voxel h (Inside caller k c) m = refl
-mark_of-reply_to voxel h (Ball caller k r p) m = refl
-mark_of-reply_to voxel h (Lonely caller k r) m = refl
-mark_of-reply_to voxel h (Clusters caller k r) m = refl
-mark_of-reply_to voxel h (Pose caller rules p) m = refl
-mark_of-reply_to voxel h Sync m = refl
+pub mark_of-reply_on : (items : List Item) (c : Command) (m : ℕ) → mark_of (reply_on items c m) ≡ m
+mark_of-reply_on items (Change caller u) m = refl
+mark_of-reply_on items (Near caller k p within) m = refl
+mark_of-reply_on items (Nears caller k ps) m = refl
+mark_of-reply_on items (Inside caller k c) m = refl
+mark_of-reply_on items (Ball caller k r p) m = refl
+mark_of-reply_on items (Lonely caller k r) m = refl
+mark_of-reply_on items (Clusters caller k r) m = refl
+mark_of-reply_on items (Pose caller rules p) m = refl
+mark_of-reply_on items Sync m = refl
 
 marks-replies_from : (voxel : ℕ) (h : List Update) (cs : List Command) (marks : List ℕ) → length marks ≡ length cs + 1
     → map mark_of (replies_from voxel h cs marks) ≡ marks
@@ -128,7 +122,7 @@ marks-replies_from voxel h [] (m ∷ n ∷ marks) many = absurd (omega arith)
 marks-replies_from voxel h (c ∷ cs) [] many = absurd (omega arith)
 marks-replies_from voxel h (c ∷ cs) (m ∷ marks) many =
     let e : map mark_of (replies_from voxel h cs marks) ≡ marks = marks-replies_from voxel h cs marks (omega arith) in
-    let f : mark_of (reply_to voxel h c m) ≡ m = mark_of-reply_to voxel h c m in
+    let f : mark_of (reply_on (held_at voxel h m) c m) ≡ m = mark_of-reply_on (held_at voxel h m) c m in
     rw (e, f) refl
 
 -- the replies to a script carry the marks that they are made under

@@ -1,7 +1,7 @@
 -- Whose a command is, and which marks may come after which.
-use Rattle.std.proofs.Common.{◌≡◌, ℕ, ◌<◌, ◌≤◌, ◌==◌, true, false, List, [], ◌∷◌, ◌+◌, ◌++◌, length, Option, Some, None, IfSome, refl, sym, subst, arith}
+use Rattle.std.proofs.Common.{◌≡◌, ℕ, ◌<◌, ◌≤◌, ◌==◌, true, false, List, [], ◌∷◌, ◌+◌, ◌++◌, length, Option, Some, None, IfSome, ◌⊎◌, inl, inr, refl, sym, subst, arith}
 use Rattle.std.specs.Prelude.{IsSomeAnd, MatchOption}
-use Rattle.std.specs.Option.{option_to_list}
+use Rattle.std.specs.Option.{option_to_list, unwrap_or}
 use Rattle.std.proofs.lemmas.Bool.Decides.{nat_tests}
 use Rattle.map_fold.specs.declared.update.Update.{Update}
 use Rattle.scan_log.specs.declared.command.Command.{Command}
@@ -27,17 +27,12 @@ pub concerns_for : (x : ℕ) (c : Command) → Concerns x c → is_for x c ≡ t
 concerns_for x c is = concerned_own x (command_caller c) is
 
 -- somebody is asked by each command
-someone : Option ℕ → ℕ
-someone (Some k) = k
-someone None = 0
+pub anyone : Command → ℕ
+anyone c = unwrap_or (command_caller c) 0
 
-someone_concerned : (o : Option ℕ) → IfSome o (λ k. k ≡ someone o)
-unfolding someone
+someone_concerned : (o : Option ℕ) → IfSome o (λ k. k ≡ unwrap_or o 0)
 someone_concerned (Some k) = refl
 someone_concerned None = tt
-
-pub anyone : Command → ℕ
-anyone c = someone (command_caller c)
 
 pub anyone_concerned : (c : Command) → Concerns (anyone c) c
 unfolding anyone
@@ -49,6 +44,24 @@ follows_by None d A f = f (anyone d) tt (anyone_concerned d)
 
 pub may_follow : (c : Command) (m : ℕ) (d : Command) (n : ℕ) → ((x : ℕ) → Concerns x c → Concerns x d → IsLater m d n) → MayFollow c m d n
 may_follow c m d n f = follows_by (command_caller c) d (IsLater m d n) f
+
+-- a command is a change, or makes no update
+pub change_or_none : (c : Command) → ((caller : ℕ) × (u : Update) × (c ≡ Change caller u)) ⊎ (command_update c ≡ None)
+change_or_none (Change caller u) = inl (caller, u, refl)
+change_or_none (Near caller k p within) = inr refl
+change_or_none (Nears caller k ps) = inr refl
+change_or_none (Inside caller k b) = inr refl
+change_or_none (Ball caller k r p) = inr refl
+change_or_none (Lonely caller k r) = inr refl
+change_or_none (Clusters caller k r) = inr refl
+change_or_none (Pose caller rules p) = inr refl
+change_or_none Sync = inr refl
+
+pub makes_none : (c : Command) → ((caller : ℕ) (u : Update) → c ≡ Change caller u → ⊥) → command_update c ≡ None
+makes_none c other = elim (change_or_none c) [
+  | inl is ↦ absurd (other is.0 is.1 is.2)
+  | inr none ↦ none
+]
 
 -- a later mark stays one where less is asked
 later_update : (l m : ℕ) (u : Option Update) (n : ℕ) → l ≤ m → MatchOption u (m ≤ n) (λ u. m < n) → MatchOption u (l ≤ n) (λ u. l < n)
@@ -121,11 +134,11 @@ plain_caller (Clusters caller k r) own = own.0
 plain_caller (Pose caller rules p) own = absurd own
 plain_caller Sync own = tt
 
-few_if : (made : Option Update) (us : List Update) (n : ℕ) → length us ≤ n → length (option_to_list made ++ us) ≤ n + 1
-few_if (Some u) us n le = omega arith
-few_if None us n le = omega arith
+one_more : (made : Option Update) (us : List Update) (n : ℕ) → length us ≤ n → length (option_to_list made ++ us) ≤ n + 1
+one_more (Some u) us n le = omega arith
+one_more None us n le = omega arith
 
 -- no more updates than commands
 pub updates_few : (cs : List Command) → updates_in cs ≤ length cs
 updates_few [] = omega arith
-updates_few (c ∷ cs) = omega (arith, few_if (command_update c) (updates_made cs) (length cs) (updates_few cs))
+updates_few (c ∷ cs) = omega (arith, one_more (command_update c) (updates_made cs) (length cs) (updates_few cs))

@@ -1,5 +1,5 @@
 -- Reading a log line by line, and a line field by field. Cited by private functions alone.
-use Rattle.std.specs.Prelude.{ℕ, ℤ, ◌+◌, ◌-◌, ◌/◌, Bool, ◌&&◌, ◌==◌, List, [], ◌∷◌, length, map, codes, min, nat_le, nat_lt, int_le, if◌then◌else◌}
+use Rattle.std.specs.Prelude.{◌≡◌, ◌⊎◌, ℕ, ℤ, ◌+◌, ◌-◌, ◌/◌, Bool, ◌&&◌, ◌==◌, List, [], ◌∷◌, length, map, codes, min, nat_le, nat_lt, int_le, if◌then◌else◌}
 use Rattle.std.specs.Str.{bytes_eq}
 use Rattle.std.specs.declared.option.Option.TheVariants.{None, Some}
 use Rattle.std.specs.declared.result.Result.{Result}
@@ -41,6 +41,10 @@ first_number (f ∷ fields) = read_number f
 abbrev pub first_coordinate : Format → List (List ℕ) → Result ℤ LogCause
 first_coordinate format [] = Err WrongCount
 first_coordinate format (f ∷ fields) = coordinate format f
+
+-- fewer than three
+abbrev pub AreTooFew : List (List ℕ) → Type 0
+AreTooFew fields = (fields ≡ []) ⊎ ((f : List ℕ) × (fields ≡ f ∷ [])) ⊎ ((f g : List ℕ) × (fields ≡ f ∷ g ∷ []))
 
 -- the point of the first three fields
 abbrev pub first_place : Format → List (List ℕ) → Result Place LogCause

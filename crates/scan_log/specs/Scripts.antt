@@ -1,7 +1,7 @@
 -- Scripts, and their limits.
 use Rattle.std.specs.Prelude.{◌≡◌, ℕ, ◌+◌, ◌*◌, ◌≤◌, ◌<◌, max, ℤ, ◌≤ℤ◌, List, [], ◌∷◌, ◌++◌, length}
 use Rattle.std.specs.List.{AllByRecursion}
-use Rattle.std.specs.Option.{ForSome}
+use Rattle.std.specs.Option.{ForSome, option_map, unwrap_or}
 use Rattle.point_geom.specs.Place.{Place, Bounds, IsUpright}
 use Rattle.point_geom.specs.declared.cuboid.Corner.{Corner}
 use Rattle.local_region.specs.Rules.{AreRules}
@@ -11,6 +11,7 @@ use Rattle.map_fold.specs.declared.update.Update.{Update}
 use Rattle.map_fold.specs.declared.update.Update.TheVariants.{Add, Thin, Delete, Suspend, Restore, Expire}
 use Rattle.scan_log.specs.declared.format.Format.{Format}
 use Rattle.scan_log.specs.declared.format.Format.TheVariants.{One, Two}
+use Rattle.scan_log.specs.Commands.{command_update}
 use Rattle.scan_log.specs.Formats.{HasNewer, lowest, highest, box_highest, farthest, greatest_intensity}
 use Rattle.scan_log.specs.declared.command.Command.{Command}
 use Rattle.scan_log.specs.declared.command.Command.TheVariants.{Change, Near, Nears, Inside, Ball, Lonely, Clusters, Pose, Sync}
@@ -95,17 +96,9 @@ IsCommand format (Clusters caller k r) = IsCaller caller × (1 ≤ k) × (k ≤ 
 IsCommand format (Pose caller rules p) = IsCaller caller × AreRules rules × IsLogPlace format p × HasNewer format
 IsCommand format Sync = Unit {0}
 
--- how many points a command submits
+-- how many points a command submits: those of its update, if it makes one
 abbrev pub submitted : Command → ℕ
-submitted (Change caller u) = points_in u
-submitted (Near caller k p within) = 0
-submitted (Nears caller k ps) = 0
-submitted (Inside caller k c) = 0
-submitted (Ball caller k r p) = 0
-submitted (Lonely caller k r) = 0
-submitted (Clusters caller k r) = 0
-submitted (Pose caller rules p) = 0
-submitted Sync = 0
+submitted c = unwrap_or (option_map points_in (command_update c)) 0
 
 -- how many points the commands submit
 abbrev pub points_of : List Command → ℕ

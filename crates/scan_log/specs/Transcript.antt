@@ -56,9 +56,13 @@ history cs marks = map (λ h. h.1) (marked_updates cs marks)
 abbrev pub held_at : ℕ → List Update → ℕ → List Item
 held_at voxel h m = (fold voxel (take m h)).items
 
--- how many items are live and how many suspended, where the mark is m
+-- how many of these items are live and how many suspended, where the mark is m
+abbrev pub totals_on : List Item → ℕ → Reply
+totals_on items m = reply.Totals m (live_count items) (suspended_count items)
+
+-- the same of what is held after so many updates as the mark says
 abbrev pub totals_reply : ℕ → List Update → ℕ → Reply
-totals_reply voxel h m = reply.Totals m (live_count (held_at voxel h m)) (suspended_count (held_at voxel h m))
+totals_reply voxel h m = totals_on (held_at voxel h m) m
 
 -- how many items were found, and the first k of them
 abbrev pub found_reply : ℕ → List Item → ℕ → BoxReply
@@ -68,17 +72,21 @@ found_reply m items k = record { mark = m; count = length items; items = take k 
 abbrev pub clusters_reply : ℕ → List Group → ℕ → ClusterReply
 clusters_reply m groups k = record { mark = m; count = length groups; groups = take k groups }
 
--- the reply to a command, where its mark is m
+-- the reply to a command where these items are held, and its mark is m
+abbrev pub reply_on : List Item → Command → ℕ → Reply
+reply_on items (Change caller u) m = reply.Done m
+reply_on items (Near caller k p within) m = reply.Near (record { mark = m; hits = nearest items k p within })
+reply_on items (Nears caller k ps) m = reply.Nears (record { mark = m; lists = nears items k ps })
+reply_on items (Inside caller k c) m = reply.Inside (record { mark = m; count = count items c; items = inside items c k })
+reply_on items (Ball caller k r p) m = reply.Ball (found_reply m (ball items p r) k)
+reply_on items (Lonely caller k r) m = reply.Lonely (found_reply m (lonely items r) k)
+reply_on items (Clusters caller k r) m = reply.Clusters (clusters_reply m (clusters items r) k)
+reply_on items (Pose caller rules p) m = reply.Done m
+reply_on items Sync m = totals_on items m
+
+-- the reply to a command after so many updates as its mark says
 abbrev pub reply_to : ℕ → List Update → Command → ℕ → Reply
-reply_to voxel h (Change caller u) m = reply.Done m
-reply_to voxel h (Near caller k p within) m = reply.Near (record { mark = m; hits = nearest (held_at voxel h m) k p within })
-reply_to voxel h (Nears caller k ps) m = reply.Nears (record { mark = m; lists = nears (held_at voxel h m) k ps })
-reply_to voxel h (Inside caller k c) m = reply.Inside (record { mark = m; count = count (held_at voxel h m) c; items = inside (held_at voxel h m) c k })
-reply_to voxel h (Ball caller k r p) m = reply.Ball (found_reply m (ball (held_at voxel h m) p r) k)
-reply_to voxel h (Lonely caller k r) m = reply.Lonely (found_reply m (lonely (held_at voxel h m) r) k)
-reply_to voxel h (Clusters caller k r) m = reply.Clusters (clusters_reply m (clusters (held_at voxel h m) r) k)
-reply_to voxel h (Pose caller rules p) m = reply.Done m
-reply_to voxel h Sync m = totals_reply voxel h m
+reply_to voxel h c m = reply_on (held_at voxel h m) c m
 
 -- one reply for each command, and one for the end
 abbrev pub replies_from : ℕ → List Update → List Command → List ℕ → List Reply

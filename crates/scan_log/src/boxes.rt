@@ -9,6 +9,7 @@ use crate::fields::Fields;
 use crate::line_fault::LineFault;
 use crate::number::corner_number;
 use crate::points::{groups, points};
+use crate::room::Room;
 use crate::{Format, LogCause};
 use map_fold::Cuboids;
 use point_geom::{Corner, Cuboid, Point};
@@ -53,7 +54,12 @@ fn all_boxes(
 pub fn units(alloc: Global, format: Format, fields: Fields) -> Result<Cuboids, LineFault>
     ensures { Gives result (units_of format fields.entry) }
 {
-    let points = points(alloc, format, MAX_BOXES_OF_COMMAND, fields)?;
+    let room = Room {
+        alloc,
+        format,
+        points: MAX_BOXES_OF_COMMAND,
+    };
+    let points = points(room, fields)?;
     units_around(alloc, points.as_slice())
 }
 

@@ -115,14 +115,7 @@ impl Command {
     {
         match self {
             Command::Change { update, .. } => update.points(),
-            Command::Near { .. }
-            | Command::Nears { .. }
-            | Command::Inside { .. }
-            | Command::Ball { .. }
-            | Command::Lonely { .. }
-            | Command::Clusters { .. }
-            | Command::Pose { .. }
-            | Command::Sync => 0,
+            _ => 0,
         }
     }
 

@@ -12,6 +12,7 @@ use crate::number::natural_in;
 use crate::points::scanned_points;
 use crate::poses::pose;
 use crate::queries::{ball, inside, near, nears, reach};
+use crate::room::Room;
 use crate::{Command, Format, LogCause};
 use map_fold::{MAX_POINTS, Update};
 use std::alloc::Global;
@@ -36,7 +37,13 @@ pub fn line_command(
     if before >= MAX_COMMANDS {
         return Err(LineFault::Bad(LogCause::TooManyCommands));
     }
-    let command = command(alloc, format, room, Fields::new(line))?;
+    let points = room;
+    let room = Room {
+        alloc,
+        format,
+        points,
+    };
+    let command = command(room, Fields::new(line))?;
     if command.hits() > hits {
         return Err(LineFault::Bad(LogCause::TooManyHits));
     }
@@ -44,8 +51,8 @@ pub fn line_command(
 }
 
 #[tactic(auto, unfolding(crate::specs::Reading::command_of))]
-fn command(alloc: Global, format: Format, room: usize, fields: Fields) -> Result<Command, LineFault>
-    ensures { Gives result (command_of format room fields.entry) }
+fn command(room: Room, fields: Fields) -> Result<Command, LineFault>
+    ensures { Gives result (command_of room.format room.points fields.entry) }
 {
     let mut fields = fields;
     let first = fields.next().ok_or(LogCause::UnknownCommand)?;
@@ -57,7 +64,7 @@ fn command(alloc: Global, format: Format, room: usize, fields: Fields) -> Result
     }
     let caller = caller(first)?;
     let word = fields.next().ok_or(LogCause::UnknownCommand)?;
-    called(alloc, format, room, caller, word, fields)
+    called(room, caller, word, fields)
 }
 
 #[tactic(auto, unfolding(crate::specs::Reading::caller_of))]
@@ -72,35 +79,25 @@ fn caller(field: &[u8]) -> Result<u8, LogCause>
 }
 
 #[tactic(auto, unfolding(crate::specs::Reading::called_of))]
-fn called(
-    alloc: Global,
-    format: Format,
-    room: usize,
-    caller: u8,
-    word: &[u8],
-    fields: Fields,
-) -> Result<Command, LineFault>
-    ensures { Gives result (called_of format room caller word.now fields.entry) }
+fn called(room: Room, caller: u8, word: &[u8], fields: Fields) -> Result<Command, LineFault>
+    ensures { Gives result (called_of room.format room.points caller word.now fields.entry) }
 {
-    match format {
-        Format::One => basic(alloc, Format::One, room, caller, word, fields),
-        Format::Two => wide(alloc, room, caller, word, fields),
+    match room.format {
+        Format::One => {
+            let format = Format::One;
+            basic(Room { format, ..room }, caller, word, fields)
+        }
+        Format::Two => wide(room, caller, word, fields),
     }
 }
 
-// The command of version 2.
+// The command of version 2, whatever the room says of it.
 #[tactic(auto, unfolding(crate::specs::Reading::called_of))]
-fn wide(
-    alloc: Global,
-    room: usize,
-    caller: u8,
-    word: &[u8],
-    fields: Fields,
-) -> Result<Command, LineFault>
-    ensures { Gives result (called_of Two room caller word.now fields.entry) }
+fn wide(room: Room, caller: u8, word: &[u8], fields: Fields) -> Result<Command, LineFault>
+    ensures { Gives result (called_of Two room.points caller word.now fields.entry) }
 {
     if word == b"nears".as_slice() {
-        return nears(alloc, caller, fields);
+        return nears(room.alloc, caller, fields);
     }
     if word == b"ball".as_slice() {
         return Ok(ball(caller, fields)?);
@@ -116,60 +113,49 @@ fn wide(
     if word == b"pose".as_slice() {
         return Ok(pose(caller, fields)?);
     }
-    basic(alloc, Format::Two, room, caller, word, fields)
+    let format = Format::Two;
+    basic(Room { format, ..room }, caller, word, fields)
 }
 
 #[tactic(auto, unfolding(crate::specs::Reading::basic_of))]
-fn basic(
-    alloc: Global,
-    format: Format,
-    room: usize,
-    caller: u8,
-    word: &[u8],
-    fields: Fields,
-) -> Result<Command, LineFault>
-    ensures { Gives result (basic_of format room caller word.now fields.entry) }
+fn basic(room: Room, caller: u8, word: &[u8], fields: Fields) -> Result<Command, LineFault>
+    ensures { Gives result (basic_of room.format room.points caller word.now fields.entry) }
 {
     if word == b"near".as_slice() {
-        return Ok(near(format, caller, fields)?);
+        return Ok(near(room.format, caller, fields)?);
     }
     if word == b"box".as_slice() {
-        return Ok(inside(format, caller, fields)?);
+        return Ok(inside(room.format, caller, fields)?);
     }
-    let update = update(alloc, format, room, word, fields)?;
+    let update = update(room, word, fields)?;
     Ok(Command::Change { caller, update })
 }
 
 #[tactic(auto, unfolding(crate::specs::Reading::update_of))]
-fn update(
-    alloc: Global,
-    format: Format,
-    room: usize,
-    word: &[u8],
-    fields: Fields,
-) -> Result<Update, LineFault>
-    ensures { Gives result (update_of format room word.now fields.entry) }
+fn update(room: Room, word: &[u8], fields: Fields) -> Result<Update, LineFault>
+    ensures { Gives result (update_of room.format room.points word.now fields.entry) }
 {
-    let most = room.min(MAX_POINTS_OF_COMMAND);
+    let points = room.points.min(MAX_POINTS_OF_COMMAND);
+    let room = Room { points, ..room };
     if word == b"add".as_slice() {
-        return Ok(Update::Add(scanned_points(alloc, format, most, fields)?));
+        return Ok(Update::Add(scanned_points(room, fields)?));
     }
     if word == b"thin".as_slice() {
-        return Ok(Update::Thin(scanned_points(alloc, format, most, fields)?));
+        return Ok(Update::Thin(scanned_points(room, fields)?));
     }
     if word == b"erase".as_slice() {
-        return Ok(Update::Delete(units(alloc, format, fields)?));
+        return Ok(Update::Delete(units(room.alloc, room.format, fields)?));
     }
     if word == b"delete".as_slice() {
-        return Ok(Update::Delete(boxes(alloc, format, fields)?));
+        return Ok(Update::Delete(boxes(room.alloc, room.format, fields)?));
     }
     if word == b"suspend".as_slice() {
-        return Ok(Update::Suspend(boxes(alloc, format, fields)?));
+        return Ok(Update::Suspend(boxes(room.alloc, room.format, fields)?));
     }
     if word == b"restore".as_slice() {
-        return Ok(Update::Restore(boxes(alloc, format, fields)?));
+        return Ok(Update::Restore(boxes(room.alloc, room.format, fields)?));
     }
-    if format.has_expiry() && word == b"expire".as_slice() {
+    if room.format.has_expiry() && word == b"expire".as_slice() {
         return Ok(expiry(fields)?);
     }
     Err(LineFault::Bad(LogCause::UnknownCommand))

@@ -1,4 +1,7 @@
 //! Why a log is not read.
+ghost use Rattle.std.specs.Prelude.{◌≡◌};
+ghost use Rattle.scan_log.specs.declared.fault.ParseFault.TheVariants as parse_fault;
+
 use map_fold::NoMemory;
 use std::fmt::{Display, Error, Formatter, Write};
 
@@ -65,10 +68,7 @@ pub enum ParseFault {
 }
 
 impl From<NoMemory> for ParseFault {
-    ghost use Rattle.std.specs.Prelude.{◌≡◌};
-    ghost use Rattle.scan_log.specs.declared.fault.ParseFault.TheVariants.{NoMemory as want};
-
-    ghost from_gives = { λ _ e. e ≡ want };
+    ghost from_gives = { λ _ e. e ≡ parse_fault.NoMemory };
 
     fn from(_error: NoMemory) -> ParseFault {
         ParseFault::NoMemory

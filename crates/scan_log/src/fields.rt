@@ -1,7 +1,7 @@
 //! The fields of a line.
 ghost use Rattle.std.specs.Prelude.{◌≡◌, [], ◌∷◌, length, drop, OnOk, IfOk};
 ghost use Rattle.std.specs.Option.{MatchOption};
-ghost use Rattle.scan_log.specs.Reading.{first_coordinate, first_intensity, first_number};
+ghost use Rattle.scan_log.specs.Reading.{AreTooFew, first_coordinate, first_intensity, first_number};
 ghost use Rattle.scan_log.specs.Scripts.{IsLogCoordinate};
 
 use crate::front::front_number;
@@ -64,6 +64,16 @@ impl<'a> Fields<'a> {
         }
         self.more = false;
         Some(self.rest)
+    }
+
+    /// The next three fields. Costs their length.
+    pub fn three(&mut self) -> Option<(&'a [u8], &'a [u8], &'a [u8])>
+        ensures { MatchOption result (AreTooFew self.old) (λ t. self.old ≡ t.0.now ∷ t.1.now ∷ t.2.now ∷ self.new) }
+    {
+        let first = self.next()?;
+        let second = self.next()?;
+        let third = self.next()?;
+        Some((first, second, third))
     }
 
     /// The coordinate that the next field spells. Costs its length.

@@ -24,47 +24,41 @@ impl Format {
         }
     }
 
-    /// The least coordinate.
-    pub(crate) fn lowest(self) -> i64
-        ensures value { result ≡ lowest self }
-        ensures near { negsuc 999999999999999998 ≤ℤ result }
+    /// How far its numbers reach.
+    pub(crate) fn limits(self) -> Limits
+        ensures lowest { result.lowest ≡ lowest self }
+        ensures highest { result.highest ≡ highest self }
+        ensures box_highest { result.box_highest ≡ box_highest self }
+        ensures farthest { result.farthest ≡ pos (farthest self) }
+        ensures lowest_from { negsuc 999999999999999998 ≤ℤ result.lowest }
+        ensures highest_to { result.highest ≤ℤ pos 999999999999999999 }
+        ensures box_highest_to { result.box_highest ≤ℤ pos 999999999999999999 }
+        ensures farthest_to { result.farthest ≤ℤ pos 999999999999999999 }
     {
         match self {
-            Format::One => -1_000_000_000,
-            Format::Two => -1_099_511_627_776,
+            Format::One => Limits {
+                lowest: -1_000_000_000,
+                highest: 1_000_000_000,
+                box_highest: 1_000_000_001,
+                farthest: 4_000_000_000,
+            },
+            Format::Two => Limits {
+                lowest: -1_099_511_627_776,
+                highest: 1_099_511_627_776,
+                box_highest: 1_099_511_627_777,
+                farthest: 4_398_046_511_104,
+            },
         }
     }
+}
 
-    /// The greatest coordinate.
-    pub(crate) fn highest(self) -> i64
-        ensures value { result ≡ highest self }
-        ensures near { result ≤ℤ pos 999999999999999999 }
-    {
-        match self {
-            Format::One => 1_000_000_000,
-            Format::Two => 1_099_511_627_776,
-        }
-    }
-
+/// How far the numbers of a log reach, in millimetres.
+#[derive(Clone, Copy)]
+pub(crate) struct Limits {
+    pub lowest: i64,
+    pub highest: i64,
     /// The greatest number of a box's corner, one past the last coordinate.
-    pub(crate) fn box_highest(self) -> i64
-        ensures value { result ≡ box_highest self }
-        ensures near { result ≤ℤ pos 999999999999999999 }
-    {
-        match self {
-            Format::One => 1_000_000_001,
-            Format::Two => 1_099_511_627_777,
-        }
-    }
-
-    /// The greatest distance that may be asked for, in millimetres.
-    pub(crate) fn farthest(self) -> i64
-        ensures value { result ≡ pos (farthest self) }
-        ensures near { result ≤ℤ pos 999999999999999999 }
-    {
-        match self {
-            Format::One => 4_000_000_000,
-            Format::Two => 4_398_046_511_104,
-        }
-    }
+    pub box_highest: i64,
+    /// The greatest distance that may be asked for.
+    pub farthest: i64,
 }

@@ -15,12 +15,8 @@ pub fn settings(header: &[u8]) -> Result<(Format, Settings), LogCause>
     ensures { result ≡ header_of (fields_of header.now) }
 {
     let mut fields = Fields::new(header);
-    let program = fields.next().ok_or(LogCause::NoHeader)?;
-    let version = fields.next().ok_or(LogCause::NoHeader)?;
-    let voxel_word = fields.next().ok_or(LogCause::NoHeader)?;
-    let voxel = fields.next().ok_or(LogCause::NoHeader)?;
-    let large_word = fields.next().ok_or(LogCause::NoHeader)?;
-    let large = fields.next().ok_or(LogCause::NoHeader)?;
+    let (program, version, voxel_word) = fields.three().ok_or(LogCause::NoHeader)?;
+    let (voxel, large_word, large) = fields.three().ok_or(LogCause::NoHeader)?;
     if fields.next().is_some() {
         return Err(LogCause::NoHeader);
     }

@@ -21,6 +21,7 @@ mod printing;
 mod putting;
 mod queries;
 mod reply;
+mod room;
 mod script;
 mod writing;
 

@@ -1,4 +1,7 @@
 //! Why a line is not read.
+ghost use Rattle.std.specs.Prelude.{◌≡◌};
+ghost use Rattle.scan_log.specs.declared.line_fault.LineFault.TheVariants.{Bad, NoMemory};
+
 use crate::{LogCause, ParseFault};
 use std::alloc::{AllocError, AllocFailed};
 
@@ -25,9 +28,6 @@ impl LineFault {
 }
 
 impl From<LogCause> for LineFault {
-    ghost use Rattle.std.specs.Prelude.{◌≡◌};
-    ghost use Rattle.scan_log.specs.declared.line_fault.LineFault.TheVariants.{Bad};
-
     ghost from_gives = { λ cause fault. fault ≡ Bad cause };
 
     fn from(cause: LogCause) -> LineFault {
@@ -36,10 +36,7 @@ impl From<LogCause> for LineFault {
 }
 
 impl From<AllocError> for LineFault {
-    ghost use Rattle.std.specs.Prelude.{◌≡◌};
-    ghost use Rattle.scan_log.specs.declared.line_fault.LineFault.TheVariants.{NoMemory};
-
-    ghost from_gives = { λ _ fault. fault ≡ NoMemory };
+    ghost from_gives = { λ _ e. e ≡ NoMemory };
 
     fn from(_error: AllocError) -> LineFault {
         LineFault::NoMemory
@@ -47,10 +44,7 @@ impl From<AllocError> for LineFault {
 }
 
 impl<T: Drop> From<AllocFailed<T>> for LineFault {
-    ghost use Rattle.std.specs.Prelude.{◌≡◌};
-    ghost use Rattle.scan_log.specs.declared.line_fault.LineFault.TheVariants.{NoMemory};
-
-    ghost from_gives = { λ _ fault. fault ≡ NoMemory };
+    ghost from_gives = { λ _ e. e ≡ NoMemory };
 
     fn from(_failed: AllocFailed<T>) -> LineFault {
         LineFault::NoMemory

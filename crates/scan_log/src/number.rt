@@ -13,7 +13,8 @@ pub fn coordinate(format: Format, field: &[u8]) -> Result<i64, LogCause>
     ensures value { result ≡ coordinate format field.now }
     ensures range { IfOk result (IsLogCoordinate format) }
 {
-    number_in(format.lowest(), format.highest(), field)
+    let limits = format.limits();
+    number_in(limits.lowest, limits.highest, field)
 }
 
 /// The coordinate that was read as this number, as far as it counts.
@@ -21,7 +22,8 @@ pub fn as_coordinate(format: Format, number: i64) -> Result<i64, LogCause>
     ensures value { result ≡ in_range (lowest format) (highest format) number }
     ensures range { IfOk result (IsLogCoordinate format) }
 {
-    in_range(format.lowest(), format.highest(), number)
+    let limits = format.limits();
+    in_range(limits.lowest, limits.highest, number)
 }
 
 /// The intensity that was read as this number, as far as it counts.
@@ -37,14 +39,16 @@ pub fn corner_number(format: Format, field: &[u8]) -> Result<i64, LogCause>
     ensures value { result ≡ corner_number format field.now }
     ensures range { IfOk result (IsBoxNumber format) }
 {
-    number_in(format.lowest(), format.box_highest(), field)
+    let limits = format.limits();
+    number_in(limits.lowest, limits.box_highest, field)
 }
 
 /// A greatest distance, in millimetres.
 pub fn distance(format: Format, field: &[u8]) -> Result<u64, LogCause>
     ensures { result ≡ natural_in 0 (farthest format) field.now }
 {
-    let number = number_in(0, format.farthest(), field)?;
+    let limits = format.limits();
+    let number = number_in(0, limits.farthest, field)?;
     Ok(number as u64)
 }
 

@@ -8,6 +8,7 @@ ghost use Rattle.scan_log.specs.Scripts.{IsLogCoordinate};
 use crate::fields::Fields;
 use crate::line_fault::LineFault;
 use crate::number::coordinate;
+use crate::room::Room;
 use crate::{Format, LogCause};
 use map_fold::Points;
 use point_geom::Point;
@@ -29,36 +30,29 @@ pub fn groups(fields: &Fields, size: usize, most: usize) -> Result<usize, LogCau
     Ok(count / size)
 }
 
-/// The points that the fields spell, one or more, and at most so many.
+/// The points that the fields spell, one or more, and at most as many as there is room for.
 #[inline(always)]
 #[tactic(auto, unfolding(crate::specs::Reading::few_places_of))]
-pub fn points(
-    alloc: Global,
-    format: Format,
-    most: usize,
-    fields: Fields,
-) -> Result<Points, LineFault>
-    ensures { Gives result (few_places_of format most fields.entry) }
+pub fn points(room: Room, fields: Fields) -> Result<Points, LineFault>
+    ensures { Gives result (few_places_of room.format room.points fields.entry) }
 {
-    let count = groups(&fields, 3, most)?;
-    all_points(alloc, format, count, fields)
+    let count = groups(&fields, 3, room.points)?;
+    all_points(room.alloc, room.format, count, fields)
 }
 
-/// The points of a command that adds or thins them, at most so many.
+/// The points of a command that adds or thins them, at most as many as there is room for.
 #[tactic(auto, unfolding(crate::specs::Reading::few_scanned_of, crate::specs::Reading::few_places_of))]
-pub fn scanned_points(
-    alloc: Global,
-    format: Format,
-    most: usize,
-    fields: Fields,
-) -> Result<Points, LineFault>
-    ensures { Gives result (few_scanned_of format most fields.entry) }
+pub fn scanned_points(room: Room, fields: Fields) -> Result<Points, LineFault>
+    ensures { Gives result (few_scanned_of room.format room.points fields.entry) }
 {
-    match format {
-        Format::One => points(alloc, Format::One, most, fields),
+    match room.format {
+        Format::One => {
+            let format = Format::One;
+            points(Room { format, ..room }, fields)
+        }
         Format::Two => {
-            let count = groups(&fields, 4, most)?;
-            all_scanned(alloc, count, fields)
+            let count = groups(&fields, 4, room.points)?;
+            all_scanned(room.alloc, count, fields)
         }
     }
 }

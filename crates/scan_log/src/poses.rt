@@ -16,12 +16,8 @@ pub fn pose(caller: u8, fields: Fields) -> Result<Command, LogCause>
     ensures { result ≡ pose_of caller fields.entry }
 {
     let mut fields = fields;
-    let side = fields.next().ok_or(LogCause::WrongCount)?;
-    let ball = fields.next().ok_or(LogCause::WrongCount)?;
-    let step = fields.next().ok_or(LogCause::WrongCount)?;
-    let x = fields.next().ok_or(LogCause::WrongCount)?;
-    let y = fields.next().ok_or(LogCause::WrongCount)?;
-    let z = fields.next().ok_or(LogCause::WrongCount)?;
+    let (side, ball, step) = fields.three().ok_or(LogCause::WrongCount)?;
+    let (x, y, z) = fields.three().ok_or(LogCause::WrongCount)?;
     if fields.next().is_some() {
         return Err(LogCause::WrongCount);
     }

@@ -1,12 +1,15 @@
 //! The lines of a transcript.
-ghost use Rattle.std.specs.Prelude.{◌≡◌, ◌++◌, Some, OnOk, OnErr};
+ghost use Rattle.std.specs.Prelude.{◌≡◌, ◌∷◌, ◌++◌, [], codes, decimal, Some, OnOk, OnErr};
 ghost use Rattle.std.specs.List.{flat_map};
 ghost use Rattle.std.specs.Option.{option_copied};
-ghost use Rattle.scan_log.specs.Transcript.{clusters_text, counts_text, done_text, group_text, hit_text, intensity_text, item_text, items_text, list_text, near_text, nears_text, reply_text, totals_text};
+ghost use Rattle.scan_log.specs.Spelling.{caller_field};
+ghost use Rattle.scan_log.specs.Transcript.{clusters_text, counts_text, done_text, intensity_text, items_text, point_text, reply_text, totals_text};
 
-use crate::putting::{put, put_caller, put_number, put_point, put_spaced, put_word};
+use crate::putting::{
+    Listed, put, put_all, put_caller, put_number, put_point, put_spaced, put_word,
+};
 use crate::{Command, Format, Reply};
-use map_fold::{BoxReply, ClusterReply, Group, Hit, Hits, Item, NearReply, NearsReply, NoMemory};
+use map_fold::{BoxReply, ClusterReply, Group, Hit, Hits, Item, NoMemory};
 use point_geom::Point;
 
 /// Puts the line of a reply at the end, as it is for logs of this version. No command stands for the end of the log. A reply
@@ -61,9 +64,25 @@ fn put_answer(
     match (command, reply) {
         (Command::Change { caller, .. }, Reply::Done { mark }) => put_done(out, *caller, *mark),
         (Command::Pose { caller, .. }, Reply::Done { mark }) => put_done(out, *caller, *mark),
-        (Command::Near { caller, .. }, Reply::Near(near)) => put_near(out, format, *caller, near),
+        (Command::Near { caller, .. }, Reply::Near(near)) => {
+            put_nearest(
+                out,
+                format,
+                *caller,
+                b" near ",
+                near.mark,
+                near.hits.as_slice(),
+            )
+        }
         (Command::Nears { caller, .. }, Reply::Nears(nears)) => {
-            put_nears(out, format, *caller, nears)
+            put_nearest(
+                out,
+                format,
+                *caller,
+                b" nears ",
+                nears.mark,
+                nears.lists.as_slice(),
+            )
         }
         (Command::Inside { caller, .. }, Reply::Inside(inside)) => {
             put_found(out, format, *caller, b"box", inside)
@@ -75,7 +94,7 @@ fn put_answer(
             put_found(out, format, *caller, b"lonely", lonely)
         }
         (Command::Clusters { caller, .. }, Reply::Clusters(clusters)) => {
-            put_clusters(out, *caller, clusters)
+            put_clusters(out, format, *caller, clusters)
         }
         (
             Command::Sync,
@@ -98,28 +117,21 @@ fn put_done(out: &mut Vec<u8>, caller: u8, mark: u64) -> Result<(), NoMemory>
     put(out, b"\n")
 }
 
-fn put_near(out: &mut Vec<u8>, format: Format, caller: u8, near: &NearReply) -> Result<(), NoMemory>
-    ensures { OnOk result (out.new.items ≡ out.old.items ++ near_text format caller near.now) }
-{
-    put_caller(out, caller)?;
-    put(out, b" near ")?;
-    put_number(out, near.mark)?;
-    put_hits(out, format, near.hits.as_slice())?;
-    put(out, b"\n")
-}
-
-fn put_nears(
+// The nearest points of a place, or the lists of those of each place.
+fn put_nearest<T: Listed>(
     out: &mut Vec<u8>,
     format: Format,
     caller: u8,
-    nears: &NearsReply,
+    word: &[u8],
+    mark: u64,
+    found: &[T],
 ) -> Result<(), NoMemory>
-    ensures { OnOk result (out.new.items ≡ out.old.items ++ nears_text format caller nears.now) }
+    ensures { OnOk result (out.new.items ≡ out.old.items ++ (caller_field caller ++ word.now ++ decimal mark ++ flat_map (T.text format) found.now ++ 10 ∷ [])) }
 {
     put_caller(out, caller)?;
-    put(out, b" nears ")?;
-    put_number(out, nears.mark)?;
-    put_lists(out, format, nears.lists.as_slice())?;
+    put(out, word)?;
+    put_number(out, mark)?;
+    put_all(out, format, found)?;
     put(out, b"\n")
 }
 
@@ -137,18 +149,23 @@ fn put_found(
     put_word(out, word)?;
     put_spaced(out, found.mark)?;
     put_spaced(out, found.count)?;
-    put_items(out, format, found.items.as_slice())?;
+    put_all(out, format, found.items.as_slice())?;
     put(out, b"\n")
 }
 
-fn put_clusters(out: &mut Vec<u8>, caller: u8, clusters: &ClusterReply) -> Result<(), NoMemory>
+fn put_clusters(
+    out: &mut Vec<u8>,
+    format: Format,
+    caller: u8,
+    clusters: &ClusterReply,
+) -> Result<(), NoMemory>
     ensures { OnOk result (out.new.items ≡ out.old.items ++ clusters_text caller clusters.now) }
 {
     put_caller(out, caller)?;
     put(out, b" clusters ")?;
     put_number(out, clusters.mark)?;
     put_spaced(out, clusters.count)?;
-    put_groups(out, clusters.groups.as_slice())?;
+    put_all(out, format, clusters.groups.as_slice())?;
     put(out, b"\n")
 }
 
@@ -176,74 +193,63 @@ fn put_counts(out: &mut Vec<u8>, live: u32, suspended: u32) -> Result<(), NoMemo
     put(out, b"\n")
 }
 
-fn put_lists(out: &mut Vec<u8>, format: Format, lists: &[Hits]) -> Result<(), NoMemory>
-    ensures { OnOk result (out.new.items ≡ out.old.items ++ flat_map (list_text format) lists.now) }
-{
-    for hits in lists {
-        put_list(out, format, hits.as_slice())?;
+impl Listed for Hits {
+    ghost use Rattle.scan_log.specs.Transcript.{list_text};
+
+    ghost text = { list_text };
+
+    fn put(&self, out: &mut Vec<u8>, format: Format) -> Result<(), NoMemory> {
+        put(out, b" /")?;
+        put_all(out, format, self.as_slice())
     }
-    Ok(())
 }
 
-fn put_list(out: &mut Vec<u8>, format: Format, hits: &[Hit]) -> Result<(), NoMemory>
-    ensures { OnOk result (out.new.items ≡ out.old.items ++ list_text format hits.now) }
-{
-    put(out, b" /")?;
-    put_hits(out, format, hits)
-}
+impl Listed for Hit {
+    ghost use Rattle.scan_log.specs.Transcript.{hit_text};
 
-fn put_hits(out: &mut Vec<u8>, format: Format, hits: &[Hit]) -> Result<(), NoMemory>
-    ensures { OnOk result (out.new.items ≡ out.old.items ++ flat_map (hit_text format) hits.now) }
-{
-    for hit in hits {
-        put_hit(out, format, hit)?;
+    ghost text = { hit_text };
+
+    fn put(&self, out: &mut Vec<u8>, format: Format) -> Result<(), NoMemory> {
+        put_numbered(out, format, self.number, &self.point)?;
+        put_spaced(out, self.dist2)
     }
-    Ok(())
 }
 
-fn put_hit(out: &mut Vec<u8>, format: Format, hit: &Hit) -> Result<(), NoMemory>
-    ensures { OnOk result (out.new.items ≡ out.old.items ++ hit_text format hit.now) }
+impl Listed for Item {
+    ghost use Rattle.scan_log.specs.Transcript.{item_text};
+
+    ghost text = { item_text };
+
+    fn put(&self, out: &mut Vec<u8>, format: Format) -> Result<(), NoMemory> {
+        put_numbered(out, format, self.number, &self.point)
+    }
+}
+
+impl Listed for Group {
+    ghost use Rattle.scan_log.specs.Transcript.{group_text};
+
+    ghost text = { λ _. group_text };
+
+    fn put(&self, out: &mut Vec<u8>, _format: Format) -> Result<(), NoMemory> {
+        put(out, b" | ")?;
+        put_number(out, self.least)?;
+        put_spaced(out, self.size)
+    }
+}
+
+// A point under its number.
+fn put_numbered(
+    out: &mut Vec<u8>,
+    format: Format,
+    number: u32,
+    point: &Point,
+) -> Result<(), NoMemory>
+    ensures { OnOk result (out.new.items ≡ out.old.items ++ (codes " | " ++ decimal number ++ point_text point.now ++ intensity_text format point.now)) }
 {
     put(out, b" | ")?;
-    put_number(out, hit.number)?;
-    put_point(out, &hit.point)?;
-    put_intensity(out, format, &hit.point)?;
-    put_spaced(out, hit.dist2)
-}
-
-fn put_items(out: &mut Vec<u8>, format: Format, items: &[Item]) -> Result<(), NoMemory>
-    ensures { OnOk result (out.new.items ≡ out.old.items ++ flat_map (item_text format) items.now) }
-{
-    for item in items {
-        put_item(out, format, item)?;
-    }
-    Ok(())
-}
-
-fn put_item(out: &mut Vec<u8>, format: Format, item: &Item) -> Result<(), NoMemory>
-    ensures { OnOk result (out.new.items ≡ out.old.items ++ item_text format item.now) }
-{
-    put(out, b" | ")?;
-    put_number(out, item.number)?;
-    put_point(out, &item.point)?;
-    put_intensity(out, format, &item.point)
-}
-
-fn put_groups(out: &mut Vec<u8>, groups: &[Group]) -> Result<(), NoMemory>
-    ensures { OnOk result (out.new.items ≡ out.old.items ++ flat_map group_text groups.now) }
-{
-    for group in groups {
-        put_group(out, group)?;
-    }
-    Ok(())
-}
-
-fn put_group(out: &mut Vec<u8>, group: &Group) -> Result<(), NoMemory>
-    ensures { OnOk result (out.new.items ≡ out.old.items ++ group_text group.now) }
-{
-    put(out, b" | ")?;
-    put_number(out, group.least)?;
-    put_spaced(out, group.size)
+    put_number(out, number)?;
+    put_point(out, point)?;
+    put_intensity(out, format, point)
 }
 
 fn put_intensity(out: &mut Vec<u8>, format: Format, point: &Point) -> Result<(), NoMemory>

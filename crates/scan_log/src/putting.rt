@@ -1,12 +1,39 @@
 //! Putting what lines are made of, those of a transcript and those of a log. What these put where memory runs out isn't said:
 //! the line or the log is dropped.
-ghost use Rattle.std.specs.Prelude.{◌≡◌, ◌++◌, OnOk, OnErr};
+ghost use Rattle.std.specs.Prelude.{◌≡◌, ◌++◌, List, ℕ, OnOk, OnErr};
+ghost use Rattle.std.specs.List.{flat_map};
+ghost use Rattle.scan_log.specs.declared.format.Format.{Format};
 ghost use Rattle.scan_log.specs.Spelling.{caller_field};
 ghost use Rattle.scan_log.specs.Transcript.{point_text, spaced};
 
+use crate::Format;
 use itoa::{Buffer, Integer};
 use map_fold::NoMemory;
 use point_geom::Point;
+
+/// What may stand several times in a row.
+pub(crate) trait Listed {
+    /// Its text, where the log has this version.
+    ghost text: { Format → Self → List ℕ };
+
+    /// Puts its text at the end.
+    fn put(&self, out: &mut Vec<u8>, format: Format) -> Result<(), NoMemory>
+        ensures { OnOk result (out.new.items ≡ out.old.items ++ text format self.now) };
+}
+
+/// Puts the texts of all, in order.
+pub(crate) fn put_all<T: Listed>(
+    out: &mut Vec<u8>,
+    format: Format,
+    items: &[T],
+) -> Result<(), NoMemory>
+    ensures { OnOk result (out.new.items ≡ out.old.items ++ flat_map (T.text format) items.now) }
+{
+    for item in items {
+        item.put(out, format)?;
+    }
+    Ok(())
+}
 
 pub(crate) fn put_caller(out: &mut Vec<u8>, caller: u8) -> Result<(), NoMemory>
     ensures { OnOk result (out.new.items ≡ out.old.items ++ caller_field caller) }

@@ -20,9 +20,7 @@ pub fn near(format: Format, caller: u8, fields: Fields) -> Result<Command, LogCa
 {
     let mut fields = fields;
     let k = fields.next().ok_or(LogCause::WrongCount)?;
-    let x = fields.next().ok_or(LogCause::WrongCount)?;
-    let y = fields.next().ok_or(LogCause::WrongCount)?;
-    let z = fields.next().ok_or(LogCause::WrongCount)?;
+    let (x, y, z) = fields.three().ok_or(LogCause::WrongCount)?;
     let Some(word) = fields.next() else {
         return Ok(Command::Near {
             caller,
@@ -53,12 +51,8 @@ pub fn inside(format: Format, caller: u8, fields: Fields) -> Result<Command, Log
 {
     let mut fields = fields;
     let k = fields.next().ok_or(LogCause::WrongCount)?;
-    let x = fields.next().ok_or(LogCause::WrongCount)?;
-    let y = fields.next().ok_or(LogCause::WrongCount)?;
-    let z = fields.next().ok_or(LogCause::WrongCount)?;
-    let far_x = fields.next().ok_or(LogCause::WrongCount)?;
-    let far_y = fields.next().ok_or(LogCause::WrongCount)?;
-    let far_z = fields.next().ok_or(LogCause::WrongCount)?;
+    let (x, y, z) = fields.three().ok_or(LogCause::WrongCount)?;
+    let (far_x, far_y, far_z) = fields.three().ok_or(LogCause::WrongCount)?;
     if fields.next().is_some() {
         return Err(LogCause::WrongCount);
     }
@@ -88,9 +82,7 @@ pub fn ball(caller: u8, fields: Fields) -> Result<Command, LogCause>
     let mut fields = fields;
     let k = fields.next().ok_or(LogCause::WrongCount)?;
     let r = fields.next().ok_or(LogCause::WrongCount)?;
-    let x = fields.next().ok_or(LogCause::WrongCount)?;
-    let y = fields.next().ok_or(LogCause::WrongCount)?;
-    let z = fields.next().ok_or(LogCause::WrongCount)?;
+    let (x, y, z) = fields.three().ok_or(LogCause::WrongCount)?;
     if fields.next().is_some() {
         return Err(LogCause::WrongCount);
     }

@@ -4,10 +4,10 @@ ghost use Rattle.std.specs.List.{flat_map};
 ghost use Rattle.scan_log.specs.Formats.{version_field};
 ghost use Rattle.scan_log.specs.Faults.{line_feeds};
 ghost use Rattle.scan_log.specs.Spelling.{Spells, box_fields, caller_field, header_fields, point_fields, update_fields, within_fields};
-ghost use Rattle.scan_log.specs.Transcript.{all_spaced, point_text, scanned_text, spaced};
-ghost use Rattle.scan_log.specs.Written.{command_text, corner_text, cuboid_text, joined, written_line, script_text};
+ghost use Rattle.scan_log.specs.Transcript.{all_spaced, spaced};
+ghost use Rattle.scan_log.specs.Written.{corner_text, cuboid_text, joined, written_line, script_text};
 
-use crate::putting::{put, put_caller, put_point, put_spaced, put_word};
+use crate::putting::{Listed, put, put_all, put_caller, put_point, put_spaced, put_word};
 use crate::{Command, Format, Script};
 use local_region::RegionRules;
 use map_fold::{NoMemory, Settings, Update};
@@ -26,7 +26,7 @@ pub fn write_script(alloc: Global, script: &Script) -> Result<Vec<u8>, NoMemory>
     let mut log = Vec::new(alloc);
     let format = script.format();
     put_header(&mut log, format, script.settings())?;
-    put_commands(&mut log, format, script.commands())?;
+    put_all(&mut log, format, script.commands())?;
     Ok(log)
 }
 
@@ -56,50 +56,45 @@ fn put_setting(out: &mut Vec<u8>, word: &[u8], number: u32) -> Result<(), NoMemo
     put_spaced(out, number)
 }
 
-fn put_commands(out: &mut Vec<u8>, format: Format, commands: &[Command]) -> Result<(), NoMemory>
-    ensures { OnOk result (out.new.items ≡ out.old.items ++ flat_map (command_text format) commands.now) }
-{
-    for command in commands {
-        put_command(out, format, command)?;
-    }
-    Ok(())
-}
+impl Listed for Command {
+    ghost use Rattle.scan_log.specs.Written.{command_text};
 
-fn put_command(out: &mut Vec<u8>, format: Format, command: &Command) -> Result<(), NoMemory>
-    ensures { OnOk result (out.new.items ≡ out.old.items ++ command_text format command.now) }
-{
-    match command {
-        Command::Change { caller, update } => {
-            put_caller(out, *caller)?;
-            put_update(out, format, update)?;
+    ghost text = { command_text };
+
+    fn put(&self, out: &mut Vec<u8>, format: Format) -> Result<(), NoMemory> {
+        match self {
+            Command::Change { caller, update } => {
+                put_caller(out, *caller)?;
+                put_update(out, format, update)?;
+            }
+            Command::Near {
+                caller,
+                k,
+                point,
+                within,
+            } => put_near(out, *caller, *k, point, *within)?,
+            Command::Nears { caller, k, points } => {
+                put_caller(out, *caller)?;
+                put_nears(out, *k, points.as_slice())?;
+            }
+            Command::Inside { caller, k, cuboid } => put_inside(out, *caller, *k, cuboid)?,
+            Command::Ball {
+                caller,
+                k,
+                r,
+                point,
+            } => put_ball(out, *caller, *k, *r, point)?,
+            Command::Lonely { caller, k, r } => put_reach(out, *caller, b"lonely", *k, *r)?,
+            Command::Clusters { caller, k, r } => put_reach(out, *caller, b"clusters", *k, *r)?,
+            Command::Pose {
+                caller,
+                rules,
+                point,
+            } => put_pose(out, *caller, rules, point)?,
+            Command::Sync => put(out, b"sync")?,
         }
-        Command::Near {
-            caller,
-            k,
-            point,
-            within,
-        } => put_near(out, *caller, *k, point, *within)?,
-        Command::Nears { caller, k, points } => {
-            put_caller(out, *caller)?;
-            put_nears(out, *k, points.as_slice())?;
-        }
-        Command::Inside { caller, k, cuboid } => put_inside(out, *caller, *k, cuboid)?,
-        Command::Ball {
-            caller,
-            k,
-            r,
-            point,
-        } => put_ball(out, *caller, *k, *r, point)?,
-        Command::Lonely { caller, k, r } => put_reach(out, *caller, b"lonely", *k, *r)?,
-        Command::Clusters { caller, k, r } => put_reach(out, *caller, b"clusters", *k, *r)?,
-        Command::Pose {
-            caller,
-            rules,
-            point,
-        } => put_pose(out, *caller, rules, point)?,
-        Command::Sync => put(out, b"sync")?,
+        put(out, b"\n")
     }
-    put(out, b"\n")
 }
 
 fn put_near(
@@ -118,22 +113,13 @@ fn put_near(
     put_within(out, within)
 }
 
-// What stands behind the caller.
+// What stands behind the caller. A place is written as a point of version 1, which has no intensity.
 fn put_nears(out: &mut Vec<u8>, k: u32, points: &[Point]) -> Result<(), NoMemory>
     ensures { OnOk result (out.new.items ≡ out.old.items ++ all_spaced (codes "nears" ∷ decimal k ∷ flat_map point_fields points.now)) }
 {
     put_word(out, b"nears")?;
     put_spaced(out, k)?;
-    put_places(out, points)
-}
-
-fn put_places(out: &mut Vec<u8>, points: &[Point]) -> Result<(), NoMemory>
-    ensures { OnOk result (out.new.items ≡ out.old.items ++ flat_map point_text points.now) }
-{
-    for point in points {
-        put_point(out, point)?;
-    }
-    Ok(())
+    put_all(out, Format::One, points)
 }
 
 fn put_inside(out: &mut Vec<u8>, caller: u8, k: u32, cuboid: &Cuboid) -> Result<(), NoMemory>
@@ -183,48 +169,50 @@ fn put_update(out: &mut Vec<u8>, format: Format, update: &Update) -> Result<(), 
     ensures { OnOk result (out.new.items ≡ out.old.items ++ all_spaced (update_fields format update.now)) }
 {
     match update {
-        Update::Add(points) => put_points(out, format, b"add", points.as_slice()),
-        Update::Thin(points) => put_points(out, format, b"thin", points.as_slice()),
-        Update::Delete(boxes) => put_cuboids(out, b"delete", boxes.as_slice()),
-        Update::Suspend(boxes) => put_cuboids(out, b"suspend", boxes.as_slice()),
-        Update::Restore(boxes) => put_cuboids(out, b"restore", boxes.as_slice()),
+        Update::Add(points) => put_several(out, format, b"add", points.as_slice()),
+        Update::Thin(points) => put_several(out, format, b"thin", points.as_slice()),
+        Update::Delete(boxes) => put_several(out, format, b"delete", boxes.as_slice()),
+        Update::Suspend(boxes) => put_several(out, format, b"suspend", boxes.as_slice()),
+        Update::Restore(boxes) => put_several(out, format, b"restore", boxes.as_slice()),
         Update::Expire(number) => put_bound(out, b"expire", *number),
     }
 }
 
-fn put_points(
+// A word, and points or boxes.
+fn put_several<T: Listed>(
     out: &mut Vec<u8>,
     format: Format,
     word: &[u8],
-    points: &[Point],
+    items: &[T],
 ) -> Result<(), NoMemory>
-    ensures { OnOk result (out.new.items ≡ out.old.items ++ (spaced word.now ++ flat_map (scanned_text format) points.now)) }
+    ensures { OnOk result (out.new.items ≡ out.old.items ++ (spaced word.now ++ flat_map (T.text format) items.now)) }
 {
     put_word(out, word)?;
-    for point in points {
-        put_scanned(out, format, point)?;
-    }
-    Ok(())
+    put_all(out, format, items)
 }
 
-fn put_scanned(out: &mut Vec<u8>, format: Format, point: &Point) -> Result<(), NoMemory>
-    ensures { OnOk result (out.new.items ≡ out.old.items ++ scanned_text format point.now) }
-{
-    put_point(out, point)?;
-    match format {
-        Format::One => Ok(()),
-        Format::Two => put_spaced(out, point.intensity()),
+impl Listed for Point {
+    ghost use Rattle.scan_log.specs.Transcript.{scanned_text};
+
+    ghost text = { scanned_text };
+
+    fn put(&self, out: &mut Vec<u8>, format: Format) -> Result<(), NoMemory> {
+        put_point(out, self)?;
+        match format {
+            Format::One => Ok(()),
+            Format::Two => put_spaced(out, self.intensity()),
+        }
     }
 }
 
-fn put_cuboids(out: &mut Vec<u8>, word: &[u8], boxes: &[Cuboid]) -> Result<(), NoMemory>
-    ensures { OnOk result (out.new.items ≡ out.old.items ++ (spaced word.now ++ flat_map cuboid_text boxes.now)) }
-{
-    put_word(out, word)?;
-    for cuboid in boxes {
-        put_cuboid(out, cuboid)?;
+impl Listed for Cuboid {
+    ghost use Rattle.scan_log.specs.Written.{cuboid_text};
+
+    ghost text = { λ _. cuboid_text };
+
+    fn put(&self, out: &mut Vec<u8>, _format: Format) -> Result<(), NoMemory> {
+        put_cuboid(out, self)
     }
-    Ok(())
 }
 
 fn put_bound(out: &mut Vec<u8>, word: &[u8], number: u32) -> Result<(), NoMemory>

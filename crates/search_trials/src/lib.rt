@@ -4,20 +4,4 @@
 #![tactic(auto)]
 
 #[cfg(test)]
-mod assertions;
-#[cfg(test)]
-mod boxes;
-#[cfg(test)]
-mod crowds;
-#[cfg(test)]
-mod each;
-#[cfg(test)]
-mod grown;
-#[cfg(test)]
-mod near;
-#[cfg(test)]
-mod scans;
-#[cfg(test)]
-mod set_scans;
-#[cfg(test)]
-mod sets;
+mod tests;

@@ -1,5 +1,6 @@
 //! What a worker asks of a map that counts and refuses, and of one that grows.
 ghost use Rattle.std.specs.Prelude.{◌≡◌, ◌≤◌, IfErr};
+ghost use Rattle.kd_tree.specs.Counter.{IsBlankOf};
 ghost use Rattle.rebuild_core.specs.Desk.{IsSwapCause};
 
 use crate::assertions::{holds, same};
@@ -211,9 +212,7 @@ impl Busy {
         built: Built,
         force: bool,
     ) -> Result<(), SwapLeft>
-        requires name { blank.name ≡ L.name }
-        requires parts { blank.parts ≡ L.parts }
-        requires some { blank.parts ≡ 1 }
+        requires blank { IsBlankOf L.name L.parts blank }
         ensures left { IfErr result (λ l. l.built ≡ built) }
         ensures refused { IfErr result (λ l. IsSwapCause built force l.fault) }
     {

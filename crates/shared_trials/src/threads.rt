@@ -1,5 +1,6 @@
 //! Two callers at once.
-ghost use Rattle.std.specs.Prelude.{◌≡◌, ◌≤◌};
+ghost use Rattle.std.specs.Prelude.{◌≤◌};
+ghost use Rattle.published_map.specs.Held.{IsOpenedAs};
 
 use crate::assertions::{holds, same};
 use crate::trial::are_distinct;
@@ -117,12 +118,7 @@ fn shared_by_two<L: MapName + Send + Sync, R: Threads + Wait + Abort + Sync>(
     blank: Blank,
     opened: Opened,
 ) -> Result<(), Fail>
-    requires name { blank.name ≡ L.name }
-    requires parts { blank.parts ≡ L.parts }
-    requires one_each { blank.parts ≡ opened.callers }
-    requires callers { opened.callers ≡ L.callers }
-    requires marks { opened.marks ≡ L.marks }
-    requires voxel { opened.voxel ≡ L.voxel }
+    requires opened { IsOpenedAs L.name L.parts L.callers L.marks L.voxel blank opened }
 {
     let (shared, passes) = Shared::<L>::start(rt, alloc, blank, opened)?;
     let mut passes = passes;

@@ -1,6 +1,8 @@
 //! Shared maps, tried by their callers and by workers.
-ghost use Rattle.std.specs.Prelude.{◌≡◌, ◌≤◌, true, length};
+ghost use Rattle.std.specs.Prelude.{◌≡◌, ◌≤◌, true, length, None};
+ghost use Rattle.kd_search.specs.Query.{IsQuery};
 ghost use Rattle.published_map.specs.Marks.{callers_of, times, IsDistinct};
+ghost use Rattle.published_map.specs.Held.{IsOpenedAs};
 
 use map_fold::{BoxReply, Cuboids, NearReply, Points, Settings, Update};
 use point_geom::{Corner, Cuboid, Point};
@@ -48,12 +50,7 @@ fn tried_on<L: MapName, T: Trial<R>, R: Wait>(
     opened: Opened,
     trial: &T,
 ) -> Result<(), Fail>
-    requires name { blank.name ≡ L.name }
-    requires parts { blank.parts ≡ L.parts }
-    requires one_each { blank.parts ≡ opened.callers }
-    requires callers { opened.callers ≡ L.callers }
-    requires marks { opened.marks ≡ L.marks }
-    requires voxel { opened.voxel ≡ L.voxel }
+    requires opened { IsOpenedAs L.name L.parts L.callers L.marks L.voxel blank opened }
 {
     let (shared, passes) = Shared::<L>::start(rt, alloc, blank, opened)?;
     let mut passes = passes;
@@ -112,8 +109,7 @@ pub fn near<L: MapName>(
     place: usize,
     k: u32,
 ) -> Result<NearReply, Fail>
-    requires k_from { 1 ≤ k }
-    requires k_to { k ≤ 256 }
+    requires query { IsQuery k None }
 {
     let Some(pass) = passes.get_mut(place) else {
         return Err(Fail::new("no such pass"));

@@ -1,5 +1,5 @@
 //! Maps of which something is to be rebuilt.
-ghost use Rattle.std.specs.Prelude.{◌≡◌};
+ghost use Rattle.kd_tree.specs.Counter.{IsBlankOf};
 
 use kd_tree::Steps;
 use map_fold::{Points, Settings, Update};
@@ -43,9 +43,7 @@ fn added<L: Ledger>(
     points: Points,
     blank: Blank,
 ) -> Result<u64, StateFault>
-    requires name { blank.name ≡ L.name }
-    requires parts { blank.parts ≡ L.parts }
-    requires some { blank.parts ≡ 1 }
+    requires blank { IsBlankOf L.name L.parts blank }
 {
     let mut steps: Steps<L> = Steps::new(blank);
     state.update(alloc, 1, Update::Add(points), &mut steps)

@@ -1,6 +1,7 @@
 -- The marks of all commands are in order where those of each caller are.
 use Rattle.std.proofs.Common.{◌≡◌, ℕ, ◌<◌, ◌≤◌, Bool, true, false, List, [], ◌∷◌, refl, sym, ◌∙◌, subst, arith, nat_eq, Option, Some, None, IfSome}
 use Rattle.std.specs.Prelude.{if◌then◌else◌, is_some, nat_le, nat_lt, MatchOption}
+use Rattle.std.specs.Option.{unwrap_or}
 use Rattle.std.specs.List.{AllByRecursion}
 use Rattle.std.proofs.lemmas.Bool.Decides.{nat_tests}
 use Rattle.map_fold.specs.declared.update.Update.{Update}
@@ -83,15 +84,10 @@ all_late x m (c ∷ cs) (n ∷ marks) o =
     go false e p now before = before p
 
 -- a command's caller, or any for a barrier
-caller_or_first : Option ℕ → ℕ
-caller_or_first (Some k) = k
-caller_or_first None = 1
-
 caller_of : Command → ℕ
-caller_of c = caller_or_first (command_caller c)
+caller_of c = unwrap_or (command_caller c) 1
 
-own_caller : (o : Option ℕ) → is_own_or_none (caller_or_first o) o ≡ true
-unfolding caller_or_first
+own_caller : (o : Option ℕ) → is_own_or_none (unwrap_or o 1) o ≡ true
 own_caller (Some k) = caller_same k k refl
 own_caller None = refl
 
@@ -99,8 +95,7 @@ of_caller : (c : Command) → is_for (caller_of c) c ≡ true
 unfolding caller_of
 of_caller c = own_caller (command_caller c)
 
-first_caller : (o : Option ℕ) → IfSome o IsCaller → IsCaller (caller_or_first o)
-unfolding caller_or_first
+first_caller : (o : Option ℕ) → IfSome o IsCaller → IsCaller (unwrap_or o 1)
 first_caller (Some k) h = h
 first_caller None h = (omega arith, omega arith)
 

@@ -1,12 +1,13 @@
 -- Folding a history part by part.
-use Rattle.std.proofs.Common.{◌≡◌, ℕ, zero, suc, ◌+◌, ◌-◌, ◌≤◌, Bool, true, false, cond, List, [], ◌∷◌, ◌++◌, take, drop, map, refl, sym, ap, ◌∙◌, arith, nat_lt}
+use Rattle.std.proofs.Common.{◌≡◌, ℕ, zero, suc, ◌+◌, ◌-◌, ◌≤◌, Bool, true, false, cond, List, [], ◌∷◌, ◌++◌, take, drop, map, Option, Some, None, refl, sym, ap, ◌∙◌, arith, nat_lt}
+use Rattle.std.specs.Option.{option_map, unwrap_or}
 use Rattle.map_fold.specs.declared.update.Update.{Update}
 use Rattle.map_fold.specs.Fold.{MapAt, step, fold, fold_from, no_points, points_in}
 use Rattle.map_fold.proofs.Folds.{step_next}
 use Rattle.scan_log.specs.declared.command.Command.{Command}
-use Rattle.scan_log.specs.declared.command.Command.TheVariants.{Change, Near, Nears, Inside, Ball, Lonely, Clusters, Pose, Sync}
+use Rattle.scan_log.specs.Commands.{command_update}
 use Rattle.scan_log.specs.Scripts.{points_of}
-use Rattle.scan_log.specs.Transcript.{marked_updates, put_update, history}
+use Rattle.scan_log.specs.Transcript.{marked_updates, put_if, put_update, history}
 use Rattle.transcript_check.specs.Told.{points_in_all, changes_of, updates_of}
 use Rattle.transcript_check.specs.declared.order.Marked.{Marked}
 
@@ -41,31 +42,20 @@ points_put m u (h ∷ hs) = go (nat_lt h.0 m) (points_put m u hs)
     go true r = omega (arith, r)
     go false r = omega arith
 
+points_if : (m : ℕ) (made : Option Update) (hs : List (ℕ × Update))
+    → points_in_all (map (λ h. h.1) (put_if m made hs)) ≡ unwrap_or (option_map points_in made) 0 + points_in_all (map (λ h. h.1) hs)
+points_if m (Some u) hs = points_put m u hs
+points_if m None hs = omega arith
+
 -- a history submits no more points than its commands
 pub points_of_history : (cs : List Command) (marks : List ℕ) → points_in_all (history cs marks) ≤ points_of cs
 points_of_history [] [] = omega arith
 points_of_history [] (m ∷ marks) = omega arith
-points_of_history (Change caller u ∷ cs) [] = omega arith
-points_of_history (Near caller k p within ∷ cs) [] = omega arith
-points_of_history (Nears caller k ps ∷ cs) [] = omega arith
-points_of_history (Inside caller k c ∷ cs) [] = omega arith
-points_of_history (Ball caller k r q ∷ cs) [] = omega arith
-points_of_history (Lonely caller k r ∷ cs) [] = omega arith
-points_of_history (Clusters caller k r ∷ cs) [] = omega arith
-points_of_history (Pose caller rules q ∷ cs) [] = omega arith
-points_of_history (Sync ∷ cs) [] = omega arith
-points_of_history (Change caller u ∷ cs) (m ∷ marks) =
+points_of_history (c ∷ cs) [] = omega arith
+points_of_history (c ∷ cs) (m ∷ marks) =
     let r = points_of_history cs marks in
-    let p = points_put m u (marked_updates cs marks) in
+    let p = points_if m (command_update c) (marked_updates cs marks) in
     omega arith
-points_of_history (Near caller k p within ∷ cs) (m ∷ marks) = let r = points_of_history cs marks in omega arith
-points_of_history (Nears caller k ps ∷ cs) (m ∷ marks) = let r = points_of_history cs marks in omega arith
-points_of_history (Inside caller k c ∷ cs) (m ∷ marks) = let r = points_of_history cs marks in omega arith
-points_of_history (Ball caller k r q ∷ cs) (m ∷ marks) = let r = points_of_history cs marks in omega arith
-points_of_history (Lonely caller k r ∷ cs) (m ∷ marks) = let r = points_of_history cs marks in omega arith
-points_of_history (Clusters caller k r ∷ cs) (m ∷ marks) = let r = points_of_history cs marks in omega arith
-points_of_history (Pose caller rules q ∷ cs) (m ∷ marks) = let r = points_of_history cs marks in omega arith
-points_of_history (Sync ∷ cs) (m ∷ marks) = let r = points_of_history cs marks in omega arith
 
 -- the updates in order are the history
 pub changes_history : (cs : List Command) (marks : List ℕ) (us : List Marked) → updates_of us ≡ marked_updates cs marks → changes_of us ≡ history cs marks

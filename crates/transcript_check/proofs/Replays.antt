@@ -15,13 +15,11 @@ use Rattle.map_fold.specs.Fold.{MapAt, fold, fold_from, no_points}
 use Rattle.map_fold.specs.Sizes.{Sizes}
 use Rattle.scan_log.proofs.Whose.{updates_few}
 use Rattle.scan_log.specs.declared.command.Command.{Command}
-use Rattle.scan_log.specs.declared.command.Command.TheVariants.{Change, Near, Nears, Inside, Ball, Lonely, Clusters, Pose, Sync}
-use Rattle.scan_log.specs.declared.reply.Reply.{Reply}
 use Rattle.scan_log.specs.Legal.{IsLegal}
 use Rattle.scan_log.specs.declared.format.Format.{Format}
 use Rattle.scan_log.specs.Plain.{IsPlain, IsPlainScript}
 use Rattle.scan_log.specs.Scripts.{ScriptAt}
-use Rattle.scan_log.specs.Transcript.{held_at, history, reply_to, replies_from, reply_text, marked_updates, updates_in}
+use Rattle.scan_log.specs.Transcript.{held_at, history, replies_from, reply_text, marked_updates, updates_in}
 use Rattle.transcript_check.specs.Told.{changes_of, lines_of, lines_under, marks_of, points_in_all, reply_at, updates_of, IsPlaced}
 use Rattle.transcript_check.specs.Verdicts.{reply_lines, IsFirstOther}
 use Rattle.transcript_check.specs.declared.lines.Told.{Told}
@@ -29,17 +27,6 @@ use Rattle.transcript_check.specs.declared.order.Marked.{Marked}
 use Rattle.transcript_check.specs.declared.order.Placed.{Placed}
 use Rattle.transcript_check.proofs.Folding.{changes_history, fold_next, points_of_front, points_of_history, fold_on, room_on}
 use Rattle.transcript_check.proofs.LegalMarks.{updates_long}
-
-pub reply_is : (voxel : ℕ) (h : List Update) (c : Command) (m : ℕ) → reply_to voxel h c m ≡ reply_at (held_at voxel h m) (Some c) m
-reply_is voxel h (Change caller u) m = refl
-reply_is voxel h (Near caller k p within) m = refl
-reply_is voxel h (Nears caller k ps) m = refl
-reply_is voxel h (Inside caller k c) m = refl
-reply_is voxel h (Ball caller k r q) m = refl
-reply_is voxel h (Lonely caller k r) m = refl
-reply_is voxel h (Clusters caller k r) m = refl
-reply_is voxel h (Pose caller rules q) m = refl
-reply_is voxel h Sync m = refl
 
 -- the line of the reply at a place
 pub line_at : (format : Format) (voxel : ℕ) (h : List Update) (cs : List Command) (marks : List ℕ) (i m : ℕ) → length marks ≡ length cs + 1 → slice_get marks i ≡ Some m
@@ -53,7 +40,7 @@ line_at format voxel h [] (k ∷ j ∷ marks) i m many e = absurd (omega arith)
 line_at format voxel h (c ∷ cs) [] i m many e = absurd (omega arith)
 line_at format voxel h (c ∷ cs) (k ∷ marks) zero m many e =
     let same : k ≡ m = cc in
-    ap (λ (r : Reply). Some (reply_text format (Some c) r)) (reply_is voxel h c k) ∙ ap (λ (n : ℕ). Some (reply_text format (Some c) (reply_at (held_at voxel h n) (Some c) n))) same
+    ap (λ (n : ℕ). Some (reply_text format (Some c) (reply_at (held_at voxel h n) (Some c) n))) same
 line_at format voxel h (c ∷ cs) (k ∷ marks) (suc i) m many e = line_at format voxel h cs marks i m (omega arith) e
 
 pub length-reply_lines : (format : Format) (voxel : ℕ) (h : List Update) (cs : List Command) (marks : List ℕ) → length marks ≡ length cs + 1

@@ -22,7 +22,6 @@ use Rattle.transcript_check.specs.Told.{reply_at}
 use Rattle.transcript_check.specs.Verdicts.{joined, reply_lines}
 use Rattle.scan_log.proofs.Plains.{lines_plain}
 use Rattle.transcript_check.proofs.Plain.{ArePlain, IsCutOff, plain_test, plain-append, plain_decimal, plain_spaced, plain_hits, plain_lists, plain_items, plain_groups, plain_caller, field_decimal}
-use Rattle.transcript_check.proofs.Replays.{reply_is}
 
 -- a line of a head, a mark, and what is behind it
 marked : (head bytes : List ℕ) (m : ℕ) (tail : List ℕ) → m ≤ 65536 → bytes ≡ (head ++ (decimal m ++ tail)) ++ 10 ∷ [] → IsCutOff tail → ArePlain head → ArePlain tail → IsMarked head bytes m
@@ -120,7 +119,7 @@ spell_replies format voxel h [] (m ∷ []) many few = (marked_reply format None 
 spell_replies format voxel h [] (m ∷ n ∷ marks) many few = absurd (omega arith)
 spell_replies format voxel h (c ∷ cs) [] many few = absurd (omega arith)
 spell_replies format voxel h (c ∷ cs) (m ∷ marks) many few = (
-  subst (λ (r : Reply). IsMarked (head (Some c)) (reply_text format (Some c) r) m) (sym (reply_is voxel h c m)) (marked_reply format (Some c) (held_at voxel h m) m few.0),
+  marked_reply format (Some c) (held_at voxel h m) m few.0,
   spell_replies format voxel h cs marks (omega arith) few.1,
 )
 

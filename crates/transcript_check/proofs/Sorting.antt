@@ -11,7 +11,8 @@ use Rattle.std.proofs.lemmas.List.Elements.{filter_agree}
 use Rattle.map_fold.specs.declared.update.Update.{Update}
 use Rattle.scan_log.specs.Commands.{command_update}
 use Rattle.scan_log.specs.declared.command.Command.{Command}
-use Rattle.scan_log.specs.declared.command.Command.TheVariants.{Change, Near, Nears, Inside, Ball, Lonely, Clusters, Pose, Sync}
+use Rattle.scan_log.specs.declared.command.Command.TheVariants.{Change}
+use Rattle.scan_log.proofs.Whose.{makes_none}
 use Rattle.scan_log.specs.Transcript.{marked_updates, put_if, put_update}
 use Rattle.transcript_check.specs.Told.{updates_of}
 use Rattle.transcript_check.specs.declared.order.Marked.{Marked}
@@ -210,15 +211,7 @@ update_more us all caller u from to marks rest grown e f =
     rw (grown, e, f) (ap (λ (hs : List (ℕ × Update)). hs ++ plain_updates to rest) (map_push (λ (u : Marked). (u.mark, u.update.now)) us u) ∙ append_assoc (updates_of us) ((u.mark, u.update.now) ∷ []) (plain_updates to rest))
 
 skipped : (c : Command) (m : ℕ) (to : List Command) (rest : List ℕ) → ((caller : ℕ) (u : Update) → c ≡ Change caller u → ⊥) → plain_updates (c ∷ to) (m ∷ rest) ≡ plain_updates to rest
-skipped (Change caller u) m to rest other = absurd (other caller u refl)
-skipped (Near caller k p within) m to rest other = refl
-skipped (Nears caller k ps) m to rest other = refl
-skipped (Inside caller k b) m to rest other = refl
-skipped (Ball caller k r q) m to rest other = refl
-skipped (Lonely caller k r) m to rest other = refl
-skipped (Clusters caller k r) m to rest other = refl
-skipped (Pose caller rules q) m to rest other = refl
-skipped Sync m to rest other = refl
+skipped c m to rest other = rw (makes_none c other) refl
 
 pub update_none : (us all : List Marked) (c : Command) (m : ℕ) (from to : List Command) (marks rest : List ℕ) → all ≡ us → ((caller : ℕ) (u : Update) → c ≡ Change caller u → ⊥)
     → from ≡ c ∷ to → marks ≡ m ∷ rest → updates_of all ++ plain_updates to rest ≡ updates_of us ++ plain_updates from marks

@@ -4,17 +4,12 @@ use Rattle.std.specs.declared.option.Option.{Option}
 use Rattle.std.specs.declared.option.Option.TheVariants.{None, Some}
 use Rattle.map_fold.specs.declared.item.Item.{Item}
 use Rattle.map_fold.specs.declared.update.Update.{Update}
-use Rattle.map_fold.specs.Answers.{nearest, nears, inside, count, live_count, suspended_count}
-use Rattle.map_fold.specs.Neighbours.{ball, lonely}
-use Rattle.map_fold.specs.Clusters.{clusters}
 use Rattle.map_fold.specs.Fold.{points_in}
 use Rattle.scan_log.specs.Commands.{command_update, is_for}
 use Rattle.scan_log.specs.declared.command.Command.{Command}
-use Rattle.scan_log.specs.declared.command.Command.TheVariants.{Change, Near, Nears, Inside, Ball, Lonely, Clusters, Pose, Sync}
 use Rattle.scan_log.specs.declared.reply.Reply.{Reply}
-use Rattle.scan_log.specs.declared.reply.Reply.TheVariants as reply
 use Rattle.scan_log.specs.Scripts.{ScriptAt}
-use Rattle.scan_log.specs.Transcript.{replies, found_reply, clusters_reply}
+use Rattle.scan_log.specs.Transcript.{replies, reply_on, totals_on}
 use Rattle.transcript_check.specs.declared.lines.Told.{Told}
 use Rattle.transcript_check.specs.declared.lines.Stop.{Stop}
 use Rattle.transcript_check.specs.declared.lines.Stop.TheVariants.{Unspelled, NoMemory}
@@ -68,15 +63,7 @@ points_in_all (u ∷ us) = points_in u + points_in_all us
 abbrev pub lines_under : ScriptAt → List ℕ → List (List ℕ)
 lines_under s marks = reply_lines s.format s.commands (replies s marks)
 
--- the reply where these items are held
+-- the reply to a command, or to the end, where these items are held
 abbrev pub reply_at : List Item → Option Command → ℕ → Reply
-reply_at items (Some (Change caller u)) m = reply.Done m
-reply_at items (Some (Near caller k p within)) m = reply.Near (record { mark = m; hits = nearest items k p within })
-reply_at items (Some (Nears caller k ps)) m = reply.Nears (record { mark = m; lists = nears items k ps })
-reply_at items (Some (Inside caller k c)) m = reply.Inside (record { mark = m; count = count items c; items = inside items c k })
-reply_at items (Some (Ball caller k r p)) m = reply.Ball (found_reply m (ball items p r) k)
-reply_at items (Some (Lonely caller k r)) m = reply.Lonely (found_reply m (lonely items r) k)
-reply_at items (Some (Clusters caller k r)) m = reply.Clusters (clusters_reply m (clusters items r) k)
-reply_at items (Some (Pose caller rules p)) m = reply.Done m
-reply_at items (Some Sync) m = reply.Totals m (live_count items) (suspended_count items)
-reply_at items None m = reply.Totals m (live_count items) (suspended_count items)
+reply_at items (Some c) m = reply_on items c m
+reply_at items None m = totals_on items m

@@ -2,11 +2,15 @@
 ghost use Rattle.std.specs.Prelude.{◌≡◌, ◌≤◌, IfOk, Some, None};
 ghost use Rattle.std.specs.Option.{ForSome, option_copied};
 ghost use Rattle.map_fold.specs.Answers.{nears};
+ghost use Rattle.kd_search.specs.Query.{IsQuery};
 ghost use Rattle.scan_log.specs.Plain.{IsPlain};
 ghost use Rattle.transcript_check.specs.Told.{reply_at};
 
-use crate::neighbours::{ball_reply, clusters_reply, lonely_reply};
-use map_fold::{BoxReply, HitLists, MAX_POINTS, NearReply, NearsReply, NoMemory, PlainMap};
+use crate::neighbours::{ball_reply, tree_of};
+use map_fold::{
+    BoxReply, ClusterReply, HitLists, MAX_POINTS, NearReply, NearsReply, NoMemory, PlainMap,
+};
+use neighbour_sets::{Found, Grouped, clusters, lonely};
 use point_geom::Point;
 use scan_log::{Command, Reply};
 use std::alloc::Global;
@@ -19,7 +23,7 @@ pub fn reply_to(
     mark: u64,
 ) -> Result<Reply, NoMemory>
     requires good { ForSome (option_copied command) IsPlain }
-    requires few { map.now.next ≤ MAX_POINTS }
+    requires points { map.now.next ≤ MAX_POINTS }
     ensures { IfOk result (λ r. r ≡ reply_at map.now.items (option_copied command.entry) mark) }
 {
     match command {
@@ -30,7 +34,7 @@ pub fn reply_to(
 
 fn answer_to(alloc: Global, map: &PlainMap, command: &Command, mark: u64) -> Result<Reply, NoMemory>
     requires good { IsPlain command.now }
-    requires few { map.now.next ≤ MAX_POINTS }
+    requires points { map.now.next ≤ MAX_POINTS }
     ensures { IfOk result (λ r. r ≡ reply_at map.now.items (Some command.now) mark) }
 {
     Ok(match command {
@@ -56,9 +60,17 @@ fn answer_to(alloc: Global, map: &PlainMap, command: &Command, mark: u64) -> Res
         Command::Ball { k, r, point, .. } => {
             Reply::Ball(ball_reply(alloc, map, mark, *k, *r, point)?)
         }
-        Command::Lonely { k, r, .. } => Reply::Lonely(lonely_reply(alloc, map, mark, *k, *r)?),
+        Command::Lonely { k, r, .. } => {
+            let Found { count, items } = lonely(alloc, &tree_of(alloc, map)?, *r, *k)?;
+            Reply::Lonely(BoxReply { mark, count, items })
+        }
         Command::Clusters { k, r, .. } => {
-            Reply::Clusters(clusters_reply(alloc, map, mark, *k, *r)?)
+            let Grouped { count, groups } = clusters(alloc, &tree_of(alloc, map)?, *r, *k)?;
+            Reply::Clusters(ClusterReply {
+                mark,
+                count,
+                groups,
+            })
         }
         Command::Sync => totals(map, mark),
     })
@@ -71,8 +83,7 @@ fn nearest_in_turn(
     k: u32,
     points: &[Point],
 ) -> Result<HitLists, NoMemory>
-    requires k_from { 1 ≤ k }
-    requires k_to { k ≤ 256 }
+    requires query { IsQuery k None }
     ensures { IfOk result (λ lists. lists ≡ nears map.now.items k points.now) }
 {
     let mut lists = HitLists::new(alloc);

@@ -4,6 +4,7 @@ ghost use Rattle.std.specs.Option.{option_copied};
 ghost use Rattle.transcript_check.specs.Heads.{head, heads, SpellMarks, IsMarked};
 ghost use Rattle.transcript_check.specs.Verdicts.{joined};
 ghost use Rattle.transcript_check.specs.Told.{lines_of, marks_of, WasUnspelled};
+ghost use Rattle.transcript_check.specs.declared.lines.Stop.TheVariants as stop;
 
 use crate::heads::mark_in;
 use map_fold::NoMemory;
@@ -31,10 +32,7 @@ pub enum Stop {
 }
 
 impl<T: Drop> From<AllocFailed<T>> for Stop {
-    ghost use Rattle.std.specs.Prelude.{◌≡◌};
-    ghost use Rattle.transcript_check.specs.declared.lines.Stop.TheVariants.{NoMemory as want};
-
-    ghost from_gives = { λ _ e. e ≡ want };
+    ghost from_gives = { λ _ e. e ≡ stop.NoMemory };
 
     fn from(_failed: AllocFailed<T>) -> Stop {
         Stop::NoMemory

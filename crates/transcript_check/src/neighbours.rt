@@ -1,16 +1,15 @@
-//! Replies to the queries for neighbours. A ball is a walk over all items. For lonely points and clusters that would be one for
-//! each item, so the items are put into a tree first.
-ghost use Rattle.std.specs.Prelude.{◌≡◌, ◌≤◌, ◌<◌, ◌*◌, ◌&&◌, filter, length, take, IfOk};
+//! What queries for neighbours are answered with. A ball is a walk over all items. For lonely points and clusters that would be
+//! one for each item, so the items are put into a tree first.
+ghost use Rattle.std.specs.Prelude.{◌≡◌, ◌≤◌, ◌*◌, ◌&&◌, filter, length, take, IfOk};
 ghost use Rattle.kd_tree.specs.Contents.{contents};
-ghost use Rattle.map_fold.specs.Clusters.{clusters};
 ghost use Rattle.map_fold.specs.Contents.{AreContents};
-ghost use Rattle.map_fold.specs.Neighbours.{ball, is_near, lonely};
+ghost use Rattle.map_fold.specs.Neighbours.{ball, is_near};
 ghost use Rattle.node_labels.specs.Labels.{is_live};
-ghost use Rattle.scan_log.specs.Transcript.{clusters_reply, found_reply};
+ghost use Rattle.kd_tree.specs.Counter.{IsBlankOf};
+ghost use Rattle.scan_log.specs.Transcript.{found_reply};
 
 use kd_tree::{Steps, Tree};
-use map_fold::{BoxReply, ClusterReply, Item, Items, Label, MAX_POINTS, NoMemory, PlainMap};
-use neighbour_sets::{clusters, lonely};
+use map_fold::{BoxReply, Item, Items, Label, MAX_POINTS, NoMemory, PlainMap};
 use point_geom::{Point, dist2};
 use std::alloc::Global;
 use std::marker::Brand;
@@ -37,53 +36,8 @@ pub fn ball_reply(
     Ok(BoxReply { mark, count, items })
 }
 
-/// The points that have no other near them.
-pub fn lonely_reply(
-    alloc: Global,
-    map: &PlainMap,
-    mark: u64,
-    k: u32,
-    r: u64,
-) -> Result<BoxReply, NoMemory>
-    requires k_from { 1 ≤ k }
-    requires k_to { k ≤ 256 }
-    requires r_to { r ≤ 4398046511104 }
-    requires few { map.now.next ≤ MAX_POINTS }
-    ensures { IfOk result (λ found. found ≡ found_reply mark (lonely map.now.items r) k) }
-{
-    let tree = tree_of(alloc, map)?;
-    let found = lonely(alloc, &tree, r, k)?;
-    Ok(BoxReply {
-        mark,
-        count: found.count,
-        items: found.items,
-    })
-}
-
-/// The clusters.
-pub fn clusters_reply(
-    alloc: Global,
-    map: &PlainMap,
-    mark: u64,
-    k: u32,
-    r: u64,
-) -> Result<ClusterReply, NoMemory>
-    requires k_from { 1 ≤ k }
-    requires k_to { k ≤ 256 }
-    requires r_to { r ≤ 4398046511104 }
-    requires few { map.now.next ≤ MAX_POINTS }
-    ensures { IfOk result (λ found. found ≡ clusters_reply mark (clusters map.now.items r) k) }
-{
-    let tree = tree_of(alloc, map)?;
-    let found = clusters(alloc, &tree, r, k)?;
-    Ok(ClusterReply {
-        mark,
-        count: found.count,
-        groups: found.groups,
-    })
-}
-
-fn tree_of(alloc: Global, map: &PlainMap) -> Result<Tree, NoMemory>
+/// A tree of the items.
+pub fn tree_of(alloc: Global, map: &PlainMap) -> Result<Tree, NoMemory>
     requires { map.now.next ≤ MAX_POINTS }
     ensures { IfOk result (λ t. contents t ≡ map.now.items) }
 {
@@ -92,10 +46,8 @@ fn tree_of(alloc: Global, map: &PlainMap) -> Result<Tree, NoMemory>
 
 // Nobody asks how many nodes are made.
 fn tree_by<L: Ledger>(alloc: Global, map: &PlainMap, blank: Blank) -> Result<Tree, NoMemory>
-    requires few { map.now.next ≤ MAX_POINTS }
-    requires name { blank.name ≡ L.name }
-    requires parts { blank.parts ≡ L.parts }
-    requires some { blank.parts ≡ 1 }
+    requires points { map.now.next ≤ MAX_POINTS }
+    requires blank { IsBlankOf L.name L.parts blank }
     ensures { IfOk result (λ t. contents t ≡ map.now.items) }
 {
     // Says that the items are contents.

@@ -75,7 +75,7 @@ fn is_told(
     told: &Told,
 ) -> Result<bool, NoMemory>
     requires good { ForSome (option_copied command) IsPlain }
-    requires few { map.now.next ≤ MAX_POINTS }
+    requires points { map.now.next ≤ MAX_POINTS }
     ensures { IfOk result (λ same. Decides same (told.now.line.now ≡ reply_text format (option_copied command.entry) (reply_at map.now.items (option_copied command.entry) told.now.mark))) }
 {
     let reply = reply_to(alloc, map, command, told.mark as u64)?;

@@ -3,30 +3,4 @@
 #![tactic(auto)]
 
 #[cfg(test)]
-mod apart;
-#[cfg(test)]
-mod assertions;
-#[cfg(test)]
-mod beside;
-#[cfg(test)]
-mod breaches;
-#[cfg(test)]
-mod draw;
-#[cfg(test)]
-mod forty;
-#[cfg(test)]
-mod lists;
-#[cfg(test)]
-mod numbered;
-#[cfg(test)]
-mod replacing;
-#[cfg(test)]
-mod replaying;
-#[cfg(test)]
-mod scans;
-#[cfg(test)]
-mod scratches;
-#[cfg(test)]
-mod script;
-#[cfg(test)]
-mod watch;
+mod tests;

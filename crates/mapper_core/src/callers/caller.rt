@@ -1,7 +1,7 @@
 //! What a caller's thread does.
-ghost use Rattle.std.specs.Prelude.{◌≡◌, ◌≤◌, ◌+◌, true, length, IfOk};
+ghost use Rattle.std.specs.Prelude.{◌≡◌, ◌≤◌, ◌+◌, true, length, IfOk, Some, None};
 ghost use Rattle.std.specs.List.{AllByRecursion};
-ghost use Rattle.std.specs.Option.{ForSome};
+ghost use Rattle.kd_search.specs.Query.{IsQuery};
 ghost use Rattle.scan_log.specs.Commands.{is_by};
 ghost use Rattle.scan_log.specs.declared.command.Command.TheVariants as command_of;
 ghost use Rattle.scan_log.specs.Plain.{IsPlain};
@@ -54,9 +54,7 @@ fn near<L: MapName>(
     point: &Point,
     within: Option<u64>,
 ) -> Result<Option<Reply>, NoMemory>
-    requires k_from { 1 ≤ k }
-    requires k_to { k ≤ 256 }
-    requires within_to { ForSome within (λ r. r ≤ 4398046511104) }
+    requires query { IsQuery k within }
     ensures { IfOk result (λ r. Tried L.voxel (command_of.Near pass.old.caller k point.now within) pass.old pass.new r) }
 {
     let found = pass.nearest(alloc, k, point, within)?;
@@ -72,8 +70,7 @@ fn nears<L: MapName, R: Threads + Sync>(
     k: u32,
     points: &Points,
 ) -> Result<Option<Reply>, NoMemory>
-    requires k_from { 1 ≤ k }
-    requires k_to { k ≤ 256 }
+    requires query { IsQuery k None }
     ensures { IfOk result (λ r. Tried L.voxel (command_of.Nears pass.old.caller k points.now) pass.old pass.new r) }
 {
     pass.renew();
@@ -90,8 +87,7 @@ fn inside<L: MapName>(
     k: u32,
     cuboid: &Cuboid,
 ) -> Result<Option<Reply>, NoMemory>
-    requires k_from { 1 ≤ k }
-    requires k_to { k ≤ 256 }
+    requires query { IsQuery k None }
     ensures { IfOk result (λ r. Tried L.voxel (command_of.Inside pass.old.caller k cuboid.now) pass.old pass.new r) }
 {
     let found = pass.in_cuboid(alloc, cuboid, k)?;
@@ -106,9 +102,7 @@ fn ball<L: MapName>(
     r: u64,
     point: &Point,
 ) -> Result<Option<Reply>, NoMemory>
-    requires k_from { 1 ≤ k }
-    requires k_to { k ≤ 256 }
-    requires r_to { r ≤ 4398046511104 }
+    requires query { IsQuery k (Some r) }
     ensures { IfOk result (λ z. Tried L.voxel (command_of.Ball pass.old.caller k r point.now) pass.old pass.new z) }
 {
     pass.renew();
@@ -124,9 +118,7 @@ fn lonely<L: MapName>(
     k: u32,
     r: u64,
 ) -> Result<Option<Reply>, NoMemory>
-    requires k_from { 1 ≤ k }
-    requires k_to { k ≤ 256 }
-    requires r_to { r ≤ 4398046511104 }
+    requires query { IsQuery k (Some r) }
     ensures { IfOk result (λ z. Tried L.voxel (command_of.Lonely pass.old.caller k r) pass.old pass.new z) }
 {
     pass.renew();
@@ -142,9 +134,7 @@ fn clusters<L: MapName>(
     k: u32,
     r: u64,
 ) -> Result<Option<Reply>, NoMemory>
-    requires k_from { 1 ≤ k }
-    requires k_to { k ≤ 256 }
-    requires r_to { r ≤ 4398046511104 }
+    requires query { IsQuery k (Some r) }
     ensures { IfOk result (λ z. Tried L.voxel (command_of.Clusters pass.old.caller k r) pass.old pass.new z) }
 {
     pass.renew();

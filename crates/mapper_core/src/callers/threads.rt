@@ -4,6 +4,7 @@ ghost use Rattle.std.specs.List.{AllByRecursion};
 ghost use Rattle.scan_log.specs.Legal.{AreLegalReplies};
 ghost use Rattle.scan_log.specs.Plain.{IsPlainScript};
 ghost use Rattle.scan_log.specs.Poses.{plain_script};
+ghost use Rattle.published_map.specs.Held.{IsOpenedAs};
 ghost use Rattle.mapper_core.specs.Ended.{HaveEnded};
 ghost use Rattle.mapper_core.specs.Meetings.{AreNewcomers, HasCaller, StandingAtEnd};
 
@@ -150,12 +151,7 @@ fn run_map<L: MapName + Send + Sync, G: Gate + Sync, R: Threads + Wait + Sync>(
     blank: Blank,
     opened: Opened,
 ) -> Result<Replies, NoMemory>
-    requires name { blank.name ≡ L.name }
-    requires parts { blank.parts ≡ L.parts }
-    requires one_each { blank.parts ≡ opened.callers }
-    requires callers { opened.callers ≡ L.callers }
-    requires marks { opened.marks ≡ L.marks }
-    requires named_voxel { opened.voxel ≡ L.voxel }
+    requires opened { IsOpenedAs L.name L.parts L.callers L.marks L.voxel blank opened }
     requires voxel { opened.voxel ≡ script.now.sizes.voxel }
     requires named { AllByRecursion (HasCaller L.callers) script.now.commands }
     requires some { 0 < opened.callers }

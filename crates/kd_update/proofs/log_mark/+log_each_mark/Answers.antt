@@ -3,7 +3,7 @@ use Rattle.node_labels.specs.Labels.{keep_tag}
 use Rattle.kd_tree.specs.Walk.{tagged}
 use Rattle.kd_update.specs.Watches.{HaveRoom}
 use Rattle.kd_update.proofs.Logged.{logged_mark_few}
-use Rattle.kd_update.proofs.ManyLogs.{extended_itself, extended_front, few_itself, few_front}
+use Rattle.kd_update.proofs.ManyLogs.{extended_itself, extended_front, more_front, more_itself}
 use Rattle.kd_update.proofs.log_mark.+log_each_mark.Goals as goal
 
 pub log_mark-requires : goal.log_mark-requires
@@ -17,10 +17,10 @@ returns-in_err-log_mark-clause-begins t c =
 
 pub returns-in_err-log_mark-clause-few : goal.returns-in_err-log_mark-clause-few
 returns-in_err-log_mark-clause-few t c =
-    few_front c.args.watches.now c.in-Some.rest.now c.in-Some.rest.now c.in-Some.watch.now c.log_mark.new.log c.in-Some.ensures.cases.0
-    (omega (arith, c.log_mark.ensures.few, logged_mark_few c.args.choice.now c.args.tag c.as_slice.result.now (tagged keep_tag c.args.tree.now))) (few_itself c.in-Some.rest.now)
+    more_front 2 c.args.watches.now c.in-Some.rest.now c.in-Some.rest.now c.in-Some.watch.now c.log_mark.new.log c.in-Some.ensures.cases.0
+    (omega (arith, c.log_mark.ensures.few, logged_mark_few c.args.choice.now c.args.tag c.as_slice.result.now (tagged keep_tag c.args.tree.now))) (more_itself 2 c.in-Some.rest.now)
 
 pub returns-clause-few : goal.returns-clause-few
 returns-clause-few t c =
-    few_front c.args.watches.now c.in-Some.rest.now c.log_each_mark.new.watches c.in-Some.watch.now c.log_mark.new.log c.in-Some.ensures.cases.0
+    more_front 2 c.args.watches.now c.in-Some.rest.now c.log_each_mark.new.watches c.in-Some.watch.now c.log_mark.new.log c.in-Some.ensures.cases.0
     (omega (arith, c.log_mark.ensures.few, logged_mark_few c.args.choice.now c.args.tag c.as_slice.result.now (tagged keep_tag c.args.tree.now))) c.log_each_mark.ensures.few

@@ -1,18 +1,21 @@
-use Rattle.std.proofs.Common.{◌≡◌, ◌∷◌, ◌++◌, length, sym, ap, ◌∙◌, subst, arith, append-nil, refl}
-use Rattle.std.specs.Prelude.{Result, Ok, Err, OnOk}
+use Rattle.std.proofs.Common.{◌≡◌, ◌++◌, length, sym, ap, ◌∙◌, subst, arith, append-nil}
+use Rattle.std.specs.Prelude.{OnOk}
 use Rattle.kd_tree.specs.Shape.{Head}
 use Rattle.kd_tree.specs.Walk.{tagged}
-use Rattle.kd_tree.specs.declared.path.Side.{Side}
-use Rattle.kd_tree.specs.declared.path.Side.TheVariants.{Left, Right}
-use Rattle.kd_update.specs.Watch.{logged_mark, son}
-use Rattle.kd_update.proofs.Logged.{room_first, room_rest, few_first, few_rest, logged_all}
-use Rattle.kd_update.proofs.Logged.{ahead_met, ahead_unmet, ahead_none, ahead_missed, ahead_covered, ahead_entered}
-use Rattle.kd_update.proofs.Logged.{no_sides}
+use Rattle.kd_update.specs.Watch.{handed, logged_mark}
+use Rattle.kd_update.proofs.Logged.{ahead_met, ahead_unmet, ahead_none, ahead_missed, ahead_covered, ahead_entered, few_first, few_rest, logged_all, no_sides, room_first, room_rest}
+use Rattle.kd_update.proofs.Results.{OnOk-weaker}
 use Rattle.kd_update.proofs.log_mark.+log_mark.Goals as goal
+use Rattle.kd_update.proofs.log_mark.+log_mark.Goals.{After-son-next}
 
-OnOk-weaker : {X Y P Q : Type 0} (r : Result X Y) → (P → Q) → OnOk r P → OnOk r Q
-OnOk-weaker (Ok x) f p = f p
-OnOk-weaker (Err e) f p = tt
+-- what is logged of an entered node is what it hands down, and what is logged of its son
+parts : (t : _) (c : After-son-next t) → let F = logged_mark c.args.choice.now c.args.tag in F c.args.sides.now (tagged c.args.owed c.args.tree.now) ≡ handed c.in-Some.rest.now c.then-owed.result ++ F c.in-Some.rest.now (tagged c.then-owed.result c.son-next.result.now)
+parts t c =
+    let top = c.in-Some-top.top in
+    let h : Head = record { item = top.item; axis = top.axis; pending = top.pending } in
+    ap (λ q. logged_mark c.args.choice.now c.args.tag q (tagged c.args.owed c.args.tree.now)) c.in-Some.ensures.cases.0
+    ∙ ahead_entered c.args.choice.now c.args.tag c.args.owed c.then-owed.result c.in-Some.side.now c.in-Some.rest.now c.args.tree.now c.son-next.result.now c.in-Some-reach_of.reach h top.left.now top.right.now
+    (sym c.in-Some-reach_of.is ∙ c.reach_of.ensures) (sym c.meets.ensures ∙ c.if-not-meets.false) (sym c.covers.ensures ∙ c.if-covers.false) c.in-Some-top.ensures.some c.then-owed.ensures.value c.son-next.ensures
 
 pub returns-then-not-is_met-clause-logged : goal.returns-then-not-is_met-clause-logged
 returns-then-not-is_met-clause-logged t c =
@@ -48,43 +51,13 @@ returns-then-covers-clause-logged t c =
     sym (ap (λ ops. c.args.log.now ++ ops) none ∙ append-nil c.args.log.now)
 
 pub note_owed-requires : goal.note_owed-requires
-note_owed-requires t c =
-    let top = c.in-Some-top.top in
-    let h : Head = record { item = top.item; axis = top.axis; pending = top.pending } in
-    let b = ahead_entered c.args.choice.now c.args.tag c.args.owed c.then-owed.result c.in-Some.side.now c.in-Some.rest.now c.args.tree.now (son c.in-Some.side.now top.left.now top.right.now) c.in-Some-reach_of.reach h top.left.now top.right.now (sym c.in-Some-reach_of.is ∙ c.reach_of.ensures) (sym c.meets.ensures ∙ c.if-not-meets.false) (sym c.covers.ensures ∙ c.if-covers.false) c.in-Some-top.ensures.some c.then-owed.ensures.value refl in
-    room_first _ _ _ _ (ap (λ q. logged_mark c.args.choice.now c.args.tag q (tagged c.args.owed c.args.tree.now)) c.in-Some.ensures.cases.0 ∙ b) c.requires
+note_owed-requires t c = room_first _ _ _ _ (parts t (goal.at.note_owed-requires t c).After-son-next) c.requires
 
 pub log_mark-requires : goal.log_mark-requires
-log_mark-requires t c =
-    let top = c.in-Some-top.top in
-    let h : Head = record { item = top.item; axis = top.axis; pending = top.pending } in
-    let path = c.in-Some.ensures.cases.0 ∙ ap (λ (s : Side). s ∷ c.in-Some.rest.now) c.in-Left.is in
-    let is = ap (λ q. logged_mark c.args.choice.now c.args.tag q (tagged c.args.owed c.args.tree.now)) path ∙ ahead_entered c.args.choice.now c.args.tag c.args.owed c.then-owed.result Left c.in-Some.rest.now c.args.tree.now top.left.now c.in-Some-reach_of.reach h top.left.now top.right.now (sym c.in-Some-reach_of.is ∙ c.reach_of.ensures) (sym c.meets.ensures ∙ c.if-not-meets.false) (sym c.covers.ensures ∙ c.if-covers.false) c.in-Some-top.ensures.some c.then-owed.ensures.value refl in
-    (omega (arith, c.in-Some.ensures.cases.1), room_rest _ _ _ _ _ is c.in_ok-note_owed.ensures.logged c.requires)
+log_mark-requires t c = (omega (arith, c.in-Some.ensures.cases.1), room_rest _ _ _ _ _ (parts t (goal.at.log_mark-requires t c).After-son-next) c.in_ok-note_owed.ensures.logged c.requires)
 
-pub returns-in-Left-clause-logged : goal.returns-in-Left-clause-logged
-returns-in-Left-clause-logged t c =
-    let top = c.in-Some-top.top in
-    let h : Head = record { item = top.item; axis = top.axis; pending = top.pending } in
-    let path = c.in-Some.ensures.cases.0 ∙ ap (λ (s : Side). s ∷ c.in-Some.rest.now) c.in-Left.is in
-    let is = ap (λ q. logged_mark c.args.choice.now c.args.tag q (tagged c.args.owed c.args.tree.now)) path ∙ ahead_entered c.args.choice.now c.args.tag c.args.owed c.then-owed.result Left c.in-Some.rest.now c.args.tree.now top.left.now c.in-Some-reach_of.reach h top.left.now top.right.now (sym c.in-Some-reach_of.is ∙ c.reach_of.ensures) (sym c.meets.ensures ∙ c.if-not-meets.false) (sym c.covers.ensures ∙ c.if-covers.false) c.in-Some-top.ensures.some c.then-owed.ensures.value refl in
-    OnOk-weaker c.log_mark.result (λ e. logged_all _ _ _ _ _ _ is c.in_ok-note_owed.ensures.logged e) c.log_mark.ensures.logged
-
-pub log_mark-requires-in-Right : goal.log_mark-requires-in-Right
-log_mark-requires-in-Right t c =
-    let top = c.in-Some-top.top in
-    let h : Head = record { item = top.item; axis = top.axis; pending = top.pending } in
-    let path = c.in-Some.ensures.cases.0 ∙ ap (λ (s : Side). s ∷ c.in-Some.rest.now) c.in-Right.is in
-    let is = ap (λ q. logged_mark c.args.choice.now c.args.tag q (tagged c.args.owed c.args.tree.now)) path ∙ ahead_entered c.args.choice.now c.args.tag c.args.owed c.then-owed.result Right c.in-Some.rest.now c.args.tree.now top.right.now c.in-Some-reach_of.reach h top.left.now top.right.now (sym c.in-Some-reach_of.is ∙ c.reach_of.ensures) (sym c.meets.ensures ∙ c.if-not-meets.false) (sym c.covers.ensures ∙ c.if-covers.false) c.in-Some-top.ensures.some c.then-owed.ensures.value refl in
-    (omega (arith, c.in-Some.ensures.cases.1), room_rest _ _ _ _ _ is c.in_ok-note_owed.ensures.logged c.requires)
-
-pub returns-in-Right-clause-logged : goal.returns-in-Right-clause-logged
-returns-in-Right-clause-logged t c =
-    let top = c.in-Some-top.top in
-    let h : Head = record { item = top.item; axis = top.axis; pending = top.pending } in
-    let path = c.in-Some.ensures.cases.0 ∙ ap (λ (s : Side). s ∷ c.in-Some.rest.now) c.in-Right.is in
-    let is = ap (λ q. logged_mark c.args.choice.now c.args.tag q (tagged c.args.owed c.args.tree.now)) path ∙ ahead_entered c.args.choice.now c.args.tag c.args.owed c.then-owed.result Right c.in-Some.rest.now c.args.tree.now top.right.now c.in-Some-reach_of.reach h top.left.now top.right.now (sym c.in-Some-reach_of.is ∙ c.reach_of.ensures) (sym c.meets.ensures ∙ c.if-not-meets.false) (sym c.covers.ensures ∙ c.if-covers.false) c.in-Some-top.ensures.some c.then-owed.ensures.value refl in
-    OnOk-weaker c.log_mark-in-Right.result (λ e. logged_all _ _ _ _ _ _ is c.in_ok-note_owed.ensures.logged e) c.log_mark-in-Right.ensures.logged
+pub returns-clause-logged : goal.returns-clause-logged
+returns-clause-logged t c = OnOk-weaker c.log_mark.result (λ e. logged_all _ _ _ _ _ _ (parts t (goal.at.returns-clause-logged t c).After-son-next) c.in_ok-note_owed.ensures.logged e) c.log_mark.ensures.logged
 
 pub returns-in_default-clause-few : goal.returns-in_default-clause-few
 returns-in_default-clause-few t c =
@@ -93,24 +66,7 @@ returns-in_default-clause-few t c =
     omega (arith, c.note_mark.ensures.few, one)
 
 pub returns-in_err-note_owed-clause-few : goal.returns-in_err-note_owed-clause-few
-returns-in_err-note_owed-clause-few t c =
-    let top = c.in-Some-top.top in
-    let h : Head = record { item = top.item; axis = top.axis; pending = top.pending } in
-    let b = ahead_entered c.args.choice.now c.args.tag c.args.owed c.then-owed.result c.in-Some.side.now c.in-Some.rest.now c.args.tree.now (son c.in-Some.side.now top.left.now top.right.now) c.in-Some-reach_of.reach h top.left.now top.right.now (sym c.in-Some-reach_of.is ∙ c.reach_of.ensures) (sym c.meets.ensures ∙ c.if-not-meets.false) (sym c.covers.ensures ∙ c.if-covers.false) c.in-Some-top.ensures.some c.then-owed.ensures.value refl in
-    few_first _ _ _ _ _ (ap (λ q. logged_mark c.args.choice.now c.args.tag q (tagged c.args.owed c.args.tree.now)) c.in-Some.ensures.cases.0 ∙ b) c.note_owed.ensures.few
+returns-in_err-note_owed-clause-few t c = few_first _ _ _ _ _ (parts t (goal.at.returns-in_err-note_owed-clause-few t c).After-son-next) c.note_owed.ensures.few
 
-pub returns-in-Left-clause-few : goal.returns-in-Left-clause-few
-returns-in-Left-clause-few t c =
-    let top = c.in-Some-top.top in
-    let h : Head = record { item = top.item; axis = top.axis; pending = top.pending } in
-    let path = c.in-Some.ensures.cases.0 ∙ ap (λ (s : Side). s ∷ c.in-Some.rest.now) c.in-Left.is in
-    let is = ap (λ q. logged_mark c.args.choice.now c.args.tag q (tagged c.args.owed c.args.tree.now)) path ∙ ahead_entered c.args.choice.now c.args.tag c.args.owed c.then-owed.result Left c.in-Some.rest.now c.args.tree.now top.left.now c.in-Some-reach_of.reach h top.left.now top.right.now (sym c.in-Some-reach_of.is ∙ c.reach_of.ensures) (sym c.meets.ensures ∙ c.if-not-meets.false) (sym c.covers.ensures ∙ c.if-covers.false) c.in-Some-top.ensures.some c.then-owed.ensures.value refl in
-    few_rest _ _ _ _ _ _ is c.note_owed.ensures.few c.log_mark.ensures.few
-
-pub returns-in-Right-clause-few : goal.returns-in-Right-clause-few
-returns-in-Right-clause-few t c =
-    let top = c.in-Some-top.top in
-    let h : Head = record { item = top.item; axis = top.axis; pending = top.pending } in
-    let path = c.in-Some.ensures.cases.0 ∙ ap (λ (s : Side). s ∷ c.in-Some.rest.now) c.in-Right.is in
-    let is = ap (λ q. logged_mark c.args.choice.now c.args.tag q (tagged c.args.owed c.args.tree.now)) path ∙ ahead_entered c.args.choice.now c.args.tag c.args.owed c.then-owed.result Right c.in-Some.rest.now c.args.tree.now top.right.now c.in-Some-reach_of.reach h top.left.now top.right.now (sym c.in-Some-reach_of.is ∙ c.reach_of.ensures) (sym c.meets.ensures ∙ c.if-not-meets.false) (sym c.covers.ensures ∙ c.if-covers.false) c.in-Some-top.ensures.some c.then-owed.ensures.value refl in
-    few_rest _ _ _ _ _ _ is c.note_owed.ensures.few c.log_mark-in-Right.ensures.few
+pub returns-clause-few : goal.returns-clause-few
+returns-clause-few t c = few_rest _ _ _ _ _ _ (parts t (goal.at.returns-clause-few t c).After-son-next) c.note_owed.ensures.few c.log_mark.ensures.few

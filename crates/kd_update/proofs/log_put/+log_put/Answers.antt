@@ -1,18 +1,22 @@
-use Rattle.std.proofs.Common.{◌≡◌, not, ◌∷◌, ◌++◌, length, sym, ap, ◌∙◌, subst, arith, append-nil, refl}
-use Rattle.std.specs.Prelude.{Result, Ok, Err, OnOk}
+use Rattle.std.proofs.Common.{◌≡◌, Bool, true, false, [], ◌++◌, length, sym, ap, ◌∙◌, subst, arith, append-nil, refl}
+use Rattle.std.specs.Prelude.{OnOk, cond}
 use Rattle.kd_tree.specs.Shape.{Head}
 use Rattle.kd_tree.specs.Walk.{tagged}
-use Rattle.kd_tree.specs.declared.path.Side.{Side}
-use Rattle.kd_tree.specs.declared.path.Side.TheVariants.{Left, Right}
-use Rattle.kd_update.specs.Watch.{logged_put}
-use Rattle.kd_update.proofs.Logged.{room_first, room_rest, few_first, few_rest, logged_all}
-use Rattle.kd_update.proofs.Logged.{ahead_put_root, ahead_put_none, ahead_put_begins, ahead_put_on, ahead_put_off}
-use Rattle.kd_update.proofs.Logged.{no_sides}
+use Rattle.kd_update.specs.Watch.{goes_to, handed, logged_put}
+use Rattle.kd_update.proofs.Logged.{ahead_put, ahead_put_none, ahead_put_root, few_first, few_rest, logged_all, no_sides, room_first, room_rest}
+use Rattle.kd_update.proofs.Results.{OnOk-weaker}
 use Rattle.kd_update.proofs.log_put.+log_put.Goals as goal
+use Rattle.kd_update.proofs.log_put.+log_put.Goals.{After-goes_to-goes_on}
 
-OnOk-weaker : {X Y P Q : Type 0} (r : Result X Y) → (P → Q) → OnOk r P → OnOk r Q
-OnOk-weaker (Ok x) f p = f p
-OnOk-weaker (Err e) f p = tt
+-- what is logged of a node is what it hands down, and what is logged of its son, if the point goes on to it
+parts : (t : _) (c : After-goes_to-goes_on t) (b : Bool) → c.goes_to-goes_on.result ≡ b → logged_put c.args.number c.args.point c.args.sides.now (tagged c.args.owed c.args.tree.now)
+    ≡ handed c.in-Some.rest.now c.then-owed.result ++ cond b (logged_put c.args.number c.args.point c.in-Some.rest.now (tagged c.then-owed.result c.son-next.result.now)) []
+parts t c b e =
+    let top = c.in-Some-top.top in
+    let h : Head = record { item = top.item; axis = top.axis; pending = top.pending } in
+    ap (λ q. logged_put c.args.number c.args.point q (tagged c.args.owed c.args.tree.now)) c.in-Some.ensures.cases.0
+    ∙ ahead_put c.args.number c.args.point c.args.owed c.then-owed.result c.in-Some.side.now c.in-Some.rest.now c.args.tree.now c.son-next.result.now h top.left.now top.right.now b
+    c.in-Some-top.ensures.some c.then-owed.ensures.value c.son-next.ensures (sym e ∙ c.goes_to-goes_on.ensures ∙ ap (goes_to c.in-Some.side.now) c.goes_left.ensures)
 
 pub note_put-requires : goal.note_put-requires
 note_put-requires t c =
@@ -30,59 +34,16 @@ returns-in_default-top-clause-logged t c =
     sym (ap (λ ops. c.args.log.now ++ ops) none ∙ append-nil c.args.log.now)
 
 pub note_owed-requires : goal.note_owed-requires
-note_owed-requires t c =
-    let top = c.in-Some-top.top in
-    let h : Head = record { item = top.item; axis = top.axis; pending = top.pending } in
-    let b = ahead_put_begins c.args.number c.args.point c.args.owed c.then-owed.result c.in-Some.side.now c.in-Some.rest.now c.args.tree.now h top.left.now top.right.now c.in-Some-top.ensures.some c.then-owed.ensures.value in
-    room_first _ _ _ b.0 (ap (λ q. logged_put c.args.number c.args.point q (tagged c.args.owed c.args.tree.now)) c.in-Some.ensures.cases.0 ∙ b.1) c.requires
+note_owed-requires t c = room_first _ _ _ _ (parts t (goal.at.note_owed-requires t c).After-goes_to-goes_on _ refl) c.requires
+
+pub returns-then-not-goes_on-clause-logged : goal.returns-then-not-goes_on-clause-logged
+returns-then-not-goes_on-clause-logged t c = logged_all _ _ _ _ _ _ (parts t (goal.at.returns-then-not-goes_on-clause-logged t c).After-goes_to-goes_on false c.if-not-goes_on.true) c.in_ok-note_owed.ensures.logged (sym (append-nil _))
 
 pub log_put-requires : goal.log_put-requires
-log_put-requires t c =
-    let top = c.in-Some-top.top in
-    let h : Head = record { item = top.item; axis = top.axis; pending = top.pending } in
-    let path = c.in-Some.ensures.cases.0 ∙ ap (λ (s : Side). s ∷ c.in-Some.rest.now) c.in-Left.is in
-    let is = ap (λ q. logged_put c.args.number c.args.point q (tagged c.args.owed c.args.tree.now)) path ∙ ahead_put_on c.args.number c.args.point c.args.owed c.then-owed.result Left c.in-Some.rest.now c.args.tree.now top.left.now h top.left.now top.right.now c.in-Some-top.ensures.some c.then-owed.ensures.value refl (sym c.goes_left-on_left.ensures ∙ c.if-not-on_left.false) in
-    (omega (arith, c.in-Some.ensures.cases.1), room_rest _ _ _ _ _ is c.in_ok-note_owed.ensures.logged c.requires)
+log_put-requires t c = (omega (arith, c.in-Some.ensures.cases.1), room_rest _ _ _ _ _ (parts t (goal.at.log_put-requires t c).After-goes_to-goes_on true c.if-not-goes_on.false) c.in_ok-note_owed.ensures.logged c.requires)
 
-pub returns-else-not-on_left-clause-logged : goal.returns-else-not-on_left-clause-logged
-returns-else-not-on_left-clause-logged t c =
-    let top = c.in-Some-top.top in
-    let h : Head = record { item = top.item; axis = top.axis; pending = top.pending } in
-    let path = c.in-Some.ensures.cases.0 ∙ ap (λ (s : Side). s ∷ c.in-Some.rest.now) c.in-Left.is in
-    let is = ap (λ q. logged_put c.args.number c.args.point q (tagged c.args.owed c.args.tree.now)) path ∙ ahead_put_on c.args.number c.args.point c.args.owed c.then-owed.result Left c.in-Some.rest.now c.args.tree.now top.left.now h top.left.now top.right.now c.in-Some-top.ensures.some c.then-owed.ensures.value refl (sym c.goes_left-on_left.ensures ∙ c.if-not-on_left.false) in
-    OnOk-weaker c.log_put.result (λ e. logged_all _ _ _ _ _ _ is c.in_ok-note_owed.ensures.logged e) c.log_put.ensures.logged
-
-pub returns-then-not-on_left-clause-logged : goal.returns-then-not-on_left-clause-logged
-returns-then-not-on_left-clause-logged t c =
-    let top = c.in-Some-top.top in
-    let h : Head = record { item = top.item; axis = top.axis; pending = top.pending } in
-    let path = c.in-Some.ensures.cases.0 ∙ ap (λ (s : Side). s ∷ c.in-Some.rest.now) c.in-Left.is in
-    let is = ap (λ q. logged_put c.args.number c.args.point q (tagged c.args.owed c.args.tree.now)) path ∙ ahead_put_off c.args.number c.args.point c.args.owed c.then-owed.result Left c.in-Some.rest.now c.args.tree.now h top.left.now top.right.now c.in-Some-top.ensures.some c.then-owed.ensures.value (sym c.goes_left-on_left.ensures ∙ c.if-not-on_left.true) in
-    logged_all _ _ _ _ _ _ is c.in_ok-note_owed.ensures.logged (sym (append-nil _))
-
-pub log_put-requires-in-Right : goal.log_put-requires-in-Right
-log_put-requires-in-Right t c =
-    let top = c.in-Some-top.top in
-    let h : Head = record { item = top.item; axis = top.axis; pending = top.pending } in
-    let path = c.in-Some.ensures.cases.0 ∙ ap (λ (s : Side). s ∷ c.in-Some.rest.now) c.in-Right.is in
-    let is = ap (λ q. logged_put c.args.number c.args.point q (tagged c.args.owed c.args.tree.now)) path ∙ ahead_put_on c.args.number c.args.point c.args.owed c.then-owed.result Right c.in-Some.rest.now c.args.tree.now top.right.now h top.left.now top.right.now c.in-Some-top.ensures.some c.then-owed.ensures.value refl (ap not (sym c.goes_left-on_left.ensures ∙ c.if-on_left.false)) in
-    (omega (arith, c.in-Some.ensures.cases.1), room_rest _ _ _ _ _ is c.in_ok-note_owed.ensures.logged c.requires)
-
-pub returns-else-on_left-clause-logged : goal.returns-else-on_left-clause-logged
-returns-else-on_left-clause-logged t c =
-    let top = c.in-Some-top.top in
-    let h : Head = record { item = top.item; axis = top.axis; pending = top.pending } in
-    let path = c.in-Some.ensures.cases.0 ∙ ap (λ (s : Side). s ∷ c.in-Some.rest.now) c.in-Right.is in
-    let is = ap (λ q. logged_put c.args.number c.args.point q (tagged c.args.owed c.args.tree.now)) path ∙ ahead_put_on c.args.number c.args.point c.args.owed c.then-owed.result Right c.in-Some.rest.now c.args.tree.now top.right.now h top.left.now top.right.now c.in-Some-top.ensures.some c.then-owed.ensures.value refl (ap not (sym c.goes_left-on_left.ensures ∙ c.if-on_left.false)) in
-    OnOk-weaker c.log_put-in-Right.result (λ e. logged_all _ _ _ _ _ _ is c.in_ok-note_owed.ensures.logged e) c.log_put-in-Right.ensures.logged
-
-pub returns-then-on_left-clause-logged : goal.returns-then-on_left-clause-logged
-returns-then-on_left-clause-logged t c =
-    let top = c.in-Some-top.top in
-    let h : Head = record { item = top.item; axis = top.axis; pending = top.pending } in
-    let path = c.in-Some.ensures.cases.0 ∙ ap (λ (s : Side). s ∷ c.in-Some.rest.now) c.in-Right.is in
-    let is = ap (λ q. logged_put c.args.number c.args.point q (tagged c.args.owed c.args.tree.now)) path ∙ ahead_put_off c.args.number c.args.point c.args.owed c.then-owed.result Right c.in-Some.rest.now c.args.tree.now h top.left.now top.right.now c.in-Some-top.ensures.some c.then-owed.ensures.value (ap not (sym c.goes_left-on_left.ensures ∙ c.if-on_left.true)) in
-    logged_all _ _ _ _ _ _ is c.in_ok-note_owed.ensures.logged (sym (append-nil _))
+pub returns-clause-logged : goal.returns-clause-logged
+returns-clause-logged t c = OnOk-weaker c.log_put.result (λ e. logged_all _ _ _ _ _ _ (parts t (goal.at.returns-clause-logged t c).After-goes_to-goes_on true c.if-not-goes_on.false) c.in_ok-note_owed.ensures.logged e) c.log_put.ensures.logged
 
 pub returns-in_default-clause-few : goal.returns-in_default-clause-few
 returns-in_default-clause-few t c =
@@ -90,40 +51,10 @@ returns-in_default-clause-few t c =
     omega (arith, c.note_put.ensures.few, one)
 
 pub returns-in_err-note_owed-clause-few : goal.returns-in_err-note_owed-clause-few
-returns-in_err-note_owed-clause-few t c =
-    let top = c.in-Some-top.top in
-    let h : Head = record { item = top.item; axis = top.axis; pending = top.pending } in
-    let b = ahead_put_begins c.args.number c.args.point c.args.owed c.then-owed.result c.in-Some.side.now c.in-Some.rest.now c.args.tree.now h top.left.now top.right.now c.in-Some-top.ensures.some c.then-owed.ensures.value in
-    few_first _ _ _ _ _ (ap (λ q. logged_put c.args.number c.args.point q (tagged c.args.owed c.args.tree.now)) c.in-Some.ensures.cases.0 ∙ b.1) c.note_owed.ensures.few
+returns-in_err-note_owed-clause-few t c = few_first _ _ _ _ _ (parts t (goal.at.returns-in_err-note_owed-clause-few t c).After-goes_to-goes_on _ refl) c.note_owed.ensures.few
 
-pub returns-else-not-on_left-clause-few : goal.returns-else-not-on_left-clause-few
-returns-else-not-on_left-clause-few t c =
-    let top = c.in-Some-top.top in
-    let h : Head = record { item = top.item; axis = top.axis; pending = top.pending } in
-    let path = c.in-Some.ensures.cases.0 ∙ ap (λ (s : Side). s ∷ c.in-Some.rest.now) c.in-Left.is in
-    let is = ap (λ q. logged_put c.args.number c.args.point q (tagged c.args.owed c.args.tree.now)) path ∙ ahead_put_on c.args.number c.args.point c.args.owed c.then-owed.result Left c.in-Some.rest.now c.args.tree.now top.left.now h top.left.now top.right.now c.in-Some-top.ensures.some c.then-owed.ensures.value refl (sym c.goes_left-on_left.ensures ∙ c.if-not-on_left.false) in
-    few_rest _ _ _ _ _ _ is c.note_owed.ensures.few c.log_put.ensures.few
+pub returns-then-not-goes_on-clause-few : goal.returns-then-not-goes_on-clause-few
+returns-then-not-goes_on-clause-few t c = few_first _ _ _ _ _ (parts t (goal.at.returns-then-not-goes_on-clause-few t c).After-goes_to-goes_on false c.if-not-goes_on.true) c.note_owed.ensures.few
 
-pub returns-then-not-on_left-clause-few : goal.returns-then-not-on_left-clause-few
-returns-then-not-on_left-clause-few t c =
-    let top = c.in-Some-top.top in
-    let h : Head = record { item = top.item; axis = top.axis; pending = top.pending } in
-    let path = c.in-Some.ensures.cases.0 ∙ ap (λ (s : Side). s ∷ c.in-Some.rest.now) c.in-Left.is in
-    let is = ap (λ q. logged_put c.args.number c.args.point q (tagged c.args.owed c.args.tree.now)) path ∙ ahead_put_off c.args.number c.args.point c.args.owed c.then-owed.result Left c.in-Some.rest.now c.args.tree.now h top.left.now top.right.now c.in-Some-top.ensures.some c.then-owed.ensures.value (sym c.goes_left-on_left.ensures ∙ c.if-not-on_left.true) in
-    few_first _ _ _ _ _ is c.note_owed.ensures.few
-
-pub returns-else-on_left-clause-few : goal.returns-else-on_left-clause-few
-returns-else-on_left-clause-few t c =
-    let top = c.in-Some-top.top in
-    let h : Head = record { item = top.item; axis = top.axis; pending = top.pending } in
-    let path = c.in-Some.ensures.cases.0 ∙ ap (λ (s : Side). s ∷ c.in-Some.rest.now) c.in-Right.is in
-    let is = ap (λ q. logged_put c.args.number c.args.point q (tagged c.args.owed c.args.tree.now)) path ∙ ahead_put_on c.args.number c.args.point c.args.owed c.then-owed.result Right c.in-Some.rest.now c.args.tree.now top.right.now h top.left.now top.right.now c.in-Some-top.ensures.some c.then-owed.ensures.value refl (ap not (sym c.goes_left-on_left.ensures ∙ c.if-on_left.false)) in
-    few_rest _ _ _ _ _ _ is c.note_owed.ensures.few c.log_put-in-Right.ensures.few
-
-pub returns-then-on_left-clause-few : goal.returns-then-on_left-clause-few
-returns-then-on_left-clause-few t c =
-    let top = c.in-Some-top.top in
-    let h : Head = record { item = top.item; axis = top.axis; pending = top.pending } in
-    let path = c.in-Some.ensures.cases.0 ∙ ap (λ (s : Side). s ∷ c.in-Some.rest.now) c.in-Right.is in
-    let is = ap (λ q. logged_put c.args.number c.args.point q (tagged c.args.owed c.args.tree.now)) path ∙ ahead_put_off c.args.number c.args.point c.args.owed c.then-owed.result Right c.in-Some.rest.now c.args.tree.now h top.left.now top.right.now c.in-Some-top.ensures.some c.then-owed.ensures.value (ap not (sym c.goes_left-on_left.ensures ∙ c.if-on_left.true)) in
-    few_first _ _ _ _ _ is c.note_owed.ensures.few
+pub returns-clause-few : goal.returns-clause-few
+returns-clause-few t c = few_rest _ _ _ _ _ _ (parts t (goal.at.returns-clause-few t c).After-goes_to-goes_on true c.if-not-goes_on.false) c.note_owed.ensures.few c.log_put.ensures.few

@@ -5,8 +5,8 @@ use Rattle.kd_tree.specs.Walk.{tagged}
 use Rattle.kd_update.specs.declared.watch.Watch.{Watch}
 use Rattle.kd_update.specs.Watches.{AreExtended}
 use Rattle.kd_update.specs.Crossing.{AreMore, HaveRoomAtOnce}
-use Rattle.kd_update.proofs.Crossing.{logged_scan_few, more_front, more_itself}
-use Rattle.kd_update.proofs.ManyLogs.{extended_itself, extended_front}
+use Rattle.kd_update.proofs.Crossing.{logged_scan_few}
+use Rattle.kd_update.proofs.ManyLogs.{extended_itself, extended_front, more_front, more_itself}
 use Rattle.kd_update.proofs.log_scan.+log_each_scan.Goals as goal
 
 pub returns-in_err-items_there-clause-begins : goal.returns-in_err-items_there-clause-begins

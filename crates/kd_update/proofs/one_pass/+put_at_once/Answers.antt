@@ -1,25 +1,28 @@
-use Rattle.std.proofs.Common.{◌≡◌, ◌∙◌, List, [], ◌∷◌, sym, subst, arith, length, true, ap}
-use Rattle.std.specs.Prelude.{◌==◌}
-use Rattle.std.proofs.lemmas.Bool.{eqb-true}
+use Rattle.std.proofs.Common.{◌∙◌, List, [], sym, subst, arith, ap}
 use Rattle.std.proofs.lemmas.List.{nil_from_length}
 use Rattle.std.proofs.lemmas.Result.{IfOk-weaker}
 use Rattle.std.proofs.lemmas.List.Elements.{All-head}
-use Rattle.node_labels.specs.declared.label.Label.TheVariants.{Live}
 use Rattle.map_fold.specs.declared.item.Item.{Item}
 use Rattle.kd_tree.specs.Parts.{fork_in, fork_of}
 use Rattle.kd_update.specs.Update.{IsBalancedBelow}
 use Rattle.kd_update.specs.Scan.{AreLive, IsGrown}
 use Rattle.kd_update.proofs.Trees.{pushed_smaller}
-use Rattle.kd_update.proofs.Grown.{grown_moved, grown_none, grown_put, piece_moved, piece_new, step_at, step_pieces, step_sound, step_grown, step_balanced}
+use Rattle.kd_update.proofs.Grown.{IsLive, IsStep, alone, grown_moved, grown_none, grown_put, piece_moved, piece_new, step_at, step_pieces, step_sound, step_grown, step_balanced}
+use Rattle.kd_update.proofs.Several.{balanced_free, large_nowhere}
 use Rattle.kd_update.proofs.one_pass.+put_at_once.Goals as goal
+use Rattle.kd_update.proofs.one_pass.+put_at_once.Goals.{After-split_at_mut-lefts}
 
--- a list whose rest is empty
-alone : (is rest : List Item) (i : Item) → is ≡ i ∷ rest → (length rest == 0) ≡ true → is ≡ i ∷ []
-alone is [] i e k = e
-alone is (j ∷ rest) i e k = absurd (let h = eqb-true (length (j ∷ rest)) 0 k in omega arith)
+-- the items are parted where the tree is taken apart
+step : (g : _) (t : _) (c : After-split_at_mut-lefts g t) → IsStep c.args.tree c.args.items.now (fork_of c.in-Some-2.node) c.split_at_mut-lefts.result.0.now c.split_at_mut-lefts.result.1.now
+step g t c =
+    step_at c.args.tree (fork_of c.in-Some-2.node) c.in-Some-parted.count c.args.items.now c.parted.new.items _ _ (ap fork_in (sym c.in-Some-2.is) ∙ c.in_ok-node.ensures.parts) c.size-size.ensures.sound
+    c.parted.ensures.moved c.in-Some-parted.ensures.parted c.split_at_mut-lefts.ensures.front c.split_at_mut-lefts.ensures.back
 
 pub put_below-requires-clause-new : goal.put_below-requires-clause-new
 put_below-requires-clause-new g t c = piece_new c.args.large c.args.tree c.args.items.now c.in-Some.rest.now c.in-Some.first.now c.in-Some.ensures.cases.0 c.requires
+
+pub put_below-requires-clause-there : goal.put_below-requires-clause-there
+put_below-requires-clause-there g t c = large_nowhere c.args.large _ c.args.tree c.none-ways.ensures
 
 pub returns-in_default-clause-grown : goal.returns-in_default-clause-grown
 returns-in_default-clause-grown g t c = subst (λ (xs : List Item). IsGrown c.args.tree xs c.args.tree) (sym (nil_from_length c.args.items.now c.in_default.ensures.cases)) (grown_none c.args.tree)
@@ -28,48 +31,34 @@ pub returns-then-is_empty-clause-grown : goal.returns-then-is_empty-clause-grown
 returns-then-is_empty-clause-grown g t c =
     let i = c.in-Some.first.now in
     let e = alone c.args.items.now c.in-Some.rest.now i c.in-Some.ensures.cases.0 (sym c.is_empty.ensures ∙ c.if-is_empty.true) in
-    let live : i.label ≡ Live = All-head (λ (j : Item). j.label ≡ Live) i [] (subst AreLive e c.requires.live) in
-    IfOk-weaker c.put_below.result _ (λ v. IsGrown c.args.tree c.args.items.now v)
-    (λ v u. subst (λ (xs : List Item). IsGrown c.args.tree xs v) (sym e) (grown_put c.args.large i c.args.axis c.args.tree v _ live u)) c.put_below.ensures.updated
+    IfOk-weaker c.put_below.result _ _
+    (λ v u. subst (λ (xs : List Item). IsGrown c.args.tree xs v) (sym e) (grown_put i c.args.axis c.args.tree v (All-head IsLive i [] (subst AreLive e c.requires.live)) u.refresh)) c.put_below.ensures.updated
+
+pub returns-then-is_empty-clause-balance : goal.returns-then-is_empty-clause-balance
+returns-then-is_empty-clause-balance g t c = IfOk-weaker c.put_below.result _ (λ v. IsBalancedBelow c.args.large c.args.tree → IsBalancedBelow c.args.large v) (λ v u. balanced_free _ _ _ _ v _ c.none-ways.ensures u) c.put_below.ensures.updated
 
 pub built_with-requires-clause-piece : goal.built_with-requires-clause-piece
 built_with-requires-clause-piece g t c = piece_moved c.args.large c.args.tree c.args.items.now c.parted.new.items c.parted.ensures.moved c.requires
 
 pub returns-in_default-parted-clause-grown : goal.returns-in_default-parted-clause-grown
-returns-in_default-parted-clause-grown g t c =
-    IfOk-weaker c.built_with.result _ (λ v. IsGrown c.args.tree c.args.items.now v)
-    (λ v u. grown_moved c.args.tree v c.args.items.now c.parted.new.items c.parted.ensures.moved u) c.built_with.ensures.grown
+returns-in_default-parted-clause-grown g t c = IfOk-weaker c.built_with.result _ _ (λ v u. grown_moved c.args.tree v c.args.items.now c.parted.new.items c.parted.ensures.moved u) c.built_with.ensures.grown
 
 pub put_at_once-requires : goal.put_at_once-requires
 put_at_once-requires g t c κs within =
-    let x = ap fork_in (sym c.in-Some-2.is) ∙ c.in_ok-node.ensures.parts in
-    let f = fork_of c.in-Some-2.node in
-    let k = step_at c.args.tree f c.in-Some-parted.count c.args.items.now c.parted.new.items c.split_at_mut-lefts.result.0.now c.split_at_mut-lefts.result.1.now x c.size-size.ensures.sound c.parted.ensures.moved c.in-Some-parted.ensures.parted c.split_at_mut-lefts.ensures.front c.split_at_mut-lefts.ensures.back in
-    let less = pushed_smaller c.args.tree f x in
-    (omega (arith, less.0), (within, (step_pieces c.args.large c.args.tree c.args.items.now f _ _ k c.requires).0))
+    let k = step g t (goal.at.put_at_once-requires g t c).After-split_at_mut-lefts in
+    (omega (arith, (pushed_smaller c.args.tree (fork_of c.in-Some-2.node) (ap fork_in (sym c.in-Some-2.is) ∙ c.in_ok-node.ensures.parts)).0), (within, (step_pieces c.args.large _ _ _ _ _ k c.requires).0))
 
 pub put_at_once-requires-2 : goal.put_at_once-requires-2
 put_at_once-requires-2 g t c κs within =
-    let x = ap fork_in (sym c.in-Some-2.is) ∙ c.in_ok-node.ensures.parts in
-    let f = fork_of c.in-Some-2.node in
-    let k = step_at c.args.tree f c.in-Some-parted.count c.args.items.now c.parted.new.items c.split_at_mut-lefts.result.0.now c.split_at_mut-lefts.result.1.now x c.size-size.ensures.sound c.parted.ensures.moved c.in-Some-parted.ensures.parted c.split_at_mut-lefts.ensures.front c.split_at_mut-lefts.ensures.back in
-    let less = pushed_smaller c.args.tree f x in
-    (omega (arith, less.1), (within, (step_pieces c.args.large c.args.tree c.args.items.now f _ _ k c.requires).1))
+    let k = step g t (goal.at.put_at_once-requires-2 g t c).After-split_at_mut-lefts in
+    (omega (arith, (pushed_smaller c.args.tree (fork_of c.in-Some-2.node) (ap fork_in (sym c.in-Some-2.is) ∙ c.in_ok-node.ensures.parts)).1), (within, (step_pieces c.args.large _ _ _ _ _ k c.requires).1))
 
 pub rejoined-requires : goal.rejoined-requires
-rejoined-requires g t c =
-    let x = ap fork_in (sym c.in-Some-2.is) ∙ c.in_ok-node.ensures.parts in
-    let f = fork_of c.in-Some-2.node in
-    let k = step_at c.args.tree f c.in-Some-parted.count c.args.items.now c.parted.new.items c.split_at_mut-lefts.result.0.now c.split_at_mut-lefts.result.1.now x c.size-size.ensures.sound c.parted.ensures.moved c.in-Some-parted.ensures.parted c.split_at_mut-lefts.ensures.front c.split_at_mut-lefts.ensures.back in
-    step_sound c.args.large c.args.tree c.args.items.now f _ _ c.in_ok-left.left c.in_ok-right.right k c.requires c.in_ok-left.ensures.grown c.in_ok-right.ensures.grown
+rejoined-requires g t c = step_sound c.args.large _ _ _ _ _ c.in_ok-left.left c.in_ok-right.right (step g t (goal.at.rejoined-requires g t c).After-split_at_mut-lefts) c.requires c.in_ok-left.ensures.grown c.in_ok-right.ensures.grown
 
 pub returns-clause-grown : goal.returns-clause-grown
 returns-clause-grown g t c =
-    let x = ap fork_in (sym c.in-Some-2.is) ∙ c.in_ok-node.ensures.parts in
-    let f = fork_of c.in-Some-2.node in
-    let k = step_at c.args.tree f c.in-Some-parted.count c.args.items.now c.parted.new.items c.split_at_mut-lefts.result.0.now c.split_at_mut-lefts.result.1.now x c.size-size.ensures.sound c.parted.ensures.moved c.in-Some-parted.ensures.parted c.split_at_mut-lefts.ensures.front c.split_at_mut-lefts.ensures.back in
-    IfOk-weaker c.rejoined.result _ (λ v. IsGrown c.args.tree c.args.items.now v)
-    (λ v done. step_grown c.args.large c.args.tree c.args.items.now f _ _ c.in_ok-left.left c.in_ok-right.right v k c.in_ok-left.ensures.grown c.in_ok-right.ensures.grown done) c.rejoined.ensures.due
+    IfOk-weaker c.rejoined.result _ _ (λ v done. step_grown c.args.large _ _ _ _ _ c.in_ok-left.left c.in_ok-right.right v (step g t (goal.at.returns-clause-grown g t c).After-split_at_mut-lefts) c.in_ok-left.ensures.grown c.in_ok-right.ensures.grown done) c.rejoined.ensures.due
 
 pub returns-clause-balance : goal.returns-clause-balance
 returns-clause-balance g t c =

@@ -2,4 +2,4 @@ use Rattle.scan_log.proofs.Fronts.{threes}
 use Rattle.scan_log.proofs.points.points.Goals as goal
 
 pub all_points-requires : goal.all_points-requires
-all_points-requires c = threes c.args.most c.in_ok-count.count c.args.fields c.in_ok-count.ensures
+all_points-requires c = threes c.args.room.points c.in_ok-count.count c.args.fields c.in_ok-count.ensures

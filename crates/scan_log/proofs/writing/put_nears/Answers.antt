@@ -15,4 +15,4 @@ returns c =
     let both : c.put_spaced.new.out.items ≡ (out ++ spaced word) ++ spaced k = c.in_ok-put_spaced.ensures ∙ ap (λ l. l ++ spaced k) c.in_ok-put_word.ensures in
     let all : c.put_spaced.new.out.items ++ flat_map point_text ps ≡ out ++ all_spaced (word ∷ k ∷ flat_map point_fields ps) =
     rw (both, spaced_places ps) (append_assoc (out ++ spaced word) (spaced k) (flat_map point_text ps) ∙ append_assoc out (spaced word) (spaced k ++ flat_map point_text ps)) in
-    subst (λ l. OnOk c.put_places.result (c.put_places.new.out.items ≡ l)) all c.put_places.ensures
+    subst (λ l. OnOk c.put_all.result (c.put_all.new.out.items ≡ l)) all c.put_all.ensures

@@ -15,10 +15,10 @@ whole : (none first all : List ℕ) (format : Format) (sizes : Sizes) (cs : List
     → all ≡ script_text s
 whole none first all format sizes cs s a f b c d e = rw (e, c, a, f, b, d) refl
 
-written : (c : goal.In_ok-put_commands) → c.put_commands.new.out.items ≡ script_text c.args.script.now
+written : (c : goal.In_ok-put_all) → c.put_all.new.out.items ≡ script_text c.args.script.now
 written c =
-    whole c.new-log.result.items c.put_header.new.out.items c.put_commands.new.out.items c.format-format.result c.settings.result.now c.commands.result.now c.args.script.now
-    c.new-log.ensures.items c.format-format.ensures c.settings.ensures c.in_ok-put_header.ensures c.commands.ensures.all c.in_ok-put_commands.ensures
+    whole c.new-log.result.items c.put_header.new.out.items c.put_all.new.out.items c.format-format.result c.settings.result.now c.commands.result.now c.args.script.now
+    c.new-log.ensures.items c.format-format.ensures c.settings.ensures c.in_ok-put_header.ensures c.commands.ensures.all c.in_ok-put_all.ensures
 
 pub returns-clause-spells : goal.returns-clause-spells
 returns-clause-spells c = rw (written c) (script_spelled c.args.script.now c.commands.ensures.limits)

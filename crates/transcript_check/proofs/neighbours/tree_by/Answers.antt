@@ -18,7 +18,7 @@ build-requires-clause-distinct g c =
 pub build-requires-clause-few : goal.build-requires-clause-few
 build-requires-clause-few g c =
     let all : c.as_slice.result.now ≡ c.args.map.now.items = c.as_slice.ensures ∙ c.in_ok-items.ensures in
-    omega (arith, ap length all, contents_length 0 c.args.map.now.next c.args.map.now.items (omega arith) c.next.ensures.contents, c.requires.few)
+    omega (arith, ap length all, contents_length 0 c.args.map.now.next c.args.map.now.items (omega arith) c.next.ensures.contents, c.requires.points)
 
 pub returns : goal.returns
 returns g c =

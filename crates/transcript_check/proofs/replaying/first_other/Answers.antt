@@ -52,8 +52,8 @@ bounds-told-at c = (here_at _ _ _ _ _ _ _ _ c.loop-at.invariant.given c.loop-at.
 pub is_told-requires-clause-good : goal.is_told-requires-clause-good
 is_told-requires-clause-good c = rw (c.command_at-command.ensures, c.commands-commands.ensures.all) (good_at _ _ c.loop-at.invariant.given.script.each)
 
-pub is_told-requires-clause-few : goal.is_told-requires-clause-few
-is_told-requires-clause-few c =
+pub is_told-requires-clause-points : goal.is_told-requires-clause-points
+is_told-requires-clause-points c =
     let here = here_at _ _ _ _ _ _ _ _ c.loop-at.invariant.given c.loop-at.invariant.far (omega arith) in
     let map = held_to _ _ _ _ _ _ _ _ _ _ c.loop-at.invariant.far here.up _ c.settings-settings.ensures c.in_ok-map.ensures in
     few_points _ _ _ _ _ _ c.loop-at.invariant.given map

@@ -39,7 +39,7 @@ invariant_of-pass-2 g c =
     let now : c.catch_up.result ≡ c.take_step.new.state.state.history = got ∙ (c.published-shown.ensures ∙ step.at.1) in
     let entry = c.in_ok-planned.planned.entry in
     let after : c.catch_up.result ≡ h ++ e ∷ [] = now ∙ (ap (λ (t : StateAt). t.history) step.entered ∙ (ap (λ (t : StateAt). t.history ++ listed entry) plan.same ∙ ap (λ o. h ++ listed o) plan.planned.entry)) in
-    let p : IsPrefix c.pass.inside.kept h = subst (λ (z : Seen × Stored). IsPrefix z.0.seen z.1.state.history) (λ k. (sym c.pass.view_is k, sym c.self.view_is k)) c.requires in
+    let p : IsPrefix c.pass.inside.kept h = subst (λ (z : Seen × Stored). IsPrefix z.0.seen z.1.state.history) (λ k. (sym c.pass.view_is k, sym c.self.view_is k)) c.requires.begins in
     let more = c.push_reserved.ensures.items ∙ ap (λ ks. ks ++ length c.history.result.now ∷ []) c.reserve.ensures.items in
     pass_added _ _ h _ _ _ _ _ _ _ _ e c.pass.invariant p after more (ap length c.history.ensures.value) refl plan.room.updates (begins _ _ (got ∙ sym c.catch_up.ensures.at)) _ _ c.add.ensures.parts c.add.ensures.amount
 
@@ -54,7 +54,7 @@ returns-clause-made g c =
     let now : c.catch_up.result ≡ c.take_step.new.state.state.history = got ∙ (c.published-shown.ensures ∙ step.at.1) in
     let entry = c.in_ok-planned.planned.entry in
     let after : c.catch_up.result ≡ h ++ e ∷ [] = now ∙ (ap (λ (t : StateAt). t.history) step.entered ∙ (ap (λ (t : StateAt). t.history ++ listed entry) plan.same ∙ ap (λ o. h ++ listed o) plan.planned.entry)) in
-    let p : IsPrefix c.pass.inside.kept h = subst (λ (z : Seen × Stored). IsPrefix z.0.seen z.1.state.history) (λ k. (sym c.pass.view_is k, sym c.self.view_is k)) c.requires in
+    let p : IsPrefix c.pass.inside.kept h = subst (λ (z : Seen × Stored). IsPrefix z.0.seen z.1.state.history) (λ k. (sym c.pass.view_is k, sym c.self.view_is k)) c.requires.begins in
     let more = c.push_reserved.ensures.items ∙ ap (λ ks. ks ++ length c.history.result.now ∷ []) c.reserve.ensures.items in
     let m = marked_after c.pass.inside.caller _ h _ _ _ _ e p c.pass.invariant.marked after more (ap length c.history.ensures.value) refl in
     rw (← c.pass.view_is) (refl, (h, p, after), m.1, step.len ∙ ap length (sym now))

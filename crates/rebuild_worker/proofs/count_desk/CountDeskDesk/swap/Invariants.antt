@@ -1,4 +1,4 @@
 use Rattle.rebuild_worker.proofs.count_desk.CountDeskDesk.swap.Given as goal
 
-abbrev pub ghosts-swapped : goal.ghosts-swapped
-ghosts-swapped g a = record { name = a.blank.name; parts = a.blank.parts }
+abbrev pub ghosts-swap : goal.ghosts-swap
+ghosts-swap g a = record { name = a.blank.name; parts = a.blank.parts }

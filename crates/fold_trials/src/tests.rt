@@ -1,0 +1,11 @@
+mod assertions;
+mod boxes;
+mod hits;
+mod labels;
+mod lists;
+mod logger;
+mod maps;
+mod places;
+mod points;
+mod regions;
+mod thinning;

@@ -1,0 +1,14 @@
+mod assertions;
+mod beside;
+mod drawn;
+mod draws;
+mod held;
+mod histories;
+mod looks;
+mod parts;
+mod refusals;
+mod rows;
+mod scans;
+mod schedules;
+mod snapshots;
+mod steps;

@@ -1,0 +1,286 @@
+//! A drawn schedule of updates and of subtrees that are detached, built, brought up to date and swapped in, beside the plain
+//! map.
+ghost use Rattle.std.specs.Prelude.{◌≤◌};
+
+use crate::tests::assertions::{holds, same};
+use crate::tests::beside::{compare, compare_inside, updated_plainly};
+use crate::tests::draws::Draws;
+use crate::tests::looks::cuboid;
+use crate::tests::steps::{settled, swapped, updated};
+use kd_search::count_in;
+use map_fold::{PlainMap, Points, Settings, Update};
+use rebuild_core::{Built, BuiltLeft, Job, LogAsk, MapState, SwapFault, SwapLeft};
+use std::alloc::Global;
+use std::process::Abort;
+use std::test::Fail;
+
+// What a turn came to.
+#[derive(Clone, Copy, Debug, PartialEq, Eq)]
+enum Turn {
+    Updated,
+    Settled,
+    Detached,
+    NothingDetached,
+    Built,
+    CaughtUp,
+    Swapped,
+    Behind,
+    Stale,
+    // Nothing was in hand.
+    Idle,
+}
+
+// A map, the plain map beside it, and what its workers have in hand.
+#[derive(Drop)]
+struct Schedule {
+    settings: Settings,
+    large: u32,
+    // How many points a scan has at least, and how many more it may have.
+    scan: (u32, u32),
+    state: MapState,
+    plain: PlainMap,
+    draws: Draws,
+    jobs: Vec<Job>,
+    values: Vec<Built>,
+}
+
+impl Schedule {
+    fn new(alloc: Global, large: u32, scan: (u32, u32)) -> Result<Schedule, Fail>
+        requires large_from { 16 ≤ large }
+        requires large_to { large ≤ 1000000 }
+    {
+        let settings = Settings::new(3, large);
+        Ok(Schedule {
+            settings,
+            large,
+            scan,
+            state: MapState::new(alloc, settings)?,
+            plain: PlainMap::new(alloc),
+            draws: Draws::from(1),
+            jobs: Vec::new(alloc),
+            values: Vec::new(alloc),
+        })
+    }
+
+    fn turn(&mut self, rt: &impl Abort, alloc: Global) -> Result<Turn, Fail> {
+        match self.draws.below(64) {
+            0..=5 => self.detach(alloc),
+            6..=13 => self.build(alloc),
+            14..=21 => self.catch_up(alloc),
+            22..=27 => self.swap(rt, alloc),
+            28 => self.settle(alloc),
+            _ => self.update(rt, alloc),
+        }
+    }
+
+    fn update(&mut self, rt: &impl Abort, alloc: Global) -> Result<Turn, Fail> {
+        let update = self.drawn_update(alloc)?;
+        holds(rt, "not many points", update.points() <= 2_000);
+        updated_plainly(rt, alloc, &self.settings, &mut self.plain, &update)?;
+        let caller = 1 + self.draws.below(8) as u8;
+        updated(alloc, &mut self.state, caller, update)?;
+        Ok(Turn::Updated)
+    }
+
+    // Now and then an update of more points than are put one by one.
+    fn drawn_update(&mut self, alloc: Global) -> Result<Update, Fail> {
+        match self.draws.below(8) {
+            0 => Ok(Update::Add(self.drawn_scan(alloc)?)),
+            1 => Ok(Update::Thin(self.drawn_scan(alloc)?)),
+            // The older half of the numbers, or fewer.
+            2 => {
+                let next = u64::from(self.plain.next());
+                Ok(Update::Expire((self.draws.below(next + 1) / 2) as u32))
+            }
+            _ => self.draws.update(alloc, self.plain.next()),
+        }
+    }
+
+    fn drawn_scan(&mut self, alloc: Global) -> Result<Points, Fail> {
+        let (least, more) = self.scan;
+        if more == 0 {
+            return self.draws.scan(alloc, least);
+        }
+        let extra = self.draws.below(u64::from(more)) as u32;
+        self.draws.scan(alloc, least.saturating_add(extra))
+    }
+
+    fn settle(&mut self, alloc: Global) -> Result<Turn, Fail> {
+        settled(alloc, &mut self.state)?;
+        Ok(Turn::Settled)
+    }
+
+    fn detach(&mut self, alloc: Global) -> Result<Turn, Fail> {
+        let slot = 1 + self.draws.below(4) as u8;
+        let Some(job) = self.state.detach(alloc, slot)? else {
+            return Ok(Turn::NothingDetached);
+        };
+        self.jobs.push(job)?;
+        Ok(Turn::Detached)
+    }
+
+    fn build(&mut self, alloc: Global) -> Result<Turn, Fail> {
+        let Some(job) = taken(&mut self.draws, &mut self.jobs) else {
+            return Ok(Turn::Idle);
+        };
+        match job.build(alloc, self.large) {
+            Err(_) => Err(Fail::new("nothing was built")),
+            Ok(value) => {
+                self.values.push(value)?;
+                Ok(Turn::Built)
+            }
+        }
+    }
+
+    fn catch_up(&mut self, alloc: Global) -> Result<Turn, Fail> {
+        let Some(value) = taken(&mut self.draws, &mut self.values) else {
+            return Ok(Turn::Idle);
+        };
+        let ops = match self.state.log_after(alloc, &value) {
+            Ok(ops) => ops,
+            Err(LogAsk::NoMemory) => return Err(Fail::new("no memory")),
+            Err(LogAsk::Stale { .. }) => return self.put_back(value),
+        };
+        match value.replay(alloc, self.large, ops.as_slice()) {
+            Err(BuiltLeft { .. }) => Err(Fail::new("nothing was replayed")),
+            Ok(value) => {
+                self.values.push(value)?;
+                Ok(Turn::CaughtUp)
+            }
+        }
+    }
+
+    fn swap(&mut self, rt: &impl Abort, alloc: Global) -> Result<Turn, Fail> {
+        let Some(value) = taken(&mut self.draws, &mut self.values) else {
+            return Ok(Turn::Idle);
+        };
+        let force = self.draws.below(4) == 0;
+        match swapped(alloc, &mut self.state, value, force) {
+            Ok(()) => Ok(Turn::Swapped),
+            Err(left) => self.refused(rt, force, left),
+        }
+    }
+
+    fn refused(&mut self, rt: &impl Abort, force: bool, left: SwapLeft) -> Result<Turn, Fail> {
+        match left.fault {
+            SwapFault::NoMemory => Err(Fail::new("no memory")),
+            SwapFault::Stale { ticket } => {
+                same(rt, "the ticket", ticket, left.built.ticket());
+                self.put_back(left.built)
+            }
+            SwapFault::Behind { left: behind } => {
+                holds(rt, "it is behind", !force && behind > 64);
+                self.values.push(left.built)?;
+                Ok(Turn::Behind)
+            }
+        }
+    }
+
+    // A stale value is handed in again, or given up.
+    fn put_back(&mut self, value: Built) -> Result<Turn, Fail> {
+        if self.draws.below(2) == 0 {
+            self.values.push(value)?;
+        }
+        Ok(Turn::Stale)
+    }
+
+    fn compare(&mut self, rt: &impl Abort, alloc: Global) -> Result<(), Fail> {
+        let version = self.state.version();
+        compare(rt, alloc, version, &self.plain, &mut self.draws)?;
+        // The box round all that is drawn.
+        let all = cuboid((-99, -99, -99), (99, 99, 99))?;
+        compare_inside(rt, alloc, version, &self.plain, &all, 256)?;
+        let count = count_in(version.tree(), &all);
+        same(rt, "live points", count, self.plain.counts().live);
+        Ok(())
+    }
+}
+
+// One of them, taken out, if there is one: the last as often as any.
+fn taken<T: Drop>(draws: &mut Draws, from: &mut Vec<T>) -> Option<T> {
+    if from.is_empty() {
+        return None;
+    }
+    if draws.below(2) == 0 {
+        return from.pop();
+    }
+    let place = draws.below(from.len() as u64) as usize;
+    Some(from.swap_remove(place))
+}
+
+// How often a drawn schedule comes to each at least: more than a handful of times.
+const LEAST: [(Turn, usize); 9] = [
+    (Turn::Updated, 1_000),
+    (Turn::Settled, 20),
+    (Turn::Detached, 100),
+    (Turn::NothingDetached, 20),
+    (Turn::Built, 50),
+    (Turn::CaughtUp, 20),
+    (Turn::Swapped, 20),
+    (Turn::Behind, 2),
+    (Turn::Stale, 20),
+];
+
+#[test]
+fn a_drawn_schedule_answers_as_the_plain_map_does(rt: HostRuntime) -> Result<(), Fail> {
+    let alloc = rt.alloc();
+    let mut schedule = Schedule::new(alloc, 16, (80, 0))?;
+    let turns = compared(&rt, alloc, &mut schedule, 3_000)?;
+    are_frequent(&rt, turns.as_slice(), &LEAST);
+    Ok(())
+}
+
+// So many turns, after each of which the map is beside the plain one.
+fn compared(
+    rt: &impl Abort,
+    alloc: Global,
+    schedule: &mut Schedule,
+    count: u32,
+) -> Result<Vec<Turn>, Fail> {
+    let mut turns = Vec::new(alloc);
+    for _ in 0..count {
+        let turn = schedule.turn(rt, alloc)?;
+        turns.push(turn)?;
+        schedule.compare(rt, alloc)?;
+    }
+    Ok(turns)
+}
+
+fn are_frequent(rt: &impl Abort, turns: &[Turn], leasts: &[(Turn, usize)]) {
+    for (turn, least) in leasts {
+        is_frequent(rt, turns, *turn, *least);
+    }
+}
+
+// More than so many of the turns came to this.
+fn is_frequent(rt: &impl Abort, turns: &[Turn], turn: Turn, least: usize) {
+    let count = count_of(turns, turn);
+    assert!(rt; count > least, "{turn:?}: {count}");
+}
+
+fn count_of(turns: &[Turn], turn: Turn) -> usize {
+    turns.iter().filter(|t| **t == turn).count()
+}
+
+// Whole scans, of which those beside subtrees of 100 nodes and more are put in pieces at once, and others one by one.
+#[test]
+fn whole_scans_beside_detached_subtrees_answer_as_the_plain_map_does(
+    rt: HostRuntime,
+) -> Result<(), Fail> {
+    let alloc = rt.alloc();
+    for large in [16, 100] {
+        let swapped = swaps_of_a_hundred(&rt, alloc, large)?;
+        assert!(rt; swapped > 0, "large {large}: {swapped}");
+    }
+    Ok(())
+}
+
+// How many of a hundred turns swapped a value in.
+fn swaps_of_a_hundred(rt: &impl Abort, alloc: Global, large: u32) -> Result<usize, Fail>
+    requires large_from { 16 ≤ large }
+    requires large_to { large ≤ 1000000 }
+{
+    let mut schedule = Schedule::new(alloc, large, (200, 1_800))?;
+    let turns = compared(rt, alloc, &mut schedule, 100)?;
+    Ok(count_of(turns.as_slice(), Turn::Swapped))
+}

@@ -1,0 +1,59 @@
+//! What a state holds, as tests ask for it.
+ghost use Rattle.std.specs.Prelude.{◌≤◌};
+
+use crate::tests::assertions::same;
+use map_fold::Items;
+use point_geom::{Corner, Cuboid};
+use rebuild_core::MapState;
+use std::alloc::Global;
+use std::process::Abort;
+use std::test::Fail;
+
+pub type Place = (i64, i64, i64);
+
+// How many operations a detached subtree's log has.
+pub fn logged(state: &MapState, slot: u8) -> Option<u32> {
+    let part = state.part(slot)?;
+    Some(part.logged)
+}
+
+pub fn live(state: &MapState) -> u32 {
+    state.version().counts().live
+}
+
+pub fn suspended(state: &MapState) -> u32 {
+    state.version().counts().suspended
+}
+
+// Whether a subtree from this size on is out of balance.
+pub fn is_breached(state: &MapState, large: u32) -> bool
+    requires { 10 ≤ large }
+{
+    state.version().tree().first_breach(large).is_some()
+}
+
+pub fn items(alloc: Global, state: &MapState) -> Result<Items, Fail> {
+    Ok(state.version().tree().flatten(alloc)?)
+}
+
+// So many items are held, and the first has this number.
+pub fn holds_from(
+    rt: &impl Abort,
+    alloc: Global,
+    state: &MapState,
+    count: usize,
+    first: u32,
+) -> Result<(), Fail> {
+    let items = items(alloc, state)?;
+    same(rt, "items", items.len(), count);
+    let number = items.as_slice().first().map(|item| item.number);
+    same(rt, "the first number", number, Some(first));
+    Ok(())
+}
+
+pub fn cuboid(lo: Place, hi: Place) -> Result<Cuboid, Fail> {
+    let (x, y, z) = lo;
+    let lo = Corner { x, y, z };
+    let (x, y, z) = hi;
+    Ok(Cuboid::new(lo, Corner { x, y, z })?)
+}

@@ -1,0 +1,227 @@
+//! Detached subtrees.
+use crate::tests::assertions::{holds, same};
+use crate::tests::draws::Draws;
+use crate::tests::looks::{cuboid, holds_from, is_breached, live, logged, suspended};
+use crate::tests::steps::{
+    built, detached, is_balanced, row, settled, swap_ends, swapped, updated,
+};
+use map_fold::{Cuboids, Points, Settings, Update};
+use point_geom::Point;
+use rebuild_core::{Built, Job, LogAsk, MapState, SwapFault};
+use std::alloc::Global;
+use std::process::Abort;
+use std::test::Fail;
+
+// The box that holds the points (x, 0, 0), from the first on and before the last.
+fn across(alloc: Global, first: i64, last: i64) -> Result<Cuboids, Fail> {
+    let mut boxes = Cuboids::new(alloc);
+    boxes.push(cuboid((first, 0, 0), (last, 1, 1))?)?;
+    Ok(boxes)
+}
+
+// Adds those points.
+fn add(alloc: Global, state: &mut MapState, first: i64, last: i64) -> Result<(), Fail> {
+    let points = row(alloc, first, last)?;
+    updated(alloc, state, 1, Update::Add(points))?;
+    Ok(())
+}
+
+fn suspend(alloc: Global, state: &mut MapState, first: i64, last: i64) -> Result<(), Fail> {
+    let boxes = across(alloc, first, last)?;
+    updated(alloc, state, 1, Update::Suspend(boxes))?;
+    Ok(())
+}
+
+fn restore(alloc: Global, state: &mut MapState, first: i64, last: i64) -> Result<(), Fail> {
+    let boxes = across(alloc, first, last)?;
+    updated(alloc, state, 1, Update::Restore(boxes))?;
+    Ok(())
+}
+
+fn with_row(alloc: Global, last: i64) -> Result<MapState, Fail> {
+    let mut state = MapState::new(alloc, Settings::new(200, 16))?;
+    add(alloc, &mut state, 1, last)?;
+    Ok(state)
+}
+
+#[test]
+fn what_expires_in_a_detached_subtree_is_logged(rt: HostRuntime) -> Result<(), Fail> {
+    let alloc = rt.alloc();
+    let mut state = with_row(alloc, 41)?;
+    let job = detached(alloc, &mut state, 1)?;
+    updated(alloc, &mut state, 1, Update::Expire(20))?;
+    same(&rt, "operations", logged(&state, 1), Some(1));
+    let built = built(alloc, job)?;
+    swap_ends(&rt, alloc, &mut state, built, false, None);
+    holds_from(&rt, alloc, &state, 20, 20)
+}
+
+#[test]
+fn what_expires_is_gone_and_later_points_are_not(rt: HostRuntime) -> Result<(), Fail> {
+    let alloc = rt.alloc();
+    let mut state = with_row(alloc, 4)?;
+    suspend(alloc, &mut state, 1, 2)?;
+    updated(alloc, &mut state, 1, Update::Expire(2))?;
+    restore(alloc, &mut state, 0, 9)?;
+    holds_from(&rt, alloc, &state, 1, 2)?;
+    updated(alloc, &mut state, 1, Update::Expire(4_194_304))?;
+    same(&rt, "live points", live(&state), 0);
+    add(alloc, &mut state, 4, 5)?;
+    holds_from(&rt, alloc, &state, 1, 3)?;
+    same(&rt, "live points", live(&state), 1);
+    Ok(())
+}
+
+// A settled row with points more at its end, and its right son, which leans to the right.
+fn leaning(rt: &impl Abort, alloc: Global) -> Result<(MapState, Job), Fail> {
+    let mut state = with_row(alloc, 41)?;
+    settled(alloc, &mut state)?;
+    // The right son has 9 nodes on its left and 14 on its right now.
+    add(alloc, &mut state, 41, 45)?;
+    let job = detached(alloc, &mut state, 1)?;
+    same(rt, "the ticket", job.ticket(), 1);
+    same(rt, "items", job.items().len(), 24);
+    Ok((state, job))
+}
+
+#[test]
+fn an_action_that_is_pushed_into_a_detached_subtree_is_logged(rt: HostRuntime) -> Result<(), Fail> {
+    let alloc = rt.alloc();
+    let (mut state, job) = leaning(&rt, alloc)?;
+    suspend(alloc, &mut state, 0, 100)?;
+    same(&rt, "operations", logged(&state, 1), Some(0));
+    restore(alloc, &mut state, 30, 33)?;
+    same(&rt, "operations", logged(&state, 1), Some(2));
+    let built = built(alloc, job)?;
+    holds(&rt, "a breach", is_breached(&state, 16));
+    swap_ends(&rt, alloc, &mut state, built, true, None);
+    holds(&rt, "no breach", !is_breached(&state, 16));
+    same(&rt, "live points", live(&state), 3);
+    same(&rt, "suspended points", suspended(&state), 41);
+    holds(&rt, "nothing to detach", is_balanced(alloc, &mut state, 1)?);
+    Ok(())
+}
+
+#[test]
+fn a_value_behind_catches_up_and_a_stale_one_is_refused(rt: HostRuntime) -> Result<(), Fail> {
+    let alloc = rt.alloc();
+    let mut state = MapState::new(alloc, Settings::new(200, 16))?;
+    holds(&rt, "nothing to detach", is_balanced(alloc, &mut state, 1)?);
+    add(alloc, &mut state, 1, 41)?;
+    let job = detached(alloc, &mut state, 1)?;
+    same(&rt, "the first ticket", job.ticket(), 1);
+    let first = built(alloc, job)?;
+    add(alloc, &mut state, 41, 106)?;
+    let first = found_behind(&rt, alloc, &mut state, first)?;
+    let first = caught_up(&rt, alloc, &mut state, first)?;
+    swap_ends(&rt, alloc, &mut state, first, false, None);
+    same(&rt, "live points", live(&state), 105);
+    refuses_the_second_of_three(&rt, alloc, &mut state)
+}
+
+// The value, which is 65 operations behind.
+fn found_behind(
+    rt: &impl Abort,
+    alloc: Global,
+    state: &mut MapState,
+    built: Built,
+) -> Result<Built, Fail> {
+    match swapped(alloc, state, built, false) {
+        Ok(()) => Err(Fail::new("65 operations are left")),
+        Err(left) => {
+            same(rt, "the fault", left.fault, SwapFault::Behind { left: 65 });
+            Ok(left.built)
+        }
+    }
+}
+
+// The value with those operations done on it.
+fn caught_up(
+    rt: &impl Abort,
+    alloc: Global,
+    state: &mut MapState,
+    built: Built,
+) -> Result<Built, Fail> {
+    let Ok(ops) = state.log_after(alloc, &built) else {
+        return Err(Fail::new("the value is of the part"));
+    };
+    same(rt, "operations", ops.len(), 65);
+    match built.replay(alloc, 16, ops.as_slice()) {
+        Ok(built) => Ok(built),
+        Err(_) => Err(Fail::new("nothing was replayed")),
+    }
+}
+
+// A part that is detached afresh has a new ticket and an empty log.
+fn refuses_the_second_of_three(
+    rt: &impl Abort,
+    alloc: Global,
+    state: &mut MapState,
+) -> Result<(), Fail> {
+    add(alloc, state, 106, 160)?;
+    let second = detached(alloc, state, 1)?;
+    same(rt, "the second ticket", second.ticket(), 2);
+    let third = detached(alloc, state, 1)?;
+    same(rt, "the third ticket", third.ticket(), 3);
+    same(rt, "operations", logged(state, 1), Some(0));
+    let second = built(alloc, second)?;
+    let asked = state.log_after(alloc, &second).err();
+    same(rt, "the answer", asked, Some(LogAsk::Stale { ticket: 2 }));
+    let stale = SwapFault::Stale { ticket: 2 };
+    swap_ends(rt, alloc, state, second, true, Some(stale));
+    Ok(())
+}
+
+// Points are added that leave the detached subtree forgotten, and its value stale.
+fn forgets_what_is_detached(
+    rt: &impl Abort,
+    alloc: Global,
+    state: &mut MapState,
+    points: Points,
+) -> Result<(), Fail> {
+    let job = detached(alloc, state, 1)?;
+    same(rt, "the ticket", job.ticket(), 1);
+    updated(alloc, state, 1, Update::Add(points))?;
+    same(rt, "operations", logged(state, 1), None);
+    let built = built(alloc, job)?;
+    let stale = SwapFault::Stale { ticket: 1 };
+    swap_ends(rt, alloc, state, built, true, Some(stale));
+    Ok(())
+}
+
+#[test]
+fn a_deep_tree_is_rebuilt_and_its_detached_part_forgotten(rt: HostRuntime) -> Result<(), Fail> {
+    let alloc = rt.alloc();
+    let mut state = with_row(alloc, 41)?;
+    let points = row(alloc, 41, 641)?;
+    forgets_what_is_detached(&rt, alloc, &mut state, points)?;
+    same(&rt, "live points", live(&state), 640);
+    Ok(())
+}
+
+// Points of a wide hall, seen from its middle.
+fn hall(alloc: Global, count: u32) -> Result<Points, Fail> {
+    let mut draws = Draws::from(1);
+    let mut points = Points::new(alloc);
+    for _ in 0..count {
+        points.push(in_hall(&mut draws)?)?;
+    }
+    Ok(points)
+}
+
+fn in_hall(draws: &mut Draws) -> Result<Point, Fail> {
+    let x = draws.below(60_001) as i64 - 30_000;
+    let y = draws.below(60_001) as i64 - 30_000;
+    let z = draws.below(6_001) as i64 - 3_000;
+    Ok(Point::new(x, y, z)?)
+}
+
+#[test]
+fn a_subtree_whose_log_is_full_is_built_anew_and_forgotten(rt: HostRuntime) -> Result<(), Fail> {
+    let alloc = rt.alloc();
+    let mut state = with_row(alloc, 41)?;
+    let points = hall(alloc, 70_000)?;
+    forgets_what_is_detached(&rt, alloc, &mut state, points)?;
+    same(&rt, "live points", live(&state), 70_040);
+    Ok(())
+}

@@ -1,0 +1,112 @@
+//! Where a state refuses an update, and stays as it was.
+ghost use Rattle.std.specs.Prelude.{◌≤◌};
+
+use crate::tests::assertions::same;
+use crate::tests::steps::{Updated, updated};
+use map_fold::{Cuboids, Points, Settings, Update};
+use point_geom::Point;
+use rebuild_core::{LogAsk, MapState, StateFault, SwapFault};
+use std::alloc::Global;
+use std::fmt::Display;
+use std::process::Abort;
+use std::test::Fail;
+
+#[test]
+fn a_new_state_refuses_more_points_than_there_may_be(rt: HostRuntime) -> Result<(), Fail> {
+    let alloc = rt.alloc();
+    let mut state = MapState::new(alloc, Settings::new(200, 5_000))?;
+    let points = too_many(alloc)?;
+    let answer = updated(alloc, &mut state, 1, Update::Add(points));
+    let StateFault::TooManyPoints { next, asked } = fault(answer)? else {
+        return Err(Fail::new("another fault"));
+    };
+    same(&rt, "the next number of the fault", next, 0);
+    same(&rt, "the points of the fault", asked, 4_194_305);
+    is_new(&rt, &state);
+    Ok(())
+}
+
+fn too_many(alloc: Global) -> Result<Points, Fail> {
+    let point = Point::new(0, 0, 0)?;
+    let mut points = Points::new(alloc);
+    for _ in 0..4_194_305u32 {
+        points.push(point)?;
+    }
+    Ok(points)
+}
+
+fn is_new(rt: &impl Abort, state: &MapState) {
+    same(rt, "the next number", state.next(), 0);
+    same(rt, "updates", state.history().len(), 0);
+    same(rt, "updates of the version", state.version().len(), 0);
+    same(rt, "nodes", state.version().tree().size(), 0);
+}
+
+#[test]
+fn a_full_history_refuses_the_next_update(rt: HostRuntime) -> Result<(), Fail> {
+    let alloc = rt.alloc();
+    let mut state = MapState::new(alloc, Settings::new(200, 5_000))?;
+    for _ in 0..1_048_576u32 {
+        deleted_nothing(alloc, &mut state, 1)?;
+    }
+    let answer = deleted_nothing(alloc, &mut state, 2);
+    let StateFault::TooManyUpdates { len } = fault(answer)? else {
+        return Err(Fail::new("another fault"));
+    };
+    same(&rt, "the updates of the fault", len, 1_048_576);
+    same(&rt, "updates", state.history().len(), 1_048_576);
+    Ok(())
+}
+
+fn deleted_nothing(alloc: Global, state: &mut MapState, caller: u8) -> Updated
+    requires caller_from { 1 ≤ caller }
+    requires caller_to { caller ≤ 8 }
+{
+    updated(alloc, state, caller, Update::Delete(Cuboids::new(alloc)))
+}
+
+fn fault(answer: Result<u64, StateFault>) -> Result<StateFault, Fail> {
+    match answer {
+        Ok(_) => Err(Fail::new("it was not refused")),
+        Err(fault) => Ok(fault),
+    }
+}
+
+#[test]
+fn a_refusal_says_what_is_full_stale_or_behind(rt: HostRuntime) -> Result<(), Fail> {
+    let alloc = rt.alloc();
+    for (fault, want) in [
+        (
+            StateFault::TooManyPoints {
+                next: 4_194_000,
+                asked: 305,
+            },
+            "4194000 points were submitted, and there is no room for 305 more",
+        ),
+        (
+            StateFault::TooManyUpdates { len: 1_048_576 },
+            "the history is full: it has 1048576 updates",
+        ),
+    ] {
+        says(&rt, alloc, &fault, want)?;
+    }
+    for (fault, want) in [
+        (
+            SwapFault::Stale { ticket: 3 },
+            "no detached subtree has ticket 3 and what the value was built of",
+        ),
+        (
+            SwapFault::Behind { left: 65 },
+            "the value is 65 operations behind",
+        ),
+    ] {
+        says(&rt, alloc, &fault, want)?;
+    }
+    says(&rt, alloc, &LogAsk::NoMemory, "no memory")
+}
+
+fn says<D: Display>(rt: &impl Abort, alloc: Global, fault: &D, want: &str) -> Result<(), Fail> {
+    let text = format!(in alloc; "{fault}")?;
+    assert_eq!(rt; text.as_str(), want);
+    Ok(())
+}

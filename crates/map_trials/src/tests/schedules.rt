@@ -1,0 +1,261 @@
+//! A detached subtree beside hostile schedules: what its map meets between the detaching and the swap.
+use crate::tests::assertions::{holds, same};
+use crate::tests::looks::{cuboid, live, logged, suspended};
+use crate::tests::steps::{add_row, built, detached, is_balanced, settled, swap_ends, updated};
+use kd_search::nearest;
+use map_fold::{Cuboids, Points, Settings, Update};
+use point_geom::Point;
+use rebuild_core::{Built, Job, LogAsk, MapState, SwapFault};
+use std::alloc::Global;
+use std::process::Abort;
+use std::test::Fail;
+
+fn counting(alloc: Global, first: i64, last: i64) -> Result<Vec<i64>, Fail> {
+    let mut xs = Vec::new(alloc);
+    for x in first..last {
+        xs.push(x)?;
+    }
+    Ok(xs)
+}
+
+// The boxes from (first, 0, 0) to (last, 1, 1), so many times.
+fn boxes(alloc: Global, first: i64, last: i64, times: u32) -> Result<Cuboids, Fail> {
+    let cuboid = cuboid((first, 0, 0), (last, 1, 1))?;
+    let mut boxes = Cuboids::new(alloc);
+    for _ in 0..times {
+        boxes.push(cuboid)?;
+    }
+    Ok(boxes)
+}
+
+// A map of 40 points in a row, with its whole tree detached.
+fn begun(alloc: Global) -> Result<(MapState, Job), Fail> {
+    begun_with(alloc, 40)
+}
+
+// The same, with the last of the 40 at this place.
+fn begun_with(alloc: Global, last: i64) -> Result<(MapState, Job), Fail> {
+    let mut state = MapState::new(alloc, Settings::new(200, 16))?;
+    let mut xs = counting(alloc, 1, 40)?;
+    xs.push(last)?;
+    add_row(alloc, &mut state, xs.as_slice())?;
+    let job = detached(alloc, &mut state, 1)?;
+    Ok((state, job))
+}
+
+fn is_swapped(rt: &impl Abort, alloc: Global, state: &mut MapState, built: Built, force: bool) {
+    swap_ends(rt, alloc, state, built, force, None);
+}
+
+// The job is built and swapped in, and so many points are live then.
+fn swaps(
+    rt: &impl Abort,
+    alloc: Global,
+    state: &mut MapState,
+    job: Job,
+    force: bool,
+    points: u32,
+) -> Result<(), Fail> {
+    let built = built(alloc, job)?;
+    is_swapped(rt, alloc, state, built, force);
+    same(rt, "live points", live(state), points);
+    Ok(())
+}
+
+fn is_stale(rt: &impl Abort, alloc: Global, state: &mut MapState, built: Built, force: bool) {
+    let stale = SwapFault::Stale { ticket: 1 };
+    swap_ends(rt, alloc, state, built, force, Some(stale));
+}
+
+#[test]
+fn a_value_is_stale_once_its_map_was_settled(rt: HostRuntime) -> Result<(), Fail> {
+    let alloc = rt.alloc();
+    let (mut state, job) = begun(alloc)?;
+    same(&rt, "the ticket", job.ticket(), 1);
+    same(&rt, "items", job.items().len(), 40);
+    let built = built(alloc, job)?;
+    settled(alloc, &mut state)?;
+    let asked = state.log_after(alloc, &built).err();
+    same(&rt, "the answer", asked, Some(LogAsk::Stale { ticket: 1 }));
+    is_stale(&rt, alloc, &mut state, built, true);
+    same(&rt, "operations", logged(&state, 1), None);
+    same(&rt, "live points", live(&state), 40);
+    Ok(())
+}
+
+#[test]
+fn a_value_fits_another_map_that_detached_the_same(rt: HostRuntime) -> Result<(), Fail> {
+    let alloc = rt.alloc();
+    let (_state, job) = begun(alloc)?;
+    let (mut other, _job) = begun(alloc)?;
+    swaps(&rt, alloc, &mut other, job, false, 40)
+}
+
+#[test]
+fn a_value_is_stale_where_another_map_holds_another_point(rt: HostRuntime) -> Result<(), Fail> {
+    let alloc = rt.alloc();
+    let (_state, job) = begun(alloc)?;
+    let (mut other, _job) = begun_with(alloc, 41)?;
+    let built = built(alloc, job)?;
+    is_stale(&rt, alloc, &mut other, built, false);
+    Ok(())
+}
+
+#[test]
+fn a_forced_swap_does_all_that_is_left(rt: HostRuntime) -> Result<(), Fail> {
+    let alloc = rt.alloc();
+    let (mut state, job) = begun(alloc)?;
+    let more = counting(alloc, 41, 141)?;
+    add_row(alloc, &mut state, more.as_slice())?;
+    swaps(&rt, alloc, &mut state, job, true, 140)
+}
+
+#[test]
+fn what_was_deleted_meanwhile_stays_so(rt: HostRuntime) -> Result<(), Fail> {
+    let alloc = rt.alloc();
+    let (mut state, job) = begun(alloc)?;
+    let all = boxes(alloc, 0, 100, 1)?;
+    updated(alloc, &mut state, 1, Update::Delete(all))?;
+    swaps(&rt, alloc, &mut state, job, false, 0)?;
+    settled(alloc, &mut state)?;
+    same(&rt, "live points", live(&state), 0);
+    holds(&rt, "nothing to detach", is_balanced(alloc, &mut state, 1)?);
+    add_row(alloc, &mut state, &[5])?;
+    holds_only(&rt, alloc, &state, 40)
+}
+
+// One point is live, and has this number.
+fn holds_only(rt: &impl Abort, alloc: Global, state: &MapState, number: u32) -> Result<(), Fail> {
+    same(rt, "live points", live(state), 1);
+    let query = Point::new(0, 0, 0)?;
+    let found = nearest(alloc, state.version().tree(), 2, &query, None)?;
+    same(rt, "hits", found.len(), 1);
+    for hit in found.as_slice() {
+        same(rt, "the number", hit.number, number);
+    }
+    Ok(())
+}
+
+// The point at (50, 100, 100).
+fn far_off(alloc: Global) -> Result<Points, Fail> {
+    let mut points = Points::new(alloc);
+    points.push(Point::new(50, 100, 100)?)?;
+    Ok(points)
+}
+
+#[test]
+fn a_voxel_that_was_thinned_meanwhile_keeps_its_winner(rt: HostRuntime) -> Result<(), Fail> {
+    let alloc = rt.alloc();
+    let (mut state, job) = begun(alloc)?;
+    let points = far_off(alloc)?;
+    updated(alloc, &mut state, 1, Update::Thin(points))?;
+    let built = built(alloc, job)?;
+    // That its voxel's points are dropped, and the winner.
+    same(&rt, "operations", logged(&state, 1), Some(2));
+    is_swapped(&rt, alloc, &mut state, built, false);
+    holds_only(&rt, alloc, &state, 40)
+}
+
+#[test]
+fn a_part_that_is_detached_afresh_takes_only_its_new_value(rt: HostRuntime) -> Result<(), Fail> {
+    let alloc = rt.alloc();
+    let (mut state, job) = begun(alloc)?;
+    let old = built(alloc, job)?;
+    let job = detached(alloc, &mut state, 1)?;
+    same(&rt, "the ticket", job.ticket(), 2);
+    is_stale(&rt, alloc, &mut state, old, true);
+    swaps(&rt, alloc, &mut state, job, false, 40)
+}
+
+// One operation more fills a log.
+const NEARLY_FULL: u32 = 65_535;
+
+#[test]
+fn a_part_whose_log_is_full_is_forgotten(rt: HostRuntime) -> Result<(), Fail> {
+    let alloc = rt.alloc();
+    let (mut state, job) = begun(alloc)?;
+    let many = boxes(alloc, 1, 2, NEARLY_FULL)?;
+    updated(alloc, &mut state, 1, Update::Restore(many))?;
+    same(&rt, "operations", logged(&state, 1), Some(NEARLY_FULL));
+    let one = boxes(alloc, 1, 2, 1)?;
+    updated(alloc, &mut state, 1, Update::Delete(one))?;
+    same(&rt, "operations", logged(&state, 1), None);
+    let built = built(alloc, job)?;
+    is_stale(&rt, alloc, &mut state, built, true);
+    // The box held the point of number 0.
+    same(&rt, "live points", live(&state), 39);
+    Ok(())
+}
+
+// Points on either side of a row from 1 to 40.
+const OUTER: [i64; 9] = [41, 42, 43, 44, 0, -1, -2, -3, -4];
+
+// A map whose two sons are out of balance.
+fn uneven(alloc: Global) -> Result<MapState, Fail> {
+    let mut state = MapState::new(alloc, Settings::new(200, 16))?;
+    let xs = counting(alloc, 1, 41)?;
+    add_row(alloc, &mut state, xs.as_slice())?;
+    settled(alloc, &mut state)?;
+    add_row(alloc, &mut state, &OUTER)?;
+    Ok(state)
+}
+
+// The same with both detached.
+fn with_two_parts(rt: &impl Abort, alloc: Global) -> Result<(MapState, Job, Job), Fail> {
+    let mut state = uneven(alloc)?;
+    let left = detached(alloc, &mut state, 1)?;
+    let right = detached(alloc, &mut state, 2)?;
+    holds(rt, "nothing to detach", is_balanced(alloc, &mut state, 3)?);
+    Ok((state, left, right))
+}
+
+#[test]
+fn two_subtrees_are_detached_at_once(rt: HostRuntime) -> Result<(), Fail> {
+    let alloc = rt.alloc();
+    let (_state, left, right) = with_two_parts(&rt, alloc)?;
+    begins_at(&rt, &left, 1, -4);
+    begins_at(&rt, &right, 2, 21);
+    Ok(())
+}
+
+// The job has this ticket, and its items begin at this x.
+fn begins_at(rt: &impl Abort, job: &Job, ticket: u64, first: i64) {
+    same(rt, "the ticket", job.ticket(), ticket);
+    same(rt, "items", job.items().len(), 24);
+    let least = job.items().iter().map(|item| item.point.x()).min();
+    same(rt, "the least x", least, Some(first));
+}
+
+// So many operations are logged at each of two subtrees.
+fn are_logged(rt: &impl Abort, state: &MapState, left: u32, right: u32) {
+    same(rt, "operations on the left", logged(state, 1), Some(left));
+    same(rt, "operations on the right", logged(state, 2), Some(right));
+}
+
+#[test]
+fn what_two_detached_subtrees_met_is_done_on_both(rt: HostRuntime) -> Result<(), Fail> {
+    let alloc = rt.alloc();
+    let (mut state, left, right) = with_two_parts(&rt, alloc)?;
+    let all = boxes(alloc, -100, 100, 1)?;
+    updated(alloc, &mut state, 1, Update::Suspend(all))?;
+    are_logged(&rt, &state, 0, 0);
+    let three = boxes(alloc, 30, 33, 1)?;
+    updated(alloc, &mut state, 1, Update::Restore(three))?;
+    are_logged(&rt, &state, 1, 2);
+    let left = built(alloc, left)?;
+    let right = built(alloc, right)?;
+    is_swapped(&rt, alloc, &mut state, right, true);
+    is_swapped(&rt, alloc, &mut state, left, true);
+    holds_three(&rt, alloc, &state)
+}
+
+// The points at 29, 30 and 31 are live, and 46 are suspended.
+fn holds_three(rt: &impl Abort, alloc: Global, state: &MapState) -> Result<(), Fail> {
+    let query = Point::new(0, 0, 0)?;
+    let found = nearest(alloc, state.version().tree(), 5, &query, None)?;
+    let numbers = found.as_slice().iter().map(|hit| (hit.number, hit.dist2));
+    assert!(rt; numbers.eq([(29, 900), (30, 961), (31, 1024)]));
+    same(rt, "live points", live(state), 3);
+    same(rt, "suspended points", suspended(state), 46);
+    Ok(())
+}

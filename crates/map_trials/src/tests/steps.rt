@@ -1,0 +1,121 @@
+//! Steps of a state, each on a ledger of its own.
+ghost use Rattle.std.specs.Prelude.{◌≤◌};
+ghost use Rattle.kd_tree.specs.Counter.{IsBlankOf};
+
+use crate::tests::assertions::same;
+use kd_tree::Steps;
+use map_fold::{Points, Update};
+use point_geom::Point;
+use rebuild_core::{Built, Job, MapState, StateFault, SwapFault, SwapLeft};
+use std::alloc::Global;
+use std::marker::Brand;
+use std::process::Abort;
+use std::sync::ledger::{Blank, Ledger};
+use std::test::Fail;
+
+// The mark of an update.
+pub type Updated = Result<u64, StateFault>;
+
+// A caller, and its update.
+type Own = (u8, Update);
+
+pub fn updated(alloc: Global, state: &mut MapState, caller: u8, update: Update) -> Updated
+    requires caller_from { 1 ≤ caller }
+    requires caller_to { caller ≤ 8 }
+{
+    entered::<Brand>(alloc, state, (caller, update), Blank::new(1))
+}
+
+fn entered<L: Ledger>(alloc: Global, state: &mut MapState, own: Own, blank: Blank) -> Updated
+    requires caller_from { 1 ≤ own.0 }
+    requires caller_to { own.0 ≤ 8 }
+    requires blank { IsBlankOf L.name L.parts blank }
+{
+    let mut steps: Steps<L> = Steps::new(blank);
+    let (caller, update) = own;
+    state.update(alloc, caller, update, &mut steps)
+}
+
+// Done, or why not.
+pub type Swapped = Result<(), SwapLeft>;
+
+pub fn swapped(alloc: Global, state: &mut MapState, built: Built, force: bool) -> Swapped {
+    swapped_by::<Brand>(alloc, state, built, force, Blank::new(1))
+}
+
+fn swapped_by<L: Ledger>(
+    alloc: Global,
+    state: &mut MapState,
+    built: Built,
+    force: bool,
+    blank: Blank,
+) -> Swapped
+    requires blank { IsBlankOf L.name L.parts blank }
+{
+    let mut steps: Steps<L> = Steps::new(blank);
+    state.swap(alloc, built, force, &mut steps)
+}
+
+// The value is swapped in, or it is refused for the fault.
+pub fn swap_ends(
+    rt: &impl Abort,
+    alloc: Global,
+    state: &mut MapState,
+    built: Built,
+    force: bool,
+    fault: Option<SwapFault>,
+) {
+    let end = match swapped(alloc, state, built, force) {
+        Ok(()) => None,
+        Err(left) => Some(left.fault),
+    };
+    same(rt, "the end of the swap", end, fault);
+}
+
+pub fn settled(alloc: Global, state: &mut MapState) -> Result<(), Fail> {
+    state.settle(alloc)?;
+    Ok(())
+}
+
+pub fn detached(alloc: Global, state: &mut MapState, slot: u8) -> Result<Job, Fail>
+    requires slot_from { 1 ≤ slot }
+    requires slot_to { slot ≤ 4 }
+{
+    match state.detach(alloc, slot)? {
+        Some(job) => Ok(job),
+        None => Err(Fail::new("nothing was detached")),
+    }
+}
+
+// Whether nothing is left to be detached.
+pub fn is_balanced(alloc: Global, state: &mut MapState, slot: u8) -> Result<bool, Fail>
+    requires slot_from { 1 ≤ slot }
+    requires slot_to { slot ≤ 4 }
+{
+    Ok(state.detach(alloc, slot)?.is_none())
+}
+
+pub fn built(alloc: Global, job: Job) -> Result<Built, Fail> {
+    match job.build(alloc, 16) {
+        Ok(built) => Ok(built),
+        Err(_) => Err(Fail::new("nothing was built")),
+    }
+}
+
+// The points (x, 0, 0), from the first on and before the last.
+pub fn row(alloc: Global, first: i64, last: i64) -> Result<Points, Fail> {
+    let mut points = Points::new(alloc);
+    for x in first..last {
+        points.push(Point::new(x, 0, 0)?)?;
+    }
+    Ok(points)
+}
+
+pub fn add_row(alloc: Global, state: &mut MapState, xs: &[i64]) -> Result<(), Fail> {
+    let mut points = Points::new(alloc);
+    for x in xs {
+        points.push(Point::new(*x, 0, 0)?)?;
+    }
+    updated(alloc, state, 1, Update::Add(points))?;
+    Ok(())
+}

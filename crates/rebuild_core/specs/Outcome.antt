@@ -1,0 +1,31 @@
+-- What an update leaves, and how many nodes it makes.
+use Rattle.std.specs.Prelude.{◌≡◌, ℕ, ◌+◌, ◌*◌, ◌≤◌, List, [], ◌∷◌}
+use Rattle.point_geom.specs.Place.{Place}
+use Rattle.map_fold.specs.declared.op.Op.{Op}
+use Rattle.map_fold.specs.declared.update.Update.{Update}
+use Rattle.map_fold.specs.declared.update.Update.TheVariants.{Thin}
+use Rattle.kd_tree.specs.Shape.{Shape}
+use Rattle.rebuild_core.specs.Lawful.{StateAt}
+use Rattle.rebuild_core.specs.OnePoint.{IsThinnedFrom, IsTurnedAwayFrom}
+use Rattle.rebuild_core.specs.Parts.{PartAt, paths}
+use Rattle.rebuild_core.specs.Single.{entered_nodes, unrebuilt}
+use Rattle.rebuild_core.specs.Stays.{HasRoomBeside, logged_by}
+use Rattle.rebuild_core.specs.Steps.{IsUnrebuiltUpdate}
+
+-- The update leaves these parts and this tree of the state.
+pub record IsLeftByUpdate (u : Update) (s : StateAt) (ps : List PartAt) (t : Shape) : Type 0 where
+  -- no part is forgotten where neither the tree nor a log can be full before an operation
+  pub kept : HasRoomBeside u s → paths ps ≡ paths s.parts
+  -- of one operation that rebuilds nothing each part logs exactly what that is to it
+  pub logged : (op : Op) → IsUnrebuiltUpdate u op s → ps ≡ logged_by op s.tree s.parts
+  pub unrebuilt : (op : Op) → IsUnrebuiltUpdate u op s → t ≡ unrebuilt op s.tree
+  -- where one point thins its voxel, what is left is said without the way it is made
+  pub thinned : (p : Place) → u ≡ Thin (p ∷ []) → IsThinnedFrom s p t
+  pub turned_away : (p : Place) → u ≡ Thin (p ∷ []) → IsTurnedAwayFrom s p → t ≡ s.tree
+
+-- The update makes so many nodes: the counter rises from the one number to the other.
+pub record MakesNodes (u : Update) (s : StateAt) (before after : ℕ) : Type 0 where
+  -- one operation that rebuilds nothing makes at most five for each node that it enters, and one more
+  pub ticks : (op : Op) → IsUnrebuiltUpdate u op s → after ≤ before + (5 * entered_nodes op s.tree + 1)
+  -- one point that is turned away makes none
+  pub still : (p : Place) → u ≡ Thin (p ∷ []) → IsTurnedAwayFrom s p → after ≡ before

@@ -1,0 +1,13 @@
+//! Where the points of a command are put.
+use crate::Format;
+use std::alloc::Global;
+
+/// What a command is read into.
+#[derive(Clone, Copy)]
+pub struct Room {
+    pub alloc: Global,
+    /// The version of the log.
+    pub format: Format,
+    /// For how many points there is room.
+    pub points: usize,
+}

@@ -1,0 +1,9 @@
+mod assertions;
+mod boxes;
+mod crowds;
+mod each;
+mod grown;
+mod near;
+mod scans;
+mod set_scans;
+mod sets;

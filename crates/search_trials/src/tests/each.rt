@@ -1,0 +1,88 @@
+//! Many searches at once beside single ones.
+ghost use Rattle.std.specs.Prelude.{◌≤◌};
+ghost use Rattle.std.specs.Option.{ForSome};
+
+use crate::tests::assertions::same;
+use crate::tests::grown::restored;
+use batch_near::nearest_each;
+use kd_search::nearest;
+use kd_tree::Tree;
+use map_fold::Points;
+use point_geom::Point;
+use std::alloc::Global;
+use std::process::Abort;
+use std::test::Fail;
+use std::thread::Threads;
+
+fn drawn(state: u32) -> u32 {
+    state.wrapping_mul(1_664_525).wrapping_add(1_013_904_223)
+}
+
+// Points on a grid of a decimetre, so that some are equally far.
+fn cloud(alloc: Global, count: u32, seed: u32) -> Result<Vec<Point>, Fail> {
+    let mut points = Vec::new(alloc);
+    let mut state = seed;
+    for _ in 0..count {
+        state = drawn(state);
+        let x = (state / 65_536 % 64) as i64 * 100;
+        state = drawn(state);
+        let y = (state / 65_536 % 64) as i64 * 100;
+        state = drawn(state);
+        let z = (state / 65_536 % 16) as i64 * 100;
+        points.push(Point::new(x, y, z)?)?;
+    }
+    Ok(points)
+}
+
+#[test]
+fn each_list_is_what_a_single_search_finds(rt: HostRuntime) -> Result<(), Fail> {
+    let alloc = rt.alloc();
+    let tree = restored(alloc, &cloud(alloc, 2_000, 1)?)?;
+    // How many queries, how many hits for each, and how far these may be.
+    for (count, k, within) in [
+        (4_097, 5, None),
+        (300, 17, Some(300)),
+        (1, 256, None),
+        (0, 1, None),
+    ] {
+        let queries = Points::from(cloud(alloc, count, 7)?);
+        are_as_single(&rt, alloc, &tree, &queries, k, within)?;
+    }
+    Ok(())
+}
+
+fn are_as_single<R: Threads + Sync + Abort>(
+    rt: &R,
+    alloc: Global,
+    tree: &Tree,
+    queries: &Points,
+    k: u32,
+    within: Option<u64>,
+) -> Result<(), Fail>
+    requires k_to { k ≤ 256 }
+    requires k_from { 1 ≤ k }
+    requires within_to { ForSome within (λ r. r ≤ 4398046511104) }
+{
+    let lists = nearest_each(rt, alloc, tree, k, queries, within)?;
+    same(rt, "lists", lists.len(), queries.len());
+    for (list, query) in lists.as_slice().iter().zip(queries.as_slice()) {
+        let want = nearest(alloc, tree, k, query, within)?;
+        assert_eq!(rt; list.as_slice(), want.as_slice());
+    }
+    Ok(())
+}
+
+#[test]
+fn a_query_far_from_all_has_an_empty_list(rt: HostRuntime) -> Result<(), Fail> {
+    let alloc = rt.alloc();
+    let tree = restored(alloc, &cloud(alloc, 300, 1)?)?;
+    let mut queries = Points::new(alloc);
+    queries.push(Point::new(-1, 0, 0)?)?;
+    queries.push(Point::new(0, 0, 1_600)?)?;
+    let lists = nearest_each(&rt, alloc, &tree, 256, &queries, Some(0))?;
+    same(&rt, "lists", lists.len(), 2);
+    for list in lists.as_slice() {
+        same(&rt, "hits", list.len(), 0);
+    }
+    Ok(())
+}

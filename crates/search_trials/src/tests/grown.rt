@@ -1,0 +1,88 @@
+//! Trees of points, which have the numbers from 0 on.
+ghost use Rattle.std.specs.Prelude.{◌≡◌, ◌≤◌, length, false, IfOk};
+ghost use Rattle.node_labels.specs.Labels.{is_dropped};
+ghost use Rattle.kd_tree.specs.Contents.{AreDistinct, AreKept};
+ghost use Rattle.kd_tree.specs.Counter.{IsBlankOf};
+
+use kd_tree::{Fork, MAX_NODES, Steps, Tree};
+use map_fold::{Item, Label, NoMemory, Tag};
+use point_geom::Point;
+use std::alloc::Global;
+use std::marker::Brand;
+use std::sync::ledger::{Blank, Ledger};
+use std::test::Fail;
+
+// A tree of these points with this action done to all. Before it, every third is suspended.
+pub fn grown(alloc: Global, points: &[Point], tag: Tag) -> Result<Tree, Fail> {
+    let items = items_at(alloc, points)?;
+    Ok(built::<Brand>(alloc, &items, tag, Blank::new(1))?)
+}
+
+// All of them live.
+pub fn restored(alloc: Global, points: &[Point]) -> Result<Tree, Fail> {
+    grown(alloc, points, Tag::RESTORE)
+}
+
+// Every third suspended, and all dropped that is left of the top.
+pub fn halved(alloc: Global, points: &[Point]) -> Result<Tree, Fail> {
+    let items = items_at(alloc, points)?;
+    Ok(half_built::<Brand>(alloc, &items, Blank::new(1))?)
+}
+
+fn items_at(alloc: Global, points: &[Point]) -> Result<Vec<Item>, Fail>
+    ensures kept { IfOk result (λ v. AreKept v.items) }
+    ensures distinct { IfOk result (λ v. AreDistinct v.items) }
+    ensures few { IfOk result (λ v. length v.items ≤ MAX_NODES) }
+{
+    if points.len() > 100_000 {
+        return Err(Fail::new("many points"));
+    }
+    let mut items = Vec::new(alloc);
+    let mut number = 0;
+    for point in points {
+        items.push(Item {
+            number,
+            point: *point,
+            label: label_of(number),
+        })?;
+        number += 1;
+    }
+    Ok(items)
+}
+
+fn label_of(number: u32) -> Label
+    ensures { is_dropped result ≡ false }
+{
+    if number % 3 == 2 {
+        Label::Suspended
+    } else {
+        Label::Live
+    }
+}
+
+fn built<L: Ledger>(alloc: Global, items: &[Item], tag: Tag, blank: Blank) -> Result<Tree, NoMemory>
+    requires kept { AreKept items.now }
+    requires distinct { AreDistinct items.now }
+    requires few { length items.now ≤ MAX_NODES }
+    requires blank { IsBlankOf L.name L.parts blank }
+{
+    let mut steps: Steps<L> = Steps::new(blank);
+    Tree::build(alloc, items, &mut steps)?.tagged(alloc, tag, &mut steps)
+}
+
+// The nodes that are dropped stay.
+fn half_built<L: Ledger>(alloc: Global, items: &[Item], blank: Blank) -> Result<Tree, NoMemory>
+    requires blank { IsBlankOf L.name L.parts blank }
+    requires kept { AreKept items.now }
+    requires distinct { AreDistinct items.now }
+    requires few { length items.now ≤ MAX_NODES }
+{
+    let mut steps: Steps<L> = Steps::new(blank);
+    let tree = Tree::build(alloc, items, &mut steps)?;
+    let Some(parts) = tree.push_down(alloc, &mut steps)? else {
+        return Ok(Tree::empty());
+    };
+    let left = parts.left.tagged(alloc, Tag::DELETE, &mut steps)?;
+    let parts = Fork { left, ..parts };
+    Tree::pull_up(alloc, parts, &mut steps)
+}

@@ -1,0 +1,14 @@
+mod apart;
+mod assertions;
+mod beside;
+mod breaches;
+mod draw;
+mod forty;
+mod lists;
+mod numbered;
+mod replacing;
+mod replaying;
+mod scans;
+mod scratches;
+mod script;
+mod watch;

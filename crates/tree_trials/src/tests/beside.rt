@@ -1,0 +1,235 @@
+//! Scans put at once beside watched subtrees, and the same points one by one.
+ghost use Rattle.std.specs.Prelude.{◌≡◌, ◌+◌, ◌<◌, ◌≤◌, max, true, length};
+ghost use Rattle.kd_tree.specs.Apart.{AreAllApart, AreApart, IsClear};
+ghost use Rattle.kd_tree.specs.Shape.{levels, nodes};
+ghost use Rattle.kd_tree.specs.Counter.{IsBlankOf};
+ghost use Rattle.kd_update.specs.Crossing.{HaveRoomAtOnce};
+ghost use Rattle.kd_update.specs.Several.{AreLargeAt};
+ghost use Rattle.kd_update.specs.Watches.{paths_in};
+
+use crate::tests::assertions::{holds, same};
+use crate::tests::draw::Draw;
+use crate::tests::numbered::Numbered;
+use crate::tests::watch::{Watched, Watching, are_large, became, drawn_map, grandsons, held_at};
+use kd_tree::{MAX_NODES, Path, Scratch, Side, Steps};
+use kd_update::{Watch, live_items, put_all_watched};
+use map_fold::{Item, MAX_POINTS};
+use point_geom::Point;
+use std::alloc::Global;
+use std::marker::Brand;
+use std::process::Abort;
+use std::sync::ledger::{Blank, Ledger};
+use std::test::Fail;
+
+fn put_scan_beside<L: Ledger>(
+    alloc: Global,
+    at: Watching,
+    points: &[Point],
+    blank: Blank,
+) -> Watched
+    requires blank { IsBlankOf L.name L.parts blank }
+    requires next { at.map.next + length points.now ≤ MAX_POINTS }
+    requires small { length points.now < max 2 at.map.large }
+    requires short { length points.now < MAX_POINTS }
+    requires low { levels at.map.tree ≤ 490 }
+    requires few { nodes at.map.tree + length points.now ≤ MAX_NODES }
+    requires there { AreLargeAt at.map.large (paths_in at.watches) at.map.tree }
+    requires apart { AreAllApart (paths_in at.watches) }
+    requires room { HaveRoomAtOnce (length points.now) at.watches }
+{
+    let mut steps: Steps<L> = Steps::new(blank);
+    let mut scratch = Scratch::new(alloc);
+    let Watching { map, mut watches } = at;
+    let (large, next) = (map.large, map.next);
+    let _size = map.tree.size();
+    let items = live_items(alloc, next, points)?;
+    let tree = put_all_watched(
+        alloc,
+        map.tree,
+        large,
+        items.as_slice(),
+        &mut watches,
+        &mut scratch,
+        &mut steps,
+    )?;
+    let next = next + points.len() as u32;
+    let map = Numbered { tree, next, large };
+    Ok(Watching { map, watches })
+}
+
+// Whether neither begins with the other.
+fn are_apart(one: &[Side], other: &[Side]) -> bool
+    ensures { result ≡ true → AreApart one.now other.now }
+{
+    let Some((side, one)) = one.split_first() else {
+        return false;
+    };
+    let Some((beside, other)) = other.split_first() else {
+        return false;
+    };
+    match side {
+        Side::Left => match beside {
+            Side::Left => are_apart(one, other),
+            Side::Right => true,
+        },
+        Side::Right => match beside {
+            Side::Left => true,
+            Side::Right => are_apart(one, other),
+        },
+    }
+}
+
+fn is_clear(path: &Path, watches: &[Watch]) -> bool
+    ensures { result ≡ true → IsClear path.now (paths_in watches.now) }
+{
+    match watches.split_first() {
+        None => true,
+        Some((watch, rest)) => {
+            are_apart(path.as_slice(), watch.path.as_slice()) && is_clear(path, rest)
+        }
+    }
+}
+
+fn are_all_apart(watches: &[Watch]) -> bool
+    ensures { result ≡ true → AreAllApart (paths_in watches.now) }
+{
+    match watches.split_first() {
+        None => true,
+        Some((watch, rest)) => is_clear(&watch.path, rest) && are_all_apart(rest),
+    }
+}
+
+fn have_room_at_once(count: usize, watches: &[Watch]) -> bool
+    requires { count ≤ MAX_POINTS }
+    ensures { result ≡ true → HaveRoomAtOnce count watches.now }
+{
+    match watches.split_first() {
+        None => true,
+        Some((watch, rest)) => {
+            watch.log.room() >= count as u32 + 2 && have_room_at_once(count, rest)
+        }
+    }
+}
+
+impl Watching {
+    // A map of drawn points, from this size on of whose subtrees none is rebuilt in what follows.
+    fn started(
+        rt: &impl Abort,
+        alloc: Global,
+        paths: &[Path],
+        large: u32,
+    ) -> Result<Watching, Fail> {
+        let mut map = drawn_map(rt, alloc, &mut Draw { state: 7 })?;
+        map.large = large;
+        Watching::new(rt, alloc, map, paths)
+    }
+
+    fn put_singly(self, rt: &impl Abort, alloc: Global, points: &[Point]) -> Watched {
+        let mut at = self;
+        for point in points {
+            at = at.put(rt, alloc, *point)?;
+        }
+        Ok(at)
+    }
+
+    fn put_at_once(self, rt: &impl Abort, alloc: Global, points: &[Point]) -> Watched {
+        let many = points.len();
+        let watches = self.watches.as_slice();
+        assert!(rt; many < self.map.large.max(2) as usize);
+        assert!(rt; many < 4_194_304);
+        assert!(rt; self.map.next < 4_194_304);
+        assert!(rt; many <= (4_194_304 - self.map.next) as usize);
+        assert!(rt; self.map.tree.levels() <= 490);
+        assert!(rt; self.map.tree.size() < 4_194_304);
+        assert!(rt; many <= (4_194_304 - self.map.tree.size()) as usize);
+        assert!(rt; are_large(&self.map.tree, self.map.large, watches));
+        assert!(rt; are_all_apart(watches));
+        assert!(rt; have_room_at_once(many, watches));
+        put_scan_beside::<Brand>(alloc, self, points, Blank::new(1))
+    }
+}
+
+// The same scans beside the same subtrees, point by point and at once, with an action before each.
+#[derive(Drop)]
+struct Both {
+    singly: Watching,
+    scanned: Watching,
+}
+
+impl Both {
+    fn changed(
+        self,
+        rt: &impl Abort,
+        alloc: Global,
+        draw: &mut Draw,
+        count: u32,
+    ) -> Result<Both, Fail> {
+        let Both { singly, scanned } = self;
+        let action = draw.action()?;
+        let singly = singly.marked(rt, alloc, &action)?;
+        let scanned = scanned.marked(rt, alloc, &action)?;
+        let points = draw.points(alloc, count)?;
+        let singly = singly.put_singly(rt, alloc, points.as_slice())?;
+        let scanned = scanned.put_at_once(rt, alloc, points.as_slice())?;
+        Ok(Both { singly, scanned })
+    }
+
+    fn hold_the_same(&self, rt: &impl Abort, alloc: Global) -> Result<(), Fail> {
+        let scanned = self.scanned.map.tree.flatten(alloc)?;
+        let singly = self.singly.map.tree.flatten(alloc)?;
+        let are_same = scanned.as_slice() == singly.as_slice();
+        holds(rt, "what both hold", are_same);
+        Ok(())
+    }
+
+    // As many operations are logged at each in both, and make of what it was what it holds.
+    fn have_logged(
+        &self,
+        rt: &impl Abort,
+        alloc: Global,
+        olds: Vec<Vec<Item>>,
+    ) -> Result<(), Fail> {
+        let mut olds = olds.into_iter();
+        let mut others = self.singly.watches.as_slice().iter();
+        for watch in self.scanned.watches.as_slice() {
+            let (Some(items), Some(other)) = (olds.next(), others.next()) else {
+                return Err(Fail::new("fewer watches"));
+            };
+            same(rt, "operations", watch.log.len(), other.log.len());
+            became(rt, alloc, &self.scanned.map.tree, watch, items)?;
+        }
+        Ok(())
+    }
+}
+
+fn scans_beside(
+    rt: &impl Abort,
+    alloc: Global,
+    paths: &[Path],
+    large: u32,
+    count: u32,
+) -> Result<(), Fail> {
+    let singly = Watching::started(rt, alloc, paths, large)?;
+    let scanned = Watching::started(rt, alloc, paths, large)?;
+    let olds = held_at(alloc, &scanned.map.tree, paths)?;
+    let mut both = Both { singly, scanned };
+    let mut draw = Draw { state: 11 };
+    for _ in 0..5 {
+        both = both.changed(rt, alloc, &mut draw, count)?;
+        both.hold_the_same(rt, alloc)?;
+    }
+    both.have_logged(rt, alloc, olds)
+}
+
+#[test]
+fn a_scan_beside_watched_subtrees_does_what_its_points_do(rt: HostRuntime) -> Result<(), Fail> {
+    let alloc = rt.alloc();
+    let [first, second, ..] = grandsons();
+    let left = Path::root().down(Side::Left);
+    for (large, count) in [(16, 12), (40, 39)] {
+        scans_beside(&rt, alloc, &[left], large, count)?;
+        scans_beside(&rt, alloc, &[second, first], large, count)?;
+        scans_beside(&rt, alloc, &grandsons(), large, count)?;
+    }
+    Ok(())
+}

@@ -1,0 +1,117 @@
+//! Trees whose points are numbered in turn.
+ghost use Rattle.std.specs.Prelude.{◌<◌, Contains, ℕ};
+ghost use Rattle.kd_tree.specs.Shape.{numbers};
+ghost use Rattle.kd_tree.specs.Counter.{IsBlankOf};
+
+use crate::tests::draw::Action;
+use kd_tree::{Steps, Tree};
+use kd_update::{marked, put, roomy, settled};
+use map_fold::{MAX_POINTS, NoMemory};
+use point_geom::{Corner, Cuboid, Point};
+use std::alloc::Global;
+use std::marker::Brand;
+use std::process::Abort;
+use std::sync::ledger::{Blank, Ledger};
+use std::test::Fail;
+
+// A tree whose numbers lie below the next one. Updates rebuild none of its subtrees from `large` nodes on.
+#[derive(Drop)]
+pub struct Numbered {
+    pub tree: Tree,
+    pub next: u32,
+    pub large: u32,
+    pub ghost below: { (n : ℕ) → Contains (numbers tree) n → n < next },
+}
+
+// The map after a change.
+pub type Changed = Result<Numbered, NoMemory>;
+
+impl Numbered {
+    pub fn new(large: u32) -> Numbered {
+        Numbered {
+            tree: Tree::empty(),
+            next: 0,
+            large,
+        }
+    }
+
+    pub fn put(self, rt: &impl Abort, alloc: Global, point: Point) -> Changed {
+        assert!(rt; self.next < 4_194_304);
+        put_next::<Brand>(alloc, self, point, Blank::new(1))
+    }
+
+    pub fn marked(self, alloc: Global, action: &Action) -> Changed {
+        mark_all::<Brand>(alloc, self, action, Blank::new(1))
+    }
+
+    pub fn settled(self, alloc: Global) -> Changed {
+        let tree = settled(alloc, self.tree)?;
+        Ok(Numbered {
+            tree,
+            next: self.next,
+            large: self.large,
+        })
+    }
+
+    // Puts the points (x, 0, 0) for x from `from` to `to` less one, one by one.
+    pub fn risen(
+        self,
+        rt: &impl Abort,
+        alloc: Global,
+        from: i64,
+        to: i64,
+    ) -> Result<Numbered, Fail> {
+        let mut map = self;
+        for x in from..to {
+            let point = Point::new(x, 0, 0)?;
+            map = map.put(rt, alloc, point)?;
+        }
+        Ok(map)
+    }
+}
+
+fn put_next<L: Ledger>(alloc: Global, map: Numbered, point: Point, blank: Blank) -> Changed
+    requires blank { IsBlankOf L.name L.parts blank }
+    requires next { map.next < MAX_POINTS }
+{
+    let mut steps: Steps<L> = Steps::new(blank);
+    let _size = map.tree.size();
+    let tree = roomy(alloc, map.tree, &mut steps)?;
+    let tree = put(alloc, tree, map.large, map.next, point, &mut steps)?;
+    Ok(Numbered {
+        tree,
+        next: map.next + 1,
+        large: map.large,
+    })
+}
+
+fn mark_all<L: Ledger>(alloc: Global, map: Numbered, action: &Action, blank: Blank) -> Changed
+    requires blank { IsBlankOf L.name L.parts blank }
+{
+    let mut steps: Steps<L> = Steps::new(blank);
+    let Action { choice, tag } = action;
+    let tree = marked(alloc, map.tree, map.large, choice, *tag, &mut steps)?;
+    Ok(Numbered {
+        tree,
+        next: map.next,
+        large: map.large,
+    })
+}
+
+pub fn row(rt: &impl Abort, alloc: Global, large: u32, points: i64) -> Result<Numbered, Fail> {
+    Numbered::new(large).risen(rt, alloc, 0, points)
+}
+
+pub fn between(lo: (i64, i64, i64), hi: (i64, i64, i64)) -> Result<Cuboid, Fail> {
+    let lo = Corner {
+        x: lo.0,
+        y: lo.1,
+        z: lo.2,
+    };
+    let hi = Corner {
+        x: hi.0,
+        y: hi.1,
+        z: hi.2,
+    };
+    Ok(Cuboid::new(lo, hi)?)
+}

@@ -1,0 +1,121 @@
+//! Trees that are rebuilt in one scratch.
+ghost use Rattle.std.specs.Prelude.{◌≡◌, ◌<◌, true};
+ghost use Rattle.std.specs.List.{AllByRecursion};
+ghost use Rattle.kd_tree.specs.Counter.{IsBlankOf};
+
+use crate::tests::assertions::same;
+use crate::tests::breaches::left_dropped;
+use crate::tests::forty::{forty, item};
+use crate::tests::lists::holds_all;
+use kd_tree::{Scratch, Steps, Tree};
+use map_fold::{Item, Tag};
+use std::alloc::Global;
+use std::marker::Brand;
+use std::process::Abort;
+use std::sync::ledger::{Blank, Ledger};
+use std::test::Fail;
+
+// Of forty items 19 are dropped, and the others suspended, which the sons of the top are yet to hear.
+fn half_left<L: Ledger>(alloc: Global, steps: &mut Steps<L>) -> Result<Tree, Fail> {
+    let tree = forty(alloc, steps)?;
+    let tree = left_dropped(alloc, tree, steps)?;
+    Ok(tree.tagged(alloc, Tag::SUSPEND, steps)?)
+}
+
+fn all_below(items: &[Item], n: u32) -> bool
+    ensures { result ≡ true → AllByRecursion (λ i. i.number < n) items.now }
+{
+    match items.split_first() {
+        None => true,
+        Some((first, rest)) => first.number < n && all_below(rest, n),
+    }
+}
+
+// The tree rebuilt with a live item more, whose number is 100.
+fn with_hundredth<L: Ledger>(
+    alloc: Global,
+    tree: Tree,
+    scratch: &mut Scratch,
+    steps: &mut Steps<L>,
+) -> Result<Tree, Fail> {
+    let _size = tree.size();
+    let items = tree.flatten(alloc)?;
+    if !all_below(items.as_slice(), 100) {
+        return Err(Fail::new("a number from 100 on"));
+    }
+    let more = [item(100, 101)?];
+    Ok(tree.rebuilt_with(alloc, &more, scratch, steps)?)
+}
+
+// How many items are live, suspended and dropped.
+fn counts(tree: &Tree) -> (u32, u32, u32) {
+    let counts = tree.counts();
+    (counts.live, counts.suspended, counts.dropped)
+}
+
+// A copy rebuilt so. The nodes are the tree's too, which stays as it is.
+fn rebuilt_beside<L: Ledger>(
+    rt: &impl Abort,
+    alloc: Global,
+    tree: &Tree,
+    scratch: &mut Scratch,
+    steps: &mut Steps<L>,
+) -> Result<Tree, Fail> {
+    let copy = tree.copy(alloc, steps)?;
+    let copy = with_hundredth(alloc, copy, scratch, steps)?;
+    same(rt, "the rebuilt tree", counts(&copy), (1, 21, 0));
+    same(rt, "the tree beside it", counts(tree), (0, 21, 19));
+    Ok(copy)
+}
+
+// What was left, and the new item.
+fn are_from_19_on(rt: &impl Abort, items: &[Item]) {
+    let number = |at: usize| items.get(at).map(|i| i.number);
+    same(rt, "the first number", number(0), Some(19));
+    same(rt, "the last number that was left", number(20), Some(39));
+    same(rt, "the new number", number(21), Some(100));
+    same(rt, "no more", number(22), None);
+}
+
+// A restored copy of a tree that is dropped. The tree gives up its nodes, but for those that the copy has.
+fn restored<L: Ledger>(
+    alloc: Global,
+    scratch: &mut Scratch,
+    steps: &mut Steps<L>,
+) -> Result<Tree, Fail> {
+    let tree = half_left(alloc, steps)?;
+    let copy = tree.copy(alloc, steps)?;
+    let restored = copy.tagged(alloc, Tag::RESTORE, steps)?;
+    scratch.take_in(tree);
+    Ok(restored)
+}
+
+fn rebuilt_with<L: Ledger>(rt: &impl Abort, alloc: Global, blank: Blank) -> Result<(), Fail>
+    requires blank { IsBlankOf L.name L.parts blank }
+{
+    let mut steps: Steps<L> = Steps::new(blank);
+    let mut scratch = Scratch::new(alloc);
+    let tree = half_left(alloc, &mut steps)?;
+    let first = rebuilt_beside(rt, alloc, &tree, &mut scratch, &mut steps)?;
+    let items = first.flatten(alloc)?;
+    are_from_19_on(rt, items.as_slice());
+
+    // The tree's own nodes are used again, and some of them are left over.
+    let second = with_hundredth(alloc, tree, &mut scratch, &mut steps)?;
+    holds_all(rt, alloc, &second, items.as_slice())?;
+
+    // Those take the nodes of the next trees.
+    let other = half_left(alloc, &mut steps)?;
+    let third = rebuilt_beside(rt, alloc, &other, &mut scratch, &mut steps)?;
+    holds_all(rt, alloc, &third, items.as_slice())?;
+    let restored = restored(alloc, &mut scratch, &mut steps)?;
+    let fourth = rebuilt_beside(rt, alloc, &other, &mut scratch, &mut steps)?;
+    holds_all(rt, alloc, &fourth, items.as_slice())?;
+    same(rt, "the restored tree", counts(&restored), (21, 0, 19));
+    Ok(())
+}
+
+#[test]
+fn trees_built_anew_hold_what_was_left_and_the_new_items(rt: HostRuntime) -> Result<(), Fail> {
+    rebuilt_with::<Brand>(&rt, rt.alloc(), Blank::new(1))
+}

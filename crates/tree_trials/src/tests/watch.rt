@@ -1,0 +1,358 @@
+//! Watched subtrees beside plain lists.
+ghost use Rattle.std.specs.Prelude.{◌≡◌, ◌<◌, true};
+ghost use Rattle.kd_tree.specs.Shape.{levels, nodes};
+ghost use Rattle.kd_tree.specs.Counter.{IsBlankOf};
+ghost use Rattle.kd_update.specs.Several.{AreLargeAt};
+ghost use Rattle.kd_update.specs.Watch.{IsLargeAt};
+ghost use Rattle.kd_update.specs.Watches.{HaveRoom, paths_in};
+
+use crate::tests::assertions::{holds, same};
+use crate::tests::draw::{Action, Draw, mark_plainly};
+use crate::tests::numbered::{Numbered, between, row};
+use kd_tree::{MAX_LEVELS, MAX_NODES, Path, Side, Steps, Tree};
+use kd_update::{Watch, Watches, marked_watched, put_watched};
+use map_fold::{Choice, Item, Label, MAX_POINTS, NoMemory, Op, Tag};
+use op_logger::OpLog;
+use point_geom::Point;
+use std::alloc::Global;
+use std::marker::Brand;
+use std::process::Abort;
+use std::sync::ledger::{Blank, Ledger};
+use std::test::Fail;
+
+// A map, and what is watched in it.
+#[derive(Drop)]
+pub struct Watching {
+    pub map: Numbered,
+    pub watches: Watches,
+}
+
+// The same after a change.
+pub type Watched = Result<Watching, NoMemory>;
+
+fn put_beside<L: Ledger>(alloc: Global, at: Watching, point: Point, blank: Blank) -> Watched
+    requires blank { IsBlankOf L.name L.parts blank }
+    requires next { at.map.next < MAX_POINTS }
+    requires low { levels at.map.tree < MAX_LEVELS }
+    requires few { nodes at.map.tree < MAX_NODES }
+    requires there { AreLargeAt at.map.large (paths_in at.watches) at.map.tree }
+    requires room { HaveRoom at.watches }
+{
+    let steps: &mut Steps<L> = &mut Steps::new(blank);
+    let Watching { map, mut watches } = at;
+    let (large, next) = (map.large, map.next);
+    let tree = put_watched(alloc, map.tree, large, next, point, &mut watches, steps)?;
+    let next = next + 1;
+    let map = Numbered { tree, next, large };
+    Ok(Watching { map, watches })
+}
+
+fn mark_beside<L: Ledger>(alloc: Global, at: Watching, action: &Action, blank: Blank) -> Watched
+    requires blank { IsBlankOf L.name L.parts blank }
+    requires there { AreLargeAt at.map.large (paths_in at.watches) at.map.tree }
+    requires room { HaveRoom at.watches }
+{
+    let steps: &mut Steps<L> = &mut Steps::new(blank);
+    let Watching { map, mut watches } = at;
+    let Action { choice, tag } = action;
+    let (large, next) = (map.large, map.next);
+    let tree = marked_watched(alloc, map.tree, large, choice, *tag, &mut watches, steps)?;
+    let map = Numbered { tree, next, large };
+    Ok(Watching { map, watches })
+}
+
+pub fn is_large(tree: &Tree, large: u32, path: &Path) -> bool
+    ensures { result ≡ true → IsLargeAt large path.now tree.now }
+{
+    match tree.subtree_at(path) {
+        None => false,
+        Some(son) => large <= son.size(),
+    }
+}
+
+pub fn are_large(tree: &Tree, large: u32, watches: &[Watch]) -> bool
+    ensures { result ≡ true → AreLargeAt large (paths_in watches.now) tree.now }
+{
+    match watches.split_first() {
+        None => true,
+        Some((watch, rest)) => is_large(tree, large, &watch.path) && are_large(tree, large, rest),
+    }
+}
+
+fn have_room(watches: &[Watch]) -> bool
+    ensures { result ≡ true → HaveRoom watches.now }
+{
+    match watches.split_first() {
+        None => true,
+        Some((watch, rest)) => watch.log.room() >= 2 && have_room(rest),
+    }
+}
+
+impl Watching {
+    // The map with watches at these paths, where nothing is logged.
+    pub fn new(
+        rt: &impl Abort,
+        alloc: Global,
+        map: Numbered,
+        paths: &[Path],
+    ) -> Result<Watching, Fail> {
+        let mut watches = Watches::new(alloc);
+        for path in paths {
+            assert!(rt; watches.len() < 4);
+            watches.push(Watch {
+                path: *path,
+                log: OpLog::new(alloc),
+            })?;
+        }
+        Ok(Watching { map, watches })
+    }
+
+    pub fn put(self, rt: &impl Abort, alloc: Global, point: Point) -> Watched {
+        let watches = self.watches.as_slice();
+        assert!(rt; self.map.next < 4_194_304);
+        assert!(rt; self.map.tree.levels() < 512);
+        assert!(rt; self.map.tree.size() < 4_194_304);
+        assert!(rt; are_large(&self.map.tree, self.map.large, watches));
+        assert!(rt; have_room(watches));
+        put_beside::<Brand>(alloc, self, point, Blank::new(1))
+    }
+
+    pub fn marked(self, rt: &impl Abort, alloc: Global, action: &Action) -> Watched {
+        let watches = self.watches.as_slice();
+        assert!(rt; are_large(&self.map.tree, self.map.large, watches));
+        assert!(rt; have_room(watches));
+        mark_beside::<Brand>(alloc, self, action, Blank::new(1))
+    }
+}
+
+// What the subtree at the path holds by itself.
+pub fn own(alloc: Global, tree: &Tree, path: &Path) -> Result<Vec<Item>, Fail> {
+    match tree.subtree_at(path) {
+        None => Err(Fail::new("no subtree")),
+        Some(son) => Ok(Vec::from_slice(alloc, son.flatten(alloc)?.as_slice())?),
+    }
+}
+
+// The items of the list after what was logged. The points that are put have rising numbers.
+fn replay_plainly(alloc: Global, items: Vec<Item>, log: &OpLog) -> Result<Vec<Item>, Fail> {
+    let mut items = items;
+    let ops = log.after(alloc, 0)?;
+    for op in ops.as_slice() {
+        perform_plainly(&mut items, op)?;
+    }
+    Ok(items)
+}
+
+pub fn perform_plainly(items: &mut Vec<Item>, op: &Op) -> Result<(), Fail> {
+    match op {
+        Op::Mark { choice, tag } => mark_plainly(items, choice, *tag),
+        Op::Put { number, point } => items.push(Item {
+            number: *number,
+            point: *point,
+            label: Label::Live,
+        })?,
+    }
+    Ok(())
+}
+
+// Four places, two levels down.
+pub fn grandsons() -> [Path; 4] {
+    let left = Path::root().down(Side::Left);
+    let right = Path::root().down(Side::Right);
+    [
+        left.down(Side::Left),
+        left.down(Side::Right),
+        right.down(Side::Left),
+        right.down(Side::Right),
+    ]
+}
+
+type Logged = (u32, u32, u32, u32);
+
+// How many operations are logged at each of four watches.
+fn logged(watches: &Watches) -> Result<Logged, Fail> {
+    match watches.as_slice() {
+        [a, b, c, d] => Ok((a.log.len(), b.log.len(), c.log.len(), d.log.len())),
+        _ => Err(Fail::new("not four watches")),
+    }
+}
+
+// The map after an action on the points from `from` to `to` less one, which leaves so many logged.
+fn acted(
+    rt: &impl Abort,
+    alloc: Global,
+    at: Watching,
+    (from, to, tag, want): (i64, i64, Tag, Logged),
+) -> Result<Watching, Fail> {
+    let choice = Choice::within(&between((from, 0, 0), (to, 1, 1))?);
+    let at = at.marked(rt, alloc, &Action { choice, tag })?;
+    assert_eq!(rt; logged(&at.watches)?, want, "from {from} to {to}");
+    Ok(at)
+}
+
+// The map after a point more, which leaves so many logged.
+fn with_point(
+    rt: &impl Abort,
+    alloc: Global,
+    at: Watching,
+    (x, want): (i64, Logged),
+) -> Result<Watching, Fail> {
+    let at = at.put(rt, alloc, Point::new(x, 0, 0)?)?;
+    assert_eq!(rt; logged(&at.watches)?, want, "a point at {x}");
+    Ok(at)
+}
+
+// A settled row.
+fn balanced(rt: &impl Abort, alloc: Global, from: i64, to: i64) -> Result<Numbered, Fail> {
+    let map = Numbered::new(16).risen(rt, alloc, from, to)?;
+    Ok(map.settled(alloc)?)
+}
+
+#[test]
+fn an_action_is_logged_where_it_meets_a_watched_root_that_is_not_covered_from_above(
+    rt: HostRuntime,
+) -> Result<(), Fail> {
+    let alloc = rt.alloc();
+    // Four subtrees: 1 to 19, 21 to 39, 41 to 59 and 61 to 80.
+    let map = balanced(&rt, alloc, 1, 81)?;
+    let mut at = Watching::new(&rt, alloc, map, &grandsons())?;
+    for row in [
+        // It covers the first root, touches the first two, and misses all.
+        (1, 20, Tag::SUSPEND, (1, 0, 0, 0)),
+        (19, 22, Tag::RESTORE, (2, 1, 0, 0)),
+        (20, 21, Tag::SUSPEND, (2, 1, 0, 0)),
+        (0, 1, Tag::DELETE, (2, 1, 0, 0)),
+        // It covers the whole tree, and rests at its top.
+        (0, 100, Tag::SUSPEND, (2, 1, 0, 0)),
+        // What rests is pushed into both sons of the node above the first two, and into the father of the others.
+        (30, 33, Tag::RESTORE, (3, 3, 0, 0)),
+    ] {
+        at = acted(&rt, alloc, at, row)?;
+    }
+    // Here the father pushes it on, also into the root that the point doesn't go to.
+    for row in [(50, (3, 3, 2, 1)), (90, (3, 3, 2, 2)), (5, (4, 3, 2, 2))] {
+        at = with_point(&rt, alloc, at, row)?;
+    }
+    same(&rt, "watches", at.watches.into_vec().len(), 4);
+    Ok(())
+}
+
+#[test]
+fn what_rests_above_a_watched_root_is_logged_when_pushed_in(rt: HostRuntime) -> Result<(), Fail> {
+    let alloc = rt.alloc();
+    let map = balanced(&rt, alloc, 1, 41)?;
+    let map = map.risen(&rt, alloc, 41, 45)?;
+    let right = Path::root().down(Side::Right);
+    let at = Watching::new(&rt, alloc, map, &[right])?;
+
+    let choice = Choice::within(&between((0, 0, 0), (100, 1, 1))?);
+    let tag = Tag::SUSPEND;
+    let at = at.marked(&rt, alloc, &Action { choice, tag })?;
+    let choice = Choice::within(&between((30, 0, 0), (33, 1, 1))?);
+    let tag = Tag::RESTORE;
+    let at = at.marked(&rt, alloc, &Action { choice, tag })?;
+    let is_large = is_large(&at.map.tree, 24, &right);
+    holds(&rt, "a large subtree", is_large);
+    has_logged_both(&rt, alloc, &at.watches, choice)
+}
+
+// The first watch has that all were suspended, and that part of them was restored.
+fn has_logged_both(
+    rt: &impl Abort,
+    alloc: Global,
+    watches: &Watches,
+    part: Choice,
+) -> Result<(), Fail> {
+    let Some(watch) = watches.as_slice().first() else {
+        return Err(Fail::new("no watch"));
+    };
+    let suspended = Op::Mark {
+        choice: Choice::ALL,
+        tag: Tag::SUSPEND,
+    };
+    let restored = Op::Mark {
+        choice: part,
+        tag: Tag::RESTORE,
+    };
+    let ops = watch.log.after(alloc, 0)?;
+    let are_both = ops.as_slice() == [suspended, restored].as_slice();
+    holds(rt, "what was logged", are_both);
+    Ok(())
+}
+
+#[test]
+fn what_was_logged_makes_a_watched_subtree_of_what_it_was(rt: HostRuntime) -> Result<(), Fail> {
+    let alloc = rt.alloc();
+    let [first, second, ..] = grandsons();
+    let left = Path::root().down(Side::Left);
+    beside(&rt, alloc, &[left])?;
+    beside(&rt, alloc, &[second, left])?;
+    beside(&rt, alloc, &[first, second])?;
+    beside(&rt, alloc, &grandsons())
+}
+
+// A settled map of drawn points.
+pub fn drawn_map(rt: &impl Abort, alloc: Global, draw: &mut Draw) -> Result<Numbered, Fail> {
+    let mut map = row(rt, alloc, 16, 16)?;
+    for _ in 0..200 {
+        let point = draw.point()?;
+        map = map.put(rt, alloc, point)?;
+    }
+    Ok(map.settled(alloc)?)
+}
+
+// What each subtree holds.
+pub fn held_at(alloc: Global, tree: &Tree, paths: &[Path]) -> Result<Vec<Vec<Item>>, Fail> {
+    let mut lists = Vec::new(alloc);
+    for path in paths {
+        lists.push(own(alloc, tree, path)?)?;
+    }
+    Ok(lists)
+}
+
+// Random updates of a settled row beside the watches, and in the end each subtree beside its list.
+fn beside(rt: &impl Abort, alloc: Global, paths: &[Path]) -> Result<(), Fail> {
+    let mut draw = Draw { state: 7 };
+    let map = drawn_map(rt, alloc, &mut draw)?;
+    let olds = held_at(alloc, &map.tree, paths)?;
+    let mut at = Watching::new(rt, alloc, map, paths)?;
+    for _ in 0..300 {
+        at = changed(rt, alloc, at, &mut draw)?;
+    }
+    let mut olds = olds.into_iter();
+    for watch in at.watches.as_slice() {
+        let Some(items) = olds.next() else {
+            return Err(Fail::new("no list"));
+        };
+        became(rt, alloc, &at.map.tree, watch, items)?;
+    }
+    Ok(())
+}
+
+fn changed(
+    rt: &impl Abort,
+    alloc: Global,
+    at: Watching,
+    draw: &mut Draw,
+) -> Result<Watching, Fail> {
+    if draw.sixteenth() < 8 {
+        return Ok(at.put(rt, alloc, draw.point()?)?);
+    }
+    let action = draw.action()?;
+    Ok(at.marked(rt, alloc, &action)?)
+}
+
+// What was logged makes of these items what the subtree holds.
+pub fn became(
+    rt: &impl Abort,
+    alloc: Global,
+    tree: &Tree,
+    watch: &Watch,
+    items: Vec<Item>,
+) -> Result<(), Fail> {
+    let items = replay_plainly(alloc, items, &watch.log)?;
+    let held = own(alloc, tree, &watch.path)?;
+    let are_same = held.as_slice() == items.as_slice();
+    holds(rt, "what the subtree holds", are_same);
+    Ok(())
+}
