@@ -1,5 +1,6 @@
 -- What is known where all callers have met: that none of them was stopped, and at the end that the replies are legal.
-use Rattle.std.proofs.Common.{◌≡◌, ℕ, zero, suc, ◌+◌, ◌<◌, ◌≤◌, ⊎_elim, ◌==◌, true, List, [], ◌∷◌, ◌++◌, length, Some, slice_get, refl, ap, sym, ◌∙◌, subst, arith}
+use Rattle.std.proofs.Common.{◌≡◌, ℕ, zero, suc, ◌+◌, ◌<◌, ◌≤◌, ⊎_elim, ◌==◌, true, List, [], ◌∷◌, ◌++◌, length, Option, Some, None, slice_get, refl, ap, sym, ◌∙◌, subst, arith}
+use Rattle.std.specs.Option.{option_to_list}
 use Rattle.std.proofs.lemmas.List.{length-map, map-append}
 use mathlib.Core.List.{IsPrefix}
 use Rattle.map_fold.specs.declared.entry.Entry.{Entry}
@@ -7,15 +8,15 @@ use Rattle.map_fold.specs.declared.update.Update.{Update}
 use Rattle.map_fold.specs.Fold.{fold, points_in}
 use Rattle.rebuild_core.specs.History.{updates}
 use Rattle.published_map.specs.Marks.{Seen, times, AllOf, callers_of, AllMet, AllGrown, AllMetNow}
-use Rattle.scan_log.specs.Commands.{is_by}
+use Rattle.scan_log.specs.Commands.{Concerns, command_update, is_by, updates_made}
 use Rattle.scan_log.specs.declared.command.Command.{Command}
-use Rattle.scan_log.specs.declared.command.Command.TheVariants.{Change, Near, Nears, Inside, Ball, Lonely, Clusters, Pose, Sync}
+use Rattle.scan_log.specs.declared.command.Command.TheVariants.{Change}
 use Rattle.scan_log.specs.declared.reply.Reply.{Reply}
 use Rattle.scan_log.specs.Scripts.{ScriptAt, submitted, points_of}
 use Rattle.scan_log.specs.Legal.{counted, AreLegalReplies}
 use Rattle.scan_log.specs.Transcript.{totals_reply, mark_of}
-use Rattle.mapper_core.specs.Told.{raised, Told}
-use Rattle.mapper_core.specs.Mine.{updates_by, Ran, Stopped, Turned}
+use Rattle.mapper_core.specs.Told.{Answers, raised, Told}
+use Rattle.mapper_core.specs.Mine.{keep_made, updates_by, Ran, Stopped, Turned}
 use Rattle.mapper_core.specs.Meetings.{AllDone, Standing, StandingAtEnd}
 use Rattle.mapper_core.specs.Ended.{AllReplied, HaveEnded}
 use Rattle.scan_log.proofs.Whose.{anyone, anyone_concerned, updates_few}
@@ -23,7 +24,7 @@ use Rattle.mapper_core.proofs.LegalMarks.{told_is_legal}
 use Rattle.mapper_core.proofs.OneCaller.{updates_own}
 use Rattle.mapper_core.proofs.CameBack.{AllBack, back_rest}
 use Rattle.mapper_core.proofs.Meeting.{updates_append, standing_distinct}
-use Rattle.mapper_core.proofs.Weights.{weigh, weigh_append, weigh_one, weigh_points, entries_whole, commands_of, commands_most, commands_whole, AllChangesOf, weigh_all, all_ones, all_points, made, made_met, made_done}
+use Rattle.mapper_core.proofs.Weights.{weigh, weigh_append, weigh_one, weigh_points, entries_whole, commands_of, commands_most, commands_whole, AllChangesOf, all_points, made, made_met, made_done}
 
 -- there are no more commands and points than a script may have
 pub record AreFew (cs : List Command) : Type 0 where
@@ -42,21 +43,16 @@ turn_weight w voxel cs ds p q rs done t =
     let e : weigh w (q.mine ++ rest) ≡ weigh w (updates_by p.caller (cs ++ ds)) = ap (weigh w) (s.mine ∙ whole) in
     let a = weigh_append w q.mine rest in omega arith) t
 
-own_weight : (w : Update → ℕ) (x : ℕ) (c : Command) → is_by x c ≡ true → weigh w (updates_by x (c ∷ [])) ≡ weigh_all w (c ∷ [])
-unfolding weigh weigh_all
-own_weight w x (Change caller u) is = let e : (caller == x) ≡ true = is in rw e refl
-own_weight w x (Near caller k p within) is = refl
-own_weight w x (Nears caller k ps) is = refl
-own_weight w x (Inside caller k b) is = refl
-own_weight w x (Ball caller k r p) is = refl
-own_weight w x (Lonely caller k r) is = refl
-own_weight w x (Clusters caller k r) is = refl
-own_weight w x (Pose caller rules place) is = refl
-own_weight w x Sync is = refl
+own_made : (made : Option Update) → keep_made true made [] ≡ option_to_list made ++ []
+own_made (Some u) = refl
+own_made None = refl
+
+own_weight : (w : Update → ℕ) (x : ℕ) (c : Command) → is_by x c ≡ true → weigh w (updates_by x (c ∷ [])) ≡ weigh w (updates_made (c ∷ []))
+own_weight w x c is = let e : updates_by x (c ∷ []) ≡ updates_made (c ∷ []) = rw is (own_made (command_update c)) in ap (weigh w) e
 
 -- and where it was stopped, the next command is one of them too
 stop_weight : (w : Update → ℕ) (voxel : ℕ) (cs ds : List Command) (p q : Seen) → p.mine ≡ updates_by p.caller cs → (s : Stopped voxel ds p q)
-    → weigh w q.mine + weigh_all w (s.next ∷ []) ≤ weigh w (updates_by p.caller (cs ++ ds))
+    → weigh w q.mine + weigh w (updates_made (s.next ∷ [])) ≤ weigh w (updates_by p.caller (cs ++ ds))
 stop_weight w voxel cs ds p q done s =
     let x : ℕ = p.caller in
     let own = updates_by x (s.next ∷ []) in
@@ -84,7 +80,7 @@ turns_weight w voxel cs ds (p ∷ ps) (q ∷ qs) (s ∷ ss) (l ∷ ls) done back
 
 stops_weight : (w : Update → ℕ) (voxel : ℕ) (cs ds : List Command) (ps qs ss : List Seen) (lists : List (List Reply)) (k : ℕ) (a b : Seen)
     → AllDone cs ps → AllBack (Turned voxel ds) ps qs lists → AllGrown qs ss → slice_get ps k ≡ Some a → slice_get qs k ≡ Some b → (s : Stopped voxel ds a b)
-    → made w ss + weigh_all w (s.next ∷ []) ≤ commands_of w (callers_of ps) (cs ++ ds)
+    → made w ss + weigh w (updates_made (s.next ∷ [])) ≤ commands_of w (callers_of ps) (cs ++ ds)
 unfolding made commands_of
 stops_weight w voxel cs ds [] qs ss lists k a b done back grown at there stop = absurd (cc at)
 stops_weight w voxel cs ds (p ∷ ps) [] ss lists k a b done back grown at there stop = absurd (cc there)
@@ -120,7 +116,7 @@ prefix_weight w s h p =
 -- what a stopped caller had seen, and its next command, weigh no more than all commands
 stop_room : (w : Update → ℕ) (voxel : ℕ) (cs ds : List Command) (ps qs ss : List Seen) (lists : List (List Reply)) (old : List Reply) (k : ℕ) (p q : Seen)
     → Standing voxel cs ps old → AllBack (Turned voxel ds) ps qs lists → (met : AllMetNow qs ss) → slice_get ps k ≡ Some p → slice_get qs k ≡ Some q → (s : Stopped voxel ds p q)
-    → weigh w (updates q.seen) + weigh_all w (s.next ∷ []) ≤ weigh_all w (cs ++ ds)
+    → weigh w (updates q.seen) + weigh w (updates_made (s.next ∷ [])) ≤ weigh w (updates_made (cs ++ ds))
 stop_room w voxel cs ds ps qs ss lists old k p q standing back met at there s =
     let g : List Entry = met.1.0 in
     let a = prefix_weight w q.seen g (seen_begins g qs ss k q met.0 met.1.1 there) in
@@ -138,7 +134,7 @@ no_stop voxel cs ds ps qs ss lists old k p q few standing back met at there s =
     let a = stop_room (λ u. 1) voxel cs ds ps qs ss lists old k p q standing back met at there s in
     let b = weigh_one (updates q.seen) in
     let c = length-map q.seen (λ (e : Entry). e.update) in
-    let d = all_ones (cs ++ ds) in
+    let d = weigh_one (updates_made (cs ++ ds)) in
     let e = updates_few (cs ++ ds) in
     let f = few.few in absurd (omega arith))
     (λ (many : 4194304 < (fold voxel (updates q.seen)).next + submitted s.next).
@@ -164,22 +160,18 @@ only_at cs [] k e o at = absurd cc
 only_at cs (g ∷ h) zero e o at = let same : g ≡ e = cc (at) in subst (λ z. times z.caller cs ≡ 1) same o.0
 only_at cs (g ∷ h) (suc k) e o at = only_at cs h k e o.1 at
 
+told_own : (voxel : ℕ) (cs : List ℕ) (h : List Entry) (low x : ℕ) (u : Update) (r : Reply) → AllOf cs h → Answers voxel h low (Change x u) r → times x cs ≡ 1
+told_own voxel cs h low x u r o a = let at = a.reply.placed in subst (λ z. times z cs ≡ 1) at.2.2 (only_at cs h at.0 at.2.0 o at.2.1)
+
 -- each update that was told is of one of the callers
 changes_told : (voxel : ℕ) (cs : List ℕ) (h : List Entry) (lows : ℕ → ℕ) (ds : List Command) (rs : List Reply) (highs : ℕ → ℕ) → AllOf cs h → Told voxel h lows ds rs highs → AllChangesOf cs ds
 unfolding AllChangesOf
 changes_told voxel cs h lows [] rs highs o t = tt
 changes_told voxel cs h lows (d ∷ ds) [] highs o t = absurd t
-changes_told voxel cs h lows (Change x u ∷ ds) (r ∷ rs) highs o t =
-    let at = (t.0 x refl).reply.placed in
-    (subst (λ z. times z cs ≡ 1) at.2.2 (only_at cs h at.0 at.2.0 o at.2.1), changes_told voxel cs h (raised lows (Change x u) (mark_of r)) ds rs highs o t.1)
-changes_told voxel cs h lows (Near x k p within ∷ ds) (r ∷ rs) highs o t = changes_told voxel cs h (raised lows (Near x k p within) (mark_of r)) ds rs highs o t.1
-changes_told voxel cs h lows (Nears x k ps ∷ ds) (r ∷ rs) highs o t = changes_told voxel cs h (raised lows (Nears x k ps) (mark_of r)) ds rs highs o t.1
-changes_told voxel cs h lows (Inside x k b ∷ ds) (r ∷ rs) highs o t = changes_told voxel cs h (raised lows (Inside x k b) (mark_of r)) ds rs highs o t.1
-changes_told voxel cs h lows (Ball x k far p ∷ ds) (r ∷ rs) highs o t = changes_told voxel cs h (raised lows (Ball x k far p) (mark_of r)) ds rs highs o t.1
-changes_told voxel cs h lows (Lonely x k far ∷ ds) (r ∷ rs) highs o t = changes_told voxel cs h (raised lows (Lonely x k far) (mark_of r)) ds rs highs o t.1
-changes_told voxel cs h lows (Clusters x k far ∷ ds) (r ∷ rs) highs o t = changes_told voxel cs h (raised lows (Clusters x k far) (mark_of r)) ds rs highs o t.1
-changes_told voxel cs h lows (Pose x rules place ∷ ds) (r ∷ rs) highs o t = changes_told voxel cs h (raised lows (Pose x rules place) (mark_of r)) ds rs highs o t.1
-changes_told voxel cs h lows (Sync ∷ ds) (r ∷ rs) highs o t = changes_told voxel cs h (raised lows Sync (mark_of r)) ds rs highs o t.1
+changes_told voxel cs h lows (d ∷ ds) (r ∷ rs) highs o t = (
+  λ x u is. told_own voxel cs h (lows x) x u r o (subst (λ c. (y : ℕ) → Concerns y c → Answers voxel h (lows y) c r) is t.0 x refl),
+  changes_told voxel cs h (raised lows d (mark_of r)) ds rs highs o t.1,
+)
 
 -- Callers who have met after all commands were told the transcript
 standing_end : (s : ScriptAt) (ps : List Seen) (rs : List Reply) (ending : Reply) (standing : Standing s.sizes.voxel s.commands ps rs)
@@ -194,7 +186,7 @@ standing_end s ps rs ending standing total =
     let d = commands_whole w (callers_of ps) cs (changes_told s.sizes.voxel (callers_of ps) h (λ x. 0) cs rs standing.lasts standing.only standing.told) in
     let e = weigh_one (updates h) in
     let f = length-map h (λ (e : Entry). e.update) in
-    let g = all_ones cs in
+    let g = weigh_one (updates_made cs) in
     told_is_legal s h (λ x. 0) rs standing.lasts ending standing.told (omega arith) total
 
 pub ended_is_legal : (n : ℕ) (s : ScriptAt) (ps : List Seen) (rs : List Reply) → StandingAtEnd s.sizes.voxel n s.commands ps rs → AreLegalReplies s rs

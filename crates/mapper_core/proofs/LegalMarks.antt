@@ -1,20 +1,22 @@
 -- Where callers were told so, and the history has the script's updates alone, the marks are legal, and the replies those under them.
-use Rattle.std.proofs.Common.{◌≡◌, ℕ, ◌+◌, ◌<◌, ◌≤◌, ◌≢◌, Bool, true, false, List, [], ◌∷◌, ◌++◌, length, drop, drop_of_length-le, map, Some, slice_get, refl, ap, sym, ◌∙◌, subst, arith, nat_lt, add-one}
+use Rattle.std.proofs.Common.{◌≡◌, ℕ, ◌+◌, ◌<◌, ◌≤◌, ◌≢◌, Bool, true, false, List, [], ◌∷◌, ◌++◌, length, drop, drop_of_length-le, map, Option, Some, None, inl, inr, slice_get, refl, ap, sym, ◌∙◌, subst, arith, nat_lt, add-one}
 use Rattle.std.proofs.lemmas.Bool.Decides.{nat_tests}
+use Rattle.std.specs.Prelude.{MatchOption}
 use Rattle.std.specs.List.{AllByRecursion}
+use Rattle.std.specs.Option.{option_to_list}
 use Rattle.map_fold.specs.declared.entry.Entry.{Entry}
 use Rattle.map_fold.specs.declared.update.Update.{Update}
 use Rattle.rebuild_core.specs.History.{updates}
-use Rattle.scan_log.specs.Commands.{Concerns}
+use Rattle.scan_log.specs.Commands.{Concerns, command_caller, command_update, updates_made}
 use Rattle.scan_log.specs.declared.command.Command.{Command}
-use Rattle.scan_log.specs.declared.command.Command.TheVariants.{Change, Near, Nears, Inside, Ball, Lonely, Clusters, Pose, Sync}
+use Rattle.scan_log.specs.declared.command.Command.TheVariants.{Change}
 use Rattle.scan_log.specs.declared.reply.Reply.{Reply}
 use Rattle.scan_log.specs.Scripts.{ScriptAt}
 use Rattle.scan_log.specs.Legal.{counted, AllFollow, AreInOrder, IsLegal, AreLegalReplies}
-use Rattle.scan_log.specs.Transcript.{updates_in, put_update, marked_updates, totals_reply, replies_from, replies, mark_of}
-use Rattle.mapper_core.specs.Told.{IsPlaced, IsReply, Answers, raised, Told}
+use Rattle.scan_log.specs.Transcript.{updates_in, put_if, put_update, marked_updates, totals_reply, replies_from, replies, mark_of}
+use Rattle.mapper_core.specs.Told.{HasPlace, IsPlaced, IsReply, Answers, raised, Told}
 use Rattle.mapper_core.proofs.Beginnings.{get_below, drop_get}
-use Rattle.scan_log.proofs.Whose.{anyone, anyone_concerned, concerns_for, may_follow, later_less, later_le}
+use Rattle.scan_log.proofs.Whose.{anyone, anyone_concerned, change_or_none, concerns_for, may_follow, later_less, later_le}
 use Rattle.mapper_core.proofs.Whose.{raised_own, raises}
 
 -- the marks before a command's reply aren't above it
@@ -89,44 +91,38 @@ same_caller h m x y u v a b =
     let e : a.2.0 ≡ b.2.0 = (let p : slice_get h a.0 ≡ Some a.2.0 = a.2.1 in let q : slice_get h b.0 ≡ Some b.2.0 = b.2.1 in cc (p, q, k)) in
     let p : a.2.0.caller ≡ x = a.2.2 in let q : b.2.0.caller ≡ y = b.2.2 in cc (p, q, e)
 
+put_if_all : (P : ℕ × Update → Type 0) (m : ℕ) (made : Option Update) (hs : List (ℕ × Update)) → ((u : Update) → made ≡ Some u → P (m, u)) → AllByRecursion P hs
+    → AllByRecursion P (put_if m made hs)
+put_if_all P m (Some u) hs p r = put_all P m u hs (p u refl) r
+put_if_all P m None hs p r = r
+
+-- an update that is told later has another mark
+other_change : (voxel : ℕ) (h : List Entry) (lows : ℕ → ℕ) (r : Reply) (x m : ℕ) (u : Update) (y : ℕ) (v : Update)
+    → ((z : ℕ) → Concerns z (Change y v) → Answers voxel h (lows z) (Change y v) r) → m ≤ lows x → IsPlaced h (Change x u) m → mark_of r ≢ m
+other_change voxel h lows r x m u y v t le at =
+    let a : Answers voxel h (lows y) (Change y v) r = t y refl in
+    let k : lows y < mark_of r = a.later in
+    λ same.
+    let by : y ≡ x = same_caller h m x y u v at (subst (λ z. IsPlaced h (Change y v) z) same a.reply.placed) in
+    let j : lows y ≡ lows x = ap lows by in let i : mark_of r ≡ m = same in absurd (omega arith)
+
+other_mark : (voxel : ℕ) (h : List Entry) (lows : ℕ → ℕ) (d : Command) (r : Reply) (x m : ℕ) (u v : Update) → command_update d ≡ Some v
+    → ((z : ℕ) → Concerns z d → Answers voxel h (lows z) d r) → m ≤ lows x → IsPlaced h (Change x u) m → mark_of r ≢ m
+other_mark voxel h lows d r x m u v made t le at = elim (change_or_none d) [
+  | inl is ↦ other_change voxel h lows r x m u is.0 is.1 (subst (λ c. (z : ℕ) → Concerns z c → Answers voxel h (lows z) c r) is.2 t) le at
+  | inr none ↦ absurd (cc (made, none))
+]
+
 -- no later update has the mark of an earlier one
 no_other : (voxel : ℕ) (h : List Entry) (lows : ℕ → ℕ) (cs : List Command) (rs : List Reply) (highs : ℕ → ℕ) (ends : List ℕ) (x m : ℕ) (u : Update)
     → Told voxel h lows cs rs highs → m ≤ lows x → IsPlaced h (Change x u) m → AllByRecursion (λ g. g.0 ≢ m) (marked_updates cs (map mark_of rs ++ ends))
 no_other voxel h lows [] rs highs ends x m u t le at = tt
 no_other voxel h lows (d ∷ cs) [] highs ends x m u t le at = absurd t
-no_other voxel h lows (Change y v ∷ cs) (r ∷ rs) highs ends x m u t le at =
-    let a : Answers voxel h (lows y) (Change y v) r = t.0 y refl in
-    let up = told_raises voxel h lows (Change y v) r t.0 x in
-    let k : lows y < mark_of r = a.later in
-    put_all (λ g. g.0 ≢ m) (mark_of r) v (marked_updates cs (map mark_of rs ++ ends))
-    (λ same.
-    let by : y ≡ x = same_caller h m x y u v at (subst (λ z. IsPlaced h (Change y v) z) same a.reply.placed) in
-    let j : lows y ≡ lows x = ap lows by in let i : mark_of r ≡ m = same in absurd (omega arith))
-    (no_other voxel h (raised lows (Change y v) (mark_of r)) cs rs highs ends x m u t.1 (omega arith) at)
-no_other voxel h lows (Near y k p within ∷ cs) (r ∷ rs) highs ends x m u t le at =
-    let up = told_raises voxel h lows (Near y k p within) r t.0 x in
-    no_other voxel h (raised lows (Near y k p within) (mark_of r)) cs rs highs ends x m u t.1 (omega arith) at
-no_other voxel h lows (Nears y k ps ∷ cs) (r ∷ rs) highs ends x m u t le at =
-    let up = told_raises voxel h lows (Nears y k ps) r t.0 x in
-    no_other voxel h (raised lows (Nears y k ps) (mark_of r)) cs rs highs ends x m u t.1 (omega arith) at
-no_other voxel h lows (Inside y k b ∷ cs) (r ∷ rs) highs ends x m u t le at =
-    let up = told_raises voxel h lows (Inside y k b) r t.0 x in
-    no_other voxel h (raised lows (Inside y k b) (mark_of r)) cs rs highs ends x m u t.1 (omega arith) at
-no_other voxel h lows (Ball y k far p ∷ cs) (r ∷ rs) highs ends x m u t le at =
-    let up = told_raises voxel h lows (Ball y k far p) r t.0 x in
-    no_other voxel h (raised lows (Ball y k far p) (mark_of r)) cs rs highs ends x m u t.1 (omega arith) at
-no_other voxel h lows (Lonely y k far ∷ cs) (r ∷ rs) highs ends x m u t le at =
-    let up = told_raises voxel h lows (Lonely y k far) r t.0 x in
-    no_other voxel h (raised lows (Lonely y k far) (mark_of r)) cs rs highs ends x m u t.1 (omega arith) at
-no_other voxel h lows (Clusters y k far ∷ cs) (r ∷ rs) highs ends x m u t le at =
-    let up = told_raises voxel h lows (Clusters y k far) r t.0 x in
-    no_other voxel h (raised lows (Clusters y k far) (mark_of r)) cs rs highs ends x m u t.1 (omega arith) at
-no_other voxel h lows (Pose y rules place ∷ cs) (r ∷ rs) highs ends x m u t le at =
-    let up = told_raises voxel h lows (Pose y rules place) r t.0 x in
-    no_other voxel h (raised lows (Pose y rules place) (mark_of r)) cs rs highs ends x m u t.1 (omega arith) at
-no_other voxel h lows (Sync ∷ cs) (r ∷ rs) highs ends x m u t le at =
-    let up = told_raises voxel h lows Sync r t.0 x in
-    no_other voxel h (raised lows Sync (mark_of r)) cs rs highs ends x m u t.1 (omega arith) at
+no_other voxel h lows (d ∷ cs) (r ∷ rs) highs ends x m u t le at =
+    let up = told_raises voxel h lows d r t.0 x in
+    put_if_all (λ g. g.0 ≢ m) (mark_of r) (command_update d) (marked_updates cs (map mark_of rs ++ ends))
+    (λ v made. other_mark voxel h lows d r x m u v made t.0 le at)
+    (no_other voxel h (raised lows d (mark_of r)) cs rs highs ends x m u t.1 (omega arith) at)
 
 -- the marks of the updates rise, each update stands at its place, and there are as many as updates
 record Placed (h : List Entry) (n : ℕ) (hs : List (ℕ × Update)) : Type 0 where
@@ -134,14 +130,12 @@ record Placed (h : List Entry) (n : ℕ) (hs : List (ℕ × Update)) : Type 0 wh
   pub stands : AllByRecursion (StandsAt h) hs
   pub many : length hs ≡ n
 
-placed : (voxel : ℕ) (h : List Entry) (lows : ℕ → ℕ) (cs : List Command) (rs : List Reply) (highs : ℕ → ℕ) (ends : List ℕ)
-    → Told voxel h lows cs rs highs → Placed h (updates_in cs) (marked_updates cs (map mark_of rs ++ ends))
-placed voxel h lows [] rs highs ends t = record { rising = tt; stands = tt; many = refl }
-placed voxel h lows (d ∷ cs) [] highs ends t = absurd t
-placed voxel h lows (Change x u ∷ cs) (r ∷ rs) highs ends t =
+placed_change : (voxel : ℕ) (h : List Entry) (lows : ℕ → ℕ) (cs : List Command) (rs : List Reply) (highs : ℕ → ℕ) (ends : List ℕ) (r : Reply) (x : ℕ) (u : Update)
+    → Told voxel h lows (Change x u ∷ cs) (r ∷ rs) highs → Placed h (updates_in cs) (marked_updates cs (map mark_of rs ++ ends))
+    → Placed h (updates_in (Change x u ∷ cs)) (put_update (mark_of r) u (marked_updates cs (map mark_of rs ++ ends)))
+placed_change voxel h lows cs rs highs ends r x u t p =
     let a : Answers voxel h (lows x) (Change x u) r = t.0 x refl in
     let at : IsPlaced h (Change x u) (mark_of r) = a.reply.placed in
-    let p = placed voxel h (raised lows (Change x u) (mark_of r)) cs rs highs ends t.1 in
     let hs = marked_updates cs (map mark_of rs ++ ends) in
     let k : lows x < mark_of r = a.later in
     let own = raised_own lows (Change x u) (mark_of r) x (concerns_for x (Change x u) refl) in
@@ -151,14 +145,20 @@ placed voxel h lows (Change x u ∷ cs) (r ∷ rs) highs ends t =
       stands = put_all (StandsAt h) (mark_of r) u hs (at.0, at.1, (at.2.0, at.2.1, at.2.3)) p.stands;
       many = put_length (mark_of r) u hs ∙ (let j = p.many in omega arith);
     }
-placed voxel h lows (Near x k p within ∷ cs) (r ∷ rs) highs ends t = placed voxel h (raised lows (Near x k p within) (mark_of r)) cs rs highs ends t.1
-placed voxel h lows (Nears x k ps ∷ cs) (r ∷ rs) highs ends t = placed voxel h (raised lows (Nears x k ps) (mark_of r)) cs rs highs ends t.1
-placed voxel h lows (Inside x k b ∷ cs) (r ∷ rs) highs ends t = placed voxel h (raised lows (Inside x k b) (mark_of r)) cs rs highs ends t.1
-placed voxel h lows (Ball x k far p ∷ cs) (r ∷ rs) highs ends t = placed voxel h (raised lows (Ball x k far p) (mark_of r)) cs rs highs ends t.1
-placed voxel h lows (Lonely x k far ∷ cs) (r ∷ rs) highs ends t = placed voxel h (raised lows (Lonely x k far) (mark_of r)) cs rs highs ends t.1
-placed voxel h lows (Clusters x k far ∷ cs) (r ∷ rs) highs ends t = placed voxel h (raised lows (Clusters x k far) (mark_of r)) cs rs highs ends t.1
-placed voxel h lows (Pose x rules place ∷ cs) (r ∷ rs) highs ends t = placed voxel h (raised lows (Pose x rules place) (mark_of r)) cs rs highs ends t.1
-placed voxel h lows (Sync ∷ cs) (r ∷ rs) highs ends t = placed voxel h (raised lows Sync (mark_of r)) cs rs highs ends t.1
+
+placed : (voxel : ℕ) (h : List Entry) (lows : ℕ → ℕ) (cs : List Command) (rs : List Reply) (highs : ℕ → ℕ) (ends : List ℕ)
+    → Told voxel h lows cs rs highs → Placed h (updates_in cs) (marked_updates cs (map mark_of rs ++ ends))
+placed voxel h lows [] rs highs ends t = record { rising = tt; stands = tt; many = refl }
+placed voxel h lows (d ∷ cs) [] highs ends t = absurd t
+placed voxel h lows (d ∷ cs) (r ∷ rs) highs ends t =
+    let hs = marked_updates cs (map mark_of rs ++ ends) in
+    let p : Placed h (updates_in cs) hs = placed voxel h (raised lows d (mark_of r)) cs rs highs ends t.1 in
+    elim (change_or_none d) [
+      | inl is ↦
+          subst (λ c. Placed h (updates_in (c ∷ cs)) (put_if (mark_of r) (command_update c) hs)) (sym is.2)
+          (placed_change voxel h lows cs rs highs ends r is.0 is.1 (subst (λ c. Told voxel h lows (c ∷ cs) (r ∷ rs) highs) is.2 t) p)
+      | inr none ↦ subst (λ made. Placed h (length (option_to_list made ++ updates_made cs)) (put_if (mark_of r) made hs)) (sym none) p
+    ]
 
 stands_below : (h : List Entry) (g : ℕ × Update) → StandsAt h g → g.0 ≤ length h
 stands_below h g p = let k = get_below h p.0 p.2.0 p.2.1 in let e = p.1 in omega arith
@@ -187,16 +187,12 @@ rising_whole h low (g ∷ hs) r p is =
       rw here (cc (later, same)),
     )
 
+below_by : (h : List Entry) (made : Option Update) (owner : Option ℕ) (m : ℕ) → MatchOption made (m ≤ length h) (HasPlace h owner m) → m ≤ length h
+below_by h (Some u) owner m a = let k = get_below h a.0 a.2.0 a.2.1 in let e = a.1 in omega arith
+below_by h None owner m a = a
+
 pub placed_below : (h : List Entry) (c : Command) (m : ℕ) → IsPlaced h c m → m ≤ length h
-placed_below h (Change x u) m a = let k = get_below h a.0 a.2.0 a.2.1 in let e = a.1 in omega arith
-placed_below h (Near x k p within) m a = a
-placed_below h (Nears x k ps) m a = a
-placed_below h (Inside x k b) m a = a
-placed_below h (Ball x k r p) m a = a
-placed_below h (Lonely x k r) m a = a
-placed_below h (Clusters x k r) m a = a
-placed_below h (Pose x rules place) m a = a
-placed_below h Sync m a = a
+placed_below h c m a = below_by h (command_update c) (command_caller c) m a
 
 -- the replies as a whole: those of the transcript over the history, marks that it has, one reply for each command
 record Whole (voxel : ℕ) (h : List Entry) (n : ℕ) (cs : List Command) (rs : List Reply) (ending : Reply) : Type 0 where

@@ -1,24 +1,26 @@
 -- All callers meet, and what they were told stands in one history.
-use Rattle.std.proofs.Common.{◌≡◌, ℕ, zero, suc, ◌+◌, ◌<◌, ◌≤◌, ◌==◌, Bool, true, false, List, [], ◌∷◌, ◌++◌, length, take, drop, drop_of_length-le, Some, slice_get, refl, ap, sym, ◌∙◌, subst, arith, append-nil}
+use Rattle.std.proofs.Common.{◌≡◌, ℕ, zero, suc, ◌+◌, ◌<◌, ◌≤◌, ◌==◌, Bool, true, false, List, [], ◌∷◌, ◌++◌, length, take, drop, drop_of_length-le, Option, Some, None, slice_get, refl, ap, sym, ◌∙◌, subst, arith, append-nil}
 use Rattle.std.proofs.Math.Seq.{take-length}
 use Rattle.std.proofs.lemmas.Bool.Decides.{nat_tests}
 use Rattle.std.proofs.lemmas.List.{take-map}
+use Rattle.std.specs.Prelude.{MatchOption}
 use mathlib.Core.List.{IsPrefix}
 use Rattle.map_fold.specs.declared.entry.Entry.{Entry}
+use Rattle.map_fold.specs.declared.update.Update.{Update}
 use Rattle.rebuild_core.specs.History.{updates}
-use Rattle.published_map.specs.Marks.{Seen, keep_if, times, IsDistinct, AllOf, callers_of, AllMet, AllGrown, AllMetNow, seen_by_new}
-use Rattle.scan_log.specs.Commands.{is_by, is_for}
+use Rattle.published_map.specs.Marks.{Seen, times, IsDistinct, AllOf, callers_of, AllMet, AllGrown, AllMetNow, seen_by_new}
+use Rattle.scan_log.specs.Commands.{command_caller, command_update, is_by, is_for}
 use Rattle.scan_log.specs.declared.command.Command.{Command}
-use Rattle.scan_log.specs.declared.command.Command.TheVariants.{Change, Near, Nears, Inside, Ball, Lonely, Clusters, Pose, Sync}
+use Rattle.scan_log.specs.declared.command.Command.TheVariants.{Sync}
 use Rattle.scan_log.specs.declared.reply.Reply.{Reply}
 use Rattle.scan_log.specs.Legal.{counted}
 use Rattle.scan_log.specs.Transcript.{mark_of, totals_reply}
-use Rattle.mapper_core.specs.Told.{IsPlaced, IsReply, raised, Told}
-use Rattle.mapper_core.specs.Mine.{updates_by, Mine, Ran}
+use Rattle.mapper_core.specs.Told.{HasPlace, IsPlaced, IsReply, raised, Told}
+use Rattle.mapper_core.specs.Mine.{keep_made, updates_by, Mine, Ran}
 use Rattle.mapper_core.specs.Meetings.{AllMine, MergedFrom, MergedTo, AllDone, Standing, IsTotal}
 use Rattle.mapper_core.proofs.Beginnings.{prefix_trans, prefix_length, get_prefix, take_early}
 use Rattle.scan_log.proofs.Whose.{later_less}
-use Rattle.mapper_core.proofs.Whose.{reply_take}
+use Rattle.mapper_core.proofs.Whose.{keep_append, reply_take}
 use Rattle.mapper_core.proofs.LegalMarks.{placed_below}
 use Rattle.mapper_core.proofs.OneCaller.{mine_other, mine_next, mine_skip}
 use Rattle.mapper_core.proofs.CameBack.{AllBack, back_rest, back_callers}
@@ -37,16 +39,13 @@ distinct_counted n (suc k) = (none_below n (n + 1) k (omega arith), distinct_cou
 pub standing_distinct : (voxel : ℕ) (cs : List Command) (ps : List Seen) (rs : List Reply) → Standing voxel cs ps rs → IsDistinct (callers_of ps)
 standing_distinct voxel cs ps rs s = subst IsDistinct (sym s.order) (distinct_counted 1 (length ps))
 
+longer_by : (h g : List Entry) (made : Option Update) (owner : Option ℕ) (m : ℕ) → IsPrefix h g → MatchOption made (m ≤ length h) (HasPlace h owner m)
+    → MatchOption made (m ≤ length g) (HasPlace g owner m)
+longer_by h g (Some u) owner m p a = (a.0, a.1, (a.2.0, get_prefix h g a.0 a.2.0 p a.2.1, a.2.2, a.2.3))
+longer_by h g None owner m p a = let l = prefix_length h g p in let le : m ≤ length h = a in omega arith
+
 placed_longer : (h g : List Entry) (c : Command) (m : ℕ) → IsPrefix h g → IsPlaced h c m → IsPlaced g c m
-placed_longer h g (Change x u) m p a = (a.0, a.1, (a.2.0, get_prefix h g a.0 a.2.0 p a.2.1, a.2.2, a.2.3))
-placed_longer h g (Near x k at within) m p a = let l = prefix_length h g p in let le : m ≤ length h = a in omega arith
-placed_longer h g (Nears x k ps) m p a = let l = prefix_length h g p in let le : m ≤ length h = a in omega arith
-placed_longer h g (Inside x k b) m p a = let l = prefix_length h g p in let le : m ≤ length h = a in omega arith
-placed_longer h g (Ball x k r place) m p a = let l = prefix_length h g p in let le : m ≤ length h = a in omega arith
-placed_longer h g (Lonely x k r) m p a = let l = prefix_length h g p in let le : m ≤ length h = a in omega arith
-placed_longer h g (Clusters x k r) m p a = let l = prefix_length h g p in let le : m ≤ length h = a in omega arith
-placed_longer h g (Pose x rules place) m p a = let l = prefix_length h g p in let le : m ≤ length h = a in omega arith
-placed_longer h g Sync m p a = let l = prefix_length h g p in let le : m ≤ length h = a in omega arith
+placed_longer h g c m p a = longer_by h g (command_update c) (command_caller c) m p a
 
 -- a reply stands in a longer history too
 reply_longer : (voxel : ℕ) (h g : List Entry) (c : Command) (r : Reply) → IsPrefix h g → IsReply voxel h c r → IsReply voxel g c r
@@ -140,19 +139,8 @@ all_longer voxel h g cs (p ∷ ps) (q ∷ qs) (s ∷ ss) (l ∷ ls) only met ran
 
 pub updates_append : (x : ℕ) (cs ds : List Command) → updates_by x (cs ++ ds) ≡ updates_by x cs ++ updates_by x ds
 updates_append x [] ds = refl
-updates_append x (Change caller u ∷ cs) ds = ap (λ z. keep_if (caller == x) u z) (updates_append x cs ds) ∙ kept (caller == x)
-  where
-    kept : (b : Bool) → keep_if b u (updates_by x cs ++ updates_by x ds) ≡ keep_if b u (updates_by x cs) ++ updates_by x ds
-    kept true = refl
-    kept false = refl
-updates_append x (Near caller k p within ∷ cs) ds = updates_append x cs ds
-updates_append x (Nears caller k ps ∷ cs) ds = updates_append x cs ds
-updates_append x (Inside caller k b ∷ cs) ds = updates_append x cs ds
-updates_append x (Ball caller k r p ∷ cs) ds = updates_append x cs ds
-updates_append x (Lonely caller k r ∷ cs) ds = updates_append x cs ds
-updates_append x (Clusters caller k r ∷ cs) ds = updates_append x cs ds
-updates_append x (Pose caller rules place ∷ cs) ds = updates_append x cs ds
-updates_append x (Sync ∷ cs) ds = updates_append x cs ds
+updates_append x (c ∷ cs) ds =
+    ap (λ us. keep_made (is_by x c) (command_update c) us) (updates_append x cs ds) ∙ keep_append (is_by x c) (command_update c) (updates_by x cs) (updates_by x ds)
 
 all_done : (voxel : ℕ) (cs ds : List Command) (ps qs ss : List Seen) (lists : List (List Reply)) → AllDone cs ps → AllBack (Ran voxel ds) ps qs lists → AllGrown qs ss → AllDone (cs ++ ds) ss
 all_done voxel cs ds [] [] [] lists done ran grown = tt

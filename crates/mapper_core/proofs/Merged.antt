@@ -1,9 +1,10 @@
 -- The replies of all callers, put in the log's order.
-use Rattle.std.proofs.Common.{◌≡◌, ℕ, zero, suc, ◌+◌, ◌<◌, ◌≤◌, ◌==◌, Bool, true, false, List, [], ◌∷◌, ◌++◌, length, set, Some, slice_get, slice_index_or, refl, ap, sym, ◌∙◌, subst, arith, append_assoc, append-nil}
+use Rattle.std.proofs.Common.{◌≡◌, ℕ, zero, suc, ◌+◌, ◌<◌, ◌≤◌, ◌==◌, Bool, true, false, List, [], ◌∷◌, ◌++◌, length, set, Option, Some, None, slice_get, slice_index_or, refl, ap, sym, ◌∙◌, subst, arith, append_assoc, append-nil}
 use Rattle.std.proofs.lemmas.Bool.Decides.{nat_tests}
+use Rattle.std.specs.Prelude.{IsSomeAnd}
 use Rattle.std.specs.List.{AllByRecursion}
 use Rattle.map_fold.specs.declared.entry.Entry.{Entry}
-use Rattle.scan_log.specs.Commands.{IsBy, is_by, is_for}
+use Rattle.scan_log.specs.Commands.{IsBy, command_caller, is_by, is_for}
 use Rattle.scan_log.specs.declared.command.Command.{Command}
 use Rattle.scan_log.specs.declared.reply.Reply.{Reply}
 use Rattle.scan_log.specs.Transcript.{mark_of}
@@ -123,22 +124,15 @@ replies_left voxel c left lists x a is =
     let n = mine_next voxel a.history (k + 1) c left (a.lasts (k + 1)) rs a.most (is_by_own c (k + 1) own.1) (a.mine k rs here.1) in
     record {
       place = k;
-      caller_is = same c x k is own.1;
+      caller_is = same (command_caller c) x k is own.1;
       first = n.0;
       rest = n.1;
       there = here.1 ∙ ap (λ z. Some z) n.2;
     }
   where
-    same : (c : Command) (x k : ℕ) → IsBy c x → IsBy c (k + 1) → x ≡ k + 1
-    same (Command.Change caller u) x k a b = let e : caller ≡ x = a in let f : caller ≡ k + 1 = b in sym e ∙ f
-    same (Command.Near caller n p within) x k a b = let e : caller ≡ x = a in let f : caller ≡ k + 1 = b in sym e ∙ f
-    same (Command.Nears caller n ps) x k a b = let e : caller ≡ x = a in let f : caller ≡ k + 1 = b in sym e ∙ f
-    same (Command.Inside caller n p) x k a b = let e : caller ≡ x = a in let f : caller ≡ k + 1 = b in sym e ∙ f
-    same (Command.Ball caller n r p) x k a b = let e : caller ≡ x = a in let f : caller ≡ k + 1 = b in sym e ∙ f
-    same (Command.Lonely caller n r) x k a b = let e : caller ≡ x = a in let f : caller ≡ k + 1 = b in sym e ∙ f
-    same (Command.Clusters caller n r) x k a b = let e : caller ≡ x = a in let f : caller ≡ k + 1 = b in sym e ∙ f
-    same (Command.Pose caller rules place) x k a b = let e : caller ≡ x = a in let f : caller ≡ k + 1 = b in sym e ∙ f
-    same Command.Sync x k a b = absurd a
+    same : (owner : Option ℕ) (x k : ℕ) → IsSomeAnd owner (λ y. y ≡ x) → IsSomeAnd owner (λ y. y ≡ k + 1) → x ≡ k + 1
+    same (Some y) x k a b = let e : y ≡ x = a in let f : y ≡ k + 1 = b in sym e ∙ f
+    same None x k a b = absurd a
 
 set_length : {A : Type 0} (xs : List A) (k : ℕ) (x : A) → length (set xs k x) ≡ length xs
 set_length [] k x = refl

@@ -1,34 +1,28 @@
 -- What a caller's thread shows of its pass.
 use Rattle.std.proofs.Common.{◌≡◌, ℕ, ◌+◌, ◌≤◌, ◌==◌, Bool, true, false, List, [], ◌∷◌, ◌++◌, length, take, Option, Some, None, slice_get, inl, inr, refl, ap, ap₂, sym, ◌∙◌, subst, arith, append_assoc, append-nil, length-append, MatchBool}
-use Rattle.std.proofs.Math.Seq.{take-length}
 use Rattle.std.proofs.lemmas.Bool.Decides.{nat_tests}
-use Rattle.std.proofs.lemmas.List.{length-map, take-map}
+use Rattle.std.proofs.lemmas.List.{take-map}
 use mathlib.Core.List.{IsPrefix}
-use Rattle.point_geom.specs.Place.{Place, Bounds}
 use Rattle.map_fold.specs.declared.entry.Entry.{Entry}
 use Rattle.map_fold.specs.declared.update.Update.{Update}
-use Rattle.map_fold.specs.declared.item.Item.{Item}
-use Rattle.map_fold.specs.Answers.{nearest, nears, inside, count}
-use Rattle.map_fold.specs.Neighbours.{ball, lonely}
-use Rattle.map_fold.specs.Clusters.{clusters}
 use Rattle.map_fold.specs.Fold.{MapAt, fold}
 use Rattle.kd_tree.specs.Contents.{contents}
 use Rattle.rebuild_core.specs.History.{updates, entry_by}
 use Rattle.rebuild_core.specs.Lawful.{VersionAt}
 use Rattle.published_map.specs.Marks.{Seen, Grown, Added, keep_if}
-use Rattle.published_map.specs.Answers.{near_reply, box_reply}
 use Rattle.published_map.specs.Versions.{IsVersionOf, held}
-use Rattle.scan_log.specs.Commands.{is_by}
+use Rattle.scan_log.specs.Commands.{command_update, is_by}
 use Rattle.scan_log.specs.declared.command.Command.{Command}
-use Rattle.scan_log.specs.declared.command.Command.TheVariants.{Change, Near, Nears, Inside, Ball, Lonely, Clusters, Pose, Sync}
+use Rattle.scan_log.specs.declared.command.Command.TheVariants.{Change}
 use Rattle.scan_log.specs.declared.reply.Reply.{Reply}
 use Rattle.scan_log.specs.declared.reply.Reply.TheVariants as reply
 use Rattle.scan_log.specs.Legal.{IsLater}
-use Rattle.scan_log.specs.Transcript.{reply_to, mark_of, held_at, found_reply, clusters_reply}
+use Rattle.scan_log.specs.Transcript.{reply_on, reply_to, mark_of}
+use Rattle.scan_log.proofs.Serial.{mark_of-reply_on}
 use Rattle.mapper_core.specs.Told.{Answers, IsPlaced}
-use Rattle.mapper_core.specs.Mine.{updates_by, Mine, Answered, Tried, RanTo, Turned}
+use Rattle.mapper_core.specs.Mine.{keep_made, updates_by, Mine, Answered, Tried, RanTo, Turned}
 use Rattle.mapper_core.proofs.Beginnings.{prefix_self, prefix_trans, prefix_length, take_prefix, get_prefix, get_last}
-use Rattle.mapper_core.proofs.Whose.{reply_take}
+use Rattle.mapper_core.proofs.Whose.{all_taken, keep_append, passed_by, reply_take}
 
 keep_own : (c : ℕ) (u : Update) (us : List Update) → keep_if (c == c) u us ≡ u ∷ us
 keep_own c u us = let is : (c == c) ≡ true = grind (arith, nat_tests) in rw is refl
@@ -60,107 +54,45 @@ change_tried voxel p q u n a = change_answered voxel p q u n a
 -- what was seen tells a reply at its length, however the history goes on
 seen_tells : (voxel : ℕ) (s h : List Entry) (c : Command) → IsPrefix s h → reply_to voxel (updates s) c (length s) ≡ reply_to voxel (updates h) c (length s)
 seen_tells voxel s h c pre =
-    let whole : take (length s) (updates s) ≡ updates s = ap (λ n. take n (updates s)) (sym (length-map s (λ (e : Entry). e.update))) ∙ take-length (updates s) in
     let early : take (length s) (updates h) ≡ updates s = take-map (λ (e : Entry). e.update) (length s) h ∙ ap updates (take_prefix s h pre) in
-    reply_take voxel (length s) (updates s) (updates h) c (whole ∙ sym early)
+    reply_take voxel (length s) (updates s) (updates h) c (all_taken s ∙ sym early)
 
--- all that was seen is taken
-seen_whole : (s : List Entry) → take (length s) (updates s) ≡ updates s
-seen_whole s = ap (λ n. take n (updates s)) (sym (length-map s (λ (e : Entry). e.update))) ∙ take-length (updates s)
+-- a command that makes no update may be anywhere in a history, and its mark may stay
+none_placed : (h : List Entry) (c : Command) (m : ℕ) → command_update c ≡ None → m ≤ length h → IsPlaced h c m
+none_placed h c m none le = rw none le
 
--- a command that changes nothing, may be anywhere in a history, and whose mark may stay
-record IsQuery (c : Command) : Type 0 where
-  changes : (x : ℕ) → updates_by x (c ∷ []) ≡ []
-  placed : (h : List Entry) (m : ℕ) → m ≤ length h → IsPlaced h c m
-  later : (m n : ℕ) → m ≤ n → IsLater m c n
+none_later : (m : ℕ) (c : Command) (n : ℕ) → command_update c ≡ None → m ≤ n → IsLater m c n
+none_later m c n none le = rw none le
 
--- the reply to a query, of what the history leaves, at its length
-query_answered : (voxel : ℕ) (p q : Seen) (c : Command) (ask : ℕ → List Item → Reply) → Grown p q → IsQuery c
-    → ((h : List Update) (m : ℕ) → reply_to voxel h c m ≡ ask m (held_at voxel h m)) → ((m : ℕ) (is : List Item) → mark_of (ask m is) ≡ m)
-    → Answered voxel c p q (ask (length q.seen) (held voxel q.seen))
-query_answered voxel p q c ask g is told marked =
+-- its reply, of what the history leaves, at its length
+seen_answered : (voxel : ℕ) (p q : Seen) (c : Command) → command_update c ≡ None → Grown p q → Answered voxel c p q (reply_on (held voxel q.seen) c (length q.seen))
+seen_answered voxel p q c none g =
     let m : ℕ = length q.seen in
-    let r : Reply = ask m (held voxel q.seen) in
-    let mark : mark_of r ≡ m = marked m (held voxel q.seen) in
+    let mark : mark_of (reply_on (held voxel q.seen) c m) ≡ m = mark_of-reply_on (held voxel q.seen) c m in
     record {
       caller = g.0;
       seen = g.1;
-      mine = g.2 ∙ sym (append-nil p.mine) ∙ ap (λ us. p.mine ++ us) (sym (is.changes p.caller));
+      mine = g.2 ∙ sym (append-nil p.mine) ∙ ap (λ us. p.mine ++ us) (sym (passed_by p.caller c [] none));
       mark = mark;
       told = λ h pre. record {
         reply = record {
-          placed = rw mark (is.placed h m (prefix_length q.seen h pre));
-          told = rw mark (ap (λ us. ask m (fold voxel us).items) (sym (seen_whole q.seen)) ∙ sym (told (updates q.seen) m) ∙ seen_tells voxel q.seen h c pre);
+          placed = rw mark (none_placed h c m none (prefix_length q.seen h pre));
+          told = rw mark (ap (λ us. reply_on (fold voxel us).items c m) (sym (all_taken q.seen)) ∙ seen_tells voxel q.seen h c pre);
         };
-        later = rw mark (is.later (length p.seen) m (prefix_length p.seen q.seen g.1));
+        later = rw mark (none_later (length p.seen) c m none (prefix_length p.seen q.seen g.1));
       };
     }
 
 -- the same of a version of what was seen
-version_answered : (voxel : ℕ) (p q : Seen) (c : Command) (ask : ℕ → List Item → Reply) (v : VersionAt) → Grown p q → IsVersionOf voxel q.seen v → IsQuery c
-    → ((h : List Update) (m : ℕ) → reply_to voxel h c m ≡ ask m (held_at voxel h m)) → ((m : ℕ) (is : List Item) → mark_of (ask m is) ≡ m)
-    → Answered voxel c p q (ask v.len (contents v.tree))
-version_answered voxel p q c ask v g shows is told marked =
-    let same : ask v.len (contents v.tree) ≡ ask (length q.seen) (held voxel q.seen) = ap₂ ask shows.len (ap (λ (m : MapAt). m.items) shows.folded) in
-    subst (λ r. Answered voxel c p q r) (sym same) (query_answered voxel p q c ask g is told marked)
-
-pub near_answered : (voxel : ℕ) (p q : Seen) (k : ℕ) (at : Place) (within : Option ℕ) → Grown p q
-    → Answered voxel (Near p.caller k at within) p q (reply.Near (near_reply voxel q.seen k at within))
-near_answered voxel p q k at within g =
-    query_answered voxel p q (Near p.caller k at within) (λ m is. reply.Near (record { mark = m; hits = nearest is k at within })) g
-    (record { changes = λ x. refl; placed = λ h m le. le; later = λ m n le. le }) (λ h m. refl) (λ m is. refl)
-
-pub nears_answered : (voxel : ℕ) (p q : Seen) (k : ℕ) (ps : List Place) (v : VersionAt) → Grown p q → IsVersionOf voxel q.seen v
-    → Answered voxel (Nears p.caller k ps) p q (reply.Nears (record { mark = v.len; lists = nears (contents v.tree) k ps }))
-nears_answered voxel p q k ps v g shows =
-    version_answered voxel p q (Nears p.caller k ps) (λ m is. reply.Nears (record { mark = m; lists = nears is k ps })) v g shows
-    (record { changes = λ x. refl; placed = λ h m le. le; later = λ m n le. le }) (λ h m. refl) (λ m is. refl)
-
-pub inside_answered : (voxel : ℕ) (p q : Seen) (k : ℕ) (c : Bounds) → Grown p q
-    → Answered voxel (Inside p.caller k c) p q (reply.Inside (box_reply voxel q.seen c k))
-inside_answered voxel p q k c g =
-    query_answered voxel p q (Inside p.caller k c) (λ m is. reply.Inside (record { mark = m; count = count is c; items = inside is c k })) g
-    (record { changes = λ x. refl; placed = λ h m le. le; later = λ m n le. le }) (λ h m. refl) (λ m is. refl)
-
-pub ball_answered : (voxel : ℕ) (p q : Seen) (k r : ℕ) (at : Place) (v : VersionAt) → Grown p q → IsVersionOf voxel q.seen v
-    → Answered voxel (Ball p.caller k r at) p q (reply.Ball (found_reply v.len (ball (contents v.tree) at r) k))
-ball_answered voxel p q k r at v g shows =
-    version_answered voxel p q (Ball p.caller k r at) (λ m is. reply.Ball (found_reply m (ball is at r) k)) v g shows
-    (record { changes = λ x. refl; placed = λ h m le. le; later = λ m n le. le }) (λ h m. refl) (λ m is. refl)
-
-pub lonely_answered : (voxel : ℕ) (p q : Seen) (k r : ℕ) (v : VersionAt) → Grown p q → IsVersionOf voxel q.seen v
-    → Answered voxel (Lonely p.caller k r) p q (reply.Lonely (found_reply v.len (lonely (contents v.tree) r) k))
-lonely_answered voxel p q k r v g shows =
-    version_answered voxel p q (Lonely p.caller k r) (λ m is. reply.Lonely (found_reply m (lonely is r) k)) v g shows
-    (record { changes = λ x. refl; placed = λ h m le. le; later = λ m n le. le }) (λ h m. refl) (λ m is. refl)
-
-pub clusters_answered : (voxel : ℕ) (p q : Seen) (k r : ℕ) (v : VersionAt) → Grown p q → IsVersionOf voxel q.seen v
-    → Answered voxel (Clusters p.caller k r) p q (reply.Clusters (clusters_reply v.len (clusters (contents v.tree) r) k))
-clusters_answered voxel p q k r v g shows =
-    version_answered voxel p q (Clusters p.caller k r) (λ m is. reply.Clusters (clusters_reply m (clusters is r) k)) v g shows
-    (record { changes = λ x. refl; placed = λ h m le. le; later = λ m n le. le }) (λ h m. refl) (λ m is. refl)
+pub query_answered : (voxel : ℕ) (p q : Seen) (c : Command) (v : VersionAt) → Grown p q → IsVersionOf voxel q.seen v → command_update c ≡ None
+    → Answered voxel c p q (reply_on (contents v.tree) c v.len)
+query_answered voxel p q c v g shows none =
+    let same : reply_on (contents v.tree) c v.len ≡ reply_on (held voxel q.seen) c (length q.seen) = ap₂ (λ is n. reply_on is c n) (ap (λ (m : MapAt). m.items) shows.folded) shows.len in
+    subst (λ r. Answered voxel c p q r) (sym same) (seen_answered voxel p q c none g)
 
 -- the command is this caller's
 pub change_by : (x caller : ℕ) (u : Update) → is_by x (Change caller u) ≡ true → Change caller u ≡ Change x u
 change_by x caller u is = let same : caller ≡ x = grind (arith, nat_tests) in ap (λ z. Change z u) same
-
-pub near_by : (x caller k : ℕ) (at : Place) (within : Option ℕ) → is_by x (Near caller k at within) ≡ true → Near caller k at within ≡ Near x k at within
-near_by x caller k at within is = let same : caller ≡ x = grind (arith, nat_tests) in ap (λ z. Near z k at within) same
-
-pub nears_by : (x caller k : ℕ) (ps : List Place) → is_by x (Nears caller k ps) ≡ true → Nears caller k ps ≡ Nears x k ps
-nears_by x caller k ps is = let same : caller ≡ x = grind (arith, nat_tests) in ap (λ z. Nears z k ps) same
-
-pub inside_by : (x caller k : ℕ) (c : Bounds) → is_by x (Inside caller k c) ≡ true → Inside caller k c ≡ Inside x k c
-inside_by x caller k c is = let same : caller ≡ x = grind (arith, nat_tests) in ap (λ z. Inside z k c) same
-
-pub ball_by : (x caller k r : ℕ) (at : Place) → is_by x (Ball caller k r at) ≡ true → Ball caller k r at ≡ Ball x k r at
-ball_by x caller k r at is = let same : caller ≡ x = grind (arith, nat_tests) in ap (λ z. Ball z k r at) same
-
-pub lonely_by : (x caller k r : ℕ) → is_by x (Lonely caller k r) ≡ true → Lonely caller k r ≡ Lonely x k r
-lonely_by x caller k r is = let same : caller ≡ x = grind (arith, nat_tests) in ap (λ z. Lonely z k r) same
-
-pub clusters_by : (x caller k r : ℕ) → is_by x (Clusters caller k r) ≡ true → Clusters caller k r ≡ Clusters x k r
-clusters_by x caller k r is = let same : caller ≡ x = grind (arith, nat_tests) in ap (λ z. Clusters z k r) same
 
 pub ran_start : (voxel : ℕ) (cs : List Command) (p : Seen) → RanTo voxel cs cs p p []
 ran_start voxel cs p = record { caller = refl; seen = prefix_self p.seen; mine = refl; told = λ h pre rest high m. m }
@@ -174,30 +106,14 @@ pub mine_other : (voxel : ℕ) (h : List Entry) (x : ℕ) (c : Command) (cs : Li
 mine_other voxel h x c cs low rs high is m = rw is m
 
 pub updates_own : (x : ℕ) (c : Command) (cs : List Command) → updates_by x (c ∷ cs) ≡ updates_by x (c ∷ []) ++ updates_by x cs
-updates_own x (Change caller u) cs = kept (caller == x) u (updates_by x cs)
-  where
-    kept : (b : Bool) (u : Update) (us : List Update) → keep_if b u us ≡ keep_if b u [] ++ us
-    kept true u us = refl
-    kept false u us = refl
-updates_own x (Near caller k p within) cs = refl
-updates_own x (Nears caller k ps) cs = refl
-updates_own x (Inside caller k b) cs = refl
-updates_own x (Ball caller k r p) cs = refl
-updates_own x (Lonely caller k r) cs = refl
-updates_own x (Clusters caller k r) cs = refl
-updates_own x (Pose caller rules place) cs = refl
-updates_own x Sync cs = refl
+updates_own x c cs = keep_append (is_by x c) (command_update c) [] (updates_by x cs)
 
 updates_other : (x : ℕ) (c : Command) (cs : List Command) → is_by x c ≡ false → updates_by x (c ∷ cs) ≡ updates_by x cs
-updates_other x (Change caller u) cs is = let e : (caller == x) ≡ false = is in rw e refl
-updates_other x (Near caller k p within) cs is = refl
-updates_other x (Nears caller k ps) cs is = refl
-updates_other x (Inside caller k b) cs is = refl
-updates_other x (Ball caller k r p) cs is = refl
-updates_other x (Lonely caller k r) cs is = refl
-updates_other x (Clusters caller k r) cs is = refl
-updates_other x (Pose caller rules place) cs is = refl
-updates_other x Sync cs is = refl
+updates_other x c cs is = rw is (skipped (command_update c) (updates_by x cs))
+  where
+    skipped : (made : Option Update) (us : List Update) → keep_made false made us ≡ us
+    skipped (Some u) us = refl
+    skipped None us = refl
 
 pub ran_own : (voxel : ℕ) (cs left : List Command) (c : Command) (p q s : Seen) (rs : List Reply) (r : Reply)
     → RanTo voxel cs (c ∷ left) p q rs → is_by q.caller c ≡ true → Answered voxel c q s r → RanTo voxel cs left p s (rs ++ r ∷ [])

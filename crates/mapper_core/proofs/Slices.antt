@@ -6,9 +6,11 @@ use Rattle.std.specs.declared.option.Option.{Option}
 use Rattle.scan_log.specs.Commands.{command_caller}
 use Rattle.scan_log.specs.declared.command.Command.{Command}
 use Rattle.scan_log.specs.declared.command.Command.TheVariants.{Change, Near, Nears, Inside, Ball, Lonely, Clusters, Pose, Sync}
-use Rattle.scan_log.specs.Scripts.{points_of}
-use Rattle.scan_log.specs.Poses.{plain_command, plain_from, regions_after}
+use Rattle.published_map.specs.Marks.{Seen}
+use Rattle.scan_log.specs.Scripts.{ScriptAt, points_of}
+use Rattle.scan_log.specs.Poses.{no_regions, plain_command, plain_from, plain_script, regions_after}
 use Rattle.local_region.specs.Regions.{RegionAt}
+use Rattle.mapper_core.specs.Ended.{CanRun}
 use Rattle.mapper_core.specs.Meetings.{is_barrier, IsOfCallers, HasCaller}
 use Rattle.mapper_core.proofs.Beginnings.{take_next}
 
@@ -113,6 +115,9 @@ command_has n regions (Clusters caller k r) has = has
 command_has n regions (Pose caller rules p) has = has
 command_has n regions Sync has = has
 
-pub plain_has : (n : ℕ) (regions : List (Option RegionAt)) (cs : List Command) → AllByRecursion (HasCaller n) cs → AllByRecursion (HasCaller n) (plain_from regions cs)
+plain_has : (n : ℕ) (regions : List (Option RegionAt)) (cs : List Command) → AllByRecursion (HasCaller n) cs → AllByRecursion (HasCaller n) (plain_from regions cs)
 plain_has n regions [] all = tt
 plain_has n regions (c ∷ cs) all = (command_has n regions c all.0, plain_has n (regions_after regions c) cs all.1)
+
+pub plain_ready : (n m v : ℕ) (s : ScriptAt) (ps : List Seen) → CanRun n m v s ps → CanRun n m v (plain_script s) ps
+plain_ready n m v s ps h = record { voxel = h.voxel; named = plain_has n no_regions s.commands h.named; newcomers = h.newcomers; parts = h.parts; callers = h.callers }

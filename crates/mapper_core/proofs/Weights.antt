@@ -1,6 +1,7 @@
 -- How much the updates of some callers weigh together, each update by a weight of its own.
-use Rattle.std.proofs.Common.{◌≡◌, ℕ, ◌+◌, ◌≤◌, ◌==◌, Bool, true, false, List, [], ◌∷◌, ◌++◌, length, refl, ap, ◌∙◌, subst, arith}
+use Rattle.std.proofs.Common.{◌≡◌, ℕ, ◌+◌, ◌≤◌, ◌==◌, Bool, true, false, List, [], ◌∷◌, ◌++◌, length, Option, Some, None, inl, inr, refl, ap, sym, ◌∙◌, subst, arith}
 use Rattle.std.proofs.lemmas.Bool.Decides.{nat_tests}
+use Rattle.std.specs.Option.{option_map, option_to_list, unwrap_or}
 use Rattle.map_fold.specs.declared.entry.Entry.{Entry}
 use Rattle.map_fold.specs.declared.update.Update.{Update}
 use Rattle.map_fold.specs.Fold.{MapAt, step, fold, fold_from, no_points, points_in}
@@ -8,11 +9,13 @@ use Rattle.map_fold.proofs.Folds.{step_next}
 use Rattle.rebuild_core.specs.History.{updates}
 use Rattle.published_map.specs.Marks.{Seen, keep_if, updates_of, one_if, times, IsDistinct, AllOf, callers_of, AllMet}
 use Rattle.scan_log.specs.declared.command.Command.{Command}
-use Rattle.scan_log.specs.declared.command.Command.TheVariants.{Change, Near, Nears, Inside, Ball, Lonely, Clusters, Pose, Sync}
+use Rattle.scan_log.specs.declared.command.Command.TheVariants.{Change}
+use Rattle.scan_log.specs.Commands.{command_update, updates_made}
 use Rattle.scan_log.specs.Scripts.{points_of}
-use Rattle.scan_log.specs.Transcript.{updates_in}
+use Rattle.scan_log.proofs.Whose.{change_or_none}
 use Rattle.mapper_core.specs.Mine.{updates_by}
 use Rattle.mapper_core.specs.Meetings.{AllDone}
+use Rattle.mapper_core.proofs.Whose.{passed, passed_by}
 
 unfoldable pub weigh : (Update → ℕ) → List Update → ℕ
 weigh w [] = 0
@@ -90,19 +93,6 @@ unfoldable pub commands_of : (Update → ℕ) → List ℕ → List Command → 
 commands_of w [] ds = 0
 commands_of w (c ∷ cs) ds = weigh w (updates_by c ds) + commands_of w cs ds
 
--- and of all commands
-unfoldable pub weigh_all : (Update → ℕ) → List Command → ℕ
-weigh_all w [] = 0
-weigh_all w (Change caller u ∷ ds) = w u + weigh_all w ds
-weigh_all w (Near caller k p within ∷ ds) = weigh_all w ds
-weigh_all w (Nears caller k ps ∷ ds) = weigh_all w ds
-weigh_all w (Inside caller k c ∷ ds) = weigh_all w ds
-weigh_all w (Ball caller k r p ∷ ds) = weigh_all w ds
-weigh_all w (Lonely caller k r ∷ ds) = weigh_all w ds
-weigh_all w (Clusters caller k r ∷ ds) = weigh_all w ds
-weigh_all w (Pose caller rules place ∷ ds) = weigh_all w ds
-weigh_all w (Sync ∷ ds) = weigh_all w ds
-
 entries_nil : (w : Update → ℕ) (cs : List ℕ) → entries_of w cs [] ≡ 0
 unfolding entries_of weigh
 entries_nil w [] = refl
@@ -130,78 +120,54 @@ unfolding commands_of share
 commands_cons w [] x u ds = refl
 commands_cons w (c ∷ cs) x u ds = let r = commands_cons w cs x u ds in let k = keep_weight w (x == c) u (updates_by c ds) in omega arith
 
-commands_skip : (w : Update → ℕ) (cs : List ℕ) (d : Command) (ds : List Command) → ((c : ℕ) → updates_by c (d ∷ ds) ≡ updates_by c ds) → commands_of w cs (d ∷ ds) ≡ commands_of w cs ds
+commands_skip : (w : Update → ℕ) (cs : List ℕ) (d : Command) (ds : List Command) → command_update d ≡ None → commands_of w cs (d ∷ ds) ≡ commands_of w cs ds
 unfolding commands_of
-commands_skip w [] d ds same = refl
-commands_skip w (c ∷ cs) d ds same = let r = commands_skip w cs d ds same in let k = ap (weigh w) (same c) in omega arith
+commands_skip w [] d ds none = refl
+commands_skip w (c ∷ cs) d ds none = let r = commands_skip w cs d ds none in let k = ap (weigh w) (passed_by c d ds none) in omega arith
 
 -- different callers' commands weigh no more than all
-pub commands_most : (w : Update → ℕ) (cs : List ℕ) (ds : List Command) → IsDistinct cs → commands_of w cs ds ≤ weigh_all w ds
-unfolding weigh_all
+pub commands_most : (w : Update → ℕ) (cs : List ℕ) (ds : List Command) → IsDistinct cs → commands_of w cs ds ≤ weigh w (updates_made ds)
+unfolding weigh
 commands_most w cs [] d = let k = commands_nil w cs in omega arith
-commands_most w cs (Change x u ∷ ds) d =
-    let k = commands_cons w cs x u ds in let one = share_most x cs (w u) d in let r = commands_most w cs ds d in omega arith
-commands_most w cs (Near x n p within ∷ ds) d = let k = commands_skip w cs (Near x n p within) ds (λ c. refl) in let r = commands_most w cs ds d in omega arith
-commands_most w cs (Nears x n ps ∷ ds) d = let k = commands_skip w cs (Nears x n ps) ds (λ c. refl) in let r = commands_most w cs ds d in omega arith
-commands_most w cs (Inside x n b ∷ ds) d = let k = commands_skip w cs (Inside x n b) ds (λ c. refl) in let r = commands_most w cs ds d in omega arith
-commands_most w cs (Ball x n far p ∷ ds) d = let k = commands_skip w cs (Ball x n far p) ds (λ c. refl) in let r = commands_most w cs ds d in omega arith
-commands_most w cs (Lonely x n far ∷ ds) d = let k = commands_skip w cs (Lonely x n far) ds (λ c. refl) in let r = commands_most w cs ds d in omega arith
-commands_most w cs (Clusters x n far ∷ ds) d = let k = commands_skip w cs (Clusters x n far) ds (λ c. refl) in let r = commands_most w cs ds d in omega arith
-commands_most w cs (Pose x rules place ∷ ds) d = let k = commands_skip w cs (Pose x rules place) ds (λ c. refl) in let r = commands_most w cs ds d in omega arith
-commands_most w cs (Sync ∷ ds) d = let k = commands_skip w cs Sync ds (λ c. refl) in let r = commands_most w cs ds d in omega arith
+commands_most w cs (c ∷ ds) d =
+    let r = commands_most w cs ds d in
+    elim (change_or_none c) [
+      | inl is ↦
+          let k = commands_cons w cs is.0 is.1 ds in
+          let one = share_most is.0 cs (w is.1) d in
+          subst (λ z. commands_of w cs (z ∷ ds) ≤ weigh w (updates_made (z ∷ ds))) (sym is.2) (omega arith)
+      | inr none ↦
+          let k = commands_skip w cs c ds none in
+          let e = ap (weigh w) (passed c ds none) in omega arith
+    ]
 
 -- each of the updates is of one of these callers
 unfoldable pub AllChangesOf : List ℕ → List Command → Type 0
 AllChangesOf cs [] = Unit {0}
-AllChangesOf cs (Change x u ∷ ds) = (times x cs ≡ 1) × AllChangesOf cs ds
-AllChangesOf cs (Near x k p within ∷ ds) = AllChangesOf cs ds
-AllChangesOf cs (Nears x k ps ∷ ds) = AllChangesOf cs ds
-AllChangesOf cs (Inside x k b ∷ ds) = AllChangesOf cs ds
-AllChangesOf cs (Ball x k r p ∷ ds) = AllChangesOf cs ds
-AllChangesOf cs (Lonely x k r ∷ ds) = AllChangesOf cs ds
-AllChangesOf cs (Clusters x k r ∷ ds) = AllChangesOf cs ds
-AllChangesOf cs (Pose x rules place ∷ ds) = AllChangesOf cs ds
-AllChangesOf cs (Sync ∷ ds) = AllChangesOf cs ds
+AllChangesOf cs (d ∷ ds) = ((x : ℕ) (u : Update) → d ≡ Change x u → times x cs ≡ 1) × AllChangesOf cs ds
 
-pub commands_whole : (w : Update → ℕ) (cs : List ℕ) (ds : List Command) → AllChangesOf cs ds → commands_of w cs ds ≡ weigh_all w ds
-unfolding weigh_all AllChangesOf
+pub commands_whole : (w : Update → ℕ) (cs : List ℕ) (ds : List Command) → AllChangesOf cs ds → commands_of w cs ds ≡ weigh w (updates_made ds)
+unfolding weigh AllChangesOf
 commands_whole w cs [] o = commands_nil w cs
-commands_whole w cs (Change x u ∷ ds) o =
-    let k = commands_cons w cs x u ds in let one = share_one x cs (w u) o.0 in let r = commands_whole w cs ds o.1 in omega arith
-commands_whole w cs (Near x n p within ∷ ds) o = commands_skip w cs (Near x n p within) ds (λ c. refl) ∙ commands_whole w cs ds o
-commands_whole w cs (Nears x n ps ∷ ds) o = commands_skip w cs (Nears x n ps) ds (λ c. refl) ∙ commands_whole w cs ds o
-commands_whole w cs (Inside x n b ∷ ds) o = commands_skip w cs (Inside x n b) ds (λ c. refl) ∙ commands_whole w cs ds o
-commands_whole w cs (Ball x n r p ∷ ds) o = commands_skip w cs (Ball x n r p) ds (λ c. refl) ∙ commands_whole w cs ds o
-commands_whole w cs (Lonely x n r ∷ ds) o = commands_skip w cs (Lonely x n r) ds (λ c. refl) ∙ commands_whole w cs ds o
-commands_whole w cs (Clusters x n r ∷ ds) o = commands_skip w cs (Clusters x n r) ds (λ c. refl) ∙ commands_whole w cs ds o
-commands_whole w cs (Pose x rules place ∷ ds) o = commands_skip w cs (Pose x rules place) ds (λ c. refl) ∙ commands_whole w cs ds o
-commands_whole w cs (Sync ∷ ds) o = commands_skip w cs Sync ds (λ c. refl) ∙ commands_whole w cs ds o
+commands_whole w cs (d ∷ ds) o =
+    let r = commands_whole w cs ds o.1 in
+    elim (change_or_none d) [
+      | inl is ↦
+          let k = commands_cons w cs is.0 is.1 ds in
+          let one = share_one is.0 cs (w is.1) (o.0 is.0 is.1 is.2) in
+          subst (λ z. commands_of w cs (z ∷ ds) ≡ weigh w (updates_made (z ∷ ds))) (sym is.2) (omega arith)
+      | inr none ↦ commands_skip w cs d ds none ∙ r ∙ ap (weigh w) (sym (passed d ds none))
+    ]
 
-pub all_ones : (ds : List Command) → weigh_all (λ u. 1) ds ≡ updates_in ds
-unfolding weigh_all
-all_ones [] = refl
-all_ones (Change x u ∷ ds) = let r = all_ones ds in omega arith
-all_ones (Near x k p within ∷ ds) = all_ones ds
-all_ones (Nears x k ps ∷ ds) = all_ones ds
-all_ones (Inside x k b ∷ ds) = all_ones ds
-all_ones (Ball x k r p ∷ ds) = all_ones ds
-all_ones (Lonely x k r ∷ ds) = all_ones ds
-all_ones (Clusters x k r ∷ ds) = all_ones ds
-all_ones (Pose x rules place ∷ ds) = all_ones ds
-all_ones (Sync ∷ ds) = all_ones ds
+one_points : (made : Option Update) (us : List Update) → weigh points_in (option_to_list made ++ us) ≡ unwrap_or (option_map points_in made) 0 + weigh points_in us
+unfolding weigh
+one_points (Some u) us = refl
+one_points None us = omega arith
 
-pub all_points : (ds : List Command) → weigh_all points_in ds ≡ points_of ds
-unfolding weigh_all
+pub all_points : (ds : List Command) → weigh points_in (updates_made ds) ≡ points_of ds
+unfolding weigh
 all_points [] = refl
-all_points (Change x u ∷ ds) = let r = all_points ds in omega arith
-all_points (Near x k p within ∷ ds) = let r = all_points ds in omega arith
-all_points (Nears x k ps ∷ ds) = let r = all_points ds in omega arith
-all_points (Inside x k b ∷ ds) = let r = all_points ds in omega arith
-all_points (Ball x k far p ∷ ds) = let r = all_points ds in omega arith
-all_points (Lonely x k far ∷ ds) = let r = all_points ds in omega arith
-all_points (Clusters x k far ∷ ds) = let r = all_points ds in omega arith
-all_points (Pose x rules place ∷ ds) = let r = all_points ds in omega arith
-all_points (Sync ∷ ds) = let r = all_points ds in omega arith
+all_points (d ∷ ds) = let r = all_points ds in let k = one_points (command_update d) (updates_made ds) in omega arith
 
 -- what these passes have made
 unfoldable pub made : (Update → ℕ) → List Seen → ℕ

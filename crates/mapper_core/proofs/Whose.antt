@@ -1,16 +1,16 @@
 -- The last marks of all callers, and what a reply looks at.
-use Rattle.std.proofs.Common.{◌≡◌, ℕ, ◌≤◌, Bool, true, false, List, take, refl, ap, arith}
+use Rattle.std.proofs.Common.{◌≡◌, ℕ, ◌≤◌, Bool, true, false, List, ◌∷◌, ◌++◌, Option, Some, None, take, length, refl, ap, sym, ◌∙◌, arith}
+use Rattle.std.proofs.Math.Seq.{take-length}
+use Rattle.std.proofs.lemmas.List.{length-map}
+use Rattle.map_fold.specs.declared.entry.Entry.{Entry}
 use Rattle.map_fold.specs.declared.update.Update.{Update}
-use Rattle.map_fold.specs.Answers.{nearest, nears, inside, count, live_count, suspended_count}
-use Rattle.map_fold.specs.Neighbours.{ball, lonely}
-use Rattle.map_fold.specs.Clusters.{clusters}
 use Rattle.map_fold.specs.Fold.{fold}
-use Rattle.scan_log.specs.Commands.{Concerns, is_for}
+use Rattle.rebuild_core.specs.History.{updates}
+use Rattle.scan_log.specs.Commands.{Concerns, command_update, is_for, updates_made}
 use Rattle.scan_log.specs.declared.command.Command.{Command}
-use Rattle.scan_log.specs.declared.command.Command.TheVariants.{Change, Near, Nears, Inside, Ball, Lonely, Clusters, Pose, Sync}
-use Rattle.scan_log.specs.declared.reply.Reply.TheVariants as reply
-use Rattle.scan_log.specs.Transcript.{reply_to, found_reply, clusters_reply}
+use Rattle.scan_log.specs.Transcript.{reply_on, reply_to}
 use Rattle.scan_log.proofs.Whose.{for_concerns}
+use Rattle.mapper_core.specs.Mine.{keep_made, updates_by}
 use Rattle.mapper_core.specs.Told.{raised}
 
 pub raised_own : (lows : ℕ → ℕ) (c : Command) (m x : ℕ) → is_for x c ≡ true → raised lows c m x ≡ m
@@ -29,12 +29,21 @@ raises lows c m x le = by_case (is_for x c) refl
 
 -- a reply at a mark is told by the updates before it
 pub reply_take : (voxel m : ℕ) (us vs : List Update) (c : Command) → take m us ≡ take m vs → reply_to voxel us c m ≡ reply_to voxel vs c m
-reply_take voxel m us vs (Change caller u) e = refl
-reply_take voxel m us vs (Near caller k p within) e = ap (λ ts. reply.Near (record { mark = m; hits = nearest (fold voxel ts).items k p within })) e
-reply_take voxel m us vs (Nears caller k ps) e = ap (λ ts. reply.Nears (record { mark = m; lists = nears (fold voxel ts).items k ps })) e
-reply_take voxel m us vs (Inside caller k b) e = ap (λ ts. reply.Inside (record { mark = m; count = count (fold voxel ts).items b; items = inside (fold voxel ts).items b k })) e
-reply_take voxel m us vs (Ball caller k r p) e = ap (λ ts. reply.Ball (found_reply m (ball (fold voxel ts).items p r) k)) e
-reply_take voxel m us vs (Lonely caller k r) e = ap (λ ts. reply.Lonely (found_reply m (lonely (fold voxel ts).items r) k)) e
-reply_take voxel m us vs (Clusters caller k r) e = ap (λ ts. reply.Clusters (clusters_reply m (clusters (fold voxel ts).items r) k)) e
-reply_take voxel m us vs (Pose caller rules place) e = refl
-reply_take voxel m us vs Sync e = ap (λ ts. reply.Totals m (live_count (fold voxel ts).items) (suspended_count (fold voxel ts).items)) e
+reply_take voxel m us vs c e = ap (λ ts. reply_on (fold voxel ts).items c m) e
+
+-- a command that makes no update is passed over
+pub passed_by : (x : ℕ) (c : Command) (cs : List Command) → command_update c ≡ None → updates_by x (c ∷ cs) ≡ updates_by x cs
+passed_by x c cs none = rw none refl
+
+pub passed : (c : Command) (cs : List Command) → command_update c ≡ None → updates_made (c ∷ cs) ≡ updates_made cs
+passed c cs none = rw none refl
+
+-- what is kept comes first
+pub keep_append : (b : Bool) (made : Option Update) (us vs : List Update) → keep_made b made (us ++ vs) ≡ keep_made b made us ++ vs
+keep_append true (Some u) us vs = refl
+keep_append false (Some u) us vs = refl
+keep_append b None us vs = refl
+
+-- a history has no more updates than entries
+pub all_taken : (h : List Entry) → take (length h) (updates h) ≡ updates h
+all_taken h = ap (λ n. take n (updates h)) (sym (length-map h (λ (e : Entry). e.update))) ∙ take-length (updates h)

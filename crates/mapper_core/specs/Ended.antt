@@ -1,5 +1,6 @@
--- What is known once all callers have ended.
-use Rattle.std.specs.Prelude.{◌≡◌, ℕ, List, [], ◌∷◌, length}
+-- What is asked before callers run a script, and known once all have ended.
+use Rattle.std.specs.Prelude.{◌≡◌, ℕ, ◌<◌, List, [], ◌∷◌, length}
+use Rattle.std.specs.List.{AllByRecursion}
 use Rattle.map_fold.specs.declared.entry.Entry.{Entry}
 use Rattle.rebuild_core.specs.History.{updates}
 use Rattle.published_map.specs.Marks.{Seen, AllMet, AllOf, callers_of}
@@ -9,7 +10,20 @@ use Rattle.scan_log.specs.Scripts.{ScriptAt}
 use Rattle.scan_log.specs.Transcript.{totals_reply}
 use Rattle.scan_log.specs.Legal.{counted}
 use Rattle.mapper_core.specs.Told.{IsReply}
-use Rattle.mapper_core.specs.Meetings.{AllDone}
+use Rattle.mapper_core.specs.Meetings.{AllDone, AreNewcomers, HasCaller}
+
+-- The passes can run the script, where the map has n callers, its ledger m parts, and its voxels the edge v.
+pub record CanRun (n m v : ℕ) (s : ScriptAt) (ps : List Seen) : Type 0 where
+  -- the map was started with the script's settings
+  pub voxel : v ≡ s.sizes.voxel
+  -- each command is a barrier, or one of the map's callers'
+  pub named : AllByRecursion (HasCaller n) s.commands
+  -- the passes are those of all callers, and have seen nothing
+  pub newcomers : AreNewcomers n ps
+  -- there is a part for each caller
+  pub parts : n ≡ m
+  -- there is one caller or more
+  pub callers : 0 < n
 
 -- each command's reply, and at the end the totals, in one history
 abbrev pub AllReplied : ℕ → List Entry → List Command → List Reply → Type 0

@@ -8,7 +8,6 @@ use Rattle.rebuild_core.specs.History.{updates}
 use Rattle.published_map.specs.Marks.{Seen, Grown, keep_if}
 use Rattle.scan_log.specs.Commands.{command_update, is_by}
 use Rattle.scan_log.specs.declared.command.Command.{Command}
-use Rattle.scan_log.specs.declared.command.Command.TheVariants.{Change, Near, Nears, Inside, Ball, Lonely, Clusters, Pose, Sync}
 use Rattle.scan_log.specs.declared.reply.Reply.{Reply}
 use Rattle.scan_log.specs.Scripts.{submitted}
 use Rattle.scan_log.specs.Transcript.{mark_of}
@@ -16,7 +15,8 @@ use Rattle.mapper_core.specs.Told.{Answers}
 use Rattle.map_fold.specs.declared.limits.TheConstants.{MAX_POINTS}
 use Rattle.rebuild_core.specs.declared.plan.TheConstants.{MAX_UPDATES}
 
-abbrev keep_made : Bool → Option Update → List Update → List Update
+-- a caller's updates with this one, if it is one and the caller's
+abbrev pub keep_made : Bool → Option Update → List Update → List Update
 keep_made is_own (Some u) us = keep_if is_own u us
 keep_made is_own None us = us
 

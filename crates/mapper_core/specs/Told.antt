@@ -1,18 +1,21 @@
 -- What callers were told, seen from one history.
-use Rattle.std.specs.Prelude.{◌≡◌, ℕ, ◌+◌, ◌≤◌, ◌==◌, Bool, true, false, List, [], ◌∷◌, length, slice_get, Some, if◌then◌else◌, IfSome, MatchOption}
+use Rattle.std.specs.Prelude.{◌≡◌, ℕ, ◌+◌, ◌≤◌, ◌==◌, Bool, true, false, List, [], ◌∷◌, length, slice_get, Option, Some, if◌then◌else◌, IfSome, MatchOption}
 use Rattle.map_fold.specs.declared.entry.Entry.{Entry}
+use Rattle.map_fold.specs.declared.update.Update.{Update}
 use Rattle.rebuild_core.specs.History.{updates}
 use Rattle.scan_log.specs.Commands.{Concerns, command_caller, command_update, is_for}
 use Rattle.scan_log.specs.declared.command.Command.{Command}
-use Rattle.scan_log.specs.declared.command.Command.TheVariants.{Change, Near, Nears, Inside, Ball, Lonely, Clusters, Pose, Sync}
 use Rattle.scan_log.specs.declared.reply.Reply.{Reply}
 use Rattle.scan_log.specs.Legal.{IsLater}
 use Rattle.scan_log.specs.Transcript.{reply_to, mark_of}
 
--- the mark has a place in the history: an update's is the place of the caller's entry with it, from 1 on
+-- the mark is the place, from 1 on, of the caller's entry with the update
+abbrev pub HasPlace : List Entry → Option ℕ → ℕ → Update → Type 0
+HasPlace h owner m u = (k : ℕ) × (m ≡ k + 1) × ((e : Entry) × (slice_get h k ≡ Some e) × IfSome owner (λ caller. e.caller ≡ caller) × (e.update ≡ u))
+
+-- the mark has a place in the history: an update's is that of its entry
 abbrev pub IsPlaced : List Entry → Command → ℕ → Type 0
-IsPlaced h c m = MatchOption (command_update c) (m ≤ length h)
-    (λ u. (k : ℕ) × (m ≡ k + 1) × ((e : Entry) × (slice_get h k ≡ Some e) × IfSome (command_caller c) (λ caller. e.caller ≡ caller) × (e.update ≡ u)))
+IsPlaced h c m = MatchOption (command_update c) (m ≤ length h) (HasPlace h (command_caller c) m)
 
 -- the reply to the command after so many entries of the history as its mark says
 pub record IsReply (voxel : ℕ) (h : List Entry) (c : Command) (r : Reply) : Type 0 where

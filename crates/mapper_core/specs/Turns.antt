@@ -6,7 +6,6 @@ use Rattle.rebuild_core.specs.History.{updates}
 use Rattle.rebuild_core.specs.Lawful.{StateAt}
 use Rattle.scan_log.specs.Commands.{updates_made}
 use Rattle.scan_log.specs.declared.command.Command.{Command}
-use Rattle.scan_log.specs.declared.command.Command.TheVariants.{Change, Near, Nears, Inside, Ball, Lonely, Clusters, Pose, Sync}
 use Rattle.scan_log.specs.declared.reply.Reply.{Reply}
 use Rattle.scan_log.specs.Scripts.{submitted}
 use Rattle.scan_log.specs.Transcript.{reply_to}

@@ -1,19 +1,14 @@
 //! One command, on the state of a map.
-ghost use Rattle.std.specs.Prelude.{◌≡◌, ◌≤◌, ◌<◌, ◌+◌, length, IfOk, OnOk, Some, None};
-ghost use Rattle.kd_tree.specs.Contents.{contents};
-ghost use Rattle.map_fold.specs.Answers.{nears};
+ghost use Rattle.std.specs.Prelude.{◌≡◌, ◌≤◌, ◌<◌, ◌+◌, length, IfOk, OnOk};
 ghost use Rattle.kd_tree.specs.Counter.{IsBlankOf};
-ghost use Rattle.kd_search.specs.Query.{IsQuery};
 ghost use Rattle.rebuild_core.specs.Steps.{HasRoom, IsUpdateStep};
 ghost use Rattle.scan_log.specs.Plain.{IsPlain};
 ghost use Rattle.scan_log.specs.Scripts.{submitted};
 ghost use Rattle.mapper_core.specs.Turns.{Follows, IsTended, reply_of};
 
-use crate::neighbours::{ball_reply, clusters_reply, lonely_reply};
-use kd_search::{count_in, in_cuboid, nearest};
-use kd_tree::{Steps, Tree};
-use map_fold::{BoxReply, HitLists, MAX_POINTS, NearReply, NearsReply, NoMemory, Points, Update};
-use point_geom::{Cuboid, Point};
+use crate::tree_reply::{tree_reply, tree_totals};
+use kd_tree::Steps;
+use map_fold::{MAX_POINTS, NoMemory, Update};
 use rebuild_core::{Built, MAX_UPDATES, MapState, StateFault, SwapFault};
 use scan_log::{Command, Reply};
 use std::alloc::Global;
@@ -30,22 +25,11 @@ pub fn answer(alloc: Global, state: &mut MapState, command: &Command) -> Result<
 {
     match command {
         Command::Change { caller, update } => change(alloc, state, *caller, update),
-        Command::Near {
-            k,
-            point,
-            within,
-            ..
-        } => near(alloc, state, *k, point, *within),
-        Command::Nears { k, points, .. } => nears(alloc, state, *k, points),
-        Command::Inside { k, cuboid, .. } => inside(alloc, state, *k, cuboid),
-        Command::Ball { k, r, point, .. } => ball(alloc, state, *k, *r, point),
-        Command::Lonely { k, r, .. } => lonely(alloc, state, *k, *r),
-        Command::Clusters { k, r, .. } => clusters(alloc, state, *k, *r),
-        Command::Pose { .. } => unreachable!(),
         Command::Sync => {
             state.settle(alloc)?;
             Ok(totals(state))
         }
+        _ => query(alloc, state, command),
     }
 }
 
@@ -124,94 +108,21 @@ fn put_back<L: Ledger>(
     }
 }
 
-fn near(
-    alloc: Global,
-    state: &MapState,
-    k: u32,
-    point: &Point,
-    within: Option<u64>,
-) -> Result<Reply, NoMemory>
-    requires query { IsQuery k within }
-    ensures { IfOk result (λ r. r ≡ reply_of state.now.state (Command.Near 1 k point.now within)) }
+// The reply to a command that changes nothing.
+#[tactic(auto, using(crate::proofs::Turns::lawful_reply))]
+fn query(alloc: Global, state: &MapState, command: &Command) -> Result<Reply, NoMemory>
+    requires { IsPlain command.now }
+    ensures { IfOk result (λ r. r ≡ reply_of state.now.state command.now) }
 {
     let mark = state.history().len() as u64;
-    let hits = nearest(alloc, state.version().tree(), k, point, within)?;
-    Ok(Reply::Near(NearReply { mark, hits }))
-}
-
-fn nears(alloc: Global, state: &MapState, k: u32, points: &Points) -> Result<Reply, NoMemory>
-    requires query { IsQuery k None }
-    ensures { IfOk result (λ r. r ≡ reply_of state.now.state (Command.Nears 1 k points.now)) }
-{
-    let mark = state.history().len() as u64;
-    let lists = nearest_in_turn(alloc, state.version().tree(), k, points.as_slice())?;
-    Ok(Reply::Nears(NearsReply { mark, lists }))
-}
-
-// One search after another.
-fn nearest_in_turn(
-    alloc: Global,
-    tree: &Tree,
-    k: u32,
-    points: &[Point],
-) -> Result<HitLists, NoMemory>
-    requires query { IsQuery k None }
-    ensures { IfOk result (λ lists. lists ≡ nears (contents tree.now) k points.now) }
-{
-    let mut lists = HitLists::new(alloc);
-    for point in points {
-        lists.push(nearest(alloc, tree, k, point, None)?)?;
-    }
-    Ok(lists)
-}
-
-fn inside(alloc: Global, state: &MapState, k: u32, cuboid: &Cuboid) -> Result<Reply, NoMemory>
-    requires query { IsQuery k None }
-    ensures { IfOk result (λ r. r ≡ reply_of state.now.state (Command.Inside 1 k cuboid.now)) }
-{
-    let mark = state.history().len() as u64;
-    let tree = state.version().tree();
-    let count = count_in(tree, cuboid);
-    let items = in_cuboid(alloc, tree, cuboid, k)?;
-    Ok(Reply::Inside(BoxReply { mark, count, items }))
-}
-
-fn ball(alloc: Global, state: &MapState, k: u32, r: u64, point: &Point) -> Result<Reply, NoMemory>
-    requires query { IsQuery k (Some r) }
-    ensures { IfOk result (λ z. z ≡ reply_of state.now.state (Command.Ball 1 k r point.now)) }
-{
-    let mark = state.history().len() as u64;
-    let found = ball_reply(alloc, state.version().tree(), mark, k, r, point)?;
-    Ok(Reply::Ball(found))
-}
-
-fn lonely(alloc: Global, state: &MapState, k: u32, r: u64) -> Result<Reply, NoMemory>
-    requires query { IsQuery k (Some r) }
-    ensures { IfOk result (λ z. z ≡ reply_of state.now.state (Command.Lonely 1 k r)) }
-{
-    let mark = state.history().len() as u64;
-    let found = lonely_reply(alloc, state.version().tree(), mark, k, r)?;
-    Ok(Reply::Lonely(found))
-}
-
-fn clusters(alloc: Global, state: &MapState, k: u32, r: u64) -> Result<Reply, NoMemory>
-    requires query { IsQuery k (Some r) }
-    ensures { IfOk result (λ z. z ≡ reply_of state.now.state (Command.Clusters 1 k r)) }
-{
-    let mark = state.history().len() as u64;
-    let found = clusters_reply(alloc, state.version().tree(), mark, k, r)?;
-    Ok(Reply::Clusters(found))
+    tree_reply(alloc, state.version().tree(), mark, command)
 }
 
 /// How many points are held.
+#[tactic(auto, using(crate::proofs::Turns::lawful_reply))]
 pub fn totals(state: &MapState) -> Reply
     ensures { result ≡ reply_of state.now.state Command.Sync }
 {
     let mark = state.history().len() as u64;
-    let counts = state.version().counts();
-    Reply::Totals {
-        mark,
-        live: counts.live,
-        suspended: counts.suspended,
-    }
+    tree_totals(state.version().tree(), mark)
 }

@@ -1,6 +1,7 @@
 //! The ways in which a run ends.
 ghost use Rattle.std.specs.Prelude.{◌≡◌};
 ghost use Rattle.mapper_core.specs.Endings.{status_of};
+ghost use Rattle.mapper_core.specs.declared.ending.Ending.TheVariants as ending;
 
 use crate::status::Status;
 use map_fold::NoMemory;
@@ -49,10 +50,7 @@ impl Ending {
 }
 
 impl From<NoMemory> for Ending {
-    ghost use Rattle.std.specs.Prelude.{◌≡◌};
-    ghost use Rattle.mapper_core.specs.declared.ending.Ending.TheVariants.{NoMemory as want};
-
-    ghost from_gives = { λ _ e. e ≡ want };
+    ghost from_gives = { λ _ e. e ≡ ending.NoMemory };
 
     fn from(_want: NoMemory) -> Ending {
         Ending::NoMemory

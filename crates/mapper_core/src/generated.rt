@@ -31,8 +31,8 @@ const WITHIN: u64 = 2_000;
 /// points nearest to the robot, as caller 2 does within 2 metres; each tenth scan what lies far behind is deleted. Takes 24 bytes
 /// a point, and little else.
 pub fn made(alloc: Global, scans: u32) -> Result<Script, NoMemory>
-    requires some { 1 ≤ scans }
-    requires few { scans ≤ 200 }
+    requires scans_from { 1 ≤ scans }
+    requires scans_to { scans ≤ 200 }
     ensures { IfOk result (λ s. s ≡ generated scans) }
 {
     let mut script = Script::new(alloc, Format::One, Settings::new(VOXEL, LARGE));
@@ -51,13 +51,13 @@ fn push_scan(
 ) -> Result<(), NoMemory>
     requires format { script.old.format ≡ One }
     requires scan { scan < 200 }
-    requires few { length script.old.commands + 5 ≤ MAX_COMMANDS }
+    requires commands { length script.old.commands + 5 ≤ MAX_COMMANDS }
     requires room { points_of script.old.commands + 2000 ≤ MAX_POINTS }
     requires hits { hits_of script.old.commands ≤ 256 * length script.old.commands }
     ensures format { OnOk result (script.new.format ≡ One) }
     ensures sizes { OnOk result (script.new.sizes ≡ script.old.sizes) }
     ensures commands { OnOk result (script.new.commands ≡ script.old.commands ++ scan_commands scan (points_of_draws scan (next_draws 6000 draws.old))) }
-    ensures few { OnOk result (length script.new.commands ≤ length script.old.commands + 5) }
+    ensures count { OnOk result (length script.new.commands ≤ length script.old.commands + 5) }
     ensures points { OnOk result (points_of script.new.commands ≡ points_of script.old.commands + 2000) }
     ensures hits { OnOk result (hits_of script.new.commands ≤ 256 * length script.new.commands) }
     ensures moved { OnOk result (draws.new ≡ after 6000 draws.old) }
@@ -104,13 +104,13 @@ fn question(caller: u8, scan: u32, within: Option<u64>) -> Command
 fn push_deletions(alloc: Global, script: &mut Script, scan: u32) -> Result<(), NoMemory>
     requires format { script.old.format ≡ One }
     requires scan { scan < 200 }
-    requires few { length script.old.commands < MAX_COMMANDS }
+    requires commands { length script.old.commands < MAX_COMMANDS }
     requires room { points_of script.old.commands ≤ MAX_POINTS }
     requires hits { hits_of script.old.commands ≤ 256 * length script.old.commands }
     ensures format { OnOk result (script.new.format ≡ One) }
     ensures sizes { OnOk result (script.new.sizes ≡ script.old.sizes) }
     ensures commands { OnOk result (script.new.commands ≡ script.old.commands ++ deletions scan) }
-    ensures few { OnOk result (length script.new.commands ≤ length script.old.commands + 1) }
+    ensures count { OnOk result (length script.new.commands ≤ length script.old.commands + 1) }
     ensures points { OnOk result (points_of script.new.commands ≡ points_of script.old.commands) }
     ensures hits { OnOk result (hits_of script.new.commands ≤ 256 * length script.new.commands) }
 {
@@ -150,13 +150,13 @@ fn behind(scan: u32) -> Cuboid
 fn push(script: &mut Script, command: Command) -> Result<(), NoMemory>
     requires format { script.old.format ≡ One }
     requires good { IsCommand One command }
-    requires few { length script.old.commands < MAX_COMMANDS }
+    requires commands { length script.old.commands < MAX_COMMANDS }
     requires room { points_of script.old.commands + submitted command ≤ MAX_POINTS }
     requires hits { hits_of script.old.commands ≤ 256 * length script.old.commands }
     requires asks { asked command ≤ 256 }
     ensures format { OnOk result (script.new.format ≡ One) }
     ensures pushed { OnOk result (script.new ≡ with_command script.old command) }
-    ensures few { OnOk result (length script.new.commands ≡ length script.old.commands + 1) }
+    ensures count { OnOk result (length script.new.commands ≡ length script.old.commands + 1) }
     ensures points { OnOk result (points_of script.new.commands ≡ points_of script.old.commands + submitted command) }
     ensures hits { OnOk result (hits_of script.new.commands ≤ 256 * length script.new.commands) }
 {

@@ -4,6 +4,7 @@ ghost use Rattle.std.specs.declared.option.Option.{Option};
 ghost use Rattle.std.specs.Io.{ReadsAtMost};
 ghost use Rattle.std.specs.Io.KnownBytes.{ReadConsumes, WriteAppends};
 ghost use Rattle.mapper_core.specs.Outside.{HasCause, is_end};
+ghost use Rattle.mapper_core.specs.declared.outside.SinkFault.TheVariants.{NoMemory};
 
 use std::alloc::AllocError;
 
@@ -21,9 +22,6 @@ pub enum SinkFault {
 }
 
 impl From<AllocError> for SinkFault {
-    ghost use Rattle.std.specs.Prelude.{◌≡◌};
-    ghost use Rattle.mapper_core.specs.declared.outside.SinkFault.TheVariants.{NoMemory};
-
     ghost from_gives = { λ _ e. e ≡ NoMemory };
 
     fn from(_error: AllocError) -> SinkFault {

@@ -2,6 +2,7 @@
 ghost use Rattle.std.specs.Prelude.{◌≡◌, ◌≤◌, ◌+◌, false, true, vec_len, IfOk, OnOk, IsErrOf};
 ghost use Rattle.std.specs.Io.KnownBytes.{Consumes, IsAtEnd};
 ghost use Rattle.mapper_core.specs.Outside.{HasCause, HasRead};
+ghost use Rattle.mapper_core.specs.declared.reading.ReadStop.TheVariants as stop;
 
 use crate::outside::{Failed, Source};
 use std::alloc::{AllocError, Global};
@@ -18,10 +19,7 @@ pub enum ReadStop {
 }
 
 impl From<Failed> for ReadStop {
-    ghost use Rattle.std.specs.Prelude.{◌≡◌};
-    ghost use Rattle.mapper_core.specs.declared.reading.ReadStop.TheVariants.{Failed as failed};
-
-    ghost from_gives = { λ _ e. e ≡ failed };
+    ghost from_gives = { λ _ e. e ≡ stop.Failed };
 
     fn from(_failed: Failed) -> ReadStop {
         ReadStop::Failed
@@ -29,10 +27,7 @@ impl From<Failed> for ReadStop {
 }
 
 impl From<AllocError> for ReadStop {
-    ghost use Rattle.std.specs.Prelude.{◌≡◌};
-    ghost use Rattle.mapper_core.specs.declared.reading.ReadStop.TheVariants.{NoMemory as want};
-
-    ghost from_gives = { λ _ e. e ≡ want };
+    ghost from_gives = { λ _ e. e ≡ stop.NoMemory };
 
     fn from(_error: AllocError) -> ReadStop {
         ReadStop::NoMemory
@@ -44,7 +39,7 @@ pub fn read_all<R: Source>(alloc: Global, most: u32, input: &mut R) -> Result<Ve
     ensures all { IfOk result (λ v. Consumes (R.left input.old) (R.left input.new) v.items) }
     ensures end { OnOk result (IsAtEnd (R.left input.new)) }
     ensures ended { OnOk result (R.ended input.new ≡ true) }
-    ensures few { IfOk result (λ v. vec_len v ≤ most) }
+    ensures bytes { IfOk result (λ v. vec_len v ≤ most) }
     ensures reads { HasRead (R.left input.old) (R.left input.new) (λ n. n ≤ most + 1) }
     ensures too_long { IsErrOf result ReadStop.TooLong → HasRead (R.left input.old) (R.left input.new) (λ n. n ≡ most + 1) }
     ensures failed { IsErrOf result ReadStop.Failed → (R.ended input.new ≡ false) × HasRead (R.left input.old) (R.left input.new) (λ n. n ≤ most) }

@@ -72,16 +72,7 @@ fn held_at_end(replies: &[Reply]) -> Counted
             live: *live,
             suspended: *suspended,
         },
-        Some(
-            Reply::Done { .. }
-            | Reply::Near(_)
-            | Reply::Nears(_)
-            | Reply::Inside(_)
-            | Reply::Ball(_)
-            | Reply::Lonely(_)
-            | Reply::Clusters(_),
-        )
-        | None => Counted {
+        _ => Counted {
             live: 0,
             suspended: 0,
         },
@@ -104,12 +95,6 @@ fn hits_of(reply: &Reply) -> usize
 {
     match reply {
         Reply::Near(found) => found.hits.len(),
-        Reply::Done { .. }
-        | Reply::Nears(_)
-        | Reply::Inside(_)
-        | Reply::Ball(_)
-        | Reply::Lonely(_)
-        | Reply::Clusters(_)
-        | Reply::Totals { .. } => 0,
+        _ => 0,
     }
 }

@@ -3,14 +3,4 @@
 #![tactic(auto)]
 
 #[cfg(test)]
-mod callers;
-#[cfg(test)]
-mod ended;
-#[cfg(test)]
-mod outside;
-#[cfg(test)]
-mod pieces;
-#[cfg(test)]
-mod runs;
-#[cfg(test)]
-mod scripts;
+mod tests;

@@ -37,7 +37,7 @@ fn run_each<L: MapName + Send + Sync, G: Gate + Sync, R: Threads + Wait + Sync>(
     passes: Vec<Pass<L>>,
 ) -> Result<Vec<Turn<L>>, NoMemory>
     requires good { AllByRecursion IsPlain commands.now }
-    requires few { signals.now.from + length commands.now ≤ MAX_COMMANDS }
+    requires commands { signals.now.from + length commands.now ≤ MAX_COMMANDS }
     ensures { IfOk result (λ v. AllTurned L.voxel commands.now passes.items v.items) }
 {
     let mut passes = passes;
@@ -109,7 +109,7 @@ pub fn phase<L: MapName + Send + Sync, G: Gate + Sync, R: Threads + Wait + Sync>
     requires from_to { from ≤ to }
     requires to_end { to ≤ length commands.now }
     requires good { AllByRecursion IsPlain commands.now }
-    requires few { length commands.now ≤ MAX_COMMANDS }
+    requires commands { length commands.now ≤ MAX_COMMANDS }
     requires room { points_of commands.now ≤ MAX_POINTS }
     requires all { length passes.items ≡ L.callers }
     requires parts { L.callers ≡ L.parts }
@@ -157,7 +157,7 @@ pub fn barrier<L: MapName, G: Gate, R: Wait>(
     requires barrier { slice_get commands.now at ≡ Some command_of.Sync }
     requires all { length passes.items ≡ L.callers }
     requires parts { L.callers ≡ L.parts }
-    requires some { 0 < L.callers }
+    requires callers { 0 < L.callers }
     requires standing { Standing L.voxel (take at commands.now) passes.items replies.old }
     ensures all { IfOk result (λ v. length v.items ≡ L.callers) }
     ensures standing { IfOk result (λ v. Standing L.voxel (take (at + 1) commands.now) v.items replies.new) }

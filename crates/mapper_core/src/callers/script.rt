@@ -24,12 +24,12 @@ pub fn run_commands<L: MapName + Send + Sync, G: Gate + Sync, R: Threads + Wait 
     passes: Vec<Pass<L>>,
 ) -> Result<(Vec<Pass<L>>, Replies), NoMemory>
     requires good { AllByRecursion IsPlain commands.now }
-    requires few { length commands.now ≤ MAX_COMMANDS }
+    requires commands { length commands.now ≤ MAX_COMMANDS }
     requires room { points_of commands.now ≤ MAX_POINTS }
     requires named { AllByRecursion (HasCaller L.callers) commands.now }
     requires new { AreNewcomers L.callers passes.items }
     requires parts { L.callers ≡ L.parts }
-    requires some { 0 < L.callers }
+    requires callers { 0 < L.callers }
     ensures { IfOk result (λ r. StandingAtEnd L.voxel L.callers commands.now r.0.items r.1) }
 {
     let mut passes = passes;

@@ -5,8 +5,8 @@ ghost use Rattle.scan_log.specs.Legal.{AreLegalReplies};
 ghost use Rattle.scan_log.specs.Plain.{IsPlainScript};
 ghost use Rattle.scan_log.specs.Poses.{plain_script};
 ghost use Rattle.published_map.specs.Held.{IsOpenedAs};
-ghost use Rattle.mapper_core.specs.Ended.{HaveEnded};
-ghost use Rattle.mapper_core.specs.Meetings.{AreNewcomers, HasCaller, StandingAtEnd};
+ghost use Rattle.mapper_core.specs.Ended.{CanRun, HaveEnded};
+ghost use Rattle.mapper_core.specs.Meetings.{HasCaller, StandingAtEnd};
 
 use super::alarm::{Bells, Post};
 use super::naming::callers_in;
@@ -37,11 +37,7 @@ fn beside_second<L: MapName + Send + Sync, G: Gate + Sync, R: Threads + Wait + S
     requires good { IsPlainScript script.now }
     requires large_from { 16 ≤ post.large }
     requires large_to { post.large ≤ 1000000 }
-    requires voxel { L.voxel ≡ script.now.sizes.voxel }
-    requires named { AllByRecursion (HasCaller L.callers) script.now.commands }
-    requires new { AreNewcomers L.callers passes.items }
-    requires parts { L.callers ≡ L.parts }
-    requires some { 0 < L.callers }
+    requires ready { CanRun L.callers L.parts L.voxel script.now passes.items }
     ensures { IfOk result (λ r. StandingAtEnd L.voxel L.callers script.now.commands r.0.items r.1) }
 {
     let alloc = stage.alloc;
@@ -56,7 +52,7 @@ fn beside_second<L: MapName + Send + Sync, G: Gate + Sync, R: Threads + Wait + S
             work(rt, alloc, post.large, 2, shared, gate, &mut post.rest)
         },
         || -> Run<L>
-            requires { IsPlainScript script.now × AllByRecursion (HasCaller L.callers) script.now.commands × AreNewcomers L.callers passes.items × (L.callers ≡ L.parts) × (0 < L.callers) }
+            requires { IsPlainScript script.now × CanRun L.callers L.parts L.voxel script.now passes.items }
             ensures { IfOk result (λ r. StandingAtEnd L.voxel L.callers script.entry.now.commands r.0.items r.1) }
         {
             let all = run_commands(rt, stage, script.commands(), passes);
@@ -81,11 +77,7 @@ pub fn run_callers<L: MapName + Send + Sync, G: Gate + Sync, R: Threads + Wait +
     script: &Script,
     gate: &G,
 ) -> Result<(Vec<Pass<L>>, Replies), NoMemory>
-    requires voxel { L.voxel ≡ script.now.sizes.voxel }
-    requires named { AllByRecursion (HasCaller L.callers) script.now.commands }
-    requires new { AreNewcomers L.callers passes.items }
-    requires parts { L.callers ≡ L.parts }
-    requires some { 0 < L.callers }
+    requires ready { CanRun L.callers L.parts L.voxel script.now passes.items }
     // All passes come back and have seen one history, each caller's updates are those that the script has of it, and each reply is
     // that after as many entries as its mark says.
     ensures ended { IfOk result (λ r. HaveEnded L.callers (plain_script script.now) r.0.items r.1) }
@@ -104,12 +96,8 @@ fn run_plain<L: MapName + Send + Sync, G: Gate + Sync, R: Threads + Wait + Sync>
     passes: Vec<Pass<L>>,
     script: &PlainScript,
     gate: &G,
-) -> Result<(Vec<Pass<L>>, Replies), NoMemory>
-    requires voxel { L.voxel ≡ script.now.sizes.voxel }
-    requires named { AllByRecursion (HasCaller L.callers) script.now.commands }
-    requires new { AreNewcomers L.callers passes.items }
-    requires parts { L.callers ≡ L.parts }
-    requires some { 0 < L.callers }
+) -> Run<L>
+    requires ready { CanRun L.callers L.parts L.voxel script.now passes.items }
     ensures ended { IfOk result (λ r. HaveEnded L.callers script.now r.0.items r.1) }
     ensures legal { IfOk result (λ r. AreLegalReplies script.now r.1) }
 {
@@ -135,7 +123,7 @@ fn run_plain<L: MapName + Send + Sync, G: Gate + Sync, R: Threads + Wait + Sync>
             work(rt, alloc, post.large, 1, shared, gate, &mut post.rest)
         },
         || -> Run<L>
-            requires { IsPlainScript script.now × (16 ≤ other.large) × (other.large ≤ 1000000) × (L.voxel ≡ script.now.sizes.voxel) × AllByRecursion (HasCaller L.callers) script.now.commands × AreNewcomers L.callers passes.items × (L.callers ≡ L.parts) × (0 < L.callers) }
+            requires { IsPlainScript script.now × (16 ≤ other.large) × (other.large ≤ 1000000) × CanRun L.callers L.parts L.voxel script.now passes.items }
             ensures { IfOk result (λ r. StandingAtEnd L.voxel L.callers script.entry.now.commands r.0.items r.1) }
         { beside_second(rt, &stage, other, script, passes) },
     );
@@ -154,7 +142,7 @@ fn run_map<L: MapName + Send + Sync, G: Gate + Sync, R: Threads + Wait + Sync>(
     requires opened { IsOpenedAs L.name L.parts L.callers L.marks L.voxel blank opened }
     requires voxel { opened.voxel ≡ script.now.sizes.voxel }
     requires named { AllByRecursion (HasCaller L.callers) script.now.commands }
-    requires some { 0 < opened.callers }
+    requires callers { 0 < opened.callers }
     ensures { IfOk result (λ rs. AreLegalReplies script.now rs) }
 {
     let (shared, passes) = Shared::<L>::start(rt, alloc, blank, opened)?;

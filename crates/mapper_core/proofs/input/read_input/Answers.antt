@@ -24,7 +24,7 @@ pub returns-in-Ok-parse-clause-says : goal.returns-in-Ok-parse-clause-says
 returns-in-Ok-parse-clause-says g c =
     let items = c.in-Ok.bytes.items in
     let script = c.in-Ok-parse.script in
-    let few : length items ≤ most_of c.args.ask = omega (arith, c.in-Ok.ensures.few, c.most_of.ensures) in
+    let few : length items ≤ most_of c.args.ask = omega (arith, c.in-Ok.ensures.bytes, c.most_of.ensures) in
     let same : c.log_of.result.now ≡ log_of c.args.ask items = c.log_of.ensures ∙ ap (log_of c.args.ask) c.as_slice.ensures.value in
     let spells : Spells (log_of c.args.ask items) script = subst (λ bytes. Spells bytes script) same c.in-Ok-parse.ensures.found in
     let sound : first_fault (log_of c.args.ask items) ≡ None = ap first_fault (sym same) ∙ c.in-Ok-parse.ensures.sound in

@@ -41,7 +41,7 @@ merge-requires g c =
     let long : c.args.from + (c.args.to - c.args.from) ≡ c.args.to = (let le = c.requires.from_to in omega arith) in
     let whole : before ++ between ≡ take c.args.to cs = sym (take-add c.args.from (c.args.to - c.args.from) cs) ∙ ap (λ n. take n cs) long in
     let few : AreFew (take c.args.to cs) = record {
-      few = (let a = take_length_le c.args.to cs in let b = c.requires.few in omega arith);
+      few = (let a = take_length_le c.args.to cs in let b = c.requires.commands in omega arith);
       room = (let a = points_take c.args.to cs in let b = c.requires.room in omega arith);
     } in
     let ran : AllBack (Ran voxel between) ps qs lists = all_ran voxel before between ps qs ss lists c.args.replies.now (subst AreFew (sym whole) few) c.requires.standing back c.all_meet-passes.ensures in
@@ -79,7 +79,7 @@ returns-clause-standing g c =
     let long : c.args.from + (c.args.to - c.args.from) ≡ c.args.to = (let le = c.requires.from_to in omega arith) in
     let whole : before ++ between ≡ take c.args.to cs = sym (take-add c.args.from (c.args.to - c.args.from) cs) ∙ ap (λ n. take n cs) long in
     let few : AreFew (take c.args.to cs) = record {
-      few = (let a = take_length_le c.args.to cs in let b = c.requires.few in omega arith);
+      few = (let a = take_length_le c.args.to cs in let b = c.requires.commands in omega arith);
       room = (let a = points_take c.args.to cs in let b = c.requires.room in omega arith);
     } in
     let ran : AllBack (Ran voxel between) ps qs lists = all_ran voxel before between ps qs ss lists old (subst AreFew (sym whole) few) c.requires.standing back c.all_meet-passes.ensures in

@@ -1,6 +1,6 @@
 //! Streams that move a byte at a time.
-use crate::runs::{ran, words_of};
-use mapper_core::{MemSink, MemSource, Status, SureSink, run};
+use crate::tests::runs::{ended, ran};
+use mapper_core::{MemSink, MemSource, Status, SureSink};
 use rebuild_worker::FreeGate;
 use std::alloc::Global;
 use std::sync::Wait;
@@ -13,19 +13,10 @@ fn ran_by_bytes<R: Threads + Wait + Sync>(
     alloc: Global,
     log: &[u8],
 ) -> Result<(Status, MemSink), Fail> {
-    let words = words_of(alloc, "run")?;
     let mut source = MemSource::new(log.to_vec(alloc)?, 1, Vec::new(alloc));
     let mut out = MemSink::new(alloc, 1, Vec::new(alloc));
     let mut notes = SureSink::new(alloc);
-    let status = run(
-        rt,
-        alloc,
-        words.as_slice(),
-        &mut source,
-        &mut out,
-        &mut notes,
-        &FreeGate,
-    );
+    let status = ended(rt, alloc, "run", &mut source, &mut out, &mut notes)?;
     Ok((status, out))
 }
 

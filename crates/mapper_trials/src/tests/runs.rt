@@ -1,6 +1,6 @@
 //! Runs, as their users see them.
-use mapper_core::{Status, SureSink, SureSource, run};
-use rebuild_worker::Gate;
+use mapper_core::{Sink, Source, Status, SureSink, SureSource, run};
+use rebuild_worker::{FreeGate, Gate};
 use std::alloc::{AllocError, Global};
 use std::sync::Wait;
 use std::thread::Threads;
@@ -18,6 +18,20 @@ pub fn words_of(alloc: Global, line: &str) -> Result<Vec<String>, AllocError> {
         words.push(String::from_str(alloc, word)?)?;
     }
     Ok(words)
+}
+
+// How the program ends that is given the words of this line and these streams.
+pub fn ended<R: Threads + Wait + Sync, I: Source, O: Sink, N: Sink>(
+    rt: &R,
+    alloc: Global,
+    line: &str,
+    log: &mut I,
+    out: &mut O,
+    notes: &mut N,
+) -> Result<Status, AllocError> {
+    let words = words_of(alloc, line)?;
+    let words = words.as_slice();
+    Ok(run(rt, alloc, words, log, out, notes, &FreeGate))
 }
 
 // How a log is run with this gate over streams that never fail, and what is written.

@@ -1,5 +1,5 @@
 use Rattle.mapper_trials.proofs.Eight.{apart, as_many}
-use Rattle.mapper_trials.proofs.ended.ended_on.Goals as goal
+use Rattle.mapper_trials.proofs.tests.ended.ended_on.Goals as goal
 
 pub finish-requires-clause-all : goal.finish-requires-clause-all
 finish-requires-clause-all g c = as_many g.L.MapName.callers _ c.in-Ok.ensures.ended.callers

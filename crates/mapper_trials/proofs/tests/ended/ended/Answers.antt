@@ -4,7 +4,7 @@ use Rattle.scan_log.specs.declared.command.Command.{Command}
 use Rattle.scan_log.specs.declared.format.Format.TheVariants.{Two}
 use Rattle.mapper_core.specs.Meetings.{HasCaller}
 use Rattle.mapper_trials.proofs.Eight.{all_own}
-use Rattle.mapper_trials.proofs.ended.ended.Goals as goal
+use Rattle.mapper_trials.proofs.tests.ended.ended.Goals as goal
 
 pub ended_on-requires-clause-named : goal.ended_on-requires-clause-named
 ended_on-requires-clause-named g c κs within =

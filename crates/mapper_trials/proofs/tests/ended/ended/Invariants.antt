@@ -1,4 +1,4 @@
-use Rattle.mapper_trials.proofs.ended.ended.Given as goal
+use Rattle.mapper_trials.proofs.tests.ended.ended.Given as goal
 
 abbrev pub ghosts-ended_on-L-Ledger : goal.ghosts-ended_on-L-Ledger
 ghosts-ended_on-L-Ledger g a = record { name = a.blank.name; parts = a.blank.parts }

@@ -1,5 +1,5 @@
 //! Scripts, and the replies to them.
-use crate::runs::{SMALLEST, SMALLEST_OUT};
+use crate::tests::runs::{SMALLEST, SMALLEST_OUT};
 use map_fold::NoMemory;
 use mapper_core::{Replies, made, serial, threaded};
 use rebuild_worker::FreeGate;

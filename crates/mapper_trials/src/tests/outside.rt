@@ -1,13 +1,11 @@
 //! What the outside may do.
-use crate::runs::{SMALLEST, SMALLEST_OUT, words_of};
-use mapper_core::{MemSink, MemSource, Sink, Source, Status, SureSink, SureSource, run};
-use rebuild_worker::FreeGate;
+use crate::tests::runs::{SMALLEST, SMALLEST_OUT, ended};
+use mapper_core::{MemSink, MemSource, Sink, Source, Status, SureSink, SureSource};
 use std::test::Fail;
 
 #[test]
 fn a_failing_call_of_the_outside_ends_the_run(rt: HostRuntime) -> Result<(), Fail> {
     let alloc = rt.alloc();
-    let words = words_of(alloc, "run")?;
     // The piece and the failing call of the log, and those of out; how much of the transcript stands in out then.
     for (read_piece, failing_read, write_piece, failing_write, want, written, note) in [
         (8, 0, 10, 0, Status::Done, 56, ""),
@@ -33,15 +31,7 @@ fn a_failing_call_of_the_outside_ends_the_run(rt: HostRuntime) -> Result<(), Fai
         );
         let mut out = MemSink::new(alloc, write_piece, [failing_write].to_vec(alloc)?);
         let mut notes = SureSink::new(alloc);
-        let status = run(
-            &rt,
-            alloc,
-            words.as_slice(),
-            &mut log,
-            &mut out,
-            &mut notes,
-            &FreeGate,
-        );
+        let status = ended(&rt, alloc, "run", &mut log, &mut out, &mut notes)?;
         assert_eq!(rt; status, want);
         assert_eq!(rt; Some(out.bytes()), SMALLEST_OUT.get(..written));
         assert_eq!(rt; notes.bytes(), note.as_bytes());
@@ -52,7 +42,6 @@ fn a_failing_call_of_the_outside_ends_the_run(rt: HostRuntime) -> Result<(), Fai
 #[test]
 fn a_failing_call_of_the_outside_ends_a_check(rt: HostRuntime) -> Result<(), Fail> {
     let alloc = rt.alloc();
-    let words = words_of(alloc, "check 59")?;
     let mut input = SMALLEST.to_vec(alloc)?;
     input.extend_from_slice(SMALLEST_OUT)?;
     for (failing_read, failing_write, want, told, note) in [
@@ -64,15 +53,8 @@ fn a_failing_call_of_the_outside_ends_a_check(rt: HostRuntime) -> Result<(), Fai
         let mut source = MemSource::new(input.to_vec(alloc)?, 8, vec![in alloc; failing_read]?);
         let mut out = MemSink::new(alloc, 3, vec![in alloc; failing_write]?);
         let mut notes = SureSink::new(alloc);
-        let status = run(
-            &rt,
-            alloc,
-            words.as_slice(),
-            &mut source,
-            &mut out,
-            &mut notes,
-            &FreeGate,
-        );
+        let line = "check 59";
+        let status = ended(&rt, alloc, line, &mut source, &mut out, &mut notes)?;
         assert_eq!(rt; status, want);
         assert_eq!(rt; out.bytes(), told.as_bytes());
         assert_eq!(rt; notes.bytes(), note.as_bytes());
@@ -90,19 +72,10 @@ fn a_fault_of_notes_does_not_change_the_status(rt: HostRuntime) -> Result<(), Fa
         ("run fast", 7, 2, Status::Usage, "usage: "),
     ] {
         assert!(rt; 1 <= piece);
-        let words = words_of(alloc, line)?;
         let mut log = SureSource::new(log.to_vec(alloc)?);
         let mut out = SureSink::new(alloc);
         let mut notes = MemSink::new(alloc, piece, [failing].to_vec(alloc)?);
-        let status = run(
-            &rt,
-            alloc,
-            words.as_slice(),
-            &mut log,
-            &mut out,
-            &mut notes,
-            &FreeGate,
-        );
+        let status = ended(&rt, alloc, line, &mut log, &mut out, &mut notes)?;
         assert_eq!(rt; status, want);
         assert_eq!(rt; out.bytes(), b"".as_slice());
         assert_eq!(rt; notes.bytes(), note.as_bytes());

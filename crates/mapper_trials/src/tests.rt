@@ -1,0 +1,6 @@
+mod callers;
+mod ended;
+mod outside;
+mod pieces;
+mod runs;
+mod scripts;
