@@ -4,3 +4,4 @@ pub mod Holding
 pub mod Made
 pub mod Pieces
 pub mod Steps
+pub mod Told

@@ -1,5 +1,5 @@
 -- What questions answer.
-use Rattle.std.specs.Prelude.{◌≡◌, ◌<◌, ◌≤◌, ◌*◌, ◌/◌, ◌%◌, ◌⊎◌, ◌≤ℤ◌, ℕ, ℤ, pos, negsuc, List, map, length, take, Any, All, Option, None, Some}
+use Rattle.std.specs.Prelude.{◌≡◌, ◌≢◌, ◌<◌, ◌≤◌, ◌*◌, ◌/◌, ◌%◌, ◌⊎◌, ◌≤ℤ◌, ℕ, ℤ, pos, negsuc, List, map, length, take, Any, All, Option, None, Some}
 use Rattle.std.specs.List.{flat_map}
 use Rattle.point_geom.specs.Place as geom
 use Rattle.map_fold.specs.Answers.{count, inside, live_count, nearest, suspended_count}
@@ -16,7 +16,15 @@ use Rattle.map_c.specs.declared.forms.Hit.{Hit}
 use Rattle.map_c.specs.declared.forms.Item.{Item}
 use Rattle.map_c.specs.declared.forms.Totals.{Totals}
 use Rattle.map_c.specs.Forms.{IsRightBox, IsRightPlace, bounds_at, place_at}
-use Rattle.map_c.specs.Status.{bad_box, bad_number, empty, full, no_memory, no_room, out_of_range}
+use Rattle.map_c.specs.Status.{bad_box, bad_number, done, empty, full, no_memory, no_room, out_of_range}
+
+-- What a question answers: what was found, or a status that says why it is refused, and then nothing is counted. The handle holds
+-- what it held, whichever it is.
+pub record IsTold (Found : Type 0) (Refused : ℤ → Type 0) (old new : Option Content) (count : ℕ) (status : ℤ) : Type 0 where
+  pub found : status ≡ done → Found
+  pub refused : status ≢ done → Refused status
+  pub none : status ≢ done → count ≡ 0
+  pub same : new ≡ old
 
 -- what is shown of what a handle holds: what its map is now, or what its view shows
 abbrev pub shown_in : Option Content → Option VersionAt
@@ -154,6 +162,16 @@ totals_of v = record { updates = v.len; points = v.next; live = live_count (cont
 abbrev pub AreTotals : Option Content → Totals → Type 0
 AreTotals c t = (v : VersionAt) × (shown_in c ≡ Some v) × (t ≡ totals_of v)
 
+-- why they aren't told
+abbrev pub IsTotalsRefusal : Option Content → ℤ → Type 0
+IsTotalsRefusal c status = (status ≡ empty) × (shown_in c ≡ None)
+
+-- The totals of what the handle shows are told, or it shows nothing. It holds what it held.
+pub record AreTold (old new : Option Content) (t : Totals) (status : ℤ) : Type 0 where
+  pub told : status ≡ done → AreTotals old t
+  pub refused : status ≢ done → IsTotalsRefusal old status
+  pub same : new ≡ old
+
 -- the second handle holds a view of what the first shows
 abbrev pub IsViewOf : Option Content → Option Content → Type 0
 IsViewOf c d = (v : VersionAt) × (shown_in c ≡ Some v) × (d ≡ Some (content.View v))
@@ -164,3 +182,12 @@ IsViewRefusal c was status =
     ((status ≡ full) × (was ≡ None → ⊥))
     ⊎ ((status ≡ empty) × (shown_in c ≡ None))
     ⊎ (status ≡ no_memory)
+
+-- A view of what the one handle shows is made into the other, which was empty, or a status says why not, and the other holds what
+-- it held. The one holds what it held, whichever it is.
+pub record IsViewed (old new was view : Option Content) (status : ℤ) : Type 0 where
+  pub made : status ≡ done → IsViewOf old view
+  pub none : status ≡ done → was ≡ None
+  pub refused : status ≢ done → IsViewRefusal old was status
+  pub same : new ≡ old
+  pub view_same : status ≢ done → view ≡ was

@@ -1,5 +1,5 @@
 -- What calls leave of a map.
-use Rattle.std.specs.Prelude.{◌≡◌, ◌<◌, ◌+◌, ◌⊎◌, ℕ, ℤ, List, length, Option, None, Some}
+use Rattle.std.specs.Prelude.{◌≡◌, ◌≢◌, ◌<◌, ◌+◌, ◌⊎◌, ℕ, ℤ, List, All, length, Option, None, Some}
 use Rattle.map_fold.specs.Fold.{points_in}
 use Rattle.map_fold.specs.declared.update.Update.{Update}
 use Rattle.rebuild_core.specs.Lawful.{StateAt, new_state}
@@ -9,8 +9,8 @@ use Rattle.map_c.specs.declared.content.Content.TheVariants as content
 use Rattle.map_fold.specs.Sizes.{AreSizes}
 use Rattle.map_c.specs.declared.forms.Bounds.{Bounds}
 use Rattle.map_c.specs.declared.forms.Point.{Point}
-use Rattle.map_c.specs.Forms.{HasWrongBox, HasWrongPoint}
-use Rattle.map_c.specs.Status.{IsNoList, bad_box, bad_number, empty, full, no_memory, out_of_range, too_many_points, too_many_updates}
+use Rattle.map_c.specs.Forms.{HasWrongBox, HasWrongPoint, IsRightBox, IsRightPoint}
+use Rattle.map_c.specs.Status.{IsNoList, bad_box, bad_number, done, empty, full, no_memory, out_of_range, too_many_points, too_many_updates}
 use Rattle.map_fold.specs.declared.limits.TheConstants.{MAX_POINTS}
 use Rattle.rebuild_core.specs.declared.plan.TheConstants.{MAX_UPDATES}
 
@@ -66,3 +66,23 @@ IsPointsRefusal u ps c status = IsNoList out_of_range (HasWrongPoint ps) status 
 -- why an update by these boxes is refused: one of them is none, or the update is refused
 abbrev pub IsBoxesRefusal : Update → List Bounds → Option Content → ℤ → Type 0
 IsBoxesRefusal u bs c status = IsNoList bad_box (HasWrongBox bs) status ⊎ IsUpdateRefusal u c status
+
+-- The update is made, or a status says why not, and then the handle holds what it held.
+pub record IsAnswer (u : Update) (old new : Option Content) (status : ℤ) : Type 0 where
+  pub made : status ≡ done → IsMade u old new
+  pub refused : status ≢ done → IsUpdateRefusal u old status
+  pub same : status ≢ done → new ≡ old
+
+-- the same of an update by these points
+pub record IsPointsAnswer (u : Update) (ps : List Point) (old new : Option Content) (status : ℤ) : Type 0 where
+  pub made : status ≡ done → IsMade u old new
+  pub range : status ≡ done → All IsRightPoint ps
+  pub refused : status ≢ done → IsPointsRefusal u ps old status
+  pub same : status ≢ done → new ≡ old
+
+-- and by these boxes
+pub record IsBoxesAnswer (u : Update) (bs : List Bounds) (old new : Option Content) (status : ℤ) : Type 0 where
+  pub made : status ≡ done → IsMade u old new
+  pub range : status ≡ done → All IsRightBox bs
+  pub refused : status ≢ done → IsBoxesRefusal u bs old status
+  pub same : status ≢ done → new ≡ old

@@ -8,7 +8,6 @@ use crate::done::Done;
 use crate::handle::Handle;
 use crate::refusal::{DONE, Refusal, status_of};
 use crate::work::Work;
-use map_fold::Ops;
 use rebuild_core::{BuiltLeft, JobLeft};
 use std::alloc::Global;
 use std::mem;
@@ -23,15 +22,13 @@ pub extern "C" fn corv_job_build(alloc: Global, job: &mut Handle, built: &mut Ha
     ensures same { result ≢ done → job.new.held.content ≡ job.old.held.content }
     ensures built_same { result ≢ done → built.new.held.content ≡ built.old.held.content }
 {
-    if job.is_empty() {
-        return Refusal::Empty.status();
-    }
-    if !built.is_empty() {
-        return Refusal::Full.status();
-    }
     let Some(mut content) = job.take(alloc) else {
         return Refusal::Empty.status();
     };
+    if !built.is_empty() {
+        *job = Handle::of(content);
+        return Refusal::Full.status();
+    }
     match build(alloc, &mut content) {
         Err(refusal) => {
             *job = Handle::of(content);
@@ -51,14 +48,13 @@ fn build(alloc: Global, content: &mut Content) -> Result<(), Refusal>
 {
     match mem::replace(content, Content::Nothing) {
         Content::Job(Work { job, large }) => match job.build(alloc, large) {
+            Ok(built) => {
+                *content = Content::Built(Done::new(alloc, built, large));
+                Ok(())
+            }
             Err(JobLeft { job }) => {
                 *content = Content::Job(Work { job, large });
                 Err(Refusal::NoMemory)
-            }
-            Ok(built) => {
-                let left = Ops::new(alloc);
-                *content = Content::Built(Done { built, left, large });
-                Ok(())
             }
         },
         other => {
@@ -91,14 +87,13 @@ fn replay(alloc: Global, content: &mut Content) -> Result<(), Refusal>
     match mem::replace(content, Content::Nothing) {
         Content::Built(Done { built, left, large }) => {
             match built.replay(alloc, large, left.as_slice()) {
+                Ok(built) => {
+                    *content = Content::Built(Done::new(alloc, built, large));
+                    Ok(())
+                }
                 Err(BuiltLeft { built }) => {
                     *content = Content::Built(Done { built, left, large });
                     Err(Refusal::NoMemory)
-                }
-                Ok(built) => {
-                    let left = Ops::new(alloc);
-                    *content = Content::Built(Done { built, left, large });
-                    Ok(())
                 }
             }
         }

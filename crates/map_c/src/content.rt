@@ -1,7 +1,14 @@
 //! What a handle can hold.
+ghost use Rattle.std.specs.Prelude.{◌≡◌, IfOk};
+ghost use Rattle.std.specs.Coded.{codes};
+ghost use Rattle.kd_tree.specs.ShapeCode.{coded_shape};
+ghost use Rattle.rebuild_core.specs.Lawful.{StateAt, VersionAt};
+
 use crate::done::Done;
 use crate::work::Work;
+use map_fold::NoMemory;
 use rebuild_core::{MapState, Version};
+use std::alloc::Global;
 use std::marker::Model;
 use std::sync::Arc;
 
@@ -16,6 +23,13 @@ pub enum Content {
     Nothing,
 }
 
+/// A content in memory of its own.
+pub fn boxed(alloc: Global, content: Content) -> Result<Box<Content>, NoMemory>
+    ensures { IfOk result (λ made. made.value ≡ content) }
+{
+    Ok(Box::new(alloc, content)?)
+}
+
 /// The state of a map.
 #[derive(Drop)]
 pub struct Kept {
@@ -23,10 +37,6 @@ pub struct Kept {
 }
 
 impl Model for Kept {
-    ghost use Rattle.rebuild_core.specs.Lawful.{StateAt};
-    ghost use Rattle.std.specs.Coded.{codes};
-    ghost use Rattle.kd_tree.specs.ShapeCode.{coded_shape};
-
     ghost Value = { StateAt };
 
     ghost coded = { Prim.hlevel (codes, coded_shape) };
@@ -41,10 +51,6 @@ pub struct Seen {
 }
 
 impl Model for Seen {
-    ghost use Rattle.rebuild_core.specs.Lawful.{VersionAt};
-    ghost use Rattle.std.specs.Coded.{codes};
-    ghost use Rattle.kd_tree.specs.ShapeCode.{coded_shape};
-
     ghost Value = { VersionAt };
 
     ghost coded = { Prim.hlevel (codes, coded_shape) };

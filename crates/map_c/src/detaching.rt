@@ -4,7 +4,7 @@ ghost use Rattle.map_c.specs.Building.{IsDetachRefusal, IsDetached, IsSlot};
 ghost use Rattle.map_c.specs.Status.{code, done};
 ghost use Rattle.map_c.specs.declared.content.Content.TheVariants as is;
 
-use crate::content::{Content, Kept};
+use crate::content::{Content, Kept, boxed};
 use crate::handle::Handle;
 use crate::refusal::{DONE, Refusal};
 use crate::work::Work;
@@ -57,7 +57,7 @@ fn detached(alloc: Global, content: &mut Content, slot: u8) -> Result<Box<Conten
     ensures refused { IfErr result (λ r. IsDetachRefusal slot (Some content.old) None (code r)) }
     ensures same { OnErr result (content.new ≡ content.old) }
 {
-    let mut place = Box::new(alloc, Content::Nothing)?;
+    let mut place = boxed(alloc, Content::Nothing)?;
     let Content::Map(kept) = content else {
         return Err(Refusal::Empty);
     };

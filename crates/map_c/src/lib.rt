@@ -1,6 +1,7 @@
 //! The map, for callers in C: each export takes handles, checks what it was given, does one call of the library, and answers a status.
 #![tactic(auto)]
 
+mod asking;
 mod building;
 mod content;
 mod detaching;
@@ -17,5 +18,6 @@ mod searching;
 mod showing;
 mod swapping;
 mod updating;
+mod views;
 mod work;
 mod writing;

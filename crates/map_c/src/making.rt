@@ -6,7 +6,7 @@ ghost use Rattle.map_c.specs.Maps.{IsNew, IsNewRefusal};
 ghost use Rattle.map_c.specs.Status.{done};
 ghost use Rattle.map_c.specs.declared.content.Content.TheVariants as content_is;
 
-use crate::content::{Content, Kept};
+use crate::content::{Content, Kept, boxed};
 use crate::handle::Handle;
 use crate::refusal::{DONE, Refusal};
 use map_fold::{NoMemory, Settings};
@@ -42,8 +42,7 @@ fn made(alloc: Global, settings: Settings) -> Result<Box<Content>, NoMemory>
     ensures { IfOk result (λ content. content.value ≡ content_is.Map (new_state settings)) }
 {
     let state = MapState::new(alloc, settings)?;
-    let content = Box::new(alloc, Content::Map(Kept { state }))?;
-    Ok(content)
+    boxed(alloc, Content::Map(Kept { state }))
 }
 
 /// Lets go of what the handle holds.

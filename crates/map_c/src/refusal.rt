@@ -1,10 +1,10 @@
 //! Why a call is refused, and what it answers then.
 ghost use Rattle.std.specs.Prelude.{◌≡◌};
 ghost use Rattle.map_c.specs.Status.{code, refusal_of, status_of};
+ghost use Rattle.map_c.specs.declared.refusal.Refusal.TheVariants.{NoMemory};
 
 use map_fold::NoMemory;
 use rebuild_core::StateFault;
-use std::alloc::{AllocError, AllocFailed};
 
 /// The call did what it says.
 pub const DONE: i32 = 0;
@@ -68,10 +68,7 @@ pub fn status_of(ended: Result<(), Refusal>) -> i32
 }
 
 impl From<NoMemory> for Refusal {
-    ghost use Rattle.std.specs.Prelude.{◌≡◌};
-    ghost use Rattle.map_c.specs.declared.refusal.Refusal.TheVariants.{NoMemory};
-
-    ghost from_gives = { λ none refusal. refusal ≡ NoMemory };
+    ghost from_gives = { λ _ e. e ≡ NoMemory };
 
     fn from(_none: NoMemory) -> Refusal {
         Refusal::NoMemory
@@ -79,9 +76,6 @@ impl From<NoMemory> for Refusal {
 }
 
 impl From<StateFault> for Refusal {
-    ghost use Rattle.std.specs.Prelude.{◌≡◌};
-    ghost use Rattle.map_c.specs.Status.{refusal_of};
-
     ghost from_gives = { λ fault refusal. refusal ≡ refusal_of fault };
 
     fn from(fault: StateFault) -> Refusal {
@@ -90,27 +84,5 @@ impl From<StateFault> for Refusal {
             StateFault::TooManyUpdates { len: _ } => Refusal::TooManyUpdates,
             StateFault::TooManyPoints { next: _, asked: _ } => Refusal::TooManyPoints,
         }
-    }
-}
-
-impl From<AllocError> for Refusal {
-    ghost use Rattle.std.specs.Prelude.{◌≡◌};
-    ghost use Rattle.map_c.specs.declared.refusal.Refusal.TheVariants.{NoMemory};
-
-    ghost from_gives = { λ error refusal. refusal ≡ NoMemory };
-
-    fn from(_error: AllocError) -> Refusal {
-        Refusal::NoMemory
-    }
-}
-
-impl<T: Drop> From<AllocFailed<T>> for Refusal {
-    ghost use Rattle.std.specs.Prelude.{◌≡◌};
-    ghost use Rattle.map_c.specs.declared.refusal.Refusal.TheVariants.{NoMemory};
-
-    ghost from_gives = { λ failed refusal. refusal ≡ NoMemory };
-
-    fn from(_failed: AllocFailed<T>) -> Refusal {
-        Refusal::NoMemory
     }
 }

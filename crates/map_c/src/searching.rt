@@ -1,90 +1,23 @@
-//! The nearest points to a place, and to each of several.
-ghost use Rattle.std.specs.Prelude.{◌≡◌, ◌≢◌, ◌+◌, ◌*◌, ◌<◌, ◌≤◌, ◌⊎◌, ◌≤ℤ◌, ◌++◌, All, Any, IfErr, IfOk, OnOk, Some, None, false, length, pos, take, true};
+//! The nearest points to a place, and to each of several, written where C wants them.
+ghost use Rattle.std.specs.Prelude.{◌≡◌, ◌+◌, ◌*◌, ◌<◌, ◌≤◌, ◌⊎◌, ◌≤ℤ◌, ◌++◌, All, Any, IfErr, IfOk, OnOk, Some, None, false, length, pos, take, true};
 ghost use Rattle.std.specs.Option.{ForSome};
 ghost use Rattle.kd_search.specs.Query.{IsQuery};
-ghost use Rattle.map_c.specs.Answers.{AreSearchesRefusal, IsNearest, IsNearestEach, IsNearestEachRefusal, IsNearestRefusal, IsSearch, IsSearchRefusal, all_hits, hit_counts, nearest_hits, within_at};
+ghost use Rattle.map_c.specs.Answers.{IsNearest, IsNearestEach, IsNearestEachRefusal, IsNearestRefusal, IsSearch, all_hits, hit_counts, nearest_hits, within_at};
 ghost use Rattle.map_c.specs.Forms.{IsRightPlace};
-ghost use Rattle.map_c.specs.Status.{code, done, no_memory, out_of_range};
+ghost use Rattle.map_c.specs.Status.{code, no_memory, out_of_range};
 
 use crate::content::Content;
 use crate::forms::{Hit, Place};
-use crate::handle::Handle;
 use crate::reading::read_place;
-use crate::refusal::{DONE, Refusal};
+use crate::refusal::Refusal;
 use crate::showing::shown;
 use crate::writing::write_hits;
 use kd_search::nearest;
 use rebuild_core::Version;
 use std::alloc::Global;
 
-/// Writes the k nearest live points, the nearest first, and how many they are.
-#[unsafe(no_mangle)]
-pub extern "C" fn corv_map_nearest(
-    alloc: Global,
-    map: &mut Handle,
-    place: &Place,
-    k: u32,
-    within: i64,
-    hits: &mut [Hit],
-    count: &mut usize,
-) -> i32
-    ensures found { result ≡ done → IsNearest map.old.held.content place.now k within hits.new count.new }
-    ensures refused { result ≢ done → IsNearestRefusal map.old.held.content place.now k within (length hits.old) result }
-    ensures none { result ≢ done → count.new ≡ 0 }
-    ensures same { map.new.held.content ≡ map.old.held.content }
-{
-    search(alloc, map, place, k, within, hits, count)
-}
-
-/// As of a map, of what the view shows.
-#[unsafe(no_mangle)]
-pub extern "C" fn corv_view_nearest(
-    alloc: Global,
-    view: &mut Handle,
-    place: &Place,
-    k: u32,
-    within: i64,
-    hits: &mut [Hit],
-    count: &mut usize,
-) -> i32
-    ensures found { result ≡ done → IsNearest view.old.held.content place.now k within hits.new count.new }
-    ensures refused { result ≢ done → IsNearestRefusal view.old.held.content place.now k within (length hits.old) result }
-    ensures none { result ≢ done → count.new ≡ 0 }
-    ensures same { view.new.held.content ≡ view.old.held.content }
-{
-    search(alloc, view, place, k, within, hits, count)
-}
-
-fn search(
-    alloc: Global,
-    from: &mut Handle,
-    place: &Place,
-    k: u32,
-    within: i64,
-    hits: &mut [Hit],
-    count: &mut usize,
-) -> i32
-    ensures found { result ≡ done → IsNearest from.old.held.content place.now k within hits.new count.new }
-    ensures refused { result ≢ done → IsNearestRefusal from.old.held.content place.now k within (length hits.old) result }
-    ensures none { result ≢ done → count.new ≡ 0 }
-    ensures same { from.new.held.content ≡ from.old.held.content }
-{
-    *count = 0;
-    let Some(content) = from.take(alloc) else {
-        return Refusal::Empty.status();
-    };
-    let found = search_in(alloc, &content, place, k, within, hits);
-    *from = Handle::of(content);
-    match found {
-        Err(refusal) => refusal.status(),
-        Ok(n) => {
-            *count = n;
-            DONE
-        }
-    }
-}
-
-fn search_in(
+/// The k nearest to a place of what is shown, from the front of the hits on, and how many they are.
+pub fn search(
     alloc: Global,
     content: &Content,
     place: &Place,
@@ -107,77 +40,8 @@ fn search_in(
     add_nearest(alloc, version, place, k, reach(within), 0, hits)
 }
 
-/// The same for each place: the first place's hits, and right behind them the next one's, with how many each place has.
-#[unsafe(no_mangle)]
-pub extern "C" fn corv_map_nearest_each(
-    alloc: Global,
-    map: &mut Handle,
-    places: &[Place],
-    k: u32,
-    within: i64,
-    hits: &mut [Hit],
-    counts: &mut [u32],
-    count: &mut usize,
-) -> i32
-    ensures found { result ≡ done → IsNearestEach map.old.held.content places.now k within hits.new counts.new count.new }
-    ensures refused { result ≢ done → IsNearestEachRefusal map.old.held.content places.now k within (length hits.old) (length counts.old) result }
-    ensures none { result ≢ done → count.new ≡ 0 }
-    ensures same { map.new.held.content ≡ map.old.held.content }
-{
-    search_each(alloc, map, places, k, within, hits, counts, count)
-}
-
-/// As of a map, of what the view shows.
-#[unsafe(no_mangle)]
-pub extern "C" fn corv_view_nearest_each(
-    alloc: Global,
-    view: &mut Handle,
-    places: &[Place],
-    k: u32,
-    within: i64,
-    hits: &mut [Hit],
-    counts: &mut [u32],
-    count: &mut usize,
-) -> i32
-    ensures found { result ≡ done → IsNearestEach view.old.held.content places.now k within hits.new counts.new count.new }
-    ensures refused { result ≢ done → IsNearestEachRefusal view.old.held.content places.now k within (length hits.old) (length counts.old) result }
-    ensures none { result ≢ done → count.new ≡ 0 }
-    ensures same { view.new.held.content ≡ view.old.held.content }
-{
-    search_each(alloc, view, places, k, within, hits, counts, count)
-}
-
-fn search_each(
-    alloc: Global,
-    from: &mut Handle,
-    places: &[Place],
-    k: u32,
-    within: i64,
-    hits: &mut [Hit],
-    counts: &mut [u32],
-    count: &mut usize,
-) -> i32
-    ensures found { result ≡ done → IsNearestEach from.old.held.content places.now k within hits.new counts.new count.new }
-    ensures refused { result ≢ done → IsNearestEachRefusal from.old.held.content places.now k within (length hits.old) (length counts.old) result }
-    ensures none { result ≢ done → count.new ≡ 0 }
-    ensures same { from.new.held.content ≡ from.old.held.content }
-{
-    *count = 0;
-    let Some(content) = from.take(alloc) else {
-        return Refusal::Empty.status();
-    };
-    let found = search_each_in(alloc, &content, places, k, within, hits, counts);
-    *from = Handle::of(content);
-    match found {
-        Err(refusal) => refusal.status(),
-        Ok(n) => {
-            *count = n;
-            DONE
-        }
-    }
-}
-
-fn search_each_in(
+/// Those of each place in turn, one behind the other, and how many each place has.
+pub fn search_each(
     alloc: Global,
     content: &Content,
     places: &[Place],

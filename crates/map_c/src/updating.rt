@@ -1,11 +1,11 @@
 //! Updates of a map. All updates of C are those of one caller.
-ghost use Rattle.std.specs.Prelude.{◌≡◌, ◌≢◌, All, IfErr, OnOk, OnErr, Some};
+ghost use Rattle.std.specs.Prelude.{◌≡◌, IfErr, OnOk, OnErr, Some};
 ghost use Rattle.map_fold.specs.declared.update.Update.TheVariants.{Add, Delete, Expire, Restore, Suspend, Thin};
 ghost use Rattle.kd_tree.specs.Counter.{IsBlankOf};
 ghost use Rattle.rebuild_core.specs.Steps.{HasRoom, IsFault, IsUpdateStep};
-ghost use Rattle.map_c.specs.Forms.{IsRightBox, IsRightPoint, boxes_at, points_at};
-ghost use Rattle.map_c.specs.Maps.{IsBoxesRefusal, IsMade, IsPointsRefusal, IsUpdateRefusal};
-ghost use Rattle.map_c.specs.Status.{code, done};
+ghost use Rattle.map_c.specs.Forms.{boxes_at, points_at};
+ghost use Rattle.map_c.specs.Maps.{IsAnswer, IsBoxesAnswer, IsMade, IsPointsAnswer, IsUpdateRefusal};
+ghost use Rattle.map_c.specs.Status.{code};
 
 use crate::content::Content;
 use crate::forms::{Bounds, Point};
@@ -22,10 +22,7 @@ use std::sync::ledger::{Blank, Ledger};
 /// Adds points, each under the next number.
 #[unsafe(no_mangle)]
 pub extern "C" fn corv_map_add(alloc: Global, map: &mut Handle, all: &[Point]) -> i32
-    ensures made { result ≡ done → IsMade (Add (points_at all.now)) map.old.held.content map.new.held.content }
-    ensures range { result ≡ done → All IsRightPoint all.now }
-    ensures refused { result ≢ done → IsPointsRefusal (Add (points_at all.now)) all.now map.old.held.content result }
-    ensures same { result ≢ done → map.new.held.content ≡ map.old.held.content }
+    ensures { IsPointsAnswer (Add (points_at all.now)) all.now map.old.held.content map.new.held.content result }
 {
     if map.is_empty() {
         return Refusal::Empty.status();
@@ -39,10 +36,7 @@ pub extern "C" fn corv_map_add(alloc: Global, map: &mut Handle, all: &[Point]) -
 /// Adds points, and of each one's voxel the one nearest to its centre stays.
 #[unsafe(no_mangle)]
 pub extern "C" fn corv_map_thin(alloc: Global, map: &mut Handle, all: &[Point]) -> i32
-    ensures made { result ≡ done → IsMade (Thin (points_at all.now)) map.old.held.content map.new.held.content }
-    ensures range { result ≡ done → All IsRightPoint all.now }
-    ensures refused { result ≢ done → IsPointsRefusal (Thin (points_at all.now)) all.now map.old.held.content result }
-    ensures same { result ≢ done → map.new.held.content ≡ map.old.held.content }
+    ensures { IsPointsAnswer (Thin (points_at all.now)) all.now map.old.held.content map.new.held.content result }
 {
     if map.is_empty() {
         return Refusal::Empty.status();
@@ -56,10 +50,7 @@ pub extern "C" fn corv_map_thin(alloc: Global, map: &mut Handle, all: &[Point]) 
 /// Drops for good what lies in each box.
 #[unsafe(no_mangle)]
 pub extern "C" fn corv_map_delete(alloc: Global, map: &mut Handle, boxes: &[Bounds]) -> i32
-    ensures made { result ≡ done → IsMade (Delete (boxes_at boxes.now)) map.old.held.content map.new.held.content }
-    ensures range { result ≡ done → All IsRightBox boxes.now }
-    ensures refused { result ≢ done → IsBoxesRefusal (Delete (boxes_at boxes.now)) boxes.now map.old.held.content result }
-    ensures same { result ≢ done → map.new.held.content ≡ map.old.held.content }
+    ensures { IsBoxesAnswer (Delete (boxes_at boxes.now)) boxes.now map.old.held.content map.new.held.content result }
 {
     if map.is_empty() {
         return Refusal::Empty.status();
@@ -73,10 +64,7 @@ pub extern "C" fn corv_map_delete(alloc: Global, map: &mut Handle, boxes: &[Boun
 /// Hides what is live in each box.
 #[unsafe(no_mangle)]
 pub extern "C" fn corv_map_suspend(alloc: Global, map: &mut Handle, boxes: &[Bounds]) -> i32
-    ensures made { result ≡ done → IsMade (Suspend (boxes_at boxes.now)) map.old.held.content map.new.held.content }
-    ensures range { result ≡ done → All IsRightBox boxes.now }
-    ensures refused { result ≢ done → IsBoxesRefusal (Suspend (boxes_at boxes.now)) boxes.now map.old.held.content result }
-    ensures same { result ≢ done → map.new.held.content ≡ map.old.held.content }
+    ensures { IsBoxesAnswer (Suspend (boxes_at boxes.now)) boxes.now map.old.held.content map.new.held.content result }
 {
     if map.is_empty() {
         return Refusal::Empty.status();
@@ -90,10 +78,7 @@ pub extern "C" fn corv_map_suspend(alloc: Global, map: &mut Handle, boxes: &[Bou
 /// Shows again what was hidden in each box.
 #[unsafe(no_mangle)]
 pub extern "C" fn corv_map_restore(alloc: Global, map: &mut Handle, boxes: &[Bounds]) -> i32
-    ensures made { result ≡ done → IsMade (Restore (boxes_at boxes.now)) map.old.held.content map.new.held.content }
-    ensures range { result ≡ done → All IsRightBox boxes.now }
-    ensures refused { result ≢ done → IsBoxesRefusal (Restore (boxes_at boxes.now)) boxes.now map.old.held.content result }
-    ensures same { result ≢ done → map.new.held.content ≡ map.old.held.content }
+    ensures { IsBoxesAnswer (Restore (boxes_at boxes.now)) boxes.now map.old.held.content map.new.held.content result }
 {
     if map.is_empty() {
         return Refusal::Empty.status();
@@ -107,18 +92,14 @@ pub extern "C" fn corv_map_restore(alloc: Global, map: &mut Handle, boxes: &[Bou
 /// Drops for good what is held under a number below this one.
 #[unsafe(no_mangle)]
 pub extern "C" fn corv_map_expire(alloc: Global, map: &mut Handle, number: u32) -> i32
-    ensures made { result ≡ done → IsMade (Expire number) map.old.held.content map.new.held.content }
-    ensures refused { result ≢ done → IsUpdateRefusal (Expire number) map.old.held.content result }
-    ensures same { result ≢ done → map.new.held.content ≡ map.old.held.content }
+    ensures { IsAnswer (Expire number) map.old.held.content map.new.held.content result }
 {
     updated(alloc, map, Update::Expire(number))
 }
 
 // Makes one more update of the map, if the handle holds one.
 fn updated(alloc: Global, map: &mut Handle, update: Update) -> i32
-    ensures made { result ≡ done → IsMade update map.old.held.content map.new.held.content }
-    ensures refused { result ≢ done → IsUpdateRefusal update map.old.held.content result }
-    ensures same { result ≢ done → map.new.held.content ≡ map.old.held.content }
+    ensures { IsAnswer update map.old.held.content map.new.held.content result }
 {
     let Some(mut content) = map.take(alloc) else {
         return Refusal::Empty.status();

@@ -1,0 +1,146 @@
+//! Questions to a map. What is asked of a handle that holds a view is answered of that.
+ghost use Rattle.std.specs.Prelude.{length};
+ghost use Rattle.map_c.specs.Answers.{AreTold, IsCount, IsCountRefusal, IsInside, IsInsideRefusal, IsNearest, IsNearestEach, IsNearestEachRefusal, IsNearestRefusal, IsTold};
+
+use crate::forms::{Bounds, Hit, Item, Place, Totals};
+use crate::handle::Handle;
+use crate::listing::{count_in_box, list};
+use crate::refusal::{DONE, Refusal};
+use crate::searching::{search, search_each};
+use crate::showing::totals_of;
+use std::alloc::Global;
+
+/// Writes the k nearest live points, the nearest first, and how many they are.
+#[unsafe(no_mangle)]
+pub extern "C" fn corv_map_nearest(
+    alloc: Global,
+    map: &mut Handle,
+    place: &Place,
+    k: u32,
+    within: i64,
+    hits: &mut [Hit],
+    count: &mut usize,
+) -> i32
+    ensures { IsTold (IsNearest map.old.held.content place.now k within hits.new count.new)
+        (IsNearestRefusal map.old.held.content place.now k within (length hits.old))
+        map.old.held.content map.new.held.content count.new result }
+{
+    *count = 0;
+    let Some(content) = map.take(alloc) else {
+        return Refusal::Empty.status();
+    };
+    let found = search(alloc, &content, place, k, within, hits);
+    *map = Handle::of(content);
+    match found {
+        Err(refusal) => refusal.status(),
+        Ok(n) => {
+            *count = n;
+            DONE
+        }
+    }
+}
+
+/// The same for each place: the first place's hits, and right behind them the next one's, with how many each place has.
+#[unsafe(no_mangle)]
+pub extern "C" fn corv_map_nearest_each(
+    alloc: Global,
+    map: &mut Handle,
+    places: &[Place],
+    k: u32,
+    within: i64,
+    hits: &mut [Hit],
+    counts: &mut [u32],
+    count: &mut usize,
+) -> i32
+    ensures { IsTold (IsNearestEach map.old.held.content places.now k within hits.new counts.new count.new)
+        (IsNearestEachRefusal map.old.held.content places.now k within (length hits.old) (length counts.old))
+        map.old.held.content map.new.held.content count.new result }
+{
+    *count = 0;
+    let Some(content) = map.take(alloc) else {
+        return Refusal::Empty.status();
+    };
+    let found = search_each(alloc, &content, places, k, within, hits, counts);
+    *map = Handle::of(content);
+    match found {
+        Err(refusal) => refusal.status(),
+        Ok(n) => {
+            *count = n;
+            DONE
+        }
+    }
+}
+
+/// Counts the live points in a box.
+#[unsafe(no_mangle)]
+pub extern "C" fn corv_map_count(
+    alloc: Global,
+    map: &mut Handle,
+    bounds: &Bounds,
+    live: &mut u32,
+) -> i32
+    ensures { IsTold (IsCount map.old.held.content bounds.now live.new) (IsCountRefusal map.old.held.content bounds.now)
+        map.old.held.content map.new.held.content live.new result }
+{
+    *live = 0;
+    let Some(content) = map.take(alloc) else {
+        return Refusal::Empty.status();
+    };
+    let counted = count_in_box(&content, bounds);
+    *map = Handle::of(content);
+    match counted {
+        Err(refusal) => refusal.status(),
+        Ok(n) => {
+            *live = n;
+            DONE
+        }
+    }
+}
+
+/// Writes the live points in a box by number, the first `most` where there are more, and how many they are.
+#[unsafe(no_mangle)]
+pub extern "C" fn corv_map_inside(
+    alloc: Global,
+    map: &mut Handle,
+    bounds: &Bounds,
+    most: u32,
+    items: &mut [Item],
+    count: &mut usize,
+) -> i32
+    ensures { IsTold (IsInside map.old.held.content bounds.now most items.new count.new)
+        (IsInsideRefusal map.old.held.content bounds.now most (length items.old))
+        map.old.held.content map.new.held.content count.new result }
+{
+    *count = 0;
+    let Some(content) = map.take(alloc) else {
+        return Refusal::Empty.status();
+    };
+    let listed = list(alloc, &content, bounds, most, items);
+    *map = Handle::of(content);
+    match listed {
+        Err(refusal) => refusal.status(),
+        Ok(n) => {
+            *count = n;
+            DONE
+        }
+    }
+}
+
+/// How many updates there were, how many points, and how many of those are live and suspended.
+#[unsafe(no_mangle)]
+pub extern "C" fn corv_map_totals(alloc: Global, map: &mut Handle, totals: &mut Totals) -> i32
+    ensures { AreTold map.old.held.content map.new.held.content totals.new result }
+{
+    let Some(content) = map.take(alloc) else {
+        return Refusal::Empty.status();
+    };
+    let told = totals_of(&content);
+    *map = Handle::of(content);
+    match told {
+        None => Refusal::Empty.status(),
+        Some(told) => {
+            *totals = told;
+            DONE
+        }
+    }
+}
