@@ -3,20 +3,4 @@
 #![tactic(auto)]
 
 #[cfg(test)]
-mod assertions;
-#[cfg(test)]
-mod limits;
-#[cfg(test)]
-mod messages;
-#[cfg(test)]
-mod numbers;
-#[cfg(test)]
-mod poses;
-#[cfg(test)]
-mod reading;
-#[cfg(test)]
-mod searches;
-#[cfg(test)]
-mod verdicts;
-#[cfg(test)]
-mod written;
+mod tests;

@@ -3,22 +3,4 @@
 #![tactic(auto)]
 
 #[cfg(test)]
-mod assertions;
-#[cfg(test)]
-mod desk;
-#[cfg(test)]
-mod equal_points;
-#[cfg(test)]
-mod gates;
-#[cfg(test)]
-mod passes;
-#[cfg(test)]
-mod refusals;
-#[cfg(test)]
-mod rounds;
-#[cfg(test)]
-mod threads;
-#[cfg(test)]
-mod trial;
-#[cfg(test)]
-mod unbalanced;
+mod tests;

@@ -1,0 +1,9 @@
+mod assertions;
+mod limits;
+mod messages;
+mod numbers;
+mod poses;
+mod reading;
+mod searches;
+mod verdicts;
+mod written;

@@ -1,0 +1,171 @@
+//! The searches that version 2 alone has, by hand.
+use crate::tests::assertions::{are_bytes, same};
+use crate::tests::reading::{WIDE_HEADER, assert_faults, assert_faults_behind, assert_reads, read};
+use crate::tests::written::{found, is_told};
+use map_fold::{ClusterReply, Group, Groups, Hit, HitLists, Hits, NearsReply};
+use point_geom::Point;
+use scan_log::{LogCause, Reply, write_script};
+use std::alloc::Global;
+use std::test::Fail;
+
+#[test]
+fn version_1_has_no_such_words(rt: HostRuntime) -> Result<(), Fail> {
+    let lines = b"@1 nears 1 0 0 0\n\
+                  @1 ball 1 1 0 0 0\n\
+                  @1 lonely 1 1\n\
+                  @1 clusters 1 1\n";
+    assert_faults(&rt, rt.alloc(), LogCause::UnknownCommand, lines)
+}
+
+#[test]
+fn each_search_has_its_fields(rt: HostRuntime) -> Result<(), Fail> {
+    let lines = b"@1 nears\n\
+                  @1 nears 5\n\
+                  @1 nears x 1 2\n\
+                  @1 nears 0 1 2 3 4\n\
+                  @1 nears 5 1 2 3 \n\
+                  @1 ball\n\
+                  @1 ball 5 3\n\
+                  @1 ball x 3 0 0\n\
+                  @1 ball 0 3 0 0 0 0\n\
+                  @1 lonely\n\
+                  @1 lonely x\n\
+                  @1 lonely 0 3 1\n\
+                  @1 clusters 5\n\
+                  @1 clusters 5 3 \n";
+    assert_faults_behind(&rt, rt.alloc(), WIDE_HEADER, LogCause::WrongCount, lines)
+}
+
+#[test]
+fn each_number_of_a_search_is_one(rt: HostRuntime) -> Result<(), Fail> {
+    let lines = b"@1 nears x 1 2 1099511627777\n\
+                  @1 nears 5 1 2 x\n\
+                  @1 nears 5 1 2 3 04 5 6\n\
+                  @1 ball 05 4398046511105 0 0 0\n\
+                  @1 ball 5 -0 1099511627777 0 0\n\
+                  @1 ball 5 3 0 0 +1\n\
+                  @1 lonely x -1\n\
+                  @1 lonely 5 x\n\
+                  @1 clusters  3\n\
+                  @1 clusters 5 3\r\n";
+    assert_faults_behind(&rt, rt.alloc(), WIDE_HEADER, LogCause::BadNumber, lines)
+}
+
+#[test]
+fn each_number_of_a_search_has_its_limits(rt: HostRuntime) -> Result<(), Fail> {
+    let lines = b"@1 nears 0 x 2 3\n\
+                  @1 nears 257 1 2 3\n\
+                  @1 nears 5 1099511627777 x 0\n\
+                  @1 nears 5 0 0 0 0 0 -1099511627777\n\
+                  @1 ball 0 x 0 0 0\n\
+                  @1 ball 257 3 0 0 0\n\
+                  @1 ball 5 -1 x 0 0\n\
+                  @1 ball 5 4398046511105 0 0 0\n\
+                  @1 ball 5 3 0 1099511627777 x\n\
+                  @1 lonely 0 x\n\
+                  @1 lonely 257 3\n\
+                  @1 lonely 5 4398046511105\n\
+                  @1 clusters 257 x\n\
+                  @1 clusters 5 -1\n";
+    assert_faults_behind(&rt, rt.alloc(), WIDE_HEADER, LogCause::OutOfRange, lines)
+}
+
+#[test]
+fn each_search_is_read(rt: HostRuntime) -> Result<(), Fail> {
+    let lines = b"@1 nears 1 0 0 0\n\
+                  @2 nears 256 1099511627776 0 -1099511627776 1 2 3\n\
+                  @3 ball 1 0 1099511627776 0 -1099511627776\n\
+                  @4 ball 256 4398046511104 0 0 0\n\
+                  @5 lonely 1 0\n\
+                  @6 lonely 256 4398046511104\n\
+                  @7 clusters 1 0\n\
+                  @8 clusters 256 4398046511104\n";
+    assert_reads(&rt, rt.alloc(), WIDE_HEADER, lines)
+}
+
+#[test]
+fn each_search_is_written_as_it_was_read(rt: HostRuntime) -> Result<(), Fail> {
+    let alloc = rt.alloc();
+    let log = b"ikdmap 2 voxel 200 large 1500\n\
+                @3 nears 2 1 -2 3 4 5 -6\n\
+                @2 ball 256 4398046511104 1 -2 3\n\
+                @8 lonely 5 0\n\
+                @1 clusters 7 12\n"
+        .as_slice();
+    let script = read(alloc, log)?;
+    let written = write_script(alloc, &script)?;
+    are_bytes(&rt, written.as_slice(), log);
+    let points = script.commands().first().map(|nears| nears.points());
+    same(&rt, "points of the first", points, Some(0));
+    Ok(())
+}
+
+fn hits(alloc: Global, number: u32) -> Result<Hits, Fail> {
+    let point = Point::new(1, 0, -1)?.with_intensity(9);
+    let mut hits = Hits::new(alloc);
+    hits.push(Hit {
+        number,
+        point,
+        dist2: 4,
+    })?;
+    Ok(hits)
+}
+
+#[test]
+fn each_place_has_its_hits_behind_a_stroke(rt: HostRuntime) -> Result<(), Fail> {
+    let lists = three_lists(rt.alloc())?;
+    let reply = Reply::Nears(NearsReply { mark: 12, lists });
+    let nears = b"@3 nears 2 0 0 0";
+    let want = b"@3 nears 12 / | 5 1 0 -1 9 4 / / | 0 1 0 -1 9 4\n";
+    is_told(&rt, rt.alloc(), WIDE_HEADER, nears, &reply, want)
+}
+
+// The second is empty.
+fn three_lists(alloc: Global) -> Result<HitLists, Fail> {
+    let mut lists = HitLists::new(alloc);
+    let first = hits(alloc, 5)?;
+    lists.push(first)?;
+    lists.push(Hits::new(alloc))?;
+    let last = hits(alloc, 0)?;
+    lists.push(last)?;
+    Ok(lists)
+}
+
+#[test]
+fn what_is_in_a_ball_is_told_after_its_number(rt: HostRuntime) -> Result<(), Fail> {
+    let alloc = rt.alloc();
+    let ball = b"@2 ball 1 5 0 0 0";
+    let inside = Reply::Ball(found(alloc, 6)?);
+    let want = b"@2 ball 9 7 | 6 1 -2 3 4\n";
+    is_told(&rt, alloc, WIDE_HEADER, ball, &inside, want)?;
+    // A box is no ball.
+    let other = Reply::Inside(found(alloc, 6)?);
+    is_told(&rt, alloc, WIDE_HEADER, ball, &other, b"")
+}
+
+#[test]
+fn the_lonely_points_are_told_after_their_number(rt: HostRuntime) -> Result<(), Fail> {
+    let alone = Reply::Lonely(found(rt.alloc(), 6)?);
+    let want = b"@8 lonely 9 7 | 6 1 -2 3 4\n";
+    is_told(&rt, rt.alloc(), WIDE_HEADER, b"@8 lonely 1 5", &alone, want)
+}
+
+#[test]
+fn a_cluster_is_told_by_its_least_number_and_its_size(rt: HostRuntime) -> Result<(), Fail> {
+    let reply = Reply::Clusters(two_groups(rt.alloc())?);
+    let clusters = b"@1 clusters 2 5";
+    let want = b"@1 clusters 1 4 | 0 3 | 4194303 1\n";
+    is_told(&rt, rt.alloc(), WIDE_HEADER, clusters, &reply, want)
+}
+
+fn two_groups(alloc: Global) -> Result<ClusterReply, Fail> {
+    let mut groups = Groups::new(alloc);
+    for (least, size) in [(0, 3), (4_194_303, 1)] {
+        groups.push(Group { least, size })?;
+    }
+    Ok(ClusterReply {
+        mark: 1,
+        count: 4,
+        groups,
+    })
+}

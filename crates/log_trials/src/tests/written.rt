@@ -1,0 +1,291 @@
+//! What is written, by hand: logs, and the lines of replies.
+ghost use Rattle.std.specs.Prelude.{◌≡◌, ◌≤◌, IfOk, IfErr};
+ghost use Rattle.scan_log.specs.declared.format.Format.TheVariants.{One, Two};
+ghost use Rattle.scan_log.specs.Scripts.{AreBoxes, AreScanned, IsCallerBox, IsCommand, asked, submitted};
+ghost use Rattle.scan_log.specs.declared.fault.ParseFault.TheVariants.{NoMemory as want};
+
+use crate::tests::assertions::are_bytes;
+use crate::tests::reading::{HEADER, WIDE_HEADER, log_with, read};
+use map_fold::{
+    BoxReply, Cuboids, Hit, Hits, Item, Items, Label, MAX_POINTS, NearReply, Points, Settings,
+    Update,
+};
+use point_geom::{Corner, Cuboid, Point};
+use scan_log::{Command, Format, ParseFault, Reply, Script, parse, reply_line, write_script};
+use std::alloc::Global;
+use std::process::Abort;
+use std::test::Fail;
+
+// The log of this one command.
+fn log_of(alloc: Global, format: Format, command: Command) -> Result<Vec<u8>, Fail>
+    requires limits { IsCommand format command }
+    requires room { submitted command ≤ 262144 }
+    requires hits { asked command ≤ MAX_POINTS }
+{
+    let mut script = Script::new(alloc, format, Settings::new(200, 1500));
+    script.push(command)?;
+    Ok(write_script(alloc, &script)?)
+}
+
+fn points(alloc: Global) -> Result<Points, Fail>
+    ensures { IfOk result (AreScanned One) }
+{
+    let mut points = Points::new(alloc);
+    points.push(Point::new(1, -2, 3)?)?;
+    points.push(Point::new(1_000_000_000, 0, -1_000_000_000)?)?;
+    Ok(points)
+}
+
+// Points with intensities.
+fn wide_points(alloc: Global) -> Result<Points, Fail>
+    ensures { IfOk result (AreScanned Two) }
+{
+    let mut points = Points::new(alloc);
+    points.push(Point::new(1, -2, 3)?.with_intensity(65_535))?;
+    points.push(Point::new(1_099_511_627_776, 0, 0)?.with_intensity(7))?;
+    Ok(points)
+}
+
+fn cuboid() -> Result<Cuboid, Fail>
+    ensures { IfOk result (IsCallerBox One) }
+{
+    let lo = Corner { x: 4, y: -5, z: 6 };
+    let hi = Corner {
+        x: 1_000_000_001,
+        y: -5,
+        z: 7,
+    };
+    Ok(Cuboid::new(lo, hi)?)
+}
+
+fn boxes(alloc: Global) -> Result<Cuboids, Fail>
+    ensures { IfOk result (AreBoxes One) }
+{
+    let mut boxes = Cuboids::new(alloc);
+    boxes.push(Cuboid::unit(&Point::new(1, -2, 3)?))?;
+    boxes.push(cuboid()?)?;
+    Ok(boxes)
+}
+
+// The log of this one command is this text.
+fn is_written(
+    rt: &impl Abort,
+    alloc: Global,
+    format: Format,
+    command: Command,
+    want: &[u8],
+) -> Result<(), Fail>
+    requires limits { IsCommand format command }
+    requires room { submitted command ≤ 262144 }
+    requires hits { asked command ≤ MAX_POINTS }
+{
+    let log = log_of(alloc, format, command)?;
+    are_bytes(rt, log.as_slice(), want);
+    Ok(())
+}
+
+#[test]
+fn an_update_has_one_line_with_all_its_numbers(rt: HostRuntime) -> Result<(), Fail> {
+    let alloc = rt.alloc();
+    points_are_written(&rt, alloc)?;
+    wide_numbers_are_written(&rt, alloc)?;
+    boxes_are_written(&rt, alloc)
+}
+
+fn points_are_written(rt: &impl Abort, alloc: Global) -> Result<(), Fail> {
+    let update = Update::Add(points(alloc)?);
+    let add = Command::Change { caller: 1, update };
+    let want = b"ikdmap 1 voxel 200 large 1500\n@1 add 1 -2 3 1000000000 0 -1000000000\n";
+    is_written(rt, alloc, Format::One, add, want)?;
+    let update = Update::Thin(points(alloc)?);
+    let thin = Command::Change { caller: 2, update };
+    let want = b"ikdmap 1 voxel 200 large 1500\n@2 thin 1 -2 3 1000000000 0 -1000000000\n";
+    is_written(rt, alloc, Format::One, thin, want)
+}
+
+fn wide_numbers_are_written(rt: &impl Abort, alloc: Global) -> Result<(), Fail> {
+    let update = Update::Add(wide_points(alloc)?);
+    let add = Command::Change { caller: 1, update };
+    let want = b"ikdmap 2 voxel 200 large 1500\n@1 add 1 -2 3 65535 1099511627776 0 0 7\n";
+    is_written(rt, alloc, Format::Two, add, want)?;
+    let update = Update::Expire(4_194_304);
+    let expire = Command::Change { caller: 4, update };
+    let want = b"ikdmap 2 voxel 200 large 1500\n@4 expire 4194304\n";
+    is_written(rt, alloc, Format::Two, expire, want)
+}
+
+fn boxes_are_written(rt: &impl Abort, alloc: Global) -> Result<(), Fail> {
+    let update = Update::Delete(boxes(alloc)?);
+    let delete = Command::Change { caller: 3, update };
+    let want = b"ikdmap 1 voxel 200 large 1500\n@3 delete 1 -2 3 2 -1 4 4 -5 6 1000000001 -5 7\n";
+    is_written(rt, alloc, Format::One, delete, want)?;
+    let update = Update::Suspend(boxes(alloc)?);
+    let suspend = Command::Change { caller: 4, update };
+    let want = b"ikdmap 1 voxel 200 large 1500\n@4 suspend 1 -2 3 2 -1 4 4 -5 6 1000000001 -5 7\n";
+    is_written(rt, alloc, Format::One, suspend, want)?;
+    let update = Update::Restore(boxes(alloc)?);
+    let restore = Command::Change { caller: 5, update };
+    let want = b"ikdmap 1 voxel 200 large 1500\n@5 restore 1 -2 3 2 -1 4 4 -5 6 1000000001 -5 7\n";
+    is_written(rt, alloc, Format::One, restore, want)
+}
+
+#[test]
+fn a_search_has_its_distance_where_one_is_given(rt: HostRuntime) -> Result<(), Fail> {
+    let alloc = rt.alloc();
+    let point = Point::new(1, -2, 3)?;
+    let (caller, k) = (8, 256);
+    let near = Command::Near {
+        caller,
+        k,
+        point,
+        within: None,
+    };
+    let want = b"ikdmap 1 voxel 200 large 1500\n@8 near 256 1 -2 3\n";
+    is_written(&rt, alloc, Format::One, near, want)?;
+    let within = Command::Near {
+        caller,
+        k,
+        point,
+        within: Some(4_398_046_511_104),
+    };
+    let want = b"ikdmap 2 voxel 200 large 1500\n@8 near 256 1 -2 3 within 4398046511104\n";
+    is_written(&rt, alloc, Format::Two, within, want)?;
+    let cuboid = cuboid()?;
+    let inside = Command::Inside { caller, k, cuboid };
+    let want = b"ikdmap 1 voxel 200 large 1500\n@8 box 256 4 -5 6 1000000001 -5 7\n";
+    is_written(&rt, alloc, Format::One, inside, want)
+}
+
+// What is written is read as an equal script, or memory runs out.
+fn again(alloc: Global, script: &Script) -> Result<Script, ParseFault>
+    ensures same { IfOk result (λ again. again ≡ script.now) }
+    ensures fault { IfErr result (λ fault. fault ≡ want) }
+{
+    let log = write_script(alloc, script)?;
+    parse(alloc, log.as_slice())
+}
+
+#[test]
+fn what_is_written_is_read_as_the_same_script(rt: HostRuntime) -> Result<(), Fail> {
+    let alloc = rt.alloc();
+    is_written_twice(
+        &rt,
+        alloc,
+        b"# by hand\nikdmap 1 voxel 200 large 1500\n\n@1 erase 1 2 3\nsync\n@8 near 2 0 0 0 within 7",
+        b"ikdmap 1 voxel 200 large 1500\n@1 delete 1 2 3 2 3 4\nsync\n@8 near 2 0 0 0 within 7\n",
+    )?;
+    is_written_twice(
+        &rt,
+        alloc,
+        b"ikdmap 2 voxel 200 large 1500\n@1 add 1 2 3 4 -5 0 6 65535\n#\n@2 erase 1 2 3",
+        b"ikdmap 2 voxel 200 large 1500\n@1 add 1 2 3 4 -5 0 6 65535\n@2 delete 1 2 3 2 3 4\n",
+    )
+}
+
+// The log by hand is written as this one, and so is what is read of that.
+fn is_written_twice(
+    rt: &impl Abort,
+    alloc: Global,
+    by_hand: &[u8],
+    written: &[u8],
+) -> Result<(), Fail> {
+    let script = read(alloc, by_hand)?;
+    let log = write_script(alloc, &script)?;
+    are_bytes(rt, log.as_slice(), written);
+    let script = again(alloc, &script)?;
+    let log = write_script(alloc, &script)?;
+    are_bytes(rt, log.as_slice(), written);
+    Ok(())
+}
+
+// The line of this reply is this text, where this line behind this header asks for it, or at the end where none does.
+pub fn is_told(
+    rt: &impl Abort,
+    alloc: Global,
+    header: &[u8],
+    asked: &[u8],
+    reply: &Reply,
+    want: &[u8],
+) -> Result<(), Fail> {
+    let log = log_with(alloc, header, asked)?;
+    let script = read(alloc, log.as_slice())?;
+    let mut line = Vec::new(alloc);
+    reply_line(&mut line, script.format(), script.commands().first(), reply)?;
+    are_bytes(rt, line.as_slice(), want);
+    Ok(())
+}
+
+#[test]
+fn an_update_is_told_by_its_place(rt: HostRuntime) -> Result<(), Fail> {
+    let reply = Reply::Done { mark: 65_536 };
+    let want = b"@8 ok 65536\n";
+    is_told(&rt, rt.alloc(), HEADER, b"@8 add 1 2 3", &reply, want)
+}
+
+#[test]
+fn each_hit_is_told_with_its_distance(rt: HostRuntime) -> Result<(), Fail> {
+    let alloc = rt.alloc();
+    let point = Point::new(1, -2, 3)?;
+    let near = b"@7 near 2 1 -2 3";
+    let hits = two_hits(alloc, point.with_intensity(65_535))?;
+    let reply = Reply::Near(NearReply { mark: 9, hits });
+    let want = b"@7 near 9 | 5 1 -2 3 0 | 0 1 -2 3 12000000000000000000\n";
+    is_told(&rt, alloc, HEADER, near, &reply, want)?;
+    let want = b"@7 near 9 | 5 1 -2 3 65535 0 | 0 1 -2 3 65535 12000000000000000000\n";
+    is_told(&rt, alloc, WIDE_HEADER, near, &reply, want)
+}
+
+fn two_hits(alloc: Global, point: Point) -> Result<Hits, Fail> {
+    let mut hits = Hits::new(alloc);
+    for (number, dist2) in [(5, 0), (0, 12_000_000_000_000_000_000)] {
+        hits.push(Hit {
+            number,
+            point,
+            dist2,
+        })?;
+    }
+    Ok(hits)
+}
+
+#[test]
+fn what_is_found_in_a_box_is_told_after_its_number(rt: HostRuntime) -> Result<(), Fail> {
+    let alloc = rt.alloc();
+    let inside = b"@2 box 1 4 -5 6 1000000001 -5 7";
+    let reply = Reply::Inside(found(alloc, 4_194_303)?);
+    let want = b"@2 box 9 7 | 4194303 1 -2 3\n";
+    is_told(&rt, alloc, HEADER, inside, &reply, want)?;
+    let want = b"@2 box 9 7 | 4194303 1 -2 3 4\n";
+    is_told(&rt, alloc, WIDE_HEADER, inside, &reply, want)?;
+    // A reply of another kind has no line.
+    let done = Reply::Done { mark: 1 };
+    is_told(&rt, alloc, WIDE_HEADER, inside, &done, b"")
+}
+
+// Seven points, of which this one is listed.
+pub fn found(alloc: Global, number: u32) -> Result<BoxReply, Fail> {
+    let mut items = Items::new(alloc);
+    items.push(Item {
+        number,
+        point: Point::new(1, -2, 3)?.with_intensity(4),
+        label: Label::Live,
+    })?;
+    Ok(BoxReply {
+        mark: 9,
+        count: 7,
+        items,
+    })
+}
+
+#[test]
+fn a_barrier_and_the_end_tell_how_many_are_held(rt: HostRuntime) -> Result<(), Fail> {
+    let alloc = rt.alloc();
+    let totals = Reply::Totals {
+        mark: 3,
+        live: 2,
+        suspended: 1,
+    };
+    let want = b"sync 3 live 2 suspended 1\n";
+    is_told(&rt, alloc, WIDE_HEADER, b"sync", &totals, want)?;
+    let want = b"end 3 live 2 suspended 1\n";
+    is_told(&rt, alloc, HEADER, b"", &totals, want)
+}

@@ -1,0 +1,10 @@
+mod assertions;
+mod desk;
+mod equal_points;
+mod gates;
+mod passes;
+mod refusals;
+mod rounds;
+mod threads;
+mod trial;
+mod unbalanced;
