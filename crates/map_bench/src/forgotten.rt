@@ -1,64 +1,49 @@
 //! Forgetting the older half of points that came along a road, or all over it.
+use crate::bench::Bench;
 use crate::course::{Lie, road_box, scans};
 use crate::draws::Draws;
-use crate::growing::{Look, grow};
+use crate::growing::grow;
 use crate::grown::Grown;
 use crate::stop::Stop;
 use crate::told::Told;
-use crate::words::Size;
-use kd_tree::{Steps, Tree};
+use crate::words::{Look, Way};
+use kd_tree::Tree;
 use map_fold::Choice;
-use std::alloc::Global;
 use std::sync::ledger::Ledger;
 use std::thread::Threads;
 use std::time::{Clock, Instant};
 
-/// What is forgotten, and how.
-#[derive(Clone, Copy)]
-pub enum Way {
-    /// The numbers of the first half of the road, which are the lower half.
-    Expire,
-    /// The same points, by a box.
-    Cut,
-    /// The lower half of the numbers, where these stand all over the road.
-    Mixed,
-}
-
 /// The older half of so many points is forgotten by one mark, in a tree that grew by scans of them.
 pub fn forget<L: Ledger, R: Clock + Threads + Sync>(
-    rt: &R,
-    alloc: Global,
+    at: &mut Bench<'_, L, R>,
     way: Way,
-    size: Size,
-    steps: &mut Steps<L>,
 ) -> Result<Told, Stop> {
-    let half = size.count / 2;
+    let count = at.size.count;
+    let half = count / 2;
     let (lie, older) = match way {
         Way::Expire => (Lie::Road, Choice::below(half)),
         Way::Cut => (Lie::Road, Choice::within(&road_box(half))),
-        Way::Mixed => (Lie::Mixed(size.count), Choice::below(half)),
+        Way::Mixed => (Lie::Mixed(count), Choice::below(half)),
     };
-    let scans = scans(alloc, lie, size.count, &mut Draws::new())?;
-    let mut map = Grown::new(alloc, false);
-    grow(rt, alloc, &mut map, Look::Nothing, scans.as_slice(), steps)?;
-    deleted(rt, alloc, map, &older, steps)
+    let scans = scans(at.alloc, lie, count, &mut Draws::new())?;
+    let mut map = Grown::new(at.alloc, false);
+    grow(at, &mut map, Look::Nothing, scans.as_slice())?;
+    deleted(at, map, &older)
 }
 
 // Told are the nodes that were entered, and the tops of the subtrees that were labelled.
-fn deleted<L: Ledger>(
-    rt: &impl Clock,
-    alloc: Global,
+fn deleted<L: Ledger, R: Clock>(
+    at: &mut Bench<'_, L, R>,
     map: Grown,
     choice: &Choice,
-    steps: &mut Steps<L>,
 ) -> Result<Told, Stop> {
     let mut map = map;
     let nodes = touched(&map.tree, choice);
-    let begun = Instant::now(rt)?;
-    map.delete(alloc, choice, steps)?;
-    let micros = begun.elapsed(rt)?.as_micros();
+    let begun = Instant::now(at.rt)?;
+    map.delete(at.alloc, choice, &mut at.steps)?;
+    let micros = begun.elapsed(at.rt)?.as_micros();
     let left = map.tree.counts().live;
-    let figures = format!(in alloc; "{micros} us, {nodes} nodes touched, {left} points left")?;
+    let figures = format!(in at.alloc; "{micros} us, {nodes} nodes touched, {left} points left")?;
     Ok(Told { figures, sum: None })
 }
 

@@ -3,6 +3,7 @@ ghost use Rattle.std.specs.Prelude.{◌<◌, ◌≤◌, ℕ, Contains};
 ghost use Rattle.kd_tree.specs.Shape.{numbers};
 ghost use Rattle.map_fold.specs.declared.limits.TheConstants.{MAX_POINTS};
 
+use crate::bench::Bench;
 use crate::course::Scan;
 use crate::growing::Growing;
 use crate::stop::Stop;
@@ -89,20 +90,15 @@ impl Growing for Grown {
         &self.tree
     }
 
-    fn take_in<L: Ledger>(
-        &mut self,
-        alloc: Global,
-        scan: &Scan,
-        steps: &mut Steps<L>,
-    ) -> Result<(), Stop> {
+    fn take_in<L: Ledger, R>(&mut self, at: &mut Bench<'_, L, R>, scan: &Scan) -> Result<(), Stop> {
         let held = if self.holds {
-            self.tree.copy(alloc, steps)?
+            self.tree.copy(at.alloc, &mut at.steps)?
         } else {
             Tree::empty()
         };
-        self.put_all(alloc, &scan.points, steps)?;
+        self.put_all(at.alloc, &scan.points, &mut at.steps)?;
         if let Some(left) = &scan.left {
-            self.delete(alloc, &Choice::within(left), steps)?;
+            self.delete(at.alloc, &Choice::within(left), &mut at.steps)?;
         }
         // A version that is dropped gives its nodes' memory to the next scan.
         self.scratch.take_in(held);

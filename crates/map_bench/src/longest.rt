@@ -1,12 +1,11 @@
 //! How long one step holds a map up: a map grows by scans, and then of more scans the longest of each step is told.
+use crate::bench::Bench;
 use crate::course::{Lie, POINTS_OF_SCAN, Scan, scans};
 use crate::draws::Draws;
-use crate::growing::Growing;
+use crate::growing::taking_in;
 use crate::robot::{LARGE, Robot};
 use crate::stop::Stop;
 use crate::told::Told;
-use crate::words::Size;
-use kd_tree::Steps;
 use std::alloc::Global;
 use std::sync::ledger::Ledger;
 use std::time::{Clock, Instant};
@@ -45,17 +44,12 @@ impl Longest {
 }
 
 /// A map grows to so many points, and then by so many more, whose scans are looked at.
-pub fn longest_steps<L: Ledger>(
-    rt: &impl Clock,
-    alloc: Global,
-    size: Size,
-    steps: &mut Steps<L>,
-) -> Result<Told, Stop> {
-    let count = size.count.saturating_add(size.asked);
-    let scans = scans(alloc, Lie::Kept, count, &mut Draws::new())?;
-    let grown = (size.count / POINTS_OF_SCAN) as usize;
-    let longest = longest_from(rt, alloc, scans.as_slice(), grown, steps)?;
-    told(alloc, longest)
+pub fn longest_steps<L: Ledger, R: Clock>(at: &mut Bench<'_, L, R>) -> Result<Told, Stop> {
+    let count = at.size.count.saturating_add(at.size.asked);
+    let scans = scans(at.alloc, Lie::Kept, count, &mut Draws::new())?;
+    let grown = (at.size.count / POINTS_OF_SCAN) as usize;
+    let longest = longest_from(at, scans.as_slice(), grown)?;
+    told(at.alloc, longest)
 }
 
 fn told(alloc: Global, longest: Longest) -> Result<Told, Stop> {
@@ -73,46 +67,39 @@ fn told(alloc: Global, longest: Longest) -> Result<Told, Stop> {
 }
 
 // The longest of each step, from so many scans on.
-fn longest_from<L: Ledger>(
-    rt: &impl Clock,
-    alloc: Global,
+fn longest_from<L: Ledger, R: Clock>(
+    at: &mut Bench<'_, L, R>,
     scans: &[Scan],
     from: usize,
-    steps: &mut Steps<L>,
 ) -> Result<Longest, Stop> {
-    let mut robot = Robot::new(alloc, LARGE, false)?;
+    let mut robot = Robot::new(at.alloc, LARGE, false)?;
     let (before, looked_at) = scans.split_at(from.min(scans.len()));
-    let _unlooked = longest_of(rt, alloc, &mut robot, before, steps)?;
-    longest_of(rt, alloc, &mut robot, looked_at, steps)
+    let _unlooked = longest_of(at, &mut robot, before)?;
+    longest_of(at, &mut robot, looked_at)
 }
 
-fn longest_of<L: Ledger>(
-    rt: &impl Clock,
-    alloc: Global,
+fn longest_of<L: Ledger, R: Clock>(
+    at: &mut Bench<'_, L, R>,
     robot: &mut Robot,
     scans: &[Scan],
-    steps: &mut Steps<L>,
 ) -> Result<Longest, Stop> {
     let mut longest = Longest::none();
     for scan in scans {
-        longest = longest.max(step_times(rt, alloc, robot, scan, steps)?);
+        longest = longest.max(step_times(at, robot, scan)?);
     }
     Ok(longest)
 }
 
 // What one scan takes.
-fn step_times<L: Ledger>(
-    rt: &impl Clock,
-    alloc: Global,
+fn step_times<L: Ledger, R: Clock>(
+    at: &mut Bench<'_, L, R>,
     robot: &mut Robot,
     scan: &Scan,
-    steps: &mut Steps<L>,
 ) -> Result<Longest, Stop> {
-    let begun = Instant::now(rt)?;
-    robot.take_in(alloc, scan, steps)?;
-    let update = begun.elapsed(rt)?.as_micros();
-    let Some(job) = robot.detach(alloc)? else {
-        let together = begun.elapsed(rt)?.as_micros();
+    let begun = Instant::now(at.rt)?;
+    let update = taking_in(at, robot, scan)?;
+    let Some(job) = robot.detach(at.alloc)? else {
+        let together = begun.elapsed(at.rt)?.as_micros();
         return Ok(Longest {
             update,
             detach: together.saturating_sub(update),
@@ -120,11 +107,11 @@ fn step_times<L: Ledger>(
             ..Longest::none()
         });
     };
-    let detached = begun.elapsed(rt)?.as_micros();
-    let built = robot.build(alloc, job)?;
-    let ready = begun.elapsed(rt)?.as_micros();
-    robot.swap(alloc, built, steps)?;
-    let together = begun.elapsed(rt)?.as_micros();
+    let detached = begun.elapsed(at.rt)?.as_micros();
+    let built = robot.build(at.alloc, job)?;
+    let ready = begun.elapsed(at.rt)?.as_micros();
+    robot.swap(at.alloc, built, &mut at.steps)?;
+    let together = begun.elapsed(at.rt)?.as_micros();
     Ok(Longest {
         update,
         detach: detached.saturating_sub(update),

@@ -35,6 +35,7 @@
 
 ghost use Rattle.kd_tree.specs.Counter.{IsBlankOf};
 
+mod bench;
 mod course;
 mod draws;
 mod forgotten;
@@ -50,6 +51,7 @@ mod told;
 mod waiting;
 mod words;
 
+use crate::bench::Bench;
 use crate::forgotten::forget;
 use crate::growing::{growing_state, growing_tree, lying};
 use crate::longest::longest_steps;
@@ -97,7 +99,7 @@ fn measure<R: AllocGlobal + Env + Print + Eprint + Clock + Threads + Wait + Sync
     Ok(())
 }
 
-// What is told of a work. The nodes that are made are counted by a counter that nothing looks at.
+// What is told of a work.
 fn worked<L: Ledger, R: AllocGlobal + Clock + Threads + Wait + Sync>(
     rt: &R,
     work: Work,
@@ -106,17 +108,23 @@ fn worked<L: Ledger, R: AllocGlobal + Clock + Threads + Wait + Sync>(
 ) -> Result<Told, Stop>
     requires blank { IsBlankOf L.name L.parts blank }
 {
+    let steps: Steps<L> = Steps::new(blank);
     let alloc = rt.alloc();
-    let steps: &mut Steps<L> = &mut Steps::new(blank);
+    let at = &mut Bench {
+        rt,
+        alloc,
+        size,
+        steps,
+    };
     match work {
-        Work::Built(ask) => on_built(rt, alloc, ask, size, steps),
-        Work::After => on_grown(rt, alloc, size, steps),
-        Work::Tree(look) => growing_tree(rt, alloc, look, size, steps),
-        Work::State(look) => growing_state(rt, alloc, look, size, steps),
-        Work::Lying(lie) => lying(rt, alloc, lie, size, steps),
-        Work::Forgotten(way) => forget(rt, alloc, way, size, steps),
-        Work::Longest => longest_steps(rt, alloc, size, steps),
-        Work::Waiting => update_waiting(rt, alloc, size, steps),
+        Work::Built(ask) => on_built(at, ask),
+        Work::After => on_grown(at),
+        Work::Tree(look) => growing_tree(at, look),
+        Work::State(look) => growing_state(at, look),
+        Work::Lying(lie) => lying(at, lie),
+        Work::Forgotten(way) => forget(at, way),
+        Work::Longest => longest_steps(at),
+        Work::Waiting => update_waiting(at),
         Work::Threads(sharing) => side_by_side(rt, alloc, sharing, size),
     }
 }

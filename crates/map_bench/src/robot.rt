@@ -1,5 +1,6 @@
 //! A robot's map: the state of a map that one thread keeps. Large subtrees that became uneven can be detached, rebuilt and
 //! swapped in by calls of their own.
+use crate::bench::Bench;
 use crate::course::{Scan, deletion};
 use crate::growing::Growing;
 use crate::stop::Stop;
@@ -84,22 +85,17 @@ impl Growing for Robot {
         self.state.version().tree()
     }
 
-    fn take_in<L: Ledger>(
-        &mut self,
-        alloc: Global,
-        scan: &Scan,
-        steps: &mut Steps<L>,
-    ) -> Result<(), Stop> {
-        let points = scan.points.copy(alloc)?;
+    fn take_in<L: Ledger, R>(&mut self, at: &mut Bench<'_, L, R>, scan: &Scan) -> Result<(), Stop> {
+        let points = scan.points.copy(at.alloc)?;
         let update = if self.thins {
             Update::Thin(points)
         } else {
             Update::Add(points)
         };
-        self.update(alloc, update, steps)?;
+        self.update(at.alloc, update, &mut at.steps)?;
         match &scan.left {
             None => Ok(()),
-            Some(left) => self.update(alloc, deletion(alloc, left)?, steps),
+            Some(left) => self.update(at.alloc, deletion(at.alloc, left)?, &mut at.steps),
         }
     }
 }

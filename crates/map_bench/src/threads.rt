@@ -13,20 +13,21 @@ pub mod writing;
 
 use self::company::{Company, Sharing};
 use self::plan::Plan;
-use self::roles::{Bells, Stage, play, roles};
+use self::roles::{Role, Stage, play, roles};
 use self::telling::told;
 use self::times::Times;
+use self::writing::write;
 use crate::robot::settings;
 use crate::stop::Stop;
 use crate::told::Told;
 use crate::words::Size;
 use published_map::{MapName, Opened, Pass, Shared};
 use rebuild_worker::pair;
-use std::alloc::Global;
+use std::alloc::{AllocError, Global};
 use std::marker::Brand;
 use std::sync::Wait;
 use std::sync::ledger::Blank;
-use std::thread::{Threads, map_vec};
+use std::thread::{Threads, join, map_vec};
 use std::time::Clock;
 
 /// A map grows by scans to so many points. Then more scans are added to it beside the others of a company.
@@ -69,7 +70,8 @@ fn on_map<L: MapName + Send + Sync, R: Threads + Wait + Clock + Sync>(
     done
 }
 
-// Where no thread can be made, the writer is first, the others find that all is over, and a worker ends at once.
+// The last pass is the writer's, which tells the others to end whether all of them could begin or not. Where no thread can be made,
+// the writer is first, the others find that all is over, and a worker ends at once.
 fn run<L: MapName + Send + Sync, R: Threads + Wait + Clock + Sync>(
     rt: &R,
     alloc: Global,
@@ -77,23 +79,37 @@ fn run<L: MapName + Send + Sync, R: Threads + Wait + Clock + Sync>(
     plan: &Plan,
     passes: Vec<Pass<L>>,
 ) -> Result<Times, Stop> {
+    let mut passes = passes;
+    let Some(mut writer) = passes.pop() else {
+        return Ok(Times::new(alloc));
+    };
     let (first, one) = pair(alloc)?;
     let (second, two) = pair(alloc)?;
-    let bells = Bells { first, second };
     let roles = roles(alloc, plan, one, two, passes)?;
     let stage = Stage {
         alloc,
         shared,
         plan,
-        bells: &bells,
+        first: &first,
+        second: &second,
     };
-    all_times(alloc, map_vec(rt, roles, &|role| play(rt, &stage, role))?)
-}
-
-fn all_times(alloc: Global, done: Vec<Result<Times, Stop>>) -> Result<Times, Stop> {
-    let mut all = Times::new(alloc);
-    for times in done {
+    let (others, written) = join(
+        rt,
+        || play_all(rt, &stage, roles),
+        || write(rt, &stage, &mut writer),
+    );
+    let mut all = written?;
+    for times in others? {
         all.add(&times?)?;
     }
     Ok(all)
+}
+
+// Where memory runs out, some roles may not have been played.
+fn play_all<L: MapName + Send + Sync, R: Threads + Wait + Clock + Sync>(
+    rt: &R,
+    stage: &Stage<'_, L>,
+    roles: Vec<Role<Pass<L>>>,
+) -> Result<Vec<Result<Times, Stop>>, AllocError> {
+    map_vec(rt, roles, &|role| play(rt, stage, role))
 }

@@ -3,9 +3,6 @@ ghost use Rattle.std.specs.Prelude.{◌≤◌};
 ghost use Rattle.map_fold.specs.declared.limits.TheConstants.{MAX_POINTS};
 
 use crate::course::Lie;
-use crate::forgotten::Way;
-use crate::growing::Look;
-use crate::searches::Ask;
 use crate::stop::Stop;
 use crate::threads::company::Sharing;
 use map_fold::MAX_POINTS;
@@ -64,6 +61,48 @@ impl Work {
         };
         Ok(work)
     }
+}
+
+/// What is done with a tree that was built.
+#[derive(Clone, Copy)]
+pub enum Ask {
+    /// It is built, and that is all.
+    Nothing,
+    /// It is asked for the 5 nearest of so many places.
+    Nearest,
+    /// The same, one after the other, and all answers are kept.
+    Singly,
+    /// The same, all at once, on all processors.
+    AtOnce,
+    /// So many cubes of a metre are deleted.
+    Cubes,
+    /// It is asked for the clusters whose points are so many millimetres apart at most.
+    Clusters,
+    /// It is asked for the points that have no other so near.
+    Lonely,
+}
+
+/// What is looked at before each scan.
+#[derive(Clone, Copy)]
+pub enum Look {
+    Nothing,
+    /// How many points are live in the version, which is held until the scan is done.
+    Held,
+    /// The 5 nearest of each of the scan's points.
+    Singly,
+    /// The same, all at once, on all processors.
+    AtOnce,
+}
+
+/// What is forgotten, and how.
+#[derive(Clone, Copy)]
+pub enum Way {
+    /// The numbers of the first half of the road, which are the lower half.
+    Expire,
+    /// The same points, by a box.
+    Cut,
+    /// The lower half of the numbers, where these stand all over the road.
+    Mixed,
 }
 
 /// How much of it.

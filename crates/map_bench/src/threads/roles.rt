@@ -5,7 +5,6 @@ use super::plan::Plan;
 use super::reading::read;
 use super::timed_desk::TimedDesk;
 use super::times::Times;
-use super::writing::write;
 use crate::robot::LARGE;
 use crate::stop::Stop;
 use map_fold::NoMemory;
@@ -15,48 +14,38 @@ use std::alloc::Global;
 use std::sync::Wait;
 use std::time::Clock;
 
-/// The workers' bells. Nobody hears those for which there is no worker.
-#[derive(Drop)]
-pub struct Bells {
-    pub first: Bell,
-    pub second: Bell,
-}
-
-impl Bells {
-    /// Wakes the workers.
-    pub fn ring(&self) {
-        self.first.ring();
-        self.second.ring();
-    }
-
-    /// Tells the workers to end.
-    pub fn stop(&self) {
-        self.first.stop();
-        self.second.stop();
-    }
-}
-
 /// What all threads have.
 #[derive(Drop)]
 pub struct Stage<'a, L: MapName> {
     pub alloc: Global,
     pub shared: &'a Shared<L>,
     pub plan: &'a Plan,
-    pub bells: &'a Bells,
+    /// The workers' bells. Nobody hears those for which there is no worker.
+    pub first: &'a Bell,
+    pub second: &'a Bell,
 }
 
-/// What one thread does, and with what.
+impl<'a, L: MapName> Stage<'a, L> {
+    /// Tells the readers and the workers to end.
+    pub fn end(&self) {
+        self.plan.end();
+        self.first.stop();
+        self.second.stop();
+    }
+}
+
+/// What one thread does beside the writer, and with what.
 #[derive(Drop)]
 pub enum Role<P: Drop> {
     /// The first worker's, and where it sleeps.
     First(Rest),
     /// The second worker's.
     Second(Rest),
-    /// The writer's or a reader's, and its pass.
-    Caller(P),
+    /// A reader's, and its pass.
+    Reader(P),
 }
 
-/// The roles of a plan. The last one is the writer's, which is the one that the calling thread takes. One worker alone is the second.
+/// The roles of a plan, with the readers' passes. One worker alone is the second.
 pub fn roles<L: MapName>(
     alloc: Global,
     plan: &Plan,
@@ -72,7 +61,7 @@ pub fn roles<L: MapName>(
         roles.push(Role::Second(two))?;
     }
     for pass in passes {
-        roles.push(Role::Caller(pass))?;
+        roles.push(Role::Reader(pass))?;
     }
     Ok(roles)
 }
@@ -86,13 +75,7 @@ pub fn play<L: MapName, R: Wait + Clock>(
     match role {
         Role::First(rest) => Ok(help(rt, stage, 1, rest)),
         Role::Second(rest) => Ok(help(rt, stage, 2, rest)),
-        Role::Caller(pass) => {
-            if pass.caller() <= stage.plan.company.readers {
-                read(rt, stage, pass)
-            } else {
-                write(rt, stage, pass)
-            }
-        }
+        Role::Reader(pass) => read(rt, stage, pass),
     }
 }
 

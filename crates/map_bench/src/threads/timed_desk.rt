@@ -8,6 +8,9 @@ use std::io;
 use std::sync::{Mutex, Wait};
 use std::time::{Clock, Instant};
 
+// Done, or why not.
+type Done<E> = Result<(), E>;
+
 /// A map as one worker sees it. Each call goes on to the map, and how long it took, with its waiting for the lock, is kept while the
 /// plan's scans are added.
 #[derive(Drop)]
@@ -62,13 +65,7 @@ impl<'a, D: Desk, C: Clock> Desk for TimedDesk<'a, D, C> {
         ops
     }
 
-    fn swap<R: Wait>(
-        &self,
-        rt: &R,
-        alloc: Global,
-        built: Built,
-        force: bool,
-    ) -> Result<(), SwapLeft> {
+    fn swap<R: Wait>(&self, rt: &R, alloc: Global, built: Built, force: bool) -> Done<SwapLeft> {
         let begun = Instant::now(self.clock);
         let done = self.desk.swap(rt, alloc, built, force);
         self.keep(rt, Kind::Swap, begun);
@@ -76,13 +73,7 @@ impl<'a, D: Desk, C: Clock> Desk for TimedDesk<'a, D, C> {
     }
 
     // It counts as a swap, or where the value was behind, as a look at the log.
-    fn swap_or_log<R: Wait>(
-        &self,
-        rt: &R,
-        alloc: Global,
-        built: Built,
-        most: u32,
-    ) -> Result<(), Late> {
+    fn swap_or_log<R: Wait>(&self, rt: &R, alloc: Global, built: Built, most: u32) -> Done<Late> {
         let begun = Instant::now(self.clock);
         let done = self.desk.swap_or_log(rt, alloc, built, most);
         let kind = match &done {

@@ -15,12 +15,10 @@ use std::time::{Clock, Duration, Instant};
 pub fn write<L: MapName, R: Wait + Clock>(
     rt: &R,
     stage: &Stage<'_, L>,
-    pass: Pass<L>,
+    pass: &mut Pass<L>,
 ) -> Result<Times, Stop> {
-    let mut pass = pass;
-    let written = take_in_all(rt, stage, &mut pass);
-    stage.plan.end();
-    stage.bells.stop();
+    let written = take_in_all(rt, stage, pass);
+    stage.end();
     let mut times = written?;
     times.sum = with_answers(0, stage.alloc, pass.version().tree(), &stage.plan.places)?;
     Ok(times)
@@ -98,7 +96,8 @@ fn update<L: MapName, R: Wait + Clock>(
     let begun = Instant::now(rt)?;
     stage.shared.update(rt, stage.alloc, pass, update)?;
     let took = begun.elapsed(rt)?;
-    stage.bells.ring();
+    stage.first.ring();
+    stage.second.ring();
     times.push(kind, took)?;
     Ok(())
 }

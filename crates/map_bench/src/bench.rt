@@ -1,0 +1,25 @@
+//! What each work is done with.
+use crate::stop::Stop;
+use crate::told::Told;
+use crate::words::Size;
+use kd_tree::{Steps, Tree};
+use std::alloc::Global;
+use std::sync::ledger::Ledger;
+use std::time::{Clock, Instant};
+
+/// The clock and the threads, memory, how much is asked for, and a counter of nodes that nothing looks at.
+#[derive(Drop)]
+pub struct Bench<'a, L: Ledger, R> {
+    pub rt: &'a R,
+    pub alloc: Global,
+    pub size: Size,
+    pub steps: Steps<L>,
+}
+
+impl<'a, L: Ledger, R: Clock> Bench<'a, L, R> {
+    /// What is told of a work that began then, had this checksum so far, and left this tree.
+    pub fn told(&self, begun: &Instant, sum: u64, tree: &Tree) -> Result<Told, Stop> {
+        let micros = begun.elapsed(self.rt)?.as_micros();
+        Told::left(self.alloc, micros, sum, tree)
+    }
+}
