@@ -2,8 +2,7 @@
 ghost use Rattle.std.specs.Prelude.{◌≡◌};
 ghost use Rattle.scan_log.specs.declared.format.Format.TheVariants.{Two};
 ghost use Rattle.scan_log.specs.Outcomes.{Gives};
-ghost use Rattle.scan_log.specs.Lines.{fields_of};
-ghost use Rattle.scan_log.specs.Reading.{basic_of, called_of, caller_of, command_of, digit_caller, expiry_of, line_command, update_of};
+ghost use Rattle.scan_log.specs.Reading.{basic_of, called_of, caller_of, command_of, expiry_of, line_command, update_of};
 
 use crate::boxes::{boxes, units};
 use crate::fields::Fields;

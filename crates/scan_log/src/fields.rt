@@ -1,6 +1,7 @@
 //! The fields of a line.
-ghost use Rattle.std.specs.Prelude.{◌≡◌, [], ◌∷◌, length, drop, OnOk, IfOk};
+ghost use Rattle.std.specs.Prelude.{◌≡◌, List, ℕ, [], ◌∷◌, length, drop, if◌then◌else◌, OnOk, IfOk};
 ghost use Rattle.std.specs.Option.{MatchOption};
+ghost use Rattle.scan_log.specs.Lines.{fields_of};
 ghost use Rattle.scan_log.specs.Reading.{AreTooFew, first_coordinate, first_intensity, first_number};
 ghost use Rattle.scan_log.specs.Scripts.{IsLogCoordinate};
 
@@ -19,17 +20,12 @@ pub struct Fields<'a> {
 }
 
 impl<'a> Model for Fields<'a> {
-    ghost use Rattle.std.specs.Prelude.{List, ℕ, [], if◌then◌else◌};
-    ghost use Rattle.scan_log.specs.Lines.{fields_of};
-
     ghost Value = { List (List ℕ) };
 
     ghost view = { λ s. if s.more then fields_of s.rest.now else [] };
 }
 
 impl<'a> Fields<'a> {
-    ghost use Rattle.scan_log.specs.Lines.{fields_of};
-
     pub fn new(line: &'a [u8]) -> Fields<'a>
         ensures { result ≡ fields_of line.now }
     {

@@ -1,5 +1,5 @@
 //! The number that bytes begin with.
-ghost use Rattle.std.specs.Prelude.{◌≡◌, ◌≤◌, ◌+◌, ◌-◌, ◌*◌, MatchOption, min, true, false};
+ghost use Rattle.std.specs.Prelude.{◌≡◌, ◌≤◌, ◌+◌, ◌-◌, ◌*◌, MatchOption, min, false};
 ghost use Rattle.std.specs.Str.{all_ascii_digits};
 ghost use Rattle.std.specs.Str.Parse.{signed_digits_value};
 ghost use Rattle.scan_log.specs.Numbers.{IsRead, first_field, is_numeral, is_positive_numeral, is_zero, plain_value, without_minus};

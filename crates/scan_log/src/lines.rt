@@ -1,7 +1,8 @@
 //! The kept lines of a log.
-ghost use Rattle.std.specs.Prelude.{◌≡◌, ◌+◌, ◌≤◌, [], ◌∷◌};
+ghost use Rattle.std.specs.Prelude.{◌≡◌, ◌+◌, ◌≤◌, List, ℕ, [], ◌∷◌};
 ghost use Rattle.std.specs.Option.{MatchOption};
-ghost use Rattle.scan_log.specs.Lines.{is_kept};
+ghost use Rattle.scan_log.specs.Faults.{line_feeds};
+ghost use Rattle.scan_log.specs.Lines.{is_kept, kept_from, lines_of};
 
 use crate::piece::place_of;
 use std::marker::Model;
@@ -15,10 +16,6 @@ pub struct Lines<'a> {
 }
 
 impl<'a> Model for Lines<'a> {
-    ghost use Rattle.std.specs.Prelude.{◌+◌, ◌≤◌, List, ℕ};
-    ghost use Rattle.scan_log.specs.Faults.{line_feeds};
-    ghost use Rattle.scan_log.specs.Lines.{kept_from, lines_of};
-
     ghost Value = { List (ℕ × List ℕ) };
 
     ghost view = { λ s. kept_from s.number (lines_of s.rest.now) };
@@ -27,9 +24,6 @@ impl<'a> Model for Lines<'a> {
 }
 
 impl<'a> Lines<'a> {
-    ghost use Rattle.scan_log.specs.Faults.{line_feeds};
-    ghost use Rattle.scan_log.specs.Lines.{kept_from, lines_of};
-
     pub fn new(log: &'a [u8]) -> Lines<'a>
         requires { line_feeds log.now ≤ 4294967294 }
         ensures { result ≡ kept_from 1 (lines_of log.now) }

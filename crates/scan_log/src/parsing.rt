@@ -4,7 +4,7 @@ ghost use Rattle.scan_log.specs.Faults.{first_fault, line_feeds};
 ghost use Rattle.scan_log.specs.Outcomes.{LogGives};
 ghost use Rattle.scan_log.specs.Reading.{body_of, log_of};
 ghost use Rattle.scan_log.specs.Refusal.{IsParseFault, IsSpelledOrFaulty};
-ghost use Rattle.scan_log.specs.Scripts.{IsScript, ScriptAt};
+ghost use Rattle.scan_log.specs.Scripts.{ScriptAt};
 ghost use Rattle.scan_log.specs.Spelling.{Spells};
 
 use crate::commands::line_command;

@@ -2,7 +2,8 @@
 ghost use Rattle.std.specs.Prelude.{◌≡◌, length, IfOk, OnOk, Some};
 ghost use Rattle.std.specs.List.{AllByRecursion};
 ghost use Rattle.scan_log.specs.declared.format.Format.TheVariants.{Two};
-ghost use Rattle.scan_log.specs.Scripts.{IsCommand};
+ghost use Rattle.scan_log.specs.Scripts.{IsCommand, ScriptAt};
+ghost use Rattle.scan_log.specs.Plain.{IsPlainScript};
 ghost use Rattle.scan_log.specs.Poses.{left_by, no_regions, plain, plain_command, plain_script, posed, regions_after};
 
 use crate::{Command, Format, Script};
@@ -21,9 +22,6 @@ pub struct PlainScript {
 }
 
 impl Model for PlainScript {
-    ghost use Rattle.scan_log.specs.Scripts.{ScriptAt};
-    ghost use Rattle.scan_log.specs.Plain.{IsPlainScript};
-
     ghost Value = { ScriptAt };
 
     ghost view = { λ s. record { format = s.format; sizes = s.settings; commands = s.commands.items } };
@@ -32,8 +30,6 @@ impl Model for PlainScript {
 }
 
 impl PlainScript {
-    ghost use Rattle.scan_log.specs.Plain.{IsPlainScript};
-
     /// The script with each pose's change put in its place. Takes memory for these changes alone, and drops the script where that
     /// runs out.
     pub fn of(alloc: Global, script: Script) -> Result<PlainScript, NoMemory>

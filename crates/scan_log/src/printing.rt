@@ -1,15 +1,13 @@
 //! The lines of a transcript.
-ghost use Rattle.std.specs.Prelude.{◌≡◌, ◌∷◌, ◌++◌, [], codes, decimal, Some, OnOk, OnErr};
+ghost use Rattle.std.specs.Prelude.{◌≡◌, ◌∷◌, ◌++◌, [], codes, decimal, OnOk, OnErr};
 ghost use Rattle.std.specs.List.{flat_map};
 ghost use Rattle.std.specs.Option.{option_copied};
 ghost use Rattle.scan_log.specs.Spelling.{caller_field};
-ghost use Rattle.scan_log.specs.Transcript.{clusters_text, counts_text, done_text, intensity_text, items_text, point_text, reply_text, totals_text};
+ghost use Rattle.scan_log.specs.Transcript.{clusters_text, counts_text, done_text, intensity_text, items_text, point_text, reply_text, spaced, totals_text};
 
-use crate::putting::{
-    Listed, put, put_all, put_caller, put_number, put_point, put_spaced, put_word,
-};
+use crate::putting::{Listed, put, put_all, put_head, put_number, put_point, put_spaced};
 use crate::{Command, Format, Reply};
-use map_fold::{BoxReply, ClusterReply, Group, Hit, Hits, Item, NoMemory};
+use map_fold::{BoxReply, ClusterReply, Group, Hit, Hits, Item, NearReply, NearsReply, NoMemory};
 use point_geom::Point;
 
 /// Puts the line of a reply at the end, as it is for logs of this version. No command stands for the end of the log. A reply
@@ -40,7 +38,36 @@ fn put_reply(
     ensures { OnOk result (out.new.items ≡ out.old.items ++ reply_text format (option_copied command.entry) reply.now) }
 {
     match (command, reply) {
-        (Some(command), reply) => put_answer(out, format, command, reply),
+        (
+            Some(Command::Change { caller, .. } | Command::Pose { caller, .. }),
+            Reply::Done { mark },
+        ) => put_done(out, *caller, *mark),
+        (Some(Command::Near { caller, .. }), Reply::Near(NearReply { mark, hits })) => {
+            put_nearest(out, format, *caller, b"near", *mark, hits.as_slice())
+        }
+        (Some(Command::Nears { caller, .. }), Reply::Nears(NearsReply { mark, lists })) => {
+            put_nearest(out, format, *caller, b"nears", *mark, lists.as_slice())
+        }
+        (Some(Command::Inside { caller, .. }), Reply::Inside(inside)) => {
+            put_found(out, format, *caller, b"box", inside)
+        }
+        (Some(Command::Ball { caller, .. }), Reply::Ball(ball)) => {
+            put_found(out, format, *caller, b"ball", ball)
+        }
+        (Some(Command::Lonely { caller, .. }), Reply::Lonely(lonely)) => {
+            put_found(out, format, *caller, b"lonely", lonely)
+        }
+        (Some(Command::Clusters { caller, .. }), Reply::Clusters(clusters)) => {
+            put_clusters(out, format, *caller, clusters)
+        }
+        (
+            Some(Command::Sync),
+            Reply::Totals {
+                mark,
+                live,
+                suspended,
+            },
+        ) => put_totals(out, b"sync", *mark, *live, *suspended),
         (
             None,
             Reply::Totals {
@@ -49,61 +76,6 @@ fn put_reply(
                 suspended,
             },
         ) => put_totals(out, b"end", *mark, *live, *suspended),
-        (None, _) => Ok(()),
-    }
-}
-
-fn put_answer(
-    out: &mut Vec<u8>,
-    format: Format,
-    command: &Command,
-    reply: &Reply,
-) -> Result<(), NoMemory>
-    ensures { OnOk result (out.new.items ≡ out.old.items ++ reply_text format (Some command.now) reply.now) }
-{
-    match (command, reply) {
-        (Command::Change { caller, .. }, Reply::Done { mark }) => put_done(out, *caller, *mark),
-        (Command::Pose { caller, .. }, Reply::Done { mark }) => put_done(out, *caller, *mark),
-        (Command::Near { caller, .. }, Reply::Near(near)) => {
-            put_nearest(
-                out,
-                format,
-                *caller,
-                b" near ",
-                near.mark,
-                near.hits.as_slice(),
-            )
-        }
-        (Command::Nears { caller, .. }, Reply::Nears(nears)) => {
-            put_nearest(
-                out,
-                format,
-                *caller,
-                b" nears ",
-                nears.mark,
-                nears.lists.as_slice(),
-            )
-        }
-        (Command::Inside { caller, .. }, Reply::Inside(inside)) => {
-            put_found(out, format, *caller, b"box", inside)
-        }
-        (Command::Ball { caller, .. }, Reply::Ball(ball)) => {
-            put_found(out, format, *caller, b"ball", ball)
-        }
-        (Command::Lonely { caller, .. }, Reply::Lonely(lonely)) => {
-            put_found(out, format, *caller, b"lonely", lonely)
-        }
-        (Command::Clusters { caller, .. }, Reply::Clusters(clusters)) => {
-            put_clusters(out, format, *caller, clusters)
-        }
-        (
-            Command::Sync,
-            Reply::Totals {
-                mark,
-                live,
-                suspended,
-            },
-        ) => put_totals(out, b"sync", *mark, *live, *suspended),
         _ => Ok(()),
     }
 }
@@ -111,9 +83,7 @@ fn put_answer(
 fn put_done(out: &mut Vec<u8>, caller: u8, mark: u64) -> Result<(), NoMemory>
     ensures { OnOk result (out.new.items ≡ out.old.items ++ done_text caller mark) }
 {
-    put_caller(out, caller)?;
-    put(out, b" ok ")?;
-    put_number(out, mark)?;
+    put_head(out, caller, b"ok", mark)?;
     put(out, b"\n")
 }
 
@@ -126,11 +96,9 @@ fn put_nearest<T: Listed>(
     mark: u64,
     found: &[T],
 ) -> Result<(), NoMemory>
-    ensures { OnOk result (out.new.items ≡ out.old.items ++ (caller_field caller ++ word.now ++ decimal mark ++ flat_map (T.text format) found.now ++ 10 ∷ [])) }
+    ensures { OnOk result (out.new.items ≡ out.old.items ++ (caller_field caller ++ spaced word.now ++ spaced (decimal mark) ++ flat_map (T.text format) found.now ++ 10 ∷ [])) }
 {
-    put_caller(out, caller)?;
-    put(out, word)?;
-    put_number(out, mark)?;
+    put_head(out, caller, word, mark)?;
     put_all(out, format, found)?;
     put(out, b"\n")
 }
@@ -145,9 +113,7 @@ fn put_found(
 ) -> Result<(), NoMemory>
     ensures { OnOk result (out.new.items ≡ out.old.items ++ items_text format caller word.now found.now) }
 {
-    put_caller(out, caller)?;
-    put_word(out, word)?;
-    put_spaced(out, found.mark)?;
+    put_head(out, caller, word, found.mark)?;
     put_spaced(out, found.count)?;
     put_all(out, format, found.items.as_slice())?;
     put(out, b"\n")
@@ -161,9 +127,7 @@ fn put_clusters(
 ) -> Result<(), NoMemory>
     ensures { OnOk result (out.new.items ≡ out.old.items ++ clusters_text caller clusters.now) }
 {
-    put_caller(out, caller)?;
-    put(out, b" clusters ")?;
-    put_number(out, clusters.mark)?;
+    put_head(out, caller, b"clusters", clusters.mark)?;
     put_spaced(out, clusters.count)?;
     put_all(out, format, clusters.groups.as_slice())?;
     put(out, b"\n")

@@ -42,6 +42,20 @@ pub(crate) fn put_caller(out: &mut Vec<u8>, caller: u8) -> Result<(), NoMemory>
     put_number(out, caller)
 }
 
+/// The caller, the word and the number that a line begins with.
+pub(crate) fn put_head<I: Integer>(
+    out: &mut Vec<u8>,
+    caller: u8,
+    word: &[u8],
+    number: I,
+) -> Result<(), NoMemory>
+    ensures { OnOk result (out.new.items ≡ out.old.items ++ (caller_field caller ++ spaced word.now ++ spaced (I.text number))) }
+{
+    put_caller(out, caller)?;
+    put_word(out, word)?;
+    put_spaced(out, number)
+}
+
 pub(crate) fn put_point(out: &mut Vec<u8>, point: &Point) -> Result<(), NoMemory>
     ensures { OnOk result (out.new.items ≡ out.old.items ++ point_text point.now) }
 {

@@ -1,5 +1,8 @@
 //! Scripts: what a log says.
-ghost use Rattle.std.specs.Prelude.{◌≡◌, [], ◌∷◌, ◌++◌, OnOk, OnErr, IfOk};
+ghost use Rattle.std.specs.Prelude.{◌≡◌, [], OnOk, OnErr, IfOk};
+ghost use Rattle.std.specs.List.{AllByRecursion};
+ghost use Rattle.scan_log.specs.declared.format.Format.TheVariants.{Two};
+ghost use Rattle.scan_log.specs.Scripts.{IsCommand, IsScript, ScriptAt, with_command};
 
 use crate::{Command, Format};
 use map_fold::{NoMemory, Settings};
@@ -15,8 +18,6 @@ pub struct Script {
 }
 
 impl Model for Script {
-    ghost use Rattle.scan_log.specs.Scripts.{ScriptAt, IsScript};
-
     ghost Value = { ScriptAt };
 
     ghost view = { λ s. record { format = s.format; sizes = s.settings; commands = s.commands.items } };
@@ -25,10 +26,6 @@ impl Model for Script {
 }
 
 impl Script {
-    ghost use Rattle.std.specs.List.{AllByRecursion};
-    ghost use Rattle.scan_log.specs.declared.format.Format.TheVariants.{Two};
-    ghost use Rattle.scan_log.specs.Scripts.{ScriptAt, IsCommand, IsScript, with_command};
-
     /// A script of no commands, which takes no memory.
     pub fn new(alloc: Global, format: Format, settings: Settings) -> Script
         ensures value { result ≡ record { format = format; sizes = settings; commands = [] } }

@@ -7,7 +7,7 @@ ghost use Rattle.scan_log.specs.Spelling.{Spells, box_fields, caller_field, head
 ghost use Rattle.scan_log.specs.Transcript.{all_spaced, spaced};
 ghost use Rattle.scan_log.specs.Written.{corner_text, cuboid_text, joined, written_line, script_text};
 
-use crate::putting::{Listed, put, put_all, put_caller, put_point, put_spaced, put_word};
+use crate::putting::{Listed, put, put_all, put_caller, put_head, put_point, put_spaced, put_word};
 use crate::{Command, Format, Script};
 use local_region::RegionRules;
 use map_fold::{NoMemory, Settings, Update};
@@ -106,9 +106,7 @@ fn put_near(
 ) -> Result<(), NoMemory>
     ensures { OnOk result (out.new.items ≡ out.old.items ++ joined (caller_field caller ∷ codes "near" ∷ decimal k ∷ (point_fields point.now ++ within_fields within))) }
 {
-    put_caller(out, caller)?;
-    put_word(out, b"near")?;
-    put_spaced(out, k)?;
+    put_head(out, caller, b"near", k)?;
     put_point(out, point)?;
     put_within(out, within)
 }
@@ -125,9 +123,7 @@ fn put_nears(out: &mut Vec<u8>, k: u32, points: &[Point]) -> Result<(), NoMemory
 fn put_inside(out: &mut Vec<u8>, caller: u8, k: u32, cuboid: &Cuboid) -> Result<(), NoMemory>
     ensures { OnOk result (out.new.items ≡ out.old.items ++ joined (caller_field caller ∷ codes "box" ∷ decimal k ∷ box_fields cuboid.now)) }
 {
-    put_caller(out, caller)?;
-    put_word(out, b"box")?;
-    put_spaced(out, k)?;
+    put_head(out, caller, b"box", k)?;
     put_cuboid(out, cuboid)
 }
 
@@ -142,9 +138,7 @@ fn put_ball(out: &mut Vec<u8>, caller: u8, k: u32, r: u64, point: &Point) -> Res
 fn put_reach(out: &mut Vec<u8>, caller: u8, word: &[u8], k: u32, r: u64) -> Result<(), NoMemory>
     ensures { OnOk result (out.new.items ≡ out.old.items ++ joined (caller_field caller ∷ word.now ∷ decimal k ∷ decimal r ∷ [])) }
 {
-    put_caller(out, caller)?;
-    put_word(out, word)?;
-    put_spaced(out, k)?;
+    put_head(out, caller, word, k)?;
     put_spaced(out, r)
 }
 
@@ -156,9 +150,7 @@ fn put_pose(
 ) -> Result<(), NoMemory>
     ensures { OnOk result (out.new.items ≡ out.old.items ++ joined (caller_field caller ∷ codes "pose" ∷ decimal rules.now.side ∷ decimal rules.now.ball ∷ decimal rules.now.step ∷ point_fields point.now)) }
 {
-    put_caller(out, caller)?;
-    put_word(out, b"pose")?;
-    put_spaced(out, rules.side())?;
+    put_head(out, caller, b"pose", rules.side())?;
     put_spaced(out, rules.ball())?;
     put_spaced(out, rules.step())?;
     put_point(out, point)

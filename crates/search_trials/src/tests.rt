@@ -1,5 +1,6 @@
 mod assertions;
 mod boxes;
+mod cloud;
 mod crowds;
 mod each;
 mod grown;

@@ -1,10 +1,10 @@
 //! What queries for neighbours are answered with. A ball is a walk over all items. For lonely points and clusters that would be
 //! one for each item, so the items are put into a tree first.
-ghost use Rattle.std.specs.Prelude.{◌≡◌, ◌≤◌, ◌*◌, ◌&&◌, filter, length, take, IfOk};
-ghost use Rattle.kd_tree.specs.Contents.{contents};
+ghost use Rattle.std.specs.Prelude.{◌≡◌, ◌≤◌, ◌&&◌, filter, length, take, IfOk};
+ghost use Rattle.node_labels.specs.Labels.{is_live};
 ghost use Rattle.map_fold.specs.Contents.{AreContents};
 ghost use Rattle.map_fold.specs.Neighbours.{ball, is_near};
-ghost use Rattle.node_labels.specs.Labels.{is_live};
+ghost use Rattle.kd_tree.specs.Contents.{contents};
 ghost use Rattle.kd_tree.specs.Counter.{IsBlankOf};
 ghost use Rattle.scan_log.specs.Transcript.{found_reply};
 

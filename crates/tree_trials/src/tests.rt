@@ -12,3 +12,4 @@ mod scans;
 mod scratches;
 mod script;
 mod watch;
+mod watching;

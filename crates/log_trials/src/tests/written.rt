@@ -1,7 +1,8 @@
 //! What is written, by hand: logs, and the lines of replies.
 ghost use Rattle.std.specs.Prelude.{◌≡◌, ◌≤◌, IfOk, IfErr};
+ghost use Rattle.map_fold.specs.Fold.{points_in};
 ghost use Rattle.scan_log.specs.declared.format.Format.TheVariants.{One, Two};
-ghost use Rattle.scan_log.specs.Scripts.{AreBoxes, AreScanned, IsCallerBox, IsCommand, asked, submitted};
+ghost use Rattle.scan_log.specs.Scripts.{AreBoxes, AreScanned, IsCaller, IsCallerBox, IsCommand, IsUpdate, asked, submitted};
 ghost use Rattle.scan_log.specs.declared.fault.ParseFault.TheVariants.{NoMemory as want};
 
 use crate::tests::assertions::are_bytes;
@@ -67,21 +68,45 @@ fn boxes(alloc: Global) -> Result<Cuboids, Fail>
     Ok(boxes)
 }
 
-// The log of this one command is this text.
+// The log of this one command is its header and this line.
 fn is_written(
     rt: &impl Abort,
     alloc: Global,
     format: Format,
     command: Command,
-    want: &[u8],
+    line: &[u8],
 ) -> Result<(), Fail>
     requires limits { IsCommand format command }
     requires room { submitted command ≤ 262144 }
     requires hits { asked command ≤ MAX_POINTS }
 {
+    let header = match format {
+        Format::One => HEADER,
+        Format::Two => WIDE_HEADER,
+    };
     let log = log_of(alloc, format, command)?;
-    are_bytes(rt, log.as_slice(), want);
+    let want = log_with(alloc, header, line)?;
+    are_bytes(rt, log.as_slice(), want.as_slice());
     Ok(())
+}
+
+// The line of this update has this word and these numbers.
+fn update_is_written(
+    rt: &impl Abort,
+    alloc: Global,
+    format: Format,
+    caller: u8,
+    update: Update,
+    word: &str,
+    numbers: &str,
+) -> Result<(), Fail>
+    requires caller { IsCaller caller }
+    requires limits { IsUpdate format update }
+    requires room { points_in update ≤ 262144 }
+{
+    let line = format!(in alloc; "@{caller} {word} {numbers}\n")?;
+    let change = Command::Change { caller, update };
+    is_written(rt, alloc, format, change, line.as_bytes())
 }
 
 #[test]
@@ -93,40 +118,29 @@ fn an_update_has_one_line_with_all_its_numbers(rt: HostRuntime) -> Result<(), Fa
 }
 
 fn points_are_written(rt: &impl Abort, alloc: Global) -> Result<(), Fail> {
+    let numbers = "1 -2 3 1000000000 0 -1000000000";
     let update = Update::Add(points(alloc)?);
-    let add = Command::Change { caller: 1, update };
-    let want = b"ikdmap 1 voxel 200 large 1500\n@1 add 1 -2 3 1000000000 0 -1000000000\n";
-    is_written(rt, alloc, Format::One, add, want)?;
+    update_is_written(rt, alloc, Format::One, 1, update, "add", numbers)?;
     let update = Update::Thin(points(alloc)?);
-    let thin = Command::Change { caller: 2, update };
-    let want = b"ikdmap 1 voxel 200 large 1500\n@2 thin 1 -2 3 1000000000 0 -1000000000\n";
-    is_written(rt, alloc, Format::One, thin, want)
+    update_is_written(rt, alloc, Format::One, 2, update, "thin", numbers)
 }
 
 fn wide_numbers_are_written(rt: &impl Abort, alloc: Global) -> Result<(), Fail> {
     let update = Update::Add(wide_points(alloc)?);
-    let add = Command::Change { caller: 1, update };
-    let want = b"ikdmap 2 voxel 200 large 1500\n@1 add 1 -2 3 65535 1099511627776 0 0 7\n";
-    is_written(rt, alloc, Format::Two, add, want)?;
+    let numbers = "1 -2 3 65535 1099511627776 0 0 7";
+    update_is_written(rt, alloc, Format::Two, 1, update, "add", numbers)?;
     let update = Update::Expire(4_194_304);
-    let expire = Command::Change { caller: 4, update };
-    let want = b"ikdmap 2 voxel 200 large 1500\n@4 expire 4194304\n";
-    is_written(rt, alloc, Format::Two, expire, want)
+    update_is_written(rt, alloc, Format::Two, 4, update, "expire", "4194304")
 }
 
 fn boxes_are_written(rt: &impl Abort, alloc: Global) -> Result<(), Fail> {
+    let numbers = "1 -2 3 2 -1 4 4 -5 6 1000000001 -5 7";
     let update = Update::Delete(boxes(alloc)?);
-    let delete = Command::Change { caller: 3, update };
-    let want = b"ikdmap 1 voxel 200 large 1500\n@3 delete 1 -2 3 2 -1 4 4 -5 6 1000000001 -5 7\n";
-    is_written(rt, alloc, Format::One, delete, want)?;
+    update_is_written(rt, alloc, Format::One, 3, update, "delete", numbers)?;
     let update = Update::Suspend(boxes(alloc)?);
-    let suspend = Command::Change { caller: 4, update };
-    let want = b"ikdmap 1 voxel 200 large 1500\n@4 suspend 1 -2 3 2 -1 4 4 -5 6 1000000001 -5 7\n";
-    is_written(rt, alloc, Format::One, suspend, want)?;
+    update_is_written(rt, alloc, Format::One, 4, update, "suspend", numbers)?;
     let update = Update::Restore(boxes(alloc)?);
-    let restore = Command::Change { caller: 5, update };
-    let want = b"ikdmap 1 voxel 200 large 1500\n@5 restore 1 -2 3 2 -1 4 4 -5 6 1000000001 -5 7\n";
-    is_written(rt, alloc, Format::One, restore, want)
+    update_is_written(rt, alloc, Format::One, 5, update, "restore", numbers)
 }
 
 #[test]
@@ -140,20 +154,19 @@ fn a_search_has_its_distance_where_one_is_given(rt: HostRuntime) -> Result<(), F
         point,
         within: None,
     };
-    let want = b"ikdmap 1 voxel 200 large 1500\n@8 near 256 1 -2 3\n";
-    is_written(&rt, alloc, Format::One, near, want)?;
+    is_written(&rt, alloc, Format::One, near, b"@8 near 256 1 -2 3\n")?;
     let within = Command::Near {
         caller,
         k,
         point,
         within: Some(4_398_046_511_104),
     };
-    let want = b"ikdmap 2 voxel 200 large 1500\n@8 near 256 1 -2 3 within 4398046511104\n";
-    is_written(&rt, alloc, Format::Two, within, want)?;
+    let line = b"@8 near 256 1 -2 3 within 4398046511104\n";
+    is_written(&rt, alloc, Format::Two, within, line)?;
     let cuboid = cuboid()?;
     let inside = Command::Inside { caller, k, cuboid };
-    let want = b"ikdmap 1 voxel 200 large 1500\n@8 box 256 4 -5 6 1000000001 -5 7\n";
-    is_written(&rt, alloc, Format::One, inside, want)
+    let line = b"@8 box 256 4 -5 6 1000000001 -5 7\n";
+    is_written(&rt, alloc, Format::One, inside, line)
 }
 
 // What is written is read as an equal script, or memory runs out.
@@ -215,6 +228,19 @@ pub fn is_told(
     Ok(())
 }
 
+// The same in version 1, where no point has an intensity, and in version 2.
+fn is_told_in_both(
+    rt: &impl Abort,
+    alloc: Global,
+    asked: &[u8],
+    reply: &Reply,
+    plain: &[u8],
+    wide: &[u8],
+) -> Result<(), Fail> {
+    is_told(rt, alloc, HEADER, asked, reply, plain)?;
+    is_told(rt, alloc, WIDE_HEADER, asked, reply, wide)
+}
+
 #[test]
 fn an_update_is_told_by_its_place(rt: HostRuntime) -> Result<(), Fail> {
     let reply = Reply::Done { mark: 65_536 };
@@ -229,10 +255,9 @@ fn each_hit_is_told_with_its_distance(rt: HostRuntime) -> Result<(), Fail> {
     let near = b"@7 near 2 1 -2 3";
     let hits = two_hits(alloc, point.with_intensity(65_535))?;
     let reply = Reply::Near(NearReply { mark: 9, hits });
-    let want = b"@7 near 9 | 5 1 -2 3 0 | 0 1 -2 3 12000000000000000000\n";
-    is_told(&rt, alloc, HEADER, near, &reply, want)?;
-    let want = b"@7 near 9 | 5 1 -2 3 65535 0 | 0 1 -2 3 65535 12000000000000000000\n";
-    is_told(&rt, alloc, WIDE_HEADER, near, &reply, want)
+    let plain = b"@7 near 9 | 5 1 -2 3 0 | 0 1 -2 3 12000000000000000000\n";
+    let wide = b"@7 near 9 | 5 1 -2 3 65535 0 | 0 1 -2 3 65535 12000000000000000000\n";
+    is_told_in_both(&rt, alloc, near, &reply, plain, wide)
 }
 
 fn two_hits(alloc: Global, point: Point) -> Result<Hits, Fail> {
@@ -252,10 +277,9 @@ fn what_is_found_in_a_box_is_told_after_its_number(rt: HostRuntime) -> Result<()
     let alloc = rt.alloc();
     let inside = b"@2 box 1 4 -5 6 1000000001 -5 7";
     let reply = Reply::Inside(found(alloc, 4_194_303)?);
-    let want = b"@2 box 9 7 | 4194303 1 -2 3\n";
-    is_told(&rt, alloc, HEADER, inside, &reply, want)?;
-    let want = b"@2 box 9 7 | 4194303 1 -2 3 4\n";
-    is_told(&rt, alloc, WIDE_HEADER, inside, &reply, want)?;
+    let plain = b"@2 box 9 7 | 4194303 1 -2 3\n";
+    let wide = b"@2 box 9 7 | 4194303 1 -2 3 4\n";
+    is_told_in_both(&rt, alloc, inside, &reply, plain, wide)?;
     // A reply of another kind has no line.
     let done = Reply::Done { mark: 1 };
     is_told(&rt, alloc, WIDE_HEADER, inside, &done, b"")

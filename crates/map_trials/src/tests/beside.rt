@@ -5,7 +5,7 @@ use crate::tests::assertions::{holds, same};
 use crate::tests::draws::Draws;
 use kd_search::{count_in, in_cuboid, nearest};
 use map_fold::{PlainMap, Settings, Update};
-use point_geom::{Cuboid, Point};
+use point_geom::Cuboid;
 use rebuild_core::Version;
 use std::alloc::Global;
 use std::mem;
@@ -22,25 +22,14 @@ pub fn compare(
     same(rt, "the next number", version.next(), plain.next());
     holds(rt, "the counts", version.counts() == plain.counts());
     let query = draws.point()?;
-    compare_nearest(rt, alloc, version, plain, &query)?;
+    let found = nearest(alloc, version.tree(), 5, &query, Some(6))?;
+    let want = plain.nearest(alloc, 5, &query, Some(6))?;
+    let are_same = found.as_slice() == want.as_slice();
+    holds(rt, "the nearest", are_same);
     let cuboid = draws.cuboid()?;
     compare_inside(rt, alloc, version, plain, &cuboid, 7)?;
     let count = count_in(version.tree(), &cuboid);
     same(rt, "the count", count, plain.count_in(&cuboid));
-    Ok(())
-}
-
-fn compare_nearest(
-    rt: &impl Abort,
-    alloc: Global,
-    version: &Version,
-    plain: &PlainMap,
-    query: &Point,
-) -> Result<(), Fail> {
-    let found = nearest(alloc, version.tree(), 5, query, Some(6))?;
-    let want = plain.nearest(alloc, 5, query, Some(6))?;
-    let are_same = found.as_slice() == want.as_slice();
-    holds(rt, "the nearest", are_same);
     Ok(())
 }
 

@@ -2,8 +2,8 @@
 ghost use Rattle.std.specs.Prelude.{◌<◌, ◌≤◌};
 
 use crate::tests::assertions::same;
+use crate::tests::cloud::scaled;
 use crate::tests::grown::restored;
-use crate::tests::near::scaled;
 use crate::tests::sets::are_grouped;
 use kd_tree::Tree;
 use neighbour_sets::{clusters, count_ball, lonely};

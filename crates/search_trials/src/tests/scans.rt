@@ -1,8 +1,8 @@
 //! Each search of a tree beside a scan of its items.
 use crate::tests::assertions::{holds, same};
 use crate::tests::boxes::cuboid;
+use crate::tests::cloud::cloud;
 use crate::tests::grown::grown;
-use crate::tests::near::cloud;
 use kd_search::{best_in, count_in, in_cuboid, nearest, rivals_in};
 use kd_tree::Tree;
 use map_fold::{Item, Label, Tag};

@@ -1,8 +1,8 @@
 //! What is near what in a tree, beside a scan of its items.
 ghost use Rattle.std.specs.Prelude.{◌≤◌};
 
+use crate::tests::cloud::scaled;
 use crate::tests::grown::{grown, halved};
-use crate::tests::near::scaled;
 use kd_tree::Tree;
 use map_fold::{Group, Item, Label, Tag};
 use neighbour_sets::{clusters, count_ball, in_ball, lonely};

@@ -6,7 +6,7 @@ ghost use Rattle.kd_update.specs.Several.{AreLargeAt};
 use crate::tests::assertions::{holds, same};
 use crate::tests::lists::holds_all;
 use crate::tests::script::Script;
-use crate::tests::watch::is_large;
+use crate::tests::watching::is_large;
 use kd_tree::{Path, Side, Steps, Tree};
 use kd_update::{Replaced, replaced, replayed};
 use map_fold::{Choice, Items, Tag};
@@ -16,19 +16,25 @@ use std::process::Abort;
 use std::sync::ledger::{Blank, Ledger};
 use std::test::Fail;
 
+// What stays as it is: the subtrees at these paths, which have so many nodes or more.
+#[derive(Clone, Copy)]
+struct Staying<'a> {
+    paths: &'a [Path],
+    nodes: u32,
+}
+
 // The tree with the other at the path, where both hold the same there.
 fn put_in<L: Ledger>(
     alloc: Global,
     tree: Tree,
-    large: u32,
     path: &Path,
     with: Tree,
-    others: &[Path],
+    staying: Staying<'_>,
     blank: Blank,
 ) -> Result<Replaced, Fail>
     requires blank { IsBlankOf L.name L.parts blank }
-    requires there { AreLargeAt large others.now tree }
-    requires apart { IsClear path.now others.now }
+    requires there { AreLargeAt staying.nodes staying.paths.now tree }
+    requires apart { IsClear path.now staying.paths.now }
 {
     let Some(node) = tree.subtree_at(path) else {
         return Err(Fail::new("no subtree"));
@@ -38,8 +44,9 @@ fn put_in<L: Ledger>(
     if held.as_slice() != there.as_slice() {
         return Err(Fail::new("other items"));
     }
-    let mut steps: Steps<L> = Steps::new(blank);
-    let done = replaced(alloc, tree, large, path, with, others, &mut steps)?;
+    let steps: &mut Steps<L> = &mut Steps::new(blank);
+    let Staying { paths, nodes } = staying;
+    let done = replaced(alloc, tree, nodes, path, with, paths, steps)?;
     Ok(done)
 }
 
@@ -66,7 +73,11 @@ fn is_replaced(rt: &impl Abort, alloc: Global, start: i64, anew: bool) -> Result
     let with = chain(rt, alloc, 400, start)?;
     let held = tree.flatten(alloc)?;
     let path = right(start)?;
-    let done = put_in::<Brand>(alloc, tree, 0, &path, with, &[], Blank::new(1))?;
+    let none = Staying {
+        paths: &[],
+        nodes: 0,
+    };
+    let done = put_in::<Brand>(alloc, tree, &path, with, none, Blank::new(1))?;
     same(rt, "rebuilt", done.anew, anew);
     holds_all(rt, alloc, &done.tree, held.as_slice())?;
     let levels = if anew { 9 } else { start.saturating_add(400) };
@@ -127,7 +138,11 @@ fn put_left(alloc: Global, tree: Tree, with: Tree) -> Result<Replaced, Fail> {
     if !is_large(&tree, 16, &right) {
         return Err(Fail::new("a small right son"));
     }
-    put_in::<Brand>(alloc, tree, 16, &left, with, &[right], Blank::new(1))
+    let staying = Staying {
+        paths: &[right],
+        nodes: 16,
+    };
+    put_in::<Brand>(alloc, tree, &left, with, staying, Blank::new(1))
 }
 
 fn held_at(alloc: Global, tree: &Tree, path: &Path) -> Result<Items, Fail> {

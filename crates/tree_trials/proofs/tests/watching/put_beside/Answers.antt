@@ -1,6 +1,6 @@
 use Rattle.kd_tree.specs.Shape.{numbers}
 use Rattle.kd_update.proofs.Numbers.{unheld, below_next}
-use Rattle.tree_trials.proofs.tests.watch.put_beside.Goals as goal
+use Rattle.tree_trials.proofs.tests.watching.put_beside.Goals as goal
 
 pub put_watched-requires-clause-new : goal.put_watched-requires-clause-new
 put_watched-requires-clause-new g c = unheld c.args.at.map.next c.args.at.map.tree c.args.at.map.below

@@ -1,0 +1,125 @@
+//! A map with watched subtrees, whose changes ask first for what they require.
+ghost use Rattle.std.specs.Prelude.{◌≡◌, ◌<◌, true};
+ghost use Rattle.kd_tree.specs.Shape.{levels, nodes};
+ghost use Rattle.kd_tree.specs.Counter.{IsBlankOf};
+ghost use Rattle.kd_update.specs.Several.{AreLargeAt};
+ghost use Rattle.kd_update.specs.Watch.{IsLargeAt};
+ghost use Rattle.kd_update.specs.Watches.{HaveRoom, paths_in};
+
+use crate::tests::draw::Action;
+use crate::tests::numbered::Numbered;
+use kd_tree::{MAX_LEVELS, MAX_NODES, Path, Steps, Tree};
+use kd_update::{Watch, Watches, marked_watched, put_watched};
+use map_fold::{MAX_POINTS, NoMemory};
+use op_logger::OpLog;
+use point_geom::Point;
+use std::alloc::Global;
+use std::marker::Brand;
+use std::process::Abort;
+use std::sync::ledger::{Blank, Ledger};
+use std::test::Fail;
+
+// A map, and what is watched in it.
+#[derive(Drop)]
+pub struct Watching {
+    pub map: Numbered,
+    pub watches: Watches,
+}
+
+// The same after a change.
+pub type Watched = Result<Watching, NoMemory>;
+
+impl Watching {
+    // The map with watches at these paths, where nothing is logged.
+    pub fn new(
+        rt: &impl Abort,
+        alloc: Global,
+        map: Numbered,
+        paths: &[Path],
+    ) -> Result<Watching, Fail> {
+        let mut watches = Watches::new(alloc);
+        for path in paths {
+            assert!(rt; watches.len() < 4);
+            watches.push(Watch {
+                path: *path,
+                log: OpLog::new(alloc),
+            })?;
+        }
+        Ok(Watching { map, watches })
+    }
+
+    pub fn put(self, rt: &impl Abort, alloc: Global, point: Point) -> Watched {
+        let watches = self.watches.as_slice();
+        assert!(rt; self.map.next < 4_194_304);
+        assert!(rt; self.map.tree.levels() < 512);
+        assert!(rt; self.map.tree.size() < 4_194_304);
+        assert!(rt; are_large(&self.map.tree, self.map.large, watches));
+        assert!(rt; have_room(watches));
+        put_beside::<Brand>(alloc, self, point, Blank::new(1))
+    }
+
+    pub fn marked(self, rt: &impl Abort, alloc: Global, action: &Action) -> Watched {
+        let watches = self.watches.as_slice();
+        assert!(rt; are_large(&self.map.tree, self.map.large, watches));
+        assert!(rt; have_room(watches));
+        mark_beside::<Brand>(alloc, self, action, Blank::new(1))
+    }
+}
+
+fn put_beside<L: Ledger>(alloc: Global, at: Watching, point: Point, blank: Blank) -> Watched
+    requires blank { IsBlankOf L.name L.parts blank }
+    requires next { at.map.next < MAX_POINTS }
+    requires low { levels at.map.tree < MAX_LEVELS }
+    requires few { nodes at.map.tree < MAX_NODES }
+    requires there { AreLargeAt at.map.large (paths_in at.watches) at.map.tree }
+    requires room { HaveRoom at.watches }
+{
+    let steps: &mut Steps<L> = &mut Steps::new(blank);
+    let Watching { map, mut watches } = at;
+    let (large, next) = (map.large, map.next);
+    let tree = put_watched(alloc, map.tree, large, next, point, &mut watches, steps)?;
+    let next = next + 1;
+    let map = Numbered { tree, next, large };
+    Ok(Watching { map, watches })
+}
+
+fn mark_beside<L: Ledger>(alloc: Global, at: Watching, action: &Action, blank: Blank) -> Watched
+    requires blank { IsBlankOf L.name L.parts blank }
+    requires there { AreLargeAt at.map.large (paths_in at.watches) at.map.tree }
+    requires room { HaveRoom at.watches }
+{
+    let steps: &mut Steps<L> = &mut Steps::new(blank);
+    let Watching { map, mut watches } = at;
+    let Action { choice, tag } = action;
+    let (large, next) = (map.large, map.next);
+    let tree = marked_watched(alloc, map.tree, large, choice, *tag, &mut watches, steps)?;
+    let map = Numbered { tree, next, large };
+    Ok(Watching { map, watches })
+}
+
+pub fn is_large(tree: &Tree, large: u32, path: &Path) -> bool
+    ensures { result ≡ true → IsLargeAt large path.now tree.now }
+{
+    match tree.subtree_at(path) {
+        None => false,
+        Some(son) => large <= son.size(),
+    }
+}
+
+pub fn are_large(tree: &Tree, large: u32, watches: &[Watch]) -> bool
+    ensures { result ≡ true → AreLargeAt large (paths_in watches.now) tree.now }
+{
+    match watches.split_first() {
+        None => true,
+        Some((watch, rest)) => is_large(tree, large, &watch.path) && are_large(tree, large, rest),
+    }
+}
+
+fn have_room(watches: &[Watch]) -> bool
+    ensures { result ≡ true → HaveRoom watches.now }
+{
+    match watches.split_first() {
+        None => true,
+        Some((watch, rest)) => watch.log.room() >= 2 && have_room(rest),
+    }
+}
