@@ -9,7 +9,7 @@ ghost use Rattle.kd_search.specs.Query.{IsQuery};
 
 use crate::part::Part;
 use kd_tree::Tree;
-use map_fold::{Item, Items, Label, NoMemory};
+use map_fold::{Item, Items, NoMemory};
 use point_geom::Cuboid;
 use std::alloc::Global;
 

@@ -85,10 +85,7 @@ fn add_under(tree: &Tree, owed: Tag, query: &Query, found: &mut Found) -> Result
     if found.bound < sides.gap {
         return Ok(());
     }
-    let item = Item {
-        label: owed.apply(top.item.label),
-        ..top.item
-    };
+    let item = top.item.relabelled(owed);
     query.add(&item, found)?;
     add_from(sides.far, below, query, found)
 }

@@ -66,10 +66,7 @@ impl<'a> Part<'a> {
             Some(top) => {
                 let owed = top.pending.then(self.owed);
                 Some(PartTop {
-                    item: Item {
-                        label: self.owed.apply(top.item.label),
-                        ..top.item
-                    },
+                    item: top.item.relabelled(self.owed),
                     axis: top.axis,
                     left: Part {
                         tree: top.left,

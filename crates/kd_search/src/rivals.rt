@@ -69,10 +69,7 @@ fn add_under(tree: &Tree, owed: Tag, c: &Cuboid, found: &mut Rivals)
     let Some(top) = tree.top() else {
         return;
     };
-    let item = Item {
-        label: owed.apply(top.item.label),
-        ..top.item
-    };
+    let item = top.item.relabelled(owed);
     add(&item, c, found);
     let below = top.pending.then(owed);
     add_from(top.left, below, c, found);

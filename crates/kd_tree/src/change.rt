@@ -60,10 +60,7 @@ impl Tree {
         match self.opened()? {
             None => Ok(Tree::empty()),
             Some(node) => {
-                let item = Item {
-                    label: tag.apply(node.item.label),
-                    ..node.item
-                };
+                let item = node.item.relabelled(tag);
                 let pending = node.pending.then(tag);
                 let node = Opened {
                     item,

@@ -118,8 +118,7 @@ fn empty_owed(
     match tree.opened_if_own() {
         Err(tree) => gather_owed(&tree, owed, items),
         Ok(node) => {
-            let label = owed.apply(node.item.label);
-            push_kept(items, Item { label, ..node.item })?;
+            push_kept(items, node.item.relabelled(owed))?;
             blocks.push(node.block)?;
             let below = node.pending.then(owed);
             empty_owed(node.left, below, items, blocks)?;

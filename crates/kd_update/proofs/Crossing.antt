@@ -21,7 +21,7 @@ use Rattle.kd_tree.specs.Sound.{IsSound}
 use Rattle.kd_tree.specs.Contents.{AreDistinct, by_number, contents}
 use Rattle.kd_tree.specs.Build.{IsBuilt}
 use Rattle.kd_tree.specs.Apart.{AreAllApart, IsClear, is_here, onward}
-use Rattle.kd_tree.specs.Parts.{at, pushed}
+use Rattle.kd_tree.specs.Parts.{at, pushed, son}
 use Rattle.kd_tree.specs.declared.change.Fork.{Fork}
 use Rattle.kd_tree.specs.declared.path.Side.{Side}
 use Rattle.kd_tree.specs.declared.path.Side.TheVariants.{Left, Right}
@@ -32,7 +32,7 @@ use Rattle.kd_update.specs.Put.{RebuildsNoneOnRoute, goes_left, put_from}
 use Rattle.kd_update.specs.Scan.{AreLive, IsGrown, IsPiece, put_each}
 use Rattle.kd_update.specs.Update.{IsBalancedBelow}
 use Rattle.kd_update.specs.Several.{AreLargeAt, AreWatched, IsUpdatedClear}
-use Rattle.kd_update.specs.Watch.{IsWatched, goes_to, handed, is_keep, son}
+use Rattle.kd_update.specs.Watch.{IsWatched, goes_to, handed, is_keep}
 use Rattle.node_labels.specs.declared.tag.Tag.{Tag}
 use Rattle.map_fold.specs.declared.op.Op.TheVariants.{Mark}
 use Rattle.kd_update.specs.Crossing.{AreMet, IsCrossed, IsMet, IsWholeGrown, going, logged_scan, puts_of}

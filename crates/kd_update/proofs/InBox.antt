@@ -33,7 +33,8 @@ use Rattle.kd_tree.proofs.Contents.{parts_alike, mark-append, by_number-mark, re
 use Rattle.kd_update.specs.Mark.{marked_under, marked_shape, is_entered, RebuildsNoneEntered}
 use Rattle.kd_update.specs.Refresh.{AreAmong, IsNotDue, IsRefresh}
 use Rattle.kd_tree.proofs.Left.{all_left, left_all}
-use Rattle.kd_update.proofs.Trees.{forked, some_fork, walk-tagged_keep}
+use Rattle.kd_update.proofs.Results.{some_same}
+use Rattle.kd_update.proofs.Trees.{forked, walk-tagged_keep}
 use Rattle.kd_update.proofs.Lists.{marked-point, marked-number, own-marked, mark_agree, mark_none, mark_points, mark_counts}
 use Rattle.kd_update.proofs.Refresh.{head, refresh_contents}
 
@@ -241,14 +242,11 @@ entered_fork c a h l r m k s =
       criteria = λ large all. criteria_parts large c (head i h.axis) ml mr (entered_is c (reach_of (head i h.axis) ml mr) (subst (λ (e : Reach). meets c e ≡ true) (sym (reach-entered c a h l r)) m) (subst (λ (e : Reach). covers c e ≡ false) (sym (reach-entered c a h l r)) k)) (subst (RebuildsNoneEntered large c) (sym value) all);
     }
 
-some_reach : (a b : Reach) → ◌≡◌ {A = Option Reach} (Some a) (Some b) → a ≡ b
-some_reach a b e = cc
-
 pub entered_all : (c : Choice) (a : Tag) (s : Shape) (f : Fork) (e : Reach) → Some e ≡ reach s → meets c e ≡ true → covers c e ≡ false → IsSound s → Some f ≡ pushed s → IsEntered c a s f
 entered_all c a leaf f e x m k s p = absurd (cc)
 entered_all c a (fork h l r) f e x m k s p =
-    let b = some_reach e (reach_of h l r) x in
-    let g = some_fork f (forked h l r) p in
+    let b = some_same e (reach_of h l r) x in
+    let g = some_same f (forked h l r) p in
     subst (IsEntered c a (fork h l r)) (sym g) (entered_fork c a h l r (rw b at m) (rw b at k) s.0)
 
 pub marked_none : (c : Choice) (a : Tag) (s : Shape) → ◌≡◌ {A = Option Reach} None (reach s) → s ≡ marked_shape c a s
@@ -260,14 +258,14 @@ pub marked_missed : (c : Choice) (a : Tag) (s : Shape) (e : Reach) → Some e �
 unfolding marked_under
 marked_missed c a leaf e x m = refl
 marked_missed c a (fork h l r) e x m =
-    let b = some_reach e (reach_of h l r) x in
+    let b = some_same e (reach_of h l r) x in
     sym (cond-false (meets c (reach_of h l r)) _ _ (rw b at m) ∙ tagged-keep (fork h l r))
 
 pub marked_covered : (c : Choice) (a : Tag) (s : Shape) (e : Reach) → Some e ≡ reach s → meets c e ≡ true → covers c e ≡ true → tagged a s ≡ marked_shape c a s
 unfolding marked_under
 marked_covered c a leaf e x m k = refl
 marked_covered c a (fork h l r) e x m k =
-    let b = some_reach e (reach_of h l r) x in
+    let b = some_same e (reach_of h l r) x in
     sym (cond-true (meets c (reach_of h l r)) _ _ (rw b at m) ∙ cond-true (covers c (reach_of h l r)) _ _ (rw b at k) ∙ ap (tagged a) (tagged-keep (fork h l r)))
 
 -- where some subtrees are rebuilt besides, the contents are those after the action

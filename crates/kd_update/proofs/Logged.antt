@@ -16,9 +16,11 @@ use Rattle.map_fold.specs.Ops.{numbers_put}
 use Rattle.kd_tree.specs.Shape.{Head, Shape, leaf, fork}
 use Rattle.kd_tree.specs.Walk.{tagged}
 use Rattle.kd_tree.specs.declared.path.Side.{Side}
+use Rattle.kd_tree.specs.Parts.{son}
 use Rattle.kd_update.specs.Mark.{is_entered}
 use Rattle.kd_update.specs.Put.{goes_left}
-use Rattle.kd_update.specs.Watch.{is_keep, handed, goes_to, is_met, logged_mark, logged_put, son}
+use Rattle.kd_update.specs.Watch.{is_keep, handed, goes_to, is_met, logged_mark, logged_put}
+use Rattle.kd_update.proofs.Results.{some_same}
 
 -- at most two operations are logged
 
@@ -107,14 +109,11 @@ logged_all before mid after xs ys zs e f g = g ∙ ap (λ z. z ++ zs) f ∙ appe
 
 -- a mark, read from the tree
 
-some_reach : (a b : Reach) → ◌≡◌ {A = Option Reach} (Some a) (Some b) → a ≡ b
-some_reach a b e = cc
-
 -- nothing is logged of what isn't entered
 logged_passed : (c : Choice) (a : Tag) (side : Side) (path : List Side) (s : Shape) (e : Reach) → Some e ≡ reach s → is_entered c e ≡ false → logged_mark c a (side ∷ path) s ≡ []
 unfolding logged_mark
 logged_passed c a side path leaf e x k = refl
-logged_passed c a side path (fork h l r) e x k = cond-false (is_entered c (reach_of h l r)) _ _ (rw (some_reach e (reach_of h l r) x) at k)
+logged_passed c a side path (fork h l r) e x k = cond-false (is_entered c (reach_of h l r)) _ _ (rw (some_same e (reach_of h l r) x) at k)
 
 not_met : (c : Choice) (e : Reach) → meets c e ≡ false → is_entered c e ≡ false
 not_met c e m = rw m refl
@@ -158,7 +157,7 @@ pub ahead_entered : (c : Choice) (a q p : Tag) (side : Side) (path : List Side) 
 unfolding logged_mark
 ahead_entered c a q p side path t s e h l r x m k is owed on =
     let o = composed h.pending q in
-    let b = some_reach e (reach_of h l r) (x ∙ ap reach is) in
+    let b = some_same e (reach_of h l r) (x ∙ ap reach is) in
     let into_it : is_entered c (reach_of h l r) ≡ true = subst (λ z. is_entered c z ≡ true) b (rw (m, k) refl) in
     ap (λ z. logged_mark c a (side ∷ path) (tagged q z)) is
     ∙ cond-true (is_entered c (reach_of h l r)) (handed path o ++ logged_mark c a path (tagged o (son side l r))) [] into_it

@@ -19,6 +19,10 @@ same_paths [] vs e = ap paths_in e
 same_paths (w ∷ ws) [] e = absurd e
 same_paths (w ∷ ws) (v ∷ vs) e = ap (λ (p : List Side). p ∷ paths_in vs) e.0 ∙ ap (λ (ps : List (List Side)). w.path ∷ ps) (same_paths ws vs e.2)
 
+-- paths that are those of the watches once these were logged to are those of before
+pub watched_before : (ps : List (List Side)) (ws vs us : List Watch) → ps ≡ paths_in us → us ≡ vs → AreExtended ws vs → ps ≡ paths_in ws
+watched_before ps ws vs us e f x = e ∙ ap paths_in f ∙ same_paths ws vs x
+
 pub more_itself : (n : ℕ) (ws : List Watch) → AreMore n ws ws
 more_itself n [] = tt
 more_itself n (w ∷ ws) = (omega arith, more_itself n ws)

@@ -2,12 +2,11 @@
 use Rattle.std.proofs.Common.{◌≡◌, ◌<◌, ◌∙◌, Some}
 use Rattle.kd_tree.specs.Shape.{Shape, fork, nodes}
 use Rattle.kd_tree.specs.Sound.{IsTopSound}
-use Rattle.kd_tree.specs.Parts.{joined, pushed, with_son}
+use Rattle.kd_tree.specs.Parts.{joined, pushed, with_son, son}
 use Rattle.kd_tree.specs.declared.change.Fork.{Fork}
 use Rattle.kd_tree.specs.declared.path.Side.{Side}
 use Rattle.kd_tree.specs.declared.path.Side.TheVariants.{Left, Right}
 use Rattle.kd_update.specs.Refresh.{IsRefresh}
-use Rattle.kd_update.specs.Watch.{son}
 use Rattle.kd_update.proofs.Trees.{pushed_smaller}
 use Rattle.kd_update.proofs.Refresh.{head, refresh_same, refresh_sound}
 use Rattle.kd_update.proofs.Update.{sons_alike}

@@ -1,4 +1,5 @@
--- Results of calls that may fail.
+-- Results of calls that may fail, and values that may be missing.
+use Rattle.std.proofs.Common.{◌≡◌, Option, Some}
 use Rattle.std.specs.Prelude.{Result, Ok, Err, IfOk, OnOk}
 
 -- two facts of the value, if there is one
@@ -13,3 +14,6 @@ ok_three (Err e) P Q S R f p q s = tt
 pub OnOk-weaker : {X Y P Q : Type 0} (r : Result X Y) → (P → Q) → OnOk r P → OnOk r Q
 OnOk-weaker (Ok x) f p = f p
 OnOk-weaker (Err e) f p = tt
+
+pub some_same : {X : Type 0} (a b : X) → ◌≡◌ {A = Option X} (Some a) (Some b) → a ≡ b
+some_same a b e = cc

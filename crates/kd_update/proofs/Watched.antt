@@ -22,7 +22,7 @@ use Rattle.kd_tree.specs.Shape.{Head, Shape, leaf, fork, nodes}
 use Rattle.kd_tree.specs.Walk.{tagged, times, walk}
 use Rattle.kd_tree.specs.Contents.{contents}
 use Rattle.kd_tree.specs.Sound.{IsSound}
-use Rattle.kd_tree.specs.Parts.{at}
+use Rattle.kd_tree.specs.Parts.{at, son}
 use Rattle.kd_tree.specs.declared.path.Side.{Side}
 use Rattle.kd_tree.specs.declared.path.Side.TheVariants.{Left, Right}
 use Rattle.kd_tree.proofs.Actions.{tagged-keep, tagged_nodes, sound_once, pushed_sound}
@@ -31,7 +31,7 @@ use Rattle.kd_tree.proofs.Held.{contents_few}
 use Rattle.kd_tree.proofs.Numbered.{by_number_moves}
 use Rattle.kd_update.specs.Mark.{marked_under, marked_shape}
 use Rattle.kd_update.specs.Put.{goes_left, put_under, put_from}
-use Rattle.kd_update.specs.Watch.{is_keep, goes_to, handed, is_met, logged_mark, logged_put, son, IsWatched}
+use Rattle.kd_update.specs.Watch.{is_keep, goes_to, handed, is_met, logged_mark, logged_put, IsWatched}
 use Rattle.kd_update.proofs.Large.{some_shape}
 use Rattle.kd_update.proofs.InBox.{marked-tagged, nodes-marked, contents-marked, marked_missed}
 use Rattle.kd_update.proofs.Route.{put-tagged, nodes-put, contents-put, new_sons}

@@ -8,11 +8,12 @@ use Rattle.map_fold.specs.declared.op.Op.TheVariants.{Put}
 use Rattle.kd_tree.specs.Shape.{Shape, leaf, fork, nodes}
 use Rattle.kd_tree.specs.Walk.{tagged}
 use Rattle.kd_tree.specs.declared.path.Side.{Side}
+use Rattle.kd_tree.specs.Parts.{son}
 use Rattle.kd_update.specs.declared.watch.Watch.{Watch}
 use Rattle.kd_update.specs.Put.{goes_left}
 use Rattle.kd_update.specs.Scan.{IsGrown}
 use Rattle.kd_update.specs.Several.{IsBalancedClear}
-use Rattle.kd_update.specs.Watch.{goes_to, handed, son}
+use Rattle.kd_update.specs.Watch.{goes_to, handed}
 use Rattle.op_logger.specs.declared.log.TheConstants.{MAX_LOGGED}
 
 -- the items put one after the other, as operations

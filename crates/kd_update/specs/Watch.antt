@@ -12,7 +12,7 @@ use Rattle.map_fold.specs.Ops.{Fit, replay}
 use Rattle.kd_tree.specs.Shape.{Shape, leaf, fork, nodes}
 use Rattle.kd_tree.specs.Walk.{tagged}
 use Rattle.kd_tree.specs.Contents.{contents}
-use Rattle.kd_tree.specs.Parts.{at}
+use Rattle.kd_tree.specs.Parts.{at, son}
 use Rattle.kd_tree.specs.Criteria.{IsBalanced}
 use Rattle.kd_tree.specs.declared.path.Side.{Side}
 use Rattle.kd_tree.specs.declared.path.Side.TheVariants.{Left, Right}
@@ -28,10 +28,6 @@ pub record IsLargeAt (large : ℕ) (path : List Side) (t : Shape) : Type 0 where
 -- a node from 10 nodes on, and of fewer than large ones have, meets the balance criterion
 abbrev pub IsBalancedTop : ℕ → Shape → Shape → Type 0
 IsBalancedTop large l r = 10 ≤ nodes l + nodes r + 1 → nodes l + nodes r + 1 < large → IsBalanced l r
-
-abbrev pub son : Side → Shape → Shape → Shape
-son Left l r = l
-son Right l r = r
 
 -- the action that changes no label
 abbrev pub is_keep : Tag → Bool

@@ -17,7 +17,7 @@ use crate::rebuild::rejoined;
 use crate::sides::by_side;
 use crate::ways::Ways;
 use kd_tree::{Block, MAX_LEVELS, MAX_NODES, OpenNode, Side, Steps, Tree};
-use map_fold::{Item, Label, NoMemory};
+use map_fold::{Item, NoMemory};
 use point_geom::{Axis, Point};
 use std::alloc::Global;
 use std::sync::ledger::Ledger;
@@ -53,22 +53,9 @@ pub fn put<L: Ledger>(
         → steps.new ≤ steps.old + 5 * entered_put point tree + 1 }
 {
     let _size = tree.size();
-    let item = Item {
-        number,
-        point,
-        label: Label::Live,
-    };
-    let ways = Ways::none();
-    put_below(
-        alloc,
-        tree,
-        large,
-        item,
-        Axis::X,
-        &ways,
-        Block::none(),
-        steps,
-    )
+    let item = Item::live(number, point);
+    let (ways, block) = (Ways::none(), Block::none());
+    put_below(alloc, tree, large, item, Axis::X, &ways, block, steps)
 }
 
 // The same, by shape, where nothing is rebuilt above the ends of the ways, at them or below them. The axis is that of the new

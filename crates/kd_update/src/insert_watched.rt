@@ -17,7 +17,7 @@ use crate::insert::put_below;
 use crate::log_put::log_puts;
 use crate::ways::Ways;
 use kd_tree::{Block, MAX_LEVELS, MAX_NODES, Steps, Tree};
-use map_fold::{Item, Label, NoMemory};
+use map_fold::{Item, NoMemory};
 use point_geom::{Axis, Point};
 use std::alloc::Global;
 use std::sync::ledger::Ledger;
@@ -62,19 +62,7 @@ pub fn put_watched<L: Ledger>(
     let _size = tree.size();
     log_puts(&tree, watches, number, point)?;
     let ways = Ways::of(watches.as_slice());
-    let item = Item {
-        number,
-        point,
-        label: Label::Live,
-    };
-    put_below(
-        alloc,
-        tree,
-        large,
-        item,
-        Axis::X,
-        &ways,
-        Block::none(),
-        steps,
-    )
+    let item = Item::live(number, point);
+    let block = Block::none();
+    put_below(alloc, tree, large, item, Axis::X, &ways, block, steps)
 }

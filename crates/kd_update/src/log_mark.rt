@@ -6,11 +6,10 @@ ghost use Rattle.kd_update.specs.Watch.{handed, is_met, logged_mark};
 ghost use Rattle.kd_update.specs.Watches.{AreExtended, AreFewMore, HaveRoom, with_marks};
 
 use crate::reach::{covers, meets, reach_of};
-use crate::sides::son;
-use crate::watch::{is_keep, note_mark};
+use crate::watch::{is_keep, note};
 use crate::{Watch, Watches};
 use kd_tree::{Side, Tree};
-use map_fold::{Choice, NoMemory, Tag};
+use map_fold::{Choice, NoMemory, Op, Tag};
 use op_logger::{MAX_LOGGED, OpLog};
 
 pub(crate) fn log_marks(
@@ -70,7 +69,8 @@ fn log_mark(
         if !is_met(choice, tree) {
             return Ok(());
         }
-        return note_mark(log, *choice, tag);
+        let choice = *choice;
+        return note(log, Op::Mark { choice, tag });
     };
     let Some(reach) = reach_of(tree) else {
         return Ok(());
@@ -85,7 +85,7 @@ fn log_mark(
         return Ok(());
     };
     let owed = top.pending.then(owed);
-    let next = son(&top, *side);
+    let next = top.son(*side);
     note_owed(owed, rest, log)?;
     log_mark(next, owed, rest, choice, tag, log)
 }
@@ -100,7 +100,8 @@ pub(crate) fn note_owed(owed: Tag, rest: &[Side], log: &mut OpLog) -> Result<(),
     if !rest.is_empty() || is_keep(owed) {
         return Ok(());
     }
-    note_mark(log, Choice::ALL, owed)
+    let choice = Choice::ALL;
+    note(log, Op::Mark { choice, tag: owed })
 }
 
 fn is_met(choice: &Choice, tree: &Tree) -> bool

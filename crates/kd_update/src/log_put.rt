@@ -7,11 +7,11 @@ ghost use Rattle.kd_update.specs.Watches.{AreExtended, AreFewMore, HaveRoom, wit
 
 use crate::insert::goes_left;
 use crate::log_mark::note_owed;
-use crate::sides::{goes_to, son};
-use crate::watch::note_put;
+use crate::sides::goes_to;
+use crate::watch::note;
 use crate::{Watch, Watches};
 use kd_tree::{Side, Tree};
-use map_fold::{NoMemory, Tag};
+use map_fold::{NoMemory, Op, Tag};
 use op_logger::{MAX_LOGGED, OpLog};
 use point_geom::Point;
 
@@ -69,13 +69,13 @@ fn log_put(
     ensures few { length log.new ≤ length log.old + length (logged_put number point sides.now (tagged owed tree.now)) }
 {
     let Some((side, rest)) = sides.split_first() else {
-        return note_put(log, number, point);
+        return note(log, Op::Put { number, point });
     };
     let Some(top) = tree.top() else {
         return Ok(());
     };
     let owed = top.pending.then(owed);
-    let next = son(&top, *side);
+    let next = top.son(*side);
     let goes_on = goes_to(*side, goes_left(&point, top.axis, &top.item.point));
     note_owed(owed, rest, log)?;
     if !goes_on {

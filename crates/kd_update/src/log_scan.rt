@@ -7,11 +7,11 @@ ghost use Rattle.kd_update.specs.Crossing.{AreMore, HaveRoomAtOnce, going, logge
 
 use crate::insert::goes_left;
 use crate::log_mark::note_owed;
-use crate::sides::{goes_to, son};
-use crate::watch::note_put;
+use crate::sides::goes_to;
+use crate::watch::note;
 use crate::{Watch, Watches};
 use kd_tree::{Side, Tree};
-use map_fold::{Item, NoMemory, Tag};
+use map_fold::{Item, NoMemory, Op, Tag};
 use op_logger::{MAX_LOGGED, OpLog};
 use point_geom::{Axis, Point};
 use std::alloc::Global;
@@ -78,7 +78,7 @@ fn log_scan(
         return Ok(());
     };
     let owed = top.pending.then(owed);
-    let next = son(&top, *side);
+    let next = top.son(*side);
     note_owed(owed, rest, log)?;
     keep_going(items, *side, top.axis, &top.item.point);
     log_scan(next, owed, rest, items, log)
@@ -105,7 +105,8 @@ fn note_puts(log: &mut OpLog, items: &[Item]) -> Result<(), NoMemory>
     ensures few { length log.new ≤ length log.old + length (puts_of items.now) }
 {
     for item in items {
-        note_put(log, item.number, item.point)?;
+        let Item { number, point, .. } = *item;
+        note(log, Op::Put { number, point })?;
     }
     Ok(())
 }

@@ -1,7 +1,7 @@
 //! Actions on chosen items, with watched subtrees left as they stand. What the choice covers is labelled at its top, and what it
 //! misses is left alone. Nothing here knows what is logged of watched subtrees.
 ghost use Rattle.std.specs.Prelude.{◌≡◌, ◌+◌, ◌*◌, ◌≤◌, IfOk};
-ghost use Rattle.map_fold.specs.Contents.{chosen_by, mark, marked_item};
+ghost use Rattle.map_fold.specs.Contents.{chosen_by, mark};
 ghost use Rattle.kd_tree.specs.Shape.{numbers};
 ghost use Rattle.kd_tree.specs.Contents.{contents};
 ghost use Rattle.kd_update.specs.Refresh.{AreAmong, IsRefresh};
@@ -15,7 +15,7 @@ use crate::reach::{covers, meets, reach_of};
 use crate::rebuild::rejoined;
 use crate::ways::Ways;
 use kd_tree::{OpenNode, Side, Steps, Tree};
-use map_fold::{Choice, Item, NoMemory, Tag};
+use map_fold::{Choice, NoMemory, Tag};
 use std::alloc::Global;
 use std::sync::ledger::Ledger;
 
@@ -81,7 +81,7 @@ pub(crate) fn marked_within<L: Ledger>(
         return Ok(Tree::empty());
     };
     let large = ways.spared_from(large);
-    let item = marked_item(node.item, choice, tag);
+    let item = node.item.marked(choice, tag);
     let lefts = ways.onward(Side::Left);
     let left = marked_within(alloc, node.left, large, choice, tag, &lefts, steps)?;
     let rights = ways.onward(Side::Right);
@@ -93,15 +93,4 @@ pub(crate) fn marked_within<L: Ledger>(
         ..node
     };
     rejoined(alloc, node, large, steps)
-}
-
-pub(crate) fn marked_item(item: Item, choice: &Choice, tag: Tag) -> Item
-    ensures { result ≡ marked_item (chosen_by choice.now) tag item }
-{
-    if choice.chooses(&item) {
-        let label = tag.apply(item.label);
-        Item { label, ..item }
-    } else {
-        item
-    }
 }

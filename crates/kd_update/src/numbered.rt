@@ -10,7 +10,7 @@ ghost use Rattle.kd_update.specs.Scan.{live_from, numbers_in};
 
 use crate::put_all;
 use kd_tree::{Scratch, Steps, Tree};
-use map_fold::{Item, Label, MAX_POINTS, NoMemory};
+use map_fold::{Item, MAX_POINTS, NoMemory};
 use point_geom::Point;
 use std::alloc::Global;
 use std::sync::ledger::Ledger;
@@ -45,11 +45,7 @@ pub fn live_items(alloc: Global, first: u32, points: &[Point]) -> Result<Vec<Ite
     let mut items = Vec::with_capacity(alloc, points.len())?;
     let mut number = first;
     for point in points {
-        items.push(Item {
-            number,
-            point: *point,
-            label: Label::Live,
-        })?;
+        items.push(Item::live(number, *point))?;
         number += 1;
     }
     Ok(items)

@@ -97,10 +97,7 @@ fn son_of(tree: &Tree, side: Side) -> Option<&Tree>
     let Some(top) = tree.top() else {
         return None;
     };
-    match side {
-        Side::Left => Some(top.left),
-        Side::Right => Some(top.right),
-    }
+    Some(top.son(side))
 }
 
 // Whether the tree with the other at the path would have no more levels and nodes than a tree may have.

@@ -7,7 +7,7 @@ ghost use Rattle.kd_update.specs.Replay.{ArePuts, IsPerformed, IsRun, is_put, it
 use crate::one_pass::put_at_once;
 use crate::scan::LOW;
 use kd_tree::{MAX_NODES, Scratch, Steps, Tree};
-use map_fold::{Item, Label, NoMemory, Op};
+use map_fold::{Item, NoMemory, Op};
 use point_geom::Axis;
 use std::alloc::Global;
 use std::sync::ledger::Ledger;
@@ -77,15 +77,8 @@ pub(crate) fn put_run<L: Ledger>(
 {
     let _size = tree.size();
     let mut items = items_put(alloc, run)?;
-    put_at_once(
-        alloc,
-        tree,
-        large,
-        items.as_mut_slice(),
-        Axis::X,
-        scratch,
-        steps,
-    )
+    let items = items.as_mut_slice();
+    put_at_once(alloc, tree, large, items, Axis::X, scratch, steps)
 }
 
 // The items that the operations put.
@@ -95,11 +88,7 @@ fn items_put(alloc: Global, ops: &[Op]) -> Result<Vec<Item>, NoMemory>
     let mut items = Vec::with_capacity(alloc, ops.len())?;
     for op in ops {
         if let Op::Put { number, point } = op {
-            items.push(Item {
-                number: *number,
-                point: *point,
-                label: Label::Live,
-            })?;
+            items.push(Item::live(*number, *point))?;
         }
     }
     Ok(items)

@@ -116,15 +116,8 @@ fn put_piece<L: Ledger>(
         return put_singly(alloc, tree, large, items, steps);
     }
     let mut items = Vec::from_slice(alloc, items)?;
-    put_at_once(
-        alloc,
-        tree,
-        large,
-        items.as_mut_slice(),
-        Axis::X,
-        scratch,
-        steps,
-    )
+    let items = items.as_mut_slice();
+    put_at_once(alloc, tree, large, items, Axis::X, scratch, steps)
 }
 
 fn put_singly<L: Ledger>(
@@ -156,15 +149,6 @@ fn put_one<L: Ledger>(
 {
     let _size = tree.size();
     let tree = roomy(alloc, tree, steps)?;
-    let ways = Ways::none();
-    put_below(
-        alloc,
-        tree,
-        large,
-        *item,
-        Axis::X,
-        &ways,
-        Block::none(),
-        steps,
-    )
+    let (ways, block) = (Ways::none(), Block::none());
+    put_below(alloc, tree, large, *item, Axis::X, &ways, block, steps)
 }

@@ -62,14 +62,6 @@ pub fn put_all_watched<L: Ledger>(
     log_scans(alloc, &tree, watches, items)?;
     let ways = Ways::of(watches.as_slice());
     let mut items = Vec::from_slice(alloc, items)?;
-    put_beside(
-        alloc,
-        tree,
-        large,
-        items.as_mut_slice(),
-        Axis::X,
-        &ways,
-        scratch,
-        steps,
-    )
+    let items = items.as_mut_slice();
+    put_beside(alloc, tree, large, items, Axis::X, &ways, scratch, steps)
 }

@@ -1,8 +1,9 @@
 //! The sons of a node by side.
 ghost use Rattle.std.specs.Prelude.{◌≡◌};
-ghost use Rattle.kd_update.specs.Watch.{goes_to, son};
+ghost use Rattle.kd_tree.specs.Parts.{son};
+ghost use Rattle.kd_update.specs.Watch.{goes_to};
 
-use kd_tree::{Side, Top, Tree};
+use kd_tree::{Side, Tree};
 
 // The first of two sons and the second, where the side is the left one, and else the other way round: so the son on this side
 // comes first, and both go back to their places by the same.
@@ -14,17 +15,6 @@ pub(crate) fn by_side(side: Side, left: Tree, right: Tree) -> (Tree, Tree)
     match side {
         Side::Left => (left, right),
         Side::Right => (right, left),
-    }
-}
-
-// The son on this side.
-#[inline]
-pub(crate) fn son<'a>(top: &Top<'a>, side: Side) -> &'a Tree
-    ensures { result.now ≡ son side top.now.left.now top.now.right.now }
-{
-    match side {
-        Side::Left => top.left,
-        Side::Right => top.right,
     }
 }
 

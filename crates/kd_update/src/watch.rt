@@ -1,13 +1,11 @@
 //! What is watched of a tree while updates cross it: the subtree at a path, and the operations that it has met.
-ghost use Rattle.std.specs.Prelude.{◌≡◌, ◌+◌, ◌<◌, ◌≤◌, [], ◌∷◌, ◌++◌, length, IfOk, OnOk, OnErr};
+ghost use Rattle.std.specs.Prelude.{◌≡◌, ◌+◌, ◌<◌, ◌≤◌, [], ◌∷◌, ◌++◌, length, OnOk};
 ghost use Rattle.map_fold.specs.Ops.{Extends};
-ghost use Rattle.map_fold.specs.declared.op.Op.TheVariants.{Mark, Put};
 ghost use Rattle.kd_update.specs.Watch.{is_keep};
 
 use kd_tree::Path;
-use map_fold::{Choice, Label, NoMemory, Op, Tag};
+use map_fold::{Label, NoMemory, Op, Tag};
 use op_logger::{MAX_LOGGED, OpLog};
-use point_geom::Point;
 
 /// A subtree that is watched: its path, and the operations on its own items that were met since the log was empty.
 #[derive(Debug, Drop)]
@@ -16,25 +14,14 @@ pub struct Watch {
     pub log: OpLog,
 }
 
-pub(crate) fn note_mark(log: &mut OpLog, choice: Choice, tag: Tag) -> Result<(), NoMemory>
+// Puts the operation at the end.
+pub(crate) fn note(log: &mut OpLog, op: Op) -> Result<(), NoMemory>
     requires { length log.old < MAX_LOGGED }
-    ensures logged { OnOk result (log.new ≡ log.old ++ Mark choice tag ∷ []) }
+    ensures logged { OnOk result (log.new ≡ log.old ++ op ∷ []) }
     ensures begins { Extends log.old log.new }
     ensures few { length log.new ≤ length log.old + 1 }
 {
-    match log.push(Op::Mark { choice, tag }) {
-        Ok(()) => Ok(()),
-        Err(_) => Err(NoMemory),
-    }
-}
-
-pub(crate) fn note_put(log: &mut OpLog, number: u32, point: Point) -> Result<(), NoMemory>
-    requires { length log.old < MAX_LOGGED }
-    ensures logged { OnOk result (log.new ≡ log.old ++ Put number point ∷ []) }
-    ensures begins { Extends log.old log.new }
-    ensures few { length log.new ≤ length log.old + 1 }
-{
-    match log.push(Op::Put { number, point }) {
+    match log.push(op) {
         Ok(()) => Ok(()),
         Err(_) => Err(NoMemory),
     }

@@ -3,15 +3,22 @@ ghost use Rattle.std.specs.Prelude.{◌≡◌, ◌-◌, ◌≤◌, [], ◌∷◌
 ghost use Rattle.kd_tree.specs.Apart.{is_here, is_none_left, onward};
 ghost use Rattle.kd_update.specs.Several.{large_at};
 ghost use Rattle.kd_update.specs.Watches.{paths_in};
-ghost use Rattle.kd_update.specs.Ways.{paths_of, way_of};
+ghost use Rattle.kd_update.specs.Ways.{paths_in_four, paths_of, way_of};
 
 use crate::Watch;
 use crate::rebuild::NEVER;
 use kd_tree::Side;
 
-// The sides that each of them still takes. A list would take memory at each node above the ends.
+// The sides that each of them still takes, or None where none of them goes on: so it is in most of a tree, and there nothing but
+// that is looked at and handed on.
 #[derive(Clone, Copy)]
 pub(crate) struct Ways<'a> {
+    left: Option<Four<'a>>,
+}
+
+// A list would take memory at each node above the ends.
+#[derive(Clone, Copy)]
+struct Four<'a> {
     first: Option<&'a [Side]>,
     second: Option<&'a [Side]>,
     third: Option<&'a [Side]>,
@@ -23,12 +30,7 @@ impl<'a> Ways<'a> {
     pub(crate) fn none() -> Ways<'a>
         ensures { paths_of result ≡ [] }
     {
-        Ways {
-            first: None,
-            second: None,
-            third: None,
-            fourth: None,
-        }
+        Ways { left: None }
     }
 
     // The paths of the watches.
@@ -40,31 +42,37 @@ impl<'a> Ways<'a> {
         let (second, rest) = next_way(rest);
         let (third, rest) = next_way(rest);
         let (fourth, _none) = next_way(rest);
-        Ways {
+        let four = Four {
             first,
             second,
             third,
             fourth,
-        }
+        };
+        four.left()
     }
 
     pub(crate) fn is_empty(&self) -> bool
         ensures { result ≡ is_none_left (paths_of self.now) }
     {
-        self.first.is_none()
-            && self.second.is_none()
-            && self.third.is_none()
-            && self.fourth.is_none()
+        match &self.left {
+            None => true,
+            Some(four) => four.is_empty(),
+        }
     }
 
     // Whether one of them ends here.
+    #[inline]
     pub(crate) fn is_here(&self) -> bool
         ensures { result ≡ is_here (paths_of self.now) }
     {
-        ends(self.first) || ends(self.second) || ends(self.third) || ends(self.fourth)
+        match &self.left {
+            None => false,
+            Some(four) => four.is_here(),
+        }
     }
 
     // From how many nodes on none is rebuilt: at the end of a path and below it that is any, and elsewhere it is as before.
+    #[inline]
     pub(crate) fn spared_from(&self, large: u32) -> u32
         ensures { result ≡ large_at (paths_of self.now) large }
     {
@@ -72,13 +80,47 @@ impl<'a> Ways<'a> {
     }
 
     // Those that go on to this side, from there.
+    #[inline]
     pub(crate) fn onward(&self, side: Side) -> Ways<'a>
         ensures { paths_of result ≡ onward side (paths_of self.now) }
     {
-        if self.is_empty() {
-            return *self;
+        match &self.left {
+            None => Ways::none(),
+            Some(four) => four.onward(side).left(),
         }
-        Ways {
+    }
+}
+
+impl<'a> Four<'a> {
+    // Those that there are.
+    fn left(self) -> Ways<'a>
+        ensures { paths_of result ≡ paths_in_four self.entry }
+    {
+        if self.is_empty() {
+            return Ways::none();
+        }
+        Ways { left: Some(self) }
+    }
+
+    fn is_empty(&self) -> bool
+        ensures { result ≡ is_none_left (paths_in_four self.now) }
+    {
+        self.first.is_none()
+            && self.second.is_none()
+            && self.third.is_none()
+            && self.fourth.is_none()
+    }
+
+    fn is_here(&self) -> bool
+        ensures { result ≡ is_here (paths_in_four self.now) }
+    {
+        ends(self.first) || ends(self.second) || ends(self.third) || ends(self.fourth)
+    }
+
+    fn onward(&self, side: Side) -> Four<'a>
+        ensures { paths_in_four result ≡ onward side (paths_in_four self.now) }
+    {
+        Four {
             first: below(self.first, side),
             second: below(self.second, side),
             third: below(self.third, side),

@@ -3,9 +3,9 @@ ghost use Rattle.std.specs.Prelude.{◌≡◌, ◌&&◌, true};
 ghost use Rattle.point_geom.specs.Place.{IsCoordinate, IsCornerNumber};
 ghost use Rattle.point_geom.specs.Boxes.{holds, is_between};
 ghost use Rattle.node_labels.specs.Labels.{is_live};
-ghost use Rattle.map_fold.specs.Contents.{comes_before, in_box};
+ghost use Rattle.map_fold.specs.Contents.{chosen_by, comes_before, in_box, live_at, marked_item, relabelled};
 
-use crate::{Label, Sequence};
+use crate::{Choice, Label, Sequence, Tag};
 use point_geom::{Cuboid, Point, centre_dist2};
 
 /// What a map holds under a number.
@@ -18,6 +18,39 @@ pub struct Item {
 }
 
 impl Item {
+    /// The point under this number, live.
+    #[inline]
+    pub fn live(number: u32, point: Point) -> Item
+        ensures { result ≡ live_at number point }
+    {
+        Item {
+            number,
+            point,
+            label: Label::Live,
+        }
+    }
+
+    /// The item under this action.
+    #[inline]
+    pub fn relabelled(self, tag: Tag) -> Item
+        ensures { result ≡ relabelled tag self }
+    {
+        let label = tag.apply(self.label);
+        Item { label, ..self }
+    }
+
+    /// The item under this action, if it is chosen.
+    #[inline]
+    pub fn marked(self, choice: &Choice, tag: Tag) -> Item
+        ensures { result ≡ marked_item (chosen_by choice.now) tag self }
+    {
+        if choice.chooses(&self) {
+            self.relabelled(tag)
+        } else {
+            self
+        }
+    }
+
     /// Whether it is live and its point in the cuboid.
     pub fn is_live_in(&self, cuboid: &Cuboid) -> bool
         ensures { result ≡ (is_live self.now.label && in_box cuboid.now self.now) }

@@ -96,11 +96,7 @@ impl PlainMap {
             mut next,
         } = self;
         for point in points.as_slice() {
-            items.push(Item {
-                number: next,
-                point: *point,
-                label: Label::Live,
-            })?;
+            items.push(Item::live(next, *point))?;
             next += 1;
         }
         Ok(PlainMap { items, next })
@@ -200,20 +196,7 @@ fn relabel(items: &mut Vec<Item>, choice: &Choice, tag: Tag)
     ensures { items.new.items ≡ map (marked_item (chosen_by choice.now) tag) items.old.items }
 {
     for i in 0..items.len() {
-        items[i] = relabelled(&items[i], choice, tag);
-    }
-}
-
-fn relabelled(item: &Item, choice: &Choice, tag: Tag) -> Item
-    ensures { result ≡ marked_item (chosen_by choice.now) tag item.now }
-{
-    if choice.chooses(item) {
-        Item {
-            label: tag.apply(item.label),
-            ..*item
-        }
-    } else {
-        *item
+        items[i] = items[i].marked(choice, tag);
     }
 }
 

@@ -7,7 +7,7 @@ ghost use Rattle.map_fold.specs.Rivals.{AreRivals};
 ghost use Rattle.map_fold.specs.Contents.{AreContents, centre_cmp, in_box, least, live_at, live_items, put, thin};
 
 use crate::plain_map::mark_items;
-use crate::{Choice, Item, Label, NoMemory, Tag};
+use crate::{Choice, Item, NoMemory, Tag};
 use point_geom::{Cuboid, Point, voxel};
 
 // What is live in a voxel.
@@ -31,11 +31,7 @@ pub(crate) fn thin_one(
     ensures { OnOk result (items.new.items ≡ thin edge items.old.items number point.now) }
 {
     let cube = voxel(point, edge);
-    let new = Item {
-        number,
-        point: *point,
-        label: Label::Live,
-    };
+    let new = Item::live(number, *point);
     match rivals_in(items.as_slice(), &cube) {
         Rivals::None => {
             items.push(new)?;
@@ -71,11 +67,7 @@ fn rivals_in(items: &[Item], cube: &Cuboid) -> Rivals
 fn winner(items: &[Item], cube: &Cuboid, number: u32, point: &Point) -> Item
     ensures { result ≡ least (centre_cmp cube.now) (live_at number point.now) (filter (in_box cube.now) (live_items items.now)) }
 {
-    let mut best = Item {
-        number,
-        point: *point,
-        label: Label::Live,
-    };
+    let mut best = Item::live(number, *point);
     for item in items {
         if item.is_live_in(cube) && item.comes_before(&best, cube) {
             best = *item;
@@ -89,11 +81,7 @@ fn put_item(items: &mut Vec<Item>, number: u32, point: Point) -> Result<(), NoMe
     ensures { OnOk result (items.new.items ≡ put items.old.items number point) }
 {
     let at = place_of(items.as_slice(), number);
-    let item = Item {
-        number,
-        point,
-        label: Label::Live,
-    };
+    let item = Item::live(number, point);
     if at < items.len() && items[at].number == number {
         items[at] = item;
         return Ok(());

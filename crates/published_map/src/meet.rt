@@ -1,6 +1,6 @@
 //! All passes meet in one turn of the lock.
 ghost use Rattle.std.specs.Prelude.{◌≡◌, ◌+◌, length};
-ghost use Rattle.published_map.specs.Marks.{callers_of, made_by, IsDistinct, AllBegin, AllEnded, AllSeen, AllMade, AllGrown, AllMet, AllOf};
+ghost use Rattle.published_map.specs.Marks.{callers_of, made_by, IsDistinct, AllEnded, AllSeen, AllMade, AllGrown, AllMet, AllOf};
 
 use crate::locked::Locked;
 use crate::name::MapName;

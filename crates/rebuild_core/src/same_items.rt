@@ -1,12 +1,12 @@
 //! Lists and trees, compared without memory.
 ghost use Rattle.std.specs.Prelude.{◌≡◌, ◌∷◌, [], ◌↔◌, true};
-ghost use Rattle.map_fold.specs.Contents.{AreContents, kept, relabelled};
+ghost use Rattle.map_fold.specs.Contents.{AreContents, kept};
 ghost use Rattle.map_fold.specs.Nearest.{Member};
 ghost use Rattle.kd_tree.specs.Contents.{contents};
 ghost use Rattle.kd_tree.specs.Walk.{walk};
 ghost use Rattle.rebuild_core.specs.Holding.{AreIn};
 
-use kd_tree::{Top, Tree};
+use kd_tree::Tree;
 use map_fold::{Item, Label, MAX_POINTS, Tag};
 
 pub(crate) fn are_same(items: &[Item], others: &[Item]) -> bool
@@ -37,23 +37,13 @@ fn are_among(tree: &Tree, owed: Tag, items: &[Item]) -> bool
         return true;
     };
     let below = top.pending.then(owed);
-    if !is_among(&top_item(&top, owed), items) {
+    if !is_among(&top.item.relabelled(owed), items) {
         return false;
     }
     if !are_among(top.left, below, items) {
         return false;
     }
     are_among(top.right, below, items)
-}
-
-// The item at the top of a tree that owes this action.
-fn top_item(top: &Top<'_>, owed: Tag) -> Item
-    ensures { result ≡ relabelled owed top.now.item }
-{
-    Item {
-        label: owed.apply(top.item.label),
-        ..top.item
-    }
 }
 
 // Whether the item is dropped or one of the items.

@@ -1,6 +1,6 @@
 //! Logs and lines, by hand.
 use crate::tests::assertions::{are_bytes, holds, same};
-use map_fold::{Hit, Hits, NearReply, Settings, Update};
+use map_fold::{Hit, Hits, NearReply, Settings};
 use point_geom::Point;
 use scan_log::{Command, Format, LogCause, ParseFault, Reply, Script, parse, reply_line};
 use std::alloc::{AllocError, Global};

@@ -6,7 +6,7 @@ ghost use Rattle.kd_update.specs.Scan.{live_from};
 ghost use Rattle.rebuild_core.specs.Entrants.{AreFirsts};
 ghost use Rattle.rebuild_core.specs.Ranks.{HaveVoxels, entrant_of, items_in, rank_of};
 
-use map_fold::{Item, Label, MAX_POINTS, NoMemory, Settings};
+use map_fold::{Item, MAX_POINTS, NoMemory, Settings};
 use point_geom::{Cuboid, Point, centre_dist2, voxel};
 use std::alloc::Global;
 
@@ -47,11 +47,7 @@ fn entrants(alloc: Global, edge: u32, next: u32, points: &[Point]) -> Result<Vec
     let mut entrants = Vec::with_capacity(alloc, points.len())?;
     let mut number = next;
     for point in points {
-        let item = Item {
-            number,
-            point: *point,
-            label: Label::Live,
-        };
+        let item = Item::live(number, *point);
         let cube = voxel(point, edge);
         entrants.push(Entrant { item, cube })?;
         number += 1;

@@ -17,7 +17,7 @@ use crate::update::waiting::thinned_at_once;
 use crate::update::work::Work;
 use kd_search::{Rivals, rivals_in};
 use kd_tree::{Scratch, Steps};
-use map_fold::{Choice, Item, Label, MAX_POINTS, NoMemory, Points, Settings, Tag};
+use map_fold::{Choice, Item, MAX_POINTS, NoMemory, Points, Settings, Tag};
 use point_geom::{Cuboid, Point, voxel};
 use std::alloc::Global;
 use std::sync::ledger::Ledger;
@@ -80,11 +80,7 @@ fn thinned_one<L: Ledger>(
     let Some(held) = best else {
         return added_one(alloc, work, large, next, point, steps);
     };
-    let new = Item {
-        number: next,
-        point,
-        label: Label::Live,
-    };
+    let new = Item::live(next, point);
     if new.comes_before(&held, &cube) {
         return left_alone(alloc, work, large, next, &cube, new, steps);
     }

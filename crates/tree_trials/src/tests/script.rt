@@ -1,5 +1,5 @@
 //! Operations for tests, which fit an empty tree.
-ghost use Rattle.std.specs.Prelude.{◌≡◌, [], IfOk};
+ghost use Rattle.std.specs.Prelude.{◌≡◌, []};
 ghost use Rattle.map_fold.specs.Ops.{Fit};
 
 use map_fold::{Choice, NoMemory, Op, Tag};

@@ -4,7 +4,6 @@ use Rattle.std.proofs.lemmas.List.Elements.{All-cons, All-nil}
 use Rattle.point_geom.specs.Distances.{dist2}
 use Rattle.map_fold.specs.declared.item.Item.{Item}
 use Rattle.map_fold.specs.Contents.{relabelled}
-use Rattle.node_labels.specs.declared.label.Label.{Label}
 use Rattle.kd_tree.specs.Walk.{walk}
 use Rattle.kd_search.specs.Points.{AreAway}
 use Rattle.kd_search.proofs.Walks.{walk_in_extent}
@@ -46,8 +45,8 @@ add_under-returns-clause-found t c =
     let top = c.in-Some.top in
     let sides = c.of-sides.result in
     let below = c.then-below.result in
-    let item : Item = record top.item { label = c.apply.result } in
-    let is = split c.args.tree.now owed top query.point sides item below c.in-Some.ensures.some c.size-size.ensures.sound c.of-sides.ensures (ap (λ (x : Label). record top.item { label = x }) c.apply.ensures) c.then-below.ensures.value in
+    let item = c.relabelled-item.result in
+    let is = split c.args.tree.now owed top query.point sides item below c.in-Some.ensures.some c.size-size.ensures.sound c.of-sides.ensures c.relabelled-item.ensures c.then-below.ensures.value in
     on_ok_weaker c.add_from-2.result
     (near_first query.k query.point query.within item (walk below sides.near.now) (walk below sides.far.now) is.sons (walk owed c.args.tree.now) c.args.found.now.hits _ _ _
     (walk_distinct owed c.args.tree.now c.size-size.ensures.sound) is.items is.turned c.in_ok-add_from.ensures.found c.in_ok-add.ensures.found)

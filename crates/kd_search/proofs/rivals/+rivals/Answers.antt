@@ -1,6 +1,4 @@
 use Rattle.std.proofs.Common.{Some, length, sym, ap, ◌∙◌, arith}
-use Rattle.node_labels.specs.declared.label.Label.{Label}
-use Rattle.map_fold.specs.declared.item.Item.{Item}
 use Rattle.kd_tree.specs.Walk.{walk}
 use Rattle.kd_search.specs.Best.{best_from}
 use Rattle.kd_search.proofs.Walks.{walk_in_extent}
@@ -28,7 +26,7 @@ add_under-returns-clause-best t c =
     let owed = c.args.owed in
     let top = c.in-Some.top in
     let below = c.then-below.result in
-    let item : Item = record top.item { label = c.apply.result } in
-    let whole = walk_top c.args.tree.now owed top item below c.in-Some.ensures.some (ap (λ (x : Label). record top.item { label = x }) c.apply.ensures) c.then-below.ensures.value in
+    let item = c.relabelled-item.result in
+    let whole = walk_top c.args.tree.now owed top item below c.in-Some.ensures.some c.relabelled-item.ensures c.then-below.ensures.value in
     best_in_turn c.args.c.now item (walk below top.left.now) (walk below top.right.now) (walk owed c.args.tree.now) c.args.found.now.best _ _ _
     whole c.add.ensures.best c.add_from.ensures.best c.add_from-2.ensures.best

@@ -34,15 +34,15 @@ pub returns-in_err-gather_owed-in-Full-clause-front : goal.returns-in_err-gather
 returns-in_err-gather_owed-in-Full-clause-front t c =
     let shape : shape_of c.tree.inside ≡ shape_at c.in-Full.node.value = rw c.in-Full.is refl in
     let F : Shape → Type 0 = λ s. AddsFront c.args.items.now.items (walk c.args.owed s) c.gather_owed.new.items.items in
-    let own = rw (c.apply-label.ensures, c.item.ensures, c.deref.ensures, c.deref-in-Full.ensures) at c.in_ok-push_kept-in-Full.ensures.all in
-    let left = rw (c.then-below.ensures.value, c.deref-in-Full-2.ensures, c.deref-in-Full-3.ensures) at c.in_err-gather_owed-in-Full.ensures.front in
+    let own = rw (c.relabelled.ensures, c.item.ensures, c.deref.ensures) at c.in_ok-push_kept-in-Full.ensures.all in
+    let left = rw (c.then-below.ensures.value, c.deref-in-Full.ensures, c.deref-in-Full-2.ensures) at c.in_err-gather_owed-in-Full.ensures.front in
     on_err _ (F c.args.tree.now) (subst F (sym shape ∙ c.tree.view_is) (front_left _ _ _ _ _ _ own left))
 
 pub returns-in_ok-gather_owed-in-Full-clause-front : goal.returns-in_ok-gather_owed-in-Full-clause-front
 returns-in_ok-gather_owed-in-Full-clause-front t c =
     let shape : shape_of c.tree.inside ≡ shape_at c.in-Full.node.value = rw c.in-Full.is refl in
     let F : Shape → Type 0 = λ s. AddsFront c.args.items.now.items (walk c.args.owed s) c.gather_owed-in-Full.new.items.items in
-    let own = rw (c.apply-label.ensures, c.item.ensures, c.deref.ensures, c.deref-in-Full.ensures) at c.in_ok-push_kept-in-Full.ensures.all in
-    let left = rw (c.then-below.ensures.value, c.deref-in-Full-2.ensures, c.deref-in-Full-3.ensures) at c.in_ok-gather_owed-in-Full.ensures.all in
-    let right = rw (c.then-below.ensures.value, c.deref-in-Full-2.ensures, c.deref-in-Full-4.ensures) at c.gather_owed-in-Full.ensures.front in
+    let own = rw (c.relabelled.ensures, c.item.ensures, c.deref.ensures) at c.in_ok-push_kept-in-Full.ensures.all in
+    let left = rw (c.then-below.ensures.value, c.deref-in-Full.ensures, c.deref-in-Full-2.ensures) at c.in_ok-gather_owed-in-Full.ensures.all in
+    let right = rw (c.then-below.ensures.value, c.deref-in-Full.ensures, c.deref-in-Full-3.ensures) at c.gather_owed-in-Full.ensures.front in
     on_err_weaker c.gather_owed-in-Full.result (λ k. subst F (sym shape ∙ c.tree.view_is) (front_right _ _ _ _ _ _ _ own left k)) right

@@ -8,20 +8,20 @@ use Rattle.kd_update.specs.Several.{AreLargeAt, IsUpdatedClear}
 use Rattle.kd_update.specs.Watches.{paths_in}
 use Rattle.kd_update.specs.Ways.{paths_of}
 use Rattle.kd_update.proofs.Route.{put_contents, put_numbers}
-use Rattle.kd_update.proofs.ManyLogs.{same_paths}
+use Rattle.kd_update.proofs.ManyLogs.{watched_before}
 use Rattle.kd_update.proofs.Several.{all_watched-put, large_all_put, large_all_same}
 use Rattle.kd_update.proofs.insert_watched.put_watched.Goals as goal
 use Rattle.kd_update.proofs.insert_watched.put_watched.Goals.{After-of-ways, After-put_below}
 
 -- the ways are the paths of the watches
 ways : (g : _) (c : After-of-ways g) → paths_of c.of-ways.result ≡ paths_in c.args.watches.now
-ways g c = c.of-ways.ensures ∙ ap paths_in c.as_slice.ensures.value ∙ same_paths c.args.watches.now c.log_puts.new.watches c.log_puts.ensures.begins
+ways g c = watched_before _ _ _ _ c.of-ways.ensures c.as_slice.ensures.value c.log_puts.ensures.begins
 
 updated : (g : _) (c : After-put_below g) → let plain = put_shape c.args.number c.args.point c.args.tree in
     IfOk c.put_below.result (λ t. IsUpdatedClear c.args.large (paths_in c.args.watches.now) c.args.tree plain (RebuildsNoneOnRoute c.args.large c.args.point plain) t)
 updated g c =
     let plain = put_shape c.args.number c.args.point c.args.tree in
-    subst (λ (ps : List (List Side)). IfOk c.put_below.result (λ t. IsUpdatedClear c.args.large ps c.args.tree plain (RebuildsNoneOnRoute c.args.large c.args.point plain) t)) (c.of-ways.ensures ∙ ap paths_in c.as_slice.ensures.value ∙ same_paths c.args.watches.now c.log_puts.new.watches c.log_puts.ensures.begins) c.put_below.ensures.updated
+    subst (λ (ps : List (List Side)). IfOk c.put_below.result (λ t. IsUpdatedClear c.args.large ps c.args.tree plain (RebuildsNoneOnRoute c.args.large c.args.point plain) t)) (watched_before _ _ _ _ c.of-ways.ensures c.as_slice.ensures.value c.log_puts.ensures.begins) (rw c.live-item.ensures at c.put_below.ensures.updated)
 
 pub put_below-requires-clause-there : goal.put_below-requires-clause-there
 put_below-requires-clause-there g c = subst (λ (ps : List (List Side)). AreLargeAt c.args.large ps c.args.tree) (sym (ways g (goal.at.put_below-requires-clause-there g c).After-of-ways)) c.requires.there

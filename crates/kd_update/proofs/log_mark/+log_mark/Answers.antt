@@ -23,8 +23,8 @@ returns-then-not-is_met-clause-logged t c =
     let none = ap (λ q. logged_mark c.args.choice.now c.args.tag q (tagged c.args.owed c.args.tree.now)) root ∙ ahead_unmet c.args.choice.now c.args.tag c.args.owed c.args.tree.now (sym c.is_met.ensures ∙ c.if-not-is_met.true) in
     sym (ap (λ ops. c.args.log.now ++ ops) none ∙ append-nil c.args.log.now)
 
-pub note_mark-requires : goal.note_mark-requires
-note_mark-requires t c =
+pub note-requires : goal.note-requires
+note-requires t c =
     let root = no_sides c.args.sides.now c.in_default.ensures.cases in
     let one = ap length (ap (λ q. logged_mark c.args.choice.now c.args.tag q (tagged c.args.owed c.args.tree.now)) root ∙ ahead_met c.args.choice.now c.args.tag c.args.owed c.args.tree.now (sym c.is_met.ensures ∙ c.if-not-is_met.false)) in
     omega (arith, c.requires, one)
@@ -33,7 +33,7 @@ pub returns-in_default-clause-logged : goal.returns-in_default-clause-logged
 returns-in_default-clause-logged t c =
     let root = no_sides c.args.sides.now c.in_default.ensures.cases in
     let one = ap (λ q. logged_mark c.args.choice.now c.args.tag q (tagged c.args.owed c.args.tree.now)) root ∙ ahead_met c.args.choice.now c.args.tag c.args.owed c.args.tree.now (sym c.is_met.ensures ∙ c.if-not-is_met.false) in
-    subst (λ ops. OnOk c.note_mark.result (c.note_mark.new.log ≡ c.args.log.now ++ ops)) (sym one) c.note_mark.ensures.logged
+    subst (λ ops. OnOk c.note.result (c.note.new.log ≡ c.args.log.now ++ ops)) (sym one) c.note.ensures.logged
 
 pub returns-in_default-reach_of-clause-logged : goal.returns-in_default-reach_of-clause-logged
 returns-in_default-reach_of-clause-logged t c =
@@ -63,7 +63,7 @@ pub returns-in_default-clause-few : goal.returns-in_default-clause-few
 returns-in_default-clause-few t c =
     let root = no_sides c.args.sides.now c.in_default.ensures.cases in
     let one = ap length (ap (λ q. logged_mark c.args.choice.now c.args.tag q (tagged c.args.owed c.args.tree.now)) root ∙ ahead_met c.args.choice.now c.args.tag c.args.owed c.args.tree.now (sym c.is_met.ensures ∙ c.if-not-is_met.false)) in
-    omega (arith, c.note_mark.ensures.few, one)
+    omega (arith, c.note.ensures.few, one)
 
 pub returns-in_err-note_owed-clause-few : goal.returns-in_err-note_owed-clause-few
 returns-in_err-note_owed-clause-few t c = few_first _ _ _ _ _ (parts t (goal.at.returns-in_err-note_owed-clause-few t c).After-son-next) c.note_owed.ensures.few

@@ -18,15 +18,15 @@ parts t c b e =
     ∙ ahead_put c.args.number c.args.point c.args.owed c.then-owed.result c.in-Some.side.now c.in-Some.rest.now c.args.tree.now c.son-next.result.now h top.left.now top.right.now b
     c.in-Some-top.ensures.some c.then-owed.ensures.value c.son-next.ensures (sym e ∙ c.goes_to-goes_on.ensures ∙ ap (goes_to c.in-Some.side.now) c.goes_left.ensures)
 
-pub note_put-requires : goal.note_put-requires
-note_put-requires t c =
+pub note-requires : goal.note-requires
+note-requires t c =
     let one = ap length (ap (λ q. logged_put c.args.number c.args.point q (tagged c.args.owed c.args.tree.now)) (no_sides c.args.sides.now c.in_default.ensures.cases) ∙ ahead_put_root c.args.number c.args.point c.args.owed c.args.tree.now) in
     omega (arith, c.requires, one)
 
 pub returns-in_default-clause-logged : goal.returns-in_default-clause-logged
 returns-in_default-clause-logged t c =
     let one = ap (λ q. logged_put c.args.number c.args.point q (tagged c.args.owed c.args.tree.now)) (no_sides c.args.sides.now c.in_default.ensures.cases) ∙ ahead_put_root c.args.number c.args.point c.args.owed c.args.tree.now in
-    subst (λ ops. OnOk c.note_put.result (c.note_put.new.log ≡ c.args.log.now ++ ops)) (sym one) c.note_put.ensures.logged
+    subst (λ ops. OnOk c.note.result (c.note.new.log ≡ c.args.log.now ++ ops)) (sym one) c.note.ensures.logged
 
 pub returns-in_default-top-clause-logged : goal.returns-in_default-top-clause-logged
 returns-in_default-top-clause-logged t c =
@@ -48,7 +48,7 @@ returns-clause-logged t c = OnOk-weaker c.log_put.result (λ e. logged_all _ _ _
 pub returns-in_default-clause-few : goal.returns-in_default-clause-few
 returns-in_default-clause-few t c =
     let one = ap length (ap (λ q. logged_put c.args.number c.args.point q (tagged c.args.owed c.args.tree.now)) (no_sides c.args.sides.now c.in_default.ensures.cases) ∙ ahead_put_root c.args.number c.args.point c.args.owed c.args.tree.now) in
-    omega (arith, c.note_put.ensures.few, one)
+    omega (arith, c.note.ensures.few, one)
 
 pub returns-in_err-note_owed-clause-few : goal.returns-in_err-note_owed-clause-few
 returns-in_err-note_owed-clause-few t c = few_first _ _ _ _ _ (parts t (goal.at.returns-in_err-note_owed-clause-few t c).After-goes_to-goes_on _ refl) c.note_owed.ensures.few

@@ -1,13 +1,8 @@
-use Rattle.std.proofs.Common.{◌≡◌, ◌∙◌, false, List, [], ◌∷◌, length, sym}
-use Rattle.std.specs.Prelude.{◌==◌}
+use Rattle.std.proofs.Common.{◌∙◌, length, sym}
 use Rattle.std.proofs.lemmas.Bool.{eqb-true}
 use Rattle.std.proofs.lemmas.List.{nil_from_length}
-use Rattle.map_fold.specs.declared.item.Item.{Item}
+use Rattle.kd_update.proofs.Lists.{some_items}
 use Rattle.kd_update.proofs.log_scan.is_none.Goals as goal
-
-some_items : (is : List Item) → (length is == 0) ≡ false → is ≡ [] → ⊥
-some_items [] k e = cc
-some_items (i ∷ is) k e = cc
 
 pub returns-clause-none : goal.returns-clause-none
 returns-clause-none c = λ e. nil_from_length c.args.items.now (eqb-true (length c.args.items.now) 0 (sym c.is_empty.ensures ∙ e))

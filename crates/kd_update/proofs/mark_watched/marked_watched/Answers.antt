@@ -8,20 +8,20 @@ use Rattle.kd_update.specs.Watches.{paths_in}
 use Rattle.kd_update.specs.Ways.{paths_of}
 use Rattle.kd_update.proofs.InBox.{marked_contents, marked_numbers}
 use Rattle.kd_update.proofs.Made.{made_few}
-use Rattle.kd_update.proofs.ManyLogs.{same_paths}
+use Rattle.kd_update.proofs.ManyLogs.{watched_before}
 use Rattle.kd_update.proofs.Several.{all_watched-mark, large_all_marked, large_all_same}
 use Rattle.kd_update.proofs.mark_watched.marked_watched.Goals as goal
 use Rattle.kd_update.proofs.mark_watched.marked_watched.Goals.{After-marked_within, After-of-ways}
 
 -- the ways are the paths of the watches
 ways : (g : _) (c : After-of-ways g) → paths_of c.of-ways.result ≡ paths_in c.args.watches.now
-ways g c = c.of-ways.ensures ∙ ap paths_in c.as_slice.ensures.value ∙ same_paths c.args.watches.now c.log_marks.new.watches c.log_marks.ensures.begins
+ways g c = watched_before _ _ _ _ c.of-ways.ensures c.as_slice.ensures.value c.log_marks.ensures.begins
 
 updated : (g : _) (c : After-marked_within g) → let plain = marked_shape c.args.choice.now c.args.tag c.args.tree in
     IfOk c.marked_within.result (λ t. IsUpdatedClear c.args.large (paths_in c.args.watches.now) c.args.tree plain (RebuildsNoneEntered c.args.large c.args.choice.now plain) t)
 updated g c =
     let plain = marked_shape c.args.choice.now c.args.tag c.args.tree in
-    subst (λ (ps : List (List Side)). IfOk c.marked_within.result (λ t. IsUpdatedClear c.args.large ps c.args.tree plain (RebuildsNoneEntered c.args.large c.args.choice.now plain) t)) (c.of-ways.ensures ∙ ap paths_in c.as_slice.ensures.value ∙ same_paths c.args.watches.now c.log_marks.new.watches c.log_marks.ensures.begins) c.marked_within.ensures.updated
+    subst (λ (ps : List (List Side)). IfOk c.marked_within.result (λ t. IsUpdatedClear c.args.large ps c.args.tree plain (RebuildsNoneEntered c.args.large c.args.choice.now plain) t)) (watched_before _ _ _ _ c.of-ways.ensures c.as_slice.ensures.value c.log_marks.ensures.begins) c.marked_within.ensures.updated
 
 pub marked_within-requires : goal.marked_within-requires
 marked_within-requires g c = subst (λ (ps : List (List Side)). AreLargeAt c.args.large ps c.args.tree) (sym (ways g (goal.at.marked_within-requires g c).After-of-ways)) c.requires.there

@@ -12,6 +12,7 @@ use Rattle.kd_update.specs.Several.{AreLargeAt}
 use Rattle.kd_update.specs.Crossing.{IsCrossed}
 use Rattle.kd_update.specs.Ways.{paths_of}
 use Rattle.kd_update.proofs.Grown.{IsStep, step_pieces, step_sound}
+use Rattle.kd_update.proofs.Lists.{some_items}
 use Rattle.kd_update.proofs.Results.{ok_both}
 use Rattle.kd_update.proofs.Several.{passed_by}
 use Rattle.kd_update.proofs.Trees.{pushed_smaller}
@@ -19,10 +20,6 @@ use Rattle.kd_update.proofs.WayLists.{none_of, some_of}
 use Rattle.kd_update.proofs.Crossing.{apart_on, crossed_free, crossed_here, crossed_none, crossed_step, step_from}
 use Rattle.kd_update.proofs.put_beside.+put_beside.Goals as goal
 use Rattle.kd_update.proofs.put_beside.+put_beside.Goals.{After-split_at_mut-lefts}
-
-some_items : (is : List Item) → (length is == 0) ≡ false → is ≡ [] → ⊥
-some_items [] k e = cc
-some_items (i ∷ is) k e = cc
 
 -- the items are parted where the tree is taken apart
 step : (g : _) (t : _) (c : After-split_at_mut-lefts g t) → IsStep c.args.tree c.args.items.now (fork_of c.in-Some.node) c.split_at_mut-lefts.result.0.now c.split_at_mut-lefts.result.1.now

@@ -11,24 +11,24 @@ use Rattle.kd_update.specs.Crossing.{IsCrossed}
 use Rattle.kd_update.specs.Ways.{paths_of}
 use Rattle.kd_update.proofs.Crossing.{all_large_scan, all_watched_scan, piece_comes}
 use Rattle.kd_update.proofs.Joins.{grown_held, grown_numbers, join_piece, walk_distinct}
-use Rattle.kd_update.proofs.ManyLogs.{same_paths}
+use Rattle.kd_update.proofs.ManyLogs.{watched_before}
 use Rattle.kd_update.proofs.scan_watched.put_all_watched.Goals as goal
 use Rattle.kd_update.proofs.scan_watched.put_all_watched.Goals.{After-of-ways, After-put_beside}
 
 -- the ways are the paths of the watches, and the items are those that are asked for
 ways : (g : _) (c : After-of-ways g) → paths_of c.of-ways.result ≡ paths_in c.args.watches.now
-ways g c = c.of-ways.ensures ∙ ap paths_in c.as_slice.ensures.value ∙ same_paths c.args.watches.now c.log_scans.new.watches c.log_scans.ensures.begins
+ways g c = watched_before _ _ _ _ c.of-ways.ensures c.as_slice.ensures.value c.log_scans.ensures.begins
 
 piece : (g : _) (c : After-of-ways g) → IsPiece c.args.large c.args.tree c.args.items.now
 piece g c = join_piece c.args.large c.args.tree c.args.items.now c.requires.fit c.requires.small c.requires.short c.requires.low c.requires.few
 
 crossed : (g : _) (c : After-put_beside g) → IfOk c.put_beside.result (λ t. IsCrossed c.args.large (paths_in c.args.watches.now) c.args.tree c.args.items.now t)
 crossed g c =
-    subst (λ (is : List Item). IfOk c.put_beside.result (λ t. IsCrossed c.args.large (paths_in c.args.watches.now) c.args.tree is t)) (c.as_mut_slice.ensures.value ∙ c.in_ok-items.ensures.items)
-    (subst (λ (ps : List (List Side)). IfOk c.put_beside.result (λ t. IsCrossed c.args.large ps c.args.tree c.as_mut_slice.result.now t)) (c.of-ways.ensures ∙ ap paths_in c.as_slice.ensures.value ∙ same_paths c.args.watches.now c.log_scans.new.watches c.log_scans.ensures.begins) c.put_beside.ensures)
+    subst (λ (is : List Item). IfOk c.put_beside.result (λ t. IsCrossed c.args.large (paths_in c.args.watches.now) c.args.tree is t)) (c.as_mut_slice-items.ensures.value ∙ c.in_ok-items.ensures.items)
+    (subst (λ (ps : List (List Side)). IfOk c.put_beside.result (λ t. IsCrossed c.args.large ps c.args.tree c.as_mut_slice-items.result.now t)) (watched_before _ _ _ _ c.of-ways.ensures c.as_slice.ensures.value c.log_scans.ensures.begins) c.put_beside.ensures)
 
 pub put_beside-requires-clause-piece : goal.put_beside-requires-clause-piece
-put_beside-requires-clause-piece g c = subst (λ (is : List Item). IsPiece c.args.large c.args.tree is) (sym (c.as_mut_slice.ensures.value ∙ c.in_ok-items.ensures.items)) (piece g (goal.at.put_beside-requires-clause-piece g c).After-of-ways)
+put_beside-requires-clause-piece g c = subst (λ (is : List Item). IsPiece c.args.large c.args.tree is) (sym (c.as_mut_slice-items.ensures.value ∙ c.in_ok-items.ensures.items)) (piece g (goal.at.put_beside-requires-clause-piece g c).After-of-ways)
 
 pub put_beside-requires-clause-there : goal.put_beside-requires-clause-there
 put_beside-requires-clause-there g c = subst (λ (ps : List (List Side)). AreLargeAt c.args.large ps c.args.tree) (sym (ways g (goal.at.put_beside-requires-clause-there g c).After-of-ways)) c.requires.there

@@ -11,9 +11,9 @@ loop-i-preserved c =
     let xs = c.args.items.now.items in
     let x = c.index.result.now in
     let below : i < length xs = omega (arith, c.len-i-end.ensures) in
-    let put : c.relabelled.result ≡ f (get_or xs i x) =
-    c.relabelled.ensures ∙ ap f (c.index.ensures ∙ ap (λ ys. get_or ys i x) c.loop-i.invariant.mapped ∙ get_or-mapped f i xs x below) in
+    let put : c.marked.result ≡ f (get_or xs i x) =
+    c.marked.ensures ∙ ap f (c.index.ensures ∙ ap (λ ys. get_or ys i x) c.loop-i.invariant.mapped ∙ get_or-mapped f i xs x below) in
     record {
-      long = length-set c.loop-i.items.items i c.relabelled.result ∙ c.loop-i.invariant.long;
+      long = length-set c.loop-i.items.items i c.marked.result ∙ c.loop-i.invariant.long;
       mapped = rw (c.loop-i.invariant.mapped, put, add-one) (set-mapped f i xs x below);
     }

@@ -16,7 +16,8 @@ returns-then-index-number c =
     let below : at < length xs = omega arith in
     let cut : drop at xs ≡ i ∷ rest = drop-at xs (suc at) at i refl below c.index.ensures in
     let placed : take at xs ++ put (drop at xs) n p ≡ put xs n p = rw c.as_slice.ensures.value at (c.place_of-at.ensures.value p) in
-    set_split xs at (live_at n p) below
+    rw c.live-item.ensures
+    (set_split xs at (live_at n p) below
     ∙ ap (λ ys. take at xs ++ ys) (sym (put_over i rest n p c.if-index-number.true))
     ∙ ap (λ ys. take at xs ++ put ys n p) (sym cut)
-    ∙ placed
+    ∙ placed)

@@ -1,7 +1,8 @@
-use Rattle.std.proofs.Common.{◌≡◌, [], ◌∷◌, false, sym, ap, ◌∙◌, rules}
+use Rattle.std.proofs.Common.{◌≡◌, ◌++◌, [], ◌∷◌, false, sym, ap, ◌∙◌, rules}
 use Rattle.node_labels.specs.Labels.{thin_tag}
 use Rattle.point_geom.specs.Place.{Bounds}
 use Rattle.point_geom.specs.Boxes.{voxel}
+use Rattle.map_fold.specs.declared.item.Item.{Item}
 use Rattle.map_fold.specs.Answers.{inside_all}
 use Rattle.map_fold.specs.Contents.{comes_before, in_box, live_at, mark}
 use Rattle.map_fold.proofs.Numbered.{mark-within, put-above}
@@ -14,7 +15,7 @@ returns-in-None c =
     let n = c.args.number in
     let p = c.args.point.now in
     let none : inside_all m (voxel c.args.edge p) ≡ [] = rw (c.as_slice.ensures.value, c.voxel-cube.ensures.value) at c.in-None.ensures in
-    c.in_ok-push-in-None.ensures.items ∙ sym (thin_none c.args.edge n m p c.requires.held none ∙ put-above 0 n m p c.requires.held)
+    c.in_ok-push-in-None.ensures.items ∙ ap (λ (i : Item). m ++ i ∷ []) c.live-new.ensures ∙ sym (thin_none c.args.edge n m p c.requires.held none ∙ put-above 0 n m p c.requires.held)
 
 pub returns-then-not-comes_before : goal.returns-then-not-comes_before
 returns-then-not-comes_before c =
@@ -24,7 +25,7 @@ returns-then-not-comes_before c =
     let w = c.in-One.rival in
     let alone : inside_all m (voxel c.args.edge p) ≡ w ∷ [] = rw (c.as_slice.ensures.value, c.voxel-cube.ensures.value) at c.in-One.ensures in
     let behind : comes_before (voxel c.args.edge p) (live_at n p) w ≡ false =
-    ap (λ (b : Bounds). comes_before b (live_at n p) w) (sym c.voxel-cube.ensures.value) ∙ sym c.comes_before.ensures ∙ c.if-not-comes_before.true in
+    ap (λ (b : Bounds). comes_before b (live_at n p) w) (sym c.voxel-cube.ensures.value) ∙ ap (λ (i : Item). comes_before c.voxel-cube.result i w) (sym c.live-new.ensures) ∙ sym c.comes_before.ensures ∙ c.if-not-comes_before.true in
     sym (thin_same c.args.edge n m p w c.requires.held alone behind)
 
 pub returns : goal.returns

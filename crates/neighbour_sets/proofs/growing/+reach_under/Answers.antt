@@ -36,7 +36,7 @@ reach_under-requires t c =
     let f = c.args.front.now in
     let q = c.args.ball.now.center in
     let d = c.args.ball.now.limit in
-    let item = c.top_item-item.result in
+    let item = c.relabelled-item.result in
     let top = c.in-Some-top.top in
     let head : Head = record { item = top.item; axis = top.axis; pending = top.pending } in
     let below = c.then-below.result in
@@ -62,7 +62,7 @@ reach_under-requires-2 t c =
     let f = c.args.front.now in
     let q = c.args.ball.now.center in
     let d = c.args.ball.now.limit in
-    let item = c.top_item-item.result in
+    let item = c.relabelled-item.result in
     let top = c.in-Some-top.top in
     let head : Head = record { item = top.item; axis = top.axis; pending = top.pending } in
     let below = c.then-below.result in
@@ -88,8 +88,8 @@ pub returns-clause-reached : goal.returns-clause-reached
 returns-clause-reached t c =
     let top = c.in-Some-top.top in
     let below = c.then-below.result in
-    let item = c.top_item-item.result in
-    let parts = walk_top c.args.tree.now c.args.owed top item below c.in-Some-top.ensures.some c.top_item-item.ensures c.then-below.ensures.value in
+    let item = c.relabelled-item.result in
+    let parts = walk_top c.args.tree.now c.args.owed top item below c.in-Some-top.ensures.some c.relabelled-item.ensures c.then-below.ensures.value in
     put_in_turn c.args.ball.now.center c.args.ball.now.limit item (walk below top.left.now) (walk below top.right.now) (walk c.args.owed c.args.tree.now) c.args.front.now _ _ _
     parts c.in_ok-reach.ensures c.in_ok-left.ensures.reached c.in_ok-right.ensures.reached
 
@@ -110,9 +110,9 @@ pub returns-clause-whole : goal.returns-clause-whole
 returns-clause-whole t c =
     let top = c.in-Some-top.top in
     let below = c.then-below.result in
-    let item = c.top_item-item.result in
+    let item = c.relabelled-item.result in
     let now = c.reach_under-2.new.front in
-    let parts = walk_top c.args.tree.now c.args.owed top item below c.in-Some-top.ensures.some c.top_item-item.ensures c.then-below.ensures.value in
+    let parts = walk_top c.args.tree.now c.args.owed top item below c.in-Some-top.ensures.some c.relabelled-item.ensures c.then-below.ensures.value in
     let kept = grown_kept c.reach_under.new.front now (near (walk below top.right.now) c.args.ball.now.center c.args.ball.now.limit) c.in_ok-right.ensures.reached in
     whole_seen c.reach_under.new.front.seen now.seen item (walk below top.left.now) (walk below top.right.now) (walk c.args.owed c.args.tree.now) c.is_over.result c.in_ok-left.left
     c.in_ok-right.right c.all-whole.result parts kept c.is_over.ensures c.in_ok-left.ensures.whole c.in_ok-right.ensures.whole c.all-whole.ensures
@@ -122,9 +122,9 @@ returns-clause-spent t c =
     let top = c.in-Some-top.top in
     let head : Head = record { item = top.item; axis = top.axis; pending = top.pending } in
     let below = c.then-below.result in
-    let item = c.top_item-item.result in
+    let item = c.relabelled-item.result in
     let now = c.reach_under-2.new.front in
-    let parts = walk_top c.args.tree.now c.args.owed top item below c.in-Some-top.ensures.some c.top_item-item.ensures c.then-below.ensures.value in
+    let parts = walk_top c.args.tree.now c.args.owed top item below c.in-Some-top.ensures.some c.relabelled-item.ensures c.then-below.ensures.value in
     let kept = grown_kept c.reach_under.new.front now (near (walk below top.right.now) c.args.ball.now.center c.args.ball.now.limit) c.in_ok-right.ensures.reached in
     let whole =
     whole_seen c.reach_under.new.front.seen now.seen item (walk below top.left.now) (walk below top.right.now) (walk c.args.owed c.args.tree.now) c.is_over.result c.in_ok-left.left

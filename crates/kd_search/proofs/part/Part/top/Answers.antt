@@ -1,10 +1,8 @@
 use Rattle.std.proofs.Common.{[], ◌∷◌, subst, sym, ap, ◌∙◌, ◌++◌, arith}
 use Rattle.node_labels.specs.declared.tag.Tag.{Tag}
-use Rattle.map_fold.specs.declared.item.Item.{Item}
-use Rattle.map_fold.specs.Contents.{kept}
+use Rattle.map_fold.specs.Contents.{kept, relabelled}
 use Rattle.kd_tree.specs.Shape.{Head, nodes}
 use Rattle.kd_tree.specs.Walk.{walk}
-use Rattle.node_labels.specs.Labels.{composed}
 use Rattle.kd_search.specs.Points.{AreBelow, AreAbove}
 use Rattle.kd_search.proofs.Tops.{left_below, right_above}
 use Rattle.kd_search.proofs.part.Part.top.Goals as goal
@@ -18,14 +16,13 @@ returns-in-Some-clause-some c =
     let head : Head = record { item = top.item; axis = top.axis; pending = top.pending } in
     let is = c.in-Some.ensures.some in
     let sound = c.size-size.ensures.sound in
-    let own : Item = record top.item { label = c.apply.result } in
-    record {
+    let own = relabelled owed top.item in
+    rw c.relabelled.ensures (record {
       items =
           ap (walk owed) is
-          ∙ ap (λ x. kept (record top.item { label = x } ∷ []) ++ (walk (composed top.pending owed) top.left.now ++ walk (composed top.pending owed) top.right.now)) (sym c.apply.ensures)
           ∙ ap (λ a. kept (own ∷ []) ++ (walk a top.left.now ++ walk a top.right.now)) (sym c.then-owed.ensures.value);
       below = subst (λ (a : Tag). AreBelow top.axis p (walk a top.left.now)) (sym c.then-owed.ensures.value) (left_below head owed tree top.left.now top.right.now is sound);
       above = subst (λ (a : Tag). AreAbove top.axis p (walk a top.right.now)) (sym c.then-owed.ensures.value) (right_above head owed tree top.left.now top.right.now is sound);
       nodes = ap nodes is;
       few = omega (arith, c.size-size.ensures.value, c.size-size.ensures.few);
-    }
+    })

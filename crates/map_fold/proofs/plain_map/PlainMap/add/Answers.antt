@@ -11,7 +11,7 @@ loop-point-preserved c =
     drop-at c.args.points.now _ c.loop-point.point-index p (omega arith) (rw c.as_slice-point-items.ensures at c.loop-point-test.true) (rw c.as_slice-point-items.ensures at c.point-item.is) in
     let shorter : length (drop c.loop-point.point-index c.args.points.now) ≡ length (drop (c.loop-point.point-index + 1) c.args.points.now) + 1 = rw cut (omega arith) in
     record {
-      numbered = rw c.in_ok-push.ensures.items (contents_push 0 next _ p (omega arith) numbered);
+      numbered = rw (c.in_ok-push.ensures.items, c.live.ensures) (contents_push 0 next _ p (omega arith) numbered);
       room = omega arith;
-      rest = rw (c.in_ok-push.ensures.items, ← put-above 0 next c.loop-point.items.items p numbered) (rw cut at c.loop-point.invariant.rest);
+      rest = rw (c.in_ok-push.ensures.items, c.live.ensures, ← put-above 0 next c.loop-point.items.items p numbered) (rw cut at c.loop-point.invariant.rest);
     }
