@@ -18,7 +18,6 @@ use Rattle.map_fold.specs.Clusters.{clusters}
 use Rattle.map_fold.specs.Fold.{fold}
 use Rattle.scan_log.specs.Commands.{command_update, updates_made}
 use Rattle.scan_log.specs.declared.format.Format.{Format}
-use Rattle.scan_log.specs.declared.format.Format.TheVariants.{One, Two}
 use Rattle.scan_log.specs.declared.command.Command.{Command}
 use Rattle.scan_log.specs.declared.command.Command.TheVariants.{Change, Near, Nears, Inside, Ball, Lonely, Clusters, Pose, Sync}
 use Rattle.scan_log.specs.declared.reply.Reply.{Reply}
@@ -135,22 +134,17 @@ all_spaced fields = flat_map spaced fields
 abbrev pub point_text : Place → List ℕ
 point_text p = all_spaced (point_fields p)
 
--- what a log says of a point that is added or thinned, each after a space
+-- x y z, and the intensity where the version has any, each after a space
 abbrev pub scanned_text : Format → Place → List ℕ
 scanned_text format p = all_spaced (scanned_fields format p)
 
--- the intensity after a space, where a log has any
-abbrev pub intensity_text : Format → Place → List ℕ
-intensity_text One p = []
-intensity_text Two p = spaced (decimal p.intensity)
-
 -- n x y z d, after a bar, with the intensity before d where a log has any
 abbrev pub hit_text : Format → Hit → List ℕ
-hit_text format h = codes " | " ++ decimal h.number ++ point_text h.point ++ intensity_text format h.point ++ spaced (decimal h.dist2)
+hit_text format h = codes " | " ++ decimal h.number ++ scanned_text format h.point ++ spaced (decimal h.dist2)
 
 -- n x y z, after a bar, and the intensity where a log has any
 abbrev pub item_text : Format → Item → List ℕ
-item_text format i = codes " | " ++ decimal i.number ++ point_text i.point ++ intensity_text format i.point
+item_text format i = codes " | " ++ decimal i.number ++ scanned_text format i.point
 
 -- @c ok M
 abbrev pub done_text : ℕ → ℕ → List ℕ

@@ -3,12 +3,11 @@ ghost use Rattle.std.specs.Prelude.{◌≡◌, ◌∷◌, ◌++◌, [], codes, d
 ghost use Rattle.std.specs.List.{flat_map};
 ghost use Rattle.std.specs.Option.{option_copied};
 ghost use Rattle.scan_log.specs.Spelling.{caller_field};
-ghost use Rattle.scan_log.specs.Transcript.{clusters_text, counts_text, done_text, intensity_text, items_text, point_text, reply_text, spaced, totals_text};
+ghost use Rattle.scan_log.specs.Transcript.{clusters_text, done_text, items_text, reply_text, spaced, totals_text};
 
-use crate::putting::{Listed, put, put_all, put_head, put_number, put_point, put_spaced};
+use crate::putting::{Listed, put, put_all, put_head, put_named, put_spaced};
 use crate::{Command, Format, Reply};
 use map_fold::{BoxReply, ClusterReply, Group, Hit, Hits, Item, NearReply, NearsReply, NoMemory};
-use point_geom::Point;
 
 /// Puts the line of a reply at the end, as it is for logs of this version. No command stands for the end of the log. A reply
 /// that isn't of the command's kind has no line. Where memory runs out, nothing is put. The line takes memory of its own while
@@ -144,16 +143,8 @@ fn put_totals(
 {
     put(out, word)?;
     put_spaced(out, mark)?;
-    put_counts(out, live, suspended)
-}
-
-fn put_counts(out: &mut Vec<u8>, live: u32, suspended: u32) -> Result<(), NoMemory>
-    ensures { OnOk result (out.new.items ≡ out.old.items ++ counts_text live suspended) }
-{
-    put(out, b" live ")?;
-    put_number(out, live)?;
-    put(out, b" suspended ")?;
-    put_number(out, suspended)?;
+    put_named(out, b"live", live)?;
+    put_named(out, b"suspended", suspended)?;
     put(out, b"\n")
 }
 
@@ -174,7 +165,8 @@ impl Listed for Hit {
     ghost text = { hit_text };
 
     fn put(&self, out: &mut Vec<u8>, format: Format) -> Result<(), NoMemory> {
-        put_numbered(out, format, self.number, &self.point)?;
+        put_named(out, b"|", self.number)?;
+        self.point.put(out, format)?;
         put_spaced(out, self.dist2)
     }
 }
@@ -185,7 +177,8 @@ impl Listed for Item {
     ghost text = { item_text };
 
     fn put(&self, out: &mut Vec<u8>, format: Format) -> Result<(), NoMemory> {
-        put_numbered(out, format, self.number, &self.point)
+        put_named(out, b"|", self.number)?;
+        self.point.put(out, format)
     }
 }
 
@@ -195,32 +188,7 @@ impl Listed for Group {
     ghost text = { λ _. group_text };
 
     fn put(&self, out: &mut Vec<u8>, _format: Format) -> Result<(), NoMemory> {
-        put(out, b" | ")?;
-        put_number(out, self.least)?;
+        put_named(out, b"|", self.least)?;
         put_spaced(out, self.size)
-    }
-}
-
-// A point under its number.
-fn put_numbered(
-    out: &mut Vec<u8>,
-    format: Format,
-    number: u32,
-    point: &Point,
-) -> Result<(), NoMemory>
-    ensures { OnOk result (out.new.items ≡ out.old.items ++ (codes " | " ++ decimal number ++ point_text point.now ++ intensity_text format point.now)) }
-{
-    put(out, b" | ")?;
-    put_number(out, number)?;
-    put_point(out, point)?;
-    put_intensity(out, format, point)
-}
-
-fn put_intensity(out: &mut Vec<u8>, format: Format, point: &Point) -> Result<(), NoMemory>
-    ensures { OnOk result (out.new.items ≡ out.old.items ++ intensity_text format point.now) }
-{
-    match format {
-        Format::One => Ok(()),
-        Format::Two => put_spaced(out, point.intensity()),
     }
 }

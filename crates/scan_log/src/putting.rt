@@ -42,7 +42,7 @@ pub(crate) fn put_caller(out: &mut Vec<u8>, caller: u8) -> Result<(), NoMemory>
     put_number(out, caller)
 }
 
-/// The caller, the word and the number that a line begins with.
+/// The caller, the word and its number that a line begins with.
 pub(crate) fn put_head<I: Integer>(
     out: &mut Vec<u8>,
     caller: u8,
@@ -52,6 +52,17 @@ pub(crate) fn put_head<I: Integer>(
     ensures { OnOk result (out.new.items ≡ out.old.items ++ (caller_field caller ++ spaced word.now ++ spaced (I.text number))) }
 {
     put_caller(out, caller)?;
+    put_named(out, word, number)
+}
+
+/// A word and its number.
+pub(crate) fn put_named<I: Integer>(
+    out: &mut Vec<u8>,
+    word: &[u8],
+    number: I,
+) -> Result<(), NoMemory>
+    ensures { OnOk result (out.new.items ≡ out.old.items ++ (spaced word.now ++ spaced (I.text number))) }
+{
     put_word(out, word)?;
     put_spaced(out, number)
 }

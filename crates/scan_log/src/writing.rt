@@ -7,7 +7,9 @@ ghost use Rattle.scan_log.specs.Spelling.{Spells, box_fields, caller_field, head
 ghost use Rattle.scan_log.specs.Transcript.{all_spaced, spaced};
 ghost use Rattle.scan_log.specs.Written.{corner_text, cuboid_text, joined, written_line, script_text};
 
-use crate::putting::{Listed, put, put_all, put_caller, put_head, put_point, put_spaced, put_word};
+use crate::putting::{
+    Listed, put, put_all, put_caller, put_head, put_named, put_point, put_spaced, put_word,
+};
 use crate::{Command, Format, Script};
 use local_region::RegionRules;
 use map_fold::{NoMemory, Settings, Update};
@@ -34,8 +36,8 @@ fn put_header(out: &mut Vec<u8>, format: Format, settings: &Settings) -> Result<
     ensures { OnOk result (out.new.items ≡ out.old.items ++ written_line (header_fields format settings.now)) }
 {
     put(out, program_of(format))?;
-    put_setting(out, b"voxel", settings.voxel())?;
-    put_setting(out, b"large", settings.large())?;
+    put_named(out, b"voxel", settings.voxel())?;
+    put_named(out, b"large", settings.large())?;
     put(out, b"\n")
 }
 
@@ -47,13 +49,6 @@ fn program_of(format: Format) -> &'static [u8]
         Format::One => b"ikdmap 1",
         Format::Two => b"ikdmap 2",
     }
-}
-
-fn put_setting(out: &mut Vec<u8>, word: &[u8], number: u32) -> Result<(), NoMemory>
-    ensures { OnOk result (out.new.items ≡ out.old.items ++ (spaced word.now ++ spaced (decimal number))) }
-{
-    put_word(out, word)?;
-    put_spaced(out, number)
 }
 
 impl Listed for Command {
@@ -74,8 +69,7 @@ impl Listed for Command {
                 within,
             } => put_near(out, *caller, *k, point, *within)?,
             Command::Nears { caller, k, points } => {
-                put_caller(out, *caller)?;
-                put_nears(out, *k, points.as_slice())?;
+                put_nears(out, *caller, *k, points.as_slice())?;
             }
             Command::Inside { caller, k, cuboid } => put_inside(out, *caller, *k, cuboid)?,
             Command::Ball {
@@ -111,12 +105,11 @@ fn put_near(
     put_within(out, within)
 }
 
-// What stands behind the caller. A place is written as a point of version 1, which has no intensity.
-fn put_nears(out: &mut Vec<u8>, k: u32, points: &[Point]) -> Result<(), NoMemory>
-    ensures { OnOk result (out.new.items ≡ out.old.items ++ all_spaced (codes "nears" ∷ decimal k ∷ flat_map point_fields points.now)) }
+// A place is written as a point of version 1, which has no intensity.
+fn put_nears(out: &mut Vec<u8>, caller: u8, k: u32, points: &[Point]) -> Result<(), NoMemory>
+    ensures { OnOk result (out.new.items ≡ out.old.items ++ joined (caller_field caller ∷ codes "nears" ∷ decimal k ∷ flat_map point_fields points.now)) }
 {
-    put_word(out, b"nears")?;
-    put_spaced(out, k)?;
+    put_head(out, caller, b"nears", k)?;
     put_all(out, Format::One, points)
 }
 
@@ -166,7 +159,7 @@ fn put_update(out: &mut Vec<u8>, format: Format, update: &Update) -> Result<(), 
         Update::Delete(boxes) => put_several(out, format, b"delete", boxes.as_slice()),
         Update::Suspend(boxes) => put_several(out, format, b"suspend", boxes.as_slice()),
         Update::Restore(boxes) => put_several(out, format, b"restore", boxes.as_slice()),
-        Update::Expire(number) => put_bound(out, b"expire", *number),
+        Update::Expire(number) => put_named(out, b"expire", *number),
     }
 }
 
@@ -207,13 +200,6 @@ impl Listed for Cuboid {
     }
 }
 
-fn put_bound(out: &mut Vec<u8>, word: &[u8], number: u32) -> Result<(), NoMemory>
-    ensures { OnOk result (out.new.items ≡ out.old.items ++ all_spaced (word.now ∷ decimal number ∷ [])) }
-{
-    put_word(out, word)?;
-    put_spaced(out, number)
-}
-
 fn put_cuboid(out: &mut Vec<u8>, cuboid: &Cuboid) -> Result<(), NoMemory>
     ensures { OnOk result (out.new.items ≡ out.old.items ++ cuboid_text cuboid.now) }
 {
@@ -233,10 +219,7 @@ fn put_within(out: &mut Vec<u8>, within: Option<u64>) -> Result<(), NoMemory>
     ensures { OnOk result (out.new.items ≡ out.old.items ++ all_spaced (within_fields within)) }
 {
     match within {
-        Some(distance) => {
-            put_word(out, b"within")?;
-            put_spaced(out, distance)
-        }
+        Some(distance) => put_named(out, b"within", distance),
         None => Ok(()),
     }
 }

@@ -15,4 +15,4 @@ pub returns : goal.returns
 returns c =
     let sizes = c.args.settings.now in
     let e = line c.args.out.now.items (codes "ikdmap" ++ spaced (version_field c.args.format)) (spaced (codes "voxel")) (spaced (decimal sizes.voxel)) (spaced (codes "large")) (spaced (decimal sizes.large)) (10 ∷ []) in
-    on_ok_weaker c.put-2.result (λ last. cc (e, last, c.in_ok-put.ensures.ok, c.in_ok-put_setting.ensures, c.in_ok-put_setting-2.ensures, c.voxel.ensures.value, c.large.ensures.value)) c.put-2.ensures.ok
+    on_ok_weaker c.put-2.result (λ last. cc (e, last, c.in_ok-put.ensures.ok, c.in_ok-put_named.ensures, c.in_ok-put_named-2.ensures, c.voxel.ensures.value, c.large.ensures.value)) c.put-2.ensures.ok
