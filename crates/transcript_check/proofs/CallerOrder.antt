@@ -7,7 +7,7 @@ use Rattle.std.proofs.lemmas.Bool.Decides.{nat_tests}
 use Rattle.map_fold.specs.declared.update.Update.{Update}
 use Rattle.scan_log.specs.Commands.{Concerns, command_caller, command_update, is_for, is_own_or_none}
 use Rattle.scan_log.specs.declared.command.Command.{Command}
-use Rattle.scan_log.specs.Legal.{IsLater, MayFollow, AllFollow, AreInOrder}
+use Rattle.scan_log.specs.Legal.{IsLater, AllFollow, AreInOrder}
 use Rattle.scan_log.specs.Plain.{IsPlain}
 use Rattle.scan_log.specs.Scripts.{IsCaller}
 use Rattle.scan_log.proofs.Whose.{concerns_for, follows_later, for_concerns, later_le, later_less, plain_caller}

@@ -13,8 +13,8 @@ use Rattle.map_fold.specs.declared.group.Group.{Group}
 use Rattle.scan_log.specs.declared.format.Format.{Format}
 use Rattle.scan_log.specs.declared.format.Format.TheVariants.{One, Two}
 use Rattle.scan_log.specs.Numbers.{first_field}
-use Rattle.scan_log.specs.Spelling.{caller_field}
-use Rattle.scan_log.specs.Transcript.{spaced, point_text, intensity_text, hit_text, list_text, item_text, group_text}
+use Rattle.scan_log.specs.Spelling.{caller_field, scanned_fields}
+use Rattle.scan_log.specs.Transcript.{spaced, all_spaced, scanned_text, hit_text, list_text, item_text, group_text}
 use Rattle.transcript_check.specs.Heads.{IsNoFeed}
 
 abbrev pub ArePlain : List ℕ → Type 0
@@ -75,26 +75,23 @@ plain_signed (negsuc n) = ((λ is. absurd (omega (arith, is))), plain_decimal (s
 pub plain_spaced : (xs : List ℕ) → ArePlain xs → ArePlain (spaced xs)
 plain_spaced xs p = ((λ is. absurd (omega (arith, is))), p)
 
-plain_point : (p : Place) → ArePlain (point_text p)
-plain_point p =
-    plain-append (spaced (signed_decimal p.x)) _ (plain_spaced _ (plain_signed p.x))
-    (plain-append (spaced (signed_decimal p.y)) _ (plain_spaced _ (plain_signed p.y))
-    (plain-append (spaced (signed_decimal p.z)) [] (plain_spaced _ (plain_signed p.z)) tt))
+plain_fields : (fields : List (List ℕ)) → AllByRecursion ArePlain fields → ArePlain (all_spaced fields)
+plain_fields [] ps = tt
+plain_fields (field ∷ fields) ps = plain-append (spaced field) (all_spaced fields) (plain_spaced field ps.0) (plain_fields fields ps.1)
 
-plain_intensity : (format : Format) (p : Place) → ArePlain (intensity_text format p)
-plain_intensity One p = tt
-plain_intensity Two p = plain_spaced (decimal p.intensity) (plain_decimal p.intensity)
+plain_scanned : (format : Format) (p : Place) → ArePlain (scanned_text format p)
+plain_scanned One p = plain_fields (scanned_fields One p) (plain_signed p.x, (plain_signed p.y, (plain_signed p.z, tt)))
+plain_scanned Two p = plain_fields (scanned_fields Two p) (plain_signed p.x, (plain_signed p.y, (plain_signed p.z, (plain_decimal p.intensity, tt))))
 
 plain_item : (format : Format) (i : Item) → ArePlain (item_text format i)
 plain_item format i =
     let front : ArePlain (codes " | " ++ decimal i.number) = plain-append (codes " | ") (decimal i.number) (plain_test (codes " | ") refl) (plain_decimal i.number) in
-    let middle : ArePlain (codes " | " ++ decimal i.number ++ point_text i.point) = plain-append (codes " | " ++ decimal i.number) (point_text i.point) front (plain_point i.point) in
-    plain-append (codes " | " ++ decimal i.number ++ point_text i.point) (intensity_text format i.point) middle (plain_intensity format i.point)
+    plain-append (codes " | " ++ decimal i.number) (scanned_text format i.point) front (plain_scanned format i.point)
 
 plain_hit : (format : Format) (h : Hit) → ArePlain (hit_text format h)
 plain_hit format h =
     let front = plain_item format (record { number = h.number; point = h.point; label = Live }) in
-    plain-append (codes " | " ++ decimal h.number ++ point_text h.point ++ intensity_text format h.point) (spaced (decimal h.dist2)) front (plain_spaced (decimal h.dist2) (plain_decimal h.dist2))
+    plain-append (codes " | " ++ decimal h.number ++ scanned_text format h.point) (spaced (decimal h.dist2)) front (plain_spaced (decimal h.dist2) (plain_decimal h.dist2))
 
 plain_group : (g : Group) → ArePlain (group_text g)
 plain_group g =

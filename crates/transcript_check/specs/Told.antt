@@ -1,5 +1,5 @@
 -- Lines with their marks, as they are read, ordered and replayed.
-use Rattle.std.specs.Prelude.{◌≡◌, ℕ, ◌+◌, Bool, true, nat_lt, nat_le, ◌==◌, List, [], ◌∷◌, map, slice_get, if◌then◌else◌, is_some}
+use Rattle.std.specs.Prelude.{◌≡◌, ℕ, ◌+◌, Bool, true, nat_lt, nat_le, List, [], ◌∷◌, map, slice_get, if◌then◌else◌, is_some}
 use Rattle.std.specs.declared.option.Option.{Option}
 use Rattle.std.specs.declared.option.Option.TheVariants.{None, Some}
 use Rattle.map_fold.specs.declared.item.Item.{Item}
