@@ -132,22 +132,14 @@ fn three_lists(alloc: Global) -> Result<HitLists, Fail> {
 }
 
 #[test]
-fn what_is_in_a_ball_is_told_after_its_number(rt: HostRuntime) -> Result<(), Fail> {
+fn how_many_are_found_is_told_before_them(rt: HostRuntime) -> Result<(), Fail> {
     let alloc = rt.alloc();
-    let ball = b"@2 ball 1 5 0 0 0";
     let inside = Reply::Ball(found(alloc, 6)?);
     let want = b"@2 ball 9 7 | 6 1 -2 3 4\n";
-    is_told(&rt, alloc, WIDE_HEADER, ball, &inside, want)?;
-    // A box is no ball.
-    let other = Reply::Inside(found(alloc, 6)?);
-    is_told(&rt, alloc, WIDE_HEADER, ball, &other, b"")
-}
-
-#[test]
-fn the_lonely_points_are_told_after_their_number(rt: HostRuntime) -> Result<(), Fail> {
-    let alone = Reply::Lonely(found(rt.alloc(), 6)?);
+    is_told(&rt, alloc, WIDE_HEADER, b"@2 ball 1 5 0 0 0", &inside, want)?;
+    let alone = Reply::Lonely(found(alloc, 6)?);
     let want = b"@8 lonely 9 7 | 6 1 -2 3 4\n";
-    is_told(&rt, rt.alloc(), WIDE_HEADER, b"@8 lonely 1 5", &alone, want)
+    is_told(&rt, alloc, WIDE_HEADER, b"@8 lonely 1 5", &alone, want)
 }
 
 #[test]

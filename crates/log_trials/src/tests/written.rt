@@ -279,10 +279,18 @@ fn what_is_found_in_a_box_is_told_after_its_number(rt: HostRuntime) -> Result<()
     let reply = Reply::Inside(found(alloc, 4_194_303)?);
     let plain = b"@2 box 9 7 | 4194303 1 -2 3\n";
     let wide = b"@2 box 9 7 | 4194303 1 -2 3 4\n";
-    is_told_in_both(&rt, alloc, inside, &reply, plain, wide)?;
-    // A reply of another kind has no line.
+    is_told_in_both(&rt, alloc, inside, &reply, plain, wide)
+}
+
+#[test]
+fn a_reply_of_another_kind_has_no_line(rt: HostRuntime) -> Result<(), Fail> {
+    let alloc = rt.alloc();
     let done = Reply::Done { mark: 1 };
-    is_told(&rt, alloc, WIDE_HEADER, inside, &done, b"")
+    let boxed = b"@2 box 1 4 -5 6 1000000001 -5 7";
+    is_told(&rt, alloc, WIDE_HEADER, boxed, &done, b"")?;
+    // A box is no ball.
+    let inside = Reply::Inside(found(alloc, 6)?);
+    is_told(&rt, alloc, WIDE_HEADER, b"@2 ball 1 5 0 0 0", &inside, b"")
 }
 
 // Seven points, of which this one is listed.
