@@ -1,4 +1,4 @@
-use Rattle.std.proofs.Common.{◌≡◌, ap, ◌∙◌, sym, subst, arith, List}
+use Rattle.std.proofs.Common.{◌≡◌, sym, subst, arith, List}
 use Rattle.std.specs.Prelude.{IfOk}
 use Rattle.std.proofs.lemmas.Result.{IfOk-weaker}
 use Rattle.kd_tree.specs.declared.path.Side.{Side}

@@ -1,9 +1,7 @@
-use Rattle.std.proofs.Common.{◌≡◌, ◌∙◌, List, [], sym, subst, arith, length, false, ap, ◌∷◌}
-use Rattle.std.specs.Prelude.{◌==◌}
+use Rattle.std.proofs.Common.{◌∙◌, List, sym, subst, arith, length, ap}
 use Rattle.std.proofs.lemmas.Bool.{eqb-true}
 use Rattle.std.proofs.lemmas.List.{nil_from_length}
 use Rattle.std.proofs.lemmas.Result.{IfOk-weaker}
-use Rattle.map_fold.specs.declared.item.Item.{Item}
 use Rattle.kd_tree.specs.Apart.{AreAllApart}
 use Rattle.kd_tree.specs.Parts.{fork_in, fork_of}
 use Rattle.kd_tree.specs.declared.path.Side.{Side}
