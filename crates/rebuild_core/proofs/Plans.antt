@@ -1,5 +1,5 @@
 -- Plans that leave a lawful state.
-use Rattle.std.proofs.Common.{◌≡◌, ℕ, ◌+◌, ◌*◌, ◌<◌, ◌≤◌, List, [], ◌∷◌, ◌++◌, length, length-append, append-nil, refl, ap, sym, ◌∙◌, arith, subst, Some, None}
+use Rattle.std.proofs.Common.{◌≡◌, ℕ, ◌+◌, ◌*◌, ◌<◌, ◌≤◌, List, [], ◌∷◌, ◌++◌, length, length-append, append-nil, refl, ap, sym, ◌∙◌, arith, subst, Some}
 use Rattle.std.specs.Prelude.{All}
 use Rattle.map_fold.specs.Fold.{points_in, step}
 use Rattle.map_fold.specs.declared.op.Op.{Op}
@@ -22,7 +22,7 @@ use Rattle.rebuild_core.specs.Logs.{LogPlan, planned_parts}
 use Rattle.rebuild_core.specs.Parts.{AreInSlots, AreLawfulParts, PartAt, paths}
 use Rattle.rebuild_core.specs.Single.{RebuildsNothing, entered_nodes, only_op, unrebuilt}
 use Rattle.rebuild_core.specs.StateView.{IsNextOf}
-use Rattle.rebuild_core.specs.Steps.{IsDrafted, IsUnrebuiltUpdate, IsSettlePlan, IsUpdatePlan, PlannedAt, entered}
+use Rattle.rebuild_core.specs.Steps.{IsDrafted, IsUnrebuiltUpdate, IsSettlePlan, IsUpdatePlan, PlannedAt, entered, plan_with}
 use Rattle.rebuild_core.specs.declared.plan.Drafted.{Drafted}
 use Rattle.rebuild_core.proofs.Detached.{left_lawful, left_none}
 use Rattle.rebuild_core.proofs.Drafts.{among_below}
@@ -119,14 +119,13 @@ held_lawful s t ps k sound held below lawful balanced =
     subst (λ (h : List Entry). IsLawful (record s { tree = t; version = record { tree = t; next = s.next; len = length s.history }; history = h; parts = ps })) (sym (append-nil s.history)) one
 
 -- the plan of settling
-pub settles : (s z : StateAt) (t : Shape) (ver : VersionAt) (logs : List LogPlan) → IsLawful s → IsSound t → contents t ≡ contents s.tree → AreAmong (numbers t) (numbers s.tree) → AllMeetCriteria 10 t → planned_parts logs s.parts ≡ []
-    → ver ≡ record { tree = t; next = s.next; len = length s.history } → s ≡ z → IsSettlePlan z (record { tree = t; next = s.next; version = ver; entry = None; logs = logs })
-settles s z t ver logs k sound held from criteria none shown is =
-    let P : PlannedAt = record { tree = t; next = s.next; version = record { tree = t; next = s.next; len = length s.history }; entry = None; logs = logs } in
+pub settles : (s z : StateAt) (t : Shape) (logs : List LogPlan) → IsLawful s → IsSound t → contents t ≡ contents s.tree → AreAmong (numbers t) (numbers s.tree) → AllMeetCriteria 10 t → planned_parts logs s.parts ≡ [] → s ≡ z
+    → IsSettlePlan z (plan_with t logs z)
+settles s z t logs k sound held from criteria none is =
+    let P : PlannedAt = plan_with t logs s in
     let all =
     held_lawful s t [] k sound held (among_below s.next (numbers t) (numbers s.tree) from k.below) (left_lawful s.settings.large s.next s.next s.last s.last s.tree t s.parts [] (left_none s.parts) k.parts tt)
     (balanced_clear s.settings.large t (criteria_balanced s.settings.large t criteria)) in
     let here : IsLawful (entered P s) = subst (λ (ps : List PartAt). IsLawful (record s { tree = t; version = P.version; history = s.history ++ []; parts = ps })) (sym none) all in
     let plan : IsSettlePlan s P = record { lawful = here; held = held; next = refl; none = refl; parts = none; criteria = criteria } in
-    let with_version : IsSettlePlan s (record P { version = ver }) = subst (λ (x : VersionAt). IsSettlePlan s (record P { version = x })) (sym shown) plan in
-    subst (λ (x : StateAt). IsSettlePlan x (record P { version = ver })) is with_version
+    subst (λ (x : StateAt). IsSettlePlan x (plan_with t logs x)) is plan

@@ -1,5 +1,5 @@
 -- Values that are swapped into a lawful state.
-use Rattle.std.proofs.Common.{◌≡◌, ℕ, ◌+◌, ◌<◌, Bool, true, false, List, [], ◌∷◌, ◌++◌, length, map, refl, ap, sym, ◌∙◌, subst, inl, inr, arith, None}
+use Rattle.std.proofs.Common.{◌≡◌, ℕ, ◌+◌, ◌<◌, Bool, true, false, List, [], ◌∷◌, ◌++◌, map, refl, ap, sym, ◌∙◌, subst, inl, inr, arith}
 use Rattle.std.specs.Prelude.{All, Contains, ◌↔◌}
 use Rattle.std.proofs.lemmas.List.Elements.{All-append, All-cons, All-contains, All-contains_itself, All-nil, All-weaker, Contains-append_cases, Contains-append_left, Contains-append_right}
 use Rattle.map_fold.specs.declared.item.Item.{Item}
@@ -18,10 +18,10 @@ use Rattle.kd_update.specs.Several.{AreLargeAt, AreSameAt, IsBalancedClear}
 use Rattle.kd_update.proofs.Several.{balanced_clear}
 use Rattle.kd_update.proofs.Update.{criteria_balanced}
 use Rattle.rebuild_core.specs.Built.{BuiltAt, IsLawfulBuilt, IsPartOf, IsTreeOf, undone}
-use Rattle.rebuild_core.specs.Lawful.{IsLawful, StateAt, VersionAt}
+use Rattle.rebuild_core.specs.Lawful.{IsLawful, StateAt}
 use Rattle.rebuild_core.specs.Logs.{LogPlan, planned_parts}
 use Rattle.rebuild_core.specs.Parts.{AreEachLawful, AreLawfulParts, AreLeft, PartAt, paths, without}
-use Rattle.rebuild_core.specs.Steps.{PlannedAt}
+use Rattle.rebuild_core.specs.Steps.{plan_with}
 use Rattle.rebuild_core.specs.Swap.{IsCaughtUp, IsLeftBySwap, IsSwapPlan}
 use Rattle.rebuild_core.proofs.ApartPaths.{clear_of_others, balanced_more, ones_moved}
 use Rattle.rebuild_core.proofs.Detached.{each_large, each_same, each_without, left_lawful, left_none, left_without}
@@ -123,19 +123,16 @@ which_left : (s : StateAt) (b : BuiltAt) (p : PartAt) (with : Shape) (anew : Boo
 which_left s b p with true ps o held room none one = record { part = p; of = o; with = with; caught = held; left = inr ((λ r. let e = room.1 r in absurd cc), none refl) }
 which_left s b p with false ps o held room none one = record { part = p; of = o; with = with; caught = held; left = inl (room.0 refl, one refl) }
 
-pub swaps : (s : StateAt) (b : BuiltAt) (p : PartAt) (with t : Shape) (anew : Bool) (next : ℕ) (ver : VersionAt) (logs : List LogPlan) → IsLawful s → IsPartOf b s.parts p → IsSound t → IsCaughtUp s.settings.large b (undone b p) with
+pub swaps : (s : StateAt) (b : BuiltAt) (p : PartAt) (with t : Shape) (anew : Bool) (logs : List LogPlan) → IsLawful s → IsPartOf b s.parts p → IsSound t → IsCaughtUp s.settings.large b (undone b p) with
     → contents t ≡ contents s.tree → All (λ n. n < s.next) (numbers t) → ((anew ≡ false) ↔ HasRoomAt p.path with s.tree) → (anew ≡ true → AllMeetCriteria 10 t) → (anew ≡ false → AreSameAt (paths (without b.ticket s.parts)) t s.tree)
     → IsBalancedClear s.settings.large (paths (without b.ticket s.parts)) t → (anew ≡ true → planned_parts logs s.parts ≡ []) → (anew ≡ false → planned_parts logs s.parts ≡ without b.ticket s.parts)
-    → ver ≡ record { tree = t; next = s.next; len = length s.history } → next ≡ s.next → IsSwapPlan b s (record { tree = t; next = next; version = ver; entry = None; logs = logs })
-swaps s b p with t anew next ver logs k o sound caught held below room criteria same balanced none one shown is =
-    let P : PlannedAt = record { tree = t; next = s.next; version = record { tree = t; next = s.next; len = length s.history }; entry = None; logs = logs } in
+    → IsSwapPlan b s (plan_with t logs s)
+swaps s b p with t anew logs k o sound caught held below room criteria same balanced none one =
     let left = left_by_swap s b p t anew (planned_parts logs s.parts) k o criteria same balanced none one in
-    let plan : IsSwapPlan b s P = record {
+    record {
       lawful = held_lawful s t (planned_parts logs s.parts) k sound held below left.0 left.1;
       held = held;
       next = refl;
       none = refl;
       parts = which_left s b p with anew (planned_parts logs s.parts) o caught room none one;
-    } in
-    let with_version : IsSwapPlan b s (record P { version = ver }) = subst (λ (x : VersionAt). IsSwapPlan b s (record P { version = x })) (sym shown) plan in
-    subst (λ (n : ℕ). IsSwapPlan b s (record P { next = n; version = ver })) (sym is) with_version
+    }

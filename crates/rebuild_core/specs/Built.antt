@@ -1,5 +1,5 @@
 -- Detached subtrees that are rebuilt elsewhere, and what their parts have met meanwhile.
-use Rattle.std.specs.Prelude.{◌≡◌, ℕ, ◌++◌, List, [], length, map, take, drop, Some}
+use Rattle.std.specs.Prelude.{◌≡◌, ℕ, ◌≤◌, ◌++◌, List, [], length, map, take, drop, Some}
 use Rattle.map_fold.specs.declared.item.Item.{Item}
 use Rattle.map_fold.specs.declared.op.Op.{Op}
 use Rattle.map_fold.specs.Ops.{Fit, numbers_put, replay}
@@ -8,6 +8,7 @@ use Rattle.kd_tree.specs.Contents.{contents}
 use Rattle.kd_tree.specs.Criteria.{AllMeetCriteria}
 use Rattle.kd_update.specs.Refresh.{AreAmong}
 use Rattle.rebuild_core.specs.Parts.{PartAt, part_of}
+use Rattle.op_logger.specs.declared.log.TheConstants.{MAX_LOGGED}
 
 -- the items of a subtree that was detached with this ticket
 pub record JobAt : Type 0 where
@@ -63,6 +64,14 @@ undone b p = drop (length b.done) p.log
 -- the operations can be done on the value's tree
 abbrev pub CanBeDoneOn : BuiltAt → List Op → Type 0
 CanBeDoneOn b ops = Fit (contents b.tree) ops
+
+-- The value is of this part. The log, which is no longer than a log may be, has all that the value has done, and the rest of it can be
+-- done on the value's tree.
+pub record IsFoundPart (b : BuiltAt) (ps : List PartAt) (p : PartAt) : Type 0 where
+  pub of : IsPartOf b ps p
+  pub done : length b.done ≤ length p.log
+  pub few : length p.log ≤ MAX_LOGGED
+  pub fit : CanBeDoneOn b (undone b p)
 
 -- the tree is that of a value of this part, and these are the operations that the value hasn't done
 pub record IsTreeOf (b : BuiltAt) (p : PartAt) (ps : List PartAt) (t : Shape) (ops : List Op) : Type 0 where

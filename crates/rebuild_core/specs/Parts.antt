@@ -1,5 +1,6 @@
 -- Detached subtrees: what a state keeps of each, and what a step leaves of them.
-use Rattle.std.specs.Prelude.{◌≡◌, ℕ, ◌+◌, ◌<◌, ◌≤◌, ◌⊎◌, List, [], ◌∷◌, ◌++◌, length, map, All, Option, Some, None, ◌==◌, if◌then◌else◌}
+use Rattle.std.specs.Prelude.{◌≡◌, ℕ, ◌+◌, ◌<◌, ◌≤◌, ◌⊎◌, List, [], ◌∷◌, ◌++◌, length, map, All, Option, ◌==◌, if◌then◌else◌}
+use Rattle.std.specs.List.{find}
 use Rattle.map_fold.specs.declared.item.Item.{Item}
 use Rattle.map_fold.specs.declared.op.Op.{Op}
 use Rattle.map_fold.specs.Contents.{AreContents}
@@ -73,13 +74,11 @@ pub record AreLawfulParts (large next last : ℕ) (t : Shape) (ps : List PartAt)
 
 -- the part in the slot, if there is one
 abbrev pub part_in : ℕ → List PartAt → Option PartAt
-part_in slot [] = None
-part_in slot (p ∷ ps) = if slot == p.slot then Some p else part_in slot ps
+part_in slot ps = find (λ p. slot == p.slot) ps
 
 -- the part of the ticket, if there is one
 abbrev pub part_of : ℕ → List PartAt → Option PartAt
-part_of ticket [] = None
-part_of ticket (p ∷ ps) = if ticket == p.ticket then Some p else part_of ticket ps
+part_of ticket ps = find (λ p. ticket == p.ticket) ps
 
 -- the parts without that of the ticket
 abbrev pub without : ℕ → List PartAt → List PartAt

@@ -27,6 +27,10 @@ pub record PlannedAt : Type 0 where
   pub entry : Option Entry
   pub logs : List LogPlan
 
+-- the plan of a step that is no update: this tree and these logs, with the next number and the length of the history as they are
+abbrev pub plan_with : Shape → List LogPlan → StateAt → PlannedAt
+plan_with t logs s = record { tree = t; next = s.next; version = record { tree = t; next = s.next; len = length s.history }; entry = None; logs = logs }
+
 abbrev pub listed : Option Entry → List Entry
 listed None = []
 listed (Some e) = e ∷ []

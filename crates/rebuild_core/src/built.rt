@@ -1,6 +1,5 @@
 //! Detached subtrees that were rebuilt, and are brought up to date. Nothing here knows the state that they come from.
 ghost use Rattle.std.specs.Prelude.{◌≡◌, ◌+◌, ◌≤◌, [], ◌++◌, length, IfErr, IfOk};
-ghost use Rattle.map_fold.specs.Contents.{AreContents};
 ghost use Rattle.map_fold.specs.Ops.{Fit, numbers_put, replay};
 ghost use Rattle.kd_tree.specs.Shape.{levels, nodes, numbers};
 ghost use Rattle.kd_tree.specs.Contents.{contents};
@@ -10,21 +9,20 @@ ghost use Rattle.kd_update.specs.Refresh.{AreAmong};
 ghost use Rattle.kd_update.specs.Update.{IsBalancedBelow};
 ghost use Rattle.rebuild_core.specs.Built.{AreNumbersOf, IsLawfulBuilt, IsReplayOf};
 
+use crate::Job;
 use crate::balanced::is_balanced;
 use crate::holding::twin_by;
 use kd_tree::{Steps, Tree};
 use kd_update::{rebuilt, replayed};
-use map_fold::{Item, Items, MAX_POINTS, NoMemory, Op};
+use map_fold::{Item, NoMemory, Op};
 use std::alloc::Global;
 use std::marker::{Brand, Model};
-use std::sync::Arc;
 use std::sync::ledger::{Blank, Ledger};
 
 /// A tree that was built of a detached subtree's items, with some operations done on it since.
 #[derive(Debug, Drop)]
 pub struct Built {
-    pub(crate) ticket: u64,
-    pub(crate) items: Arc<Items>,
+    pub(crate) job: Job,
     pub(crate) done: Vec<Op>,
     pub(crate) tree: Tree,
     // Each node of 10 nodes and more, and fewer than these, meets the balance criterion.
@@ -42,12 +40,9 @@ impl Model for Built {
 
     ghost coded = { Prim.hlevel (codes, coded_shape) };
 
-    ghost view = { λ b. record { ticket = b.ticket; items = b.items.value; done = b.done.items; tree = b.tree } };
+    ghost view = { λ b. record { ticket = b.job.ticket; items = b.job.items; done = b.done.items; tree = b.tree } };
 
-    ghost use Rattle.map_fold.specs.Contents.{AreContents};
-    ghost use Rattle.map_fold.specs.declared.limits.TheConstants.{MAX_POINTS};
-
-    ghost invariant = { λ b. IsLawfulBuilt (record { ticket = b.ticket; items = b.items.value; done = b.done.items; tree = b.tree }) × IsBalancedBelow b.large b.tree × AreContents 0 MAX_POINTS b.items.value };
+    ghost invariant = { λ b. IsLawfulBuilt (record { ticket = b.job.ticket; items = b.job.items; done = b.done.items; tree = b.tree }) × IsBalancedBelow b.large b.tree };
 }
 
 /// A value on which nothing more was done for lack of memory.
@@ -57,23 +52,15 @@ pub struct BuiltLeft {
 }
 
 impl Built {
-    // A tree of the items, with nothing done on it.
-    pub(crate) fn new(
-        alloc: Global,
-        ticket: u64,
-        items: Arc<Items>,
-        large: u32,
-        tree: Tree,
-    ) -> Built
-        requires items { AreContents 0 MAX_POINTS items.value }
-        requires held { contents tree ≡ items.value }
-        requires numbers { AreNumbersOf items.value tree }
+    // A tree of the job's items, with nothing done on it.
+    pub(crate) fn new(alloc: Global, job: Job, large: u32, tree: Tree) -> Built
+        requires held { contents tree ≡ job.items }
+        requires numbers { AreNumbersOf job.items tree }
         requires criteria { AllMeetCriteria 10 tree }
-        ensures { result ≡ record { ticket = ticket; items = items.value; done = []; tree = tree } }
+        ensures { result ≡ record { ticket = job.ticket; items = job.items; done = []; tree = tree } }
     {
         Built {
-            ticket,
-            items,
+            job,
             done: Vec::new(alloc),
             tree,
             large,
@@ -84,14 +71,14 @@ impl Built {
     pub fn ticket(&self) -> u64
         ensures { result ≡ self.now.ticket }
     {
-        self.ticket
+        self.job.ticket()
     }
 
     /// What the subtree held, by itself, when it was detached.
     pub fn items(&self) -> &[Item]
         ensures { result.now ≡ self.now.items }
     {
-        self.items.as_slice()
+        self.job.items()
     }
 
     /// The operations that were done since, in order.
@@ -114,13 +101,12 @@ impl Built {
     pub fn again(&self, alloc: Global) -> Result<Built, NoMemory>
         ensures { IfOk result (λ b. b ≡ self.now) }
     {
-        let items = Arc::try_clone(&self.items)?;
+        let job = self.job.again()?;
         let mut done = Vec::new(alloc);
         done.extend_from_slice(self.done.as_slice())?;
         let tree = twin_by::<Brand>(alloc, &self.tree, Blank::new(1))?;
         Ok(Built {
-            ticket: self.ticket,
-            items,
+            job,
             done,
             tree,
             large: self.large,
@@ -153,8 +139,7 @@ impl Built {
         ensures balance { IfOk result (λ b. IsBalancedBelow large b.tree) }
     {
         let Built {
-            ticket,
-            items,
+            job,
             mut done,
             tree,
             large: made_with,
@@ -162,8 +147,7 @@ impl Built {
         done.extend_from_slice(ops)?;
         let tree = replayed_from::<Brand>(alloc, tree, made_with, large, ops, Blank::new(1))?;
         Ok(Built {
-            ticket,
-            items,
+            job,
             done,
             tree,
             large,

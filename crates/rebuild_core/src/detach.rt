@@ -1,7 +1,7 @@
 //! Subtrees, detached to be rebuilt elsewhere, and what they have met since.
 ghost use Rattle.std.specs.Prelude.{◌≡◌, ◌+◌, ◌<◌, ◌≤◌, ◌↔◌, length, slice_set, Some, IfErr, IfOk, IfSome, IsNone, OnErr, OnOk};
 ghost use Rattle.std.specs.List.{insert};
-ghost use Rattle.rebuild_core.specs.Built.{IsPartOf, IsStale, CanBeDoneOn, undone};
+ghost use Rattle.rebuild_core.specs.Built.{CanBeDoneOn, IsFoundPart, IsStale};
 ghost use Rattle.rebuild_core.specs.Detach.{Detaches, IsDetachStep, IsDetachable, IsDetachedAt, IsLogAfter, IsLogFault, IsNoDetach, IsNoneToDetach, IsSlot, with_part};
 ghost use Rattle.rebuild_core.specs.Parts.{AreItemsOf, PartAt, part_in};
 
@@ -9,7 +9,7 @@ use crate::part::{Part, part_in, part_of, paths_of};
 use crate::{Built, Holding, Job, LogAsk, MapState, Snapshot};
 use kd_tree::Path;
 use map_fold::{NoMemory, Ops};
-use op_logger::{MAX_LOGGED, OpLog};
+use op_logger::OpLog;
 use std::alloc::Global;
 
 impl MapState {
@@ -117,7 +117,7 @@ impl MapState {
     {
         let Some(part) = self.part_built(built) else {
             return Err(LogAsk::Stale {
-                ticket: built.ticket,
+                ticket: built.ticket(),
             });
         };
         let done = built.done.len() as u32;
@@ -131,12 +131,9 @@ impl MapState {
     // that is done.
     pub(crate) fn part_built(&self, built: &Built) -> Option<&Part>
         ensures none { IsNone result → IsStale built.now self.now.state.parts }
-        ensures some { IfSome result (λ p. IsPartOf built.now self.now.state.parts p.now) }
-        ensures done { IfSome result (λ p. length built.now.done ≤ length p.now.log) }
-        ensures few { IfSome result (λ p. length p.now.log ≤ MAX_LOGGED) }
-        ensures fit { IfSome result (λ p. CanBeDoneOn built.now (undone built.now p.now)) }
+        ensures some { IfSome result (λ p. IsFoundPart built.now self.now.state.parts p.now) }
     {
-        let part = part_of(self.parts.as_slice(), built.ticket)?;
+        let part = part_of(self.parts.as_slice(), built.ticket())?;
         if !part.held.is_of(built) {
             return None;
         }
@@ -147,12 +144,9 @@ impl MapState {
     pub(crate) fn part_known(&self, built: &Built) -> Option<&Part>
         requires known { AreItemsOf built.now.ticket built.now.items self.now.state.parts }
         ensures none { IsNone result → IsStale built.now self.now.state.parts }
-        ensures some { IfSome result (λ p. IsPartOf built.now self.now.state.parts p.now) }
-        ensures done { IfSome result (λ p. length built.now.done ≤ length p.now.log) }
-        ensures few { IfSome result (λ p. length p.now.log ≤ MAX_LOGGED) }
-        ensures fit { IfSome result (λ p. CanBeDoneOn built.now (undone built.now p.now)) }
+        ensures some { IfSome result (λ p. IsFoundPart built.now self.now.state.parts p.now) }
     {
-        let part = part_of(self.parts.as_slice(), built.ticket)?;
+        let part = part_of(self.parts.as_slice(), built.ticket())?;
         if !part.log.begins_with(built.done.as_slice()) {
             return None;
         }

@@ -97,7 +97,7 @@ impl Holding {
     pub fn is_of(&self, built: &Built) -> bool
         ensures { result ≡ true ↔ (self.now ≡ built.now.items) }
     {
-        let items = built.items.as_slice();
+        let items = built.job.items.as_slice();
         match &self.held {
             Held::Unlisted(tree) => holds(tree, items),
             Held::Listed(list) => are_same(list.as_slice(), items),

@@ -62,6 +62,17 @@ impl Job {
         Ok(Holding::listed(items))
     }
 
+    // The same job once more. Its list is shared.
+    pub(crate) fn again(&self) -> Result<Job, NoMemory>
+        ensures { IfOk result (λ j. j ≡ self.now) }
+    {
+        let items = Arc::try_clone(&self.items)?;
+        Ok(Job {
+            ticket: self.ticket,
+            items,
+        })
+    }
+
     /// A tree of the items, built by medians, with nothing done on it yet. n items take time in the order of n log n. Where
     /// memory runs out, the job is handed back. The value is best swapped into a state with the same `large`.
     pub fn build(self, alloc: Global, large: u32) -> Result<Built, JobLeft>
@@ -70,10 +81,7 @@ impl Job {
     {
         match self.tree_by::<Brand>(alloc, Blank::new(1)) {
             Err(_) => Err(JobLeft { job: self }),
-            Ok(tree) => {
-                let Job { ticket, items } = self;
-                Ok(Built::new(alloc, ticket, items, large, tree))
-            }
+            Ok(tree) => Ok(Built::new(alloc, self, large, tree)),
         }
     }
 

@@ -1,5 +1,6 @@
 //! Detached subtrees, as a state keeps them.
-ghost use Rattle.std.specs.Prelude.{◌≡◌, ◌≤◌, length, None, Some, IfOk, IfSome, IsNone};
+ghost use Rattle.std.specs.Prelude.{◌≡◌, ◌≤◌, length, IfOk, IfSome, IsNone};
+ghost use Rattle.std.specs.Option.{option_map};
 ghost use Rattle.rebuild_core.specs.Draft.{watches_of};
 ghost use Rattle.rebuild_core.specs.Parts.{IsNewTicket, IsPlaceOf, part_in, part_of, paths, without};
 
@@ -56,26 +57,16 @@ pub(crate) fn watched(alloc: Global, parts: &[Part]) -> Result<Watches, NoMemory
 
 // The part in the slot.
 pub(crate) fn part_in(parts: &[Part], slot: u8) -> Option<&Part>
-    ensures none { IsNone result → part_in slot parts.now ≡ None }
-    ensures some { IfSome result (λ p. part_in slot parts.now ≡ Some p.now) }
+    ensures { option_map (λ p. p.now) result ≡ part_in slot parts.now }
 {
-    let (first, rest) = parts.split_first()?;
-    if slot == first.slot {
-        return Some(first);
-    }
-    part_in(rest, slot)
+    parts.iter().find(|part| slot == part.slot)
 }
 
 // The part of the ticket.
 pub(crate) fn part_of(parts: &[Part], ticket: u64) -> Option<&Part>
-    ensures none { IsNone result → part_of ticket parts.now ≡ None }
-    ensures some { IfSome result (λ p. part_of ticket parts.now ≡ Some p.now) }
+    ensures { option_map (λ p. p.now) result ≡ part_of ticket parts.now }
 {
-    let (first, rest) = parts.split_first()?;
-    if ticket == first.ticket {
-        return Some(first);
-    }
-    part_of(rest, ticket)
+    parts.iter().find(|part| ticket == part.ticket)
 }
 
 // Where the parts stand, but for that of the ticket.

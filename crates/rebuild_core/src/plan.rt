@@ -176,19 +176,10 @@ impl MapState {
         ensures { IfOk result (IsSettlePlan self.now.state) }
     {
         let mut steps: Steps<L> = Steps::new(blank);
-        let next = self.next;
         let tree = self.tree.copy(alloc, &mut steps)?;
         let tree = settled(alloc, tree)?;
         let _size = tree.size();
-        let len = self.history.len() as u64;
         let logs = forgotten(alloc, self.parts.as_slice())?;
-        let version = Version::shared(alloc, &tree, next, len, &mut steps)?;
-        Ok(Planned {
-            tree,
-            next,
-            version,
-            entry: None,
-            logs,
-        })
+        self.plan_with(alloc, tree, logs, &mut steps)
     }
 }

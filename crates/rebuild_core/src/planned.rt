@@ -1,12 +1,15 @@
 //! Steps that are worked out, and not yet taken.
-ghost use Rattle.std.specs.Prelude.{◌≡◌};
+ghost use Rattle.std.specs.Prelude.{◌≡◌, IfOk};
+ghost use Rattle.rebuild_core.specs.Steps.{plan_with};
 
-use crate::Version;
 use crate::logs::PartLog;
-use kd_tree::Tree;
-use map_fold::Entry;
+use crate::{MapState, Version};
+use kd_tree::{Steps, Tree};
+use map_fold::{Entry, NoMemory};
+use std::alloc::Global;
 use std::marker::Model;
 use std::sync::Arc;
+use std::sync::ledger::Ledger;
 
 /// What a step stores in the state, for which all memory is taken.
 #[derive(Debug, Drop)]
@@ -44,5 +47,29 @@ impl Planned {
         ensures { result.now ≡ self.now.entry }
     {
         &self.entry
+    }
+}
+
+impl MapState {
+    // The plan of a step that is no update: it leaves this tree, and makes this of the logs.
+    pub(crate) fn plan_with<L: Ledger>(
+        &self,
+        alloc: Global,
+        tree: Tree,
+        logs: Vec<PartLog>,
+        steps: &mut Steps<L>,
+    ) -> Result<Planned, NoMemory>
+        ensures planned { IfOk result (λ p. p ≡ plan_with tree logs.items self.now.state) }
+        ensures still { steps.new ≡ steps.old }
+    {
+        let (next, len) = (self.next, self.history.len() as u64);
+        let version = Version::shared(alloc, &tree, next, len, steps)?;
+        Ok(Planned {
+            tree,
+            next,
+            version,
+            entry: None,
+            logs,
+        })
     }
 }

@@ -9,7 +9,7 @@ ghost use Rattle.rebuild_core.specs.Swap.{IsLate, IsLeftUnrebuilt, IsNear, IsUnr
 use crate::built::caught_up;
 use crate::logs::forgotten_for;
 use crate::part::{Part, others_of};
-use crate::{Built, Late, MapState, Planned, SwapFault, Version};
+use crate::{Built, Late, MapState, Planned, SwapFault};
 use kd_tree::{Steps, Tree};
 use kd_update::{Replaced, replaced};
 use map_fold::{NoMemory, Op, Ops};
@@ -81,7 +81,7 @@ impl MapState {
     {
         let Some(part) = self.part_built(built) else {
             return Err(SwapFault::Stale {
-                ticket: built.ticket,
+                ticket: built.ticket(),
             });
         };
         let done = built.done.len() as u32;
@@ -157,25 +157,10 @@ impl MapState {
         let with = caught_up(alloc, tree, made_with, large, ops, steps)?;
         let others = others_of(alloc, parts, part.ticket)?;
         let tree = self.tree.copy(alloc, steps)?;
-        let Replaced { tree, anew } = replaced(
-            alloc,
-            tree,
-            large,
-            &part.path,
-            with,
-            others.as_slice(),
-            steps,
-        )?;
+        let (path, others) = (&part.path, others.as_slice());
+        let Replaced { tree, anew } = replaced(alloc, tree, large, path, with, others, steps)?;
         let _size = tree.size();
         let logs = forgotten_for(alloc, parts, part.ticket, anew)?;
-        let (next, len) = (self.next, self.history.len() as u64);
-        let version = Version::shared(alloc, &tree, next, len, steps)?;
-        Ok(Planned {
-            tree,
-            next,
-            version,
-            entry: None,
-            logs,
-        })
+        self.plan_with(alloc, tree, logs, steps)
     }
 }

@@ -15,10 +15,10 @@ ghost use Rattle.rebuild_core.specs.Stays.{most_ops};
 
 use crate::update::pieces::SCAN;
 use crate::update::thin::thinned;
-use crate::update::work::Work;
+use crate::update::work::{Work, Worked};
 use kd_tree::{Scratch, Steps};
 use kd_update::live_items;
-use map_fold::{Choice, Cuboids, MAX_POINTS, NoMemory, Points, Settings, Tag, Update};
+use map_fold::{Choice, Cuboids, MAX_POINTS, Points, Settings, Tag, Update};
 use point_geom::Point;
 use std::alloc::Global;
 use std::sync::ledger::Ledger;
@@ -32,7 +32,7 @@ pub(crate) fn changed<L: Ledger>(
     update: &Update,
     scratch: &mut Scratch,
     steps: &mut Steps<L>,
-) -> Result<Work, NoMemory>
+) -> Worked
     requires draft { IsWork settings.now.large next work }
     requires few { next + points_in update.now ≤ MAX_POINTS }
     ensures stepped { IfOk result (λ w. map_of w.tree (next + points_in update.now) ≡ step settings.now.voxel update.now (map_of work.tree next)) }
@@ -68,7 +68,7 @@ fn added<L: Ledger>(
     points: &Points,
     scratch: &mut Scratch,
     steps: &mut Steps<L>,
-) -> Result<Work, NoMemory>
+) -> Worked
     requires draft { IsWork large next work }
     requires few { next + length points.now ≤ MAX_POINTS }
     ensures stepped { IfOk result (λ w. map_of w.tree (next + length points.now) ≡ add_points points.now (map_of work.tree next)) }
@@ -99,7 +99,7 @@ pub(crate) fn added_one<L: Ledger>(
     next: u32,
     point: Point,
     steps: &mut Steps<L>,
-) -> Result<Work, NoMemory>
+) -> Worked
     requires draft { IsWork large next work }
     requires few { next < MAX_POINTS }
     ensures contents { IfOk result (λ w. contents w.tree ≡ put (contents work.tree) next point) }
@@ -120,7 +120,7 @@ fn marked_each<L: Ledger>(
     boxes: &Cuboids,
     tag: Tag,
     steps: &mut Steps<L>,
-) -> Result<Work, NoMemory>
+) -> Worked
     requires draft { IsWork large next work }
     ensures stepped { IfOk result (λ w. map_of w.tree next ≡ mark_boxes tag boxes.now (map_of work.tree next)) }
     ensures draft { KeepsDraft large next next work result }

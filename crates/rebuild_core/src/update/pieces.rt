@@ -7,10 +7,10 @@ ghost use Rattle.rebuild_core.specs.Draft.{IsDraft, IsDraftLeft, IsWork, IsWorke
 ghost use Rattle.rebuild_core.specs.Parts.{PartAt};
 ghost use Rattle.rebuild_core.specs.Pieces.{MayPass};
 
-use crate::update::work::Work;
+use crate::update::work::{Work, Worked};
 use kd_tree::{MAX_NODES, Scratch, Steps};
 use kd_update::{Watch, put_all, put_all_watched};
-use map_fold::{Item, NoMemory};
+use map_fold::Item;
 use std::alloc::Global;
 use std::sync::ledger::Ledger;
 
@@ -31,7 +31,7 @@ impl Work {
         items: &[Item],
         scratch: &mut Scratch,
         steps: &mut Steps<L>,
-    ) -> Result<Work, NoMemory>
+    ) -> Worked
         requires draft { (next : ℕ) × IsWork large next self × All (λ i. i.number < next) items.now }
         requires fit { MayJoin (contents self.tree) items.now }
         ensures contents { IfOk result (λ w. contents w.tree ≡ put_each (contents self.tree) items.now) }
@@ -91,7 +91,7 @@ impl Work {
         piece: &[Item],
         scratch: &mut Scratch,
         steps: &mut Steps<L>,
-    ) -> Result<Work, NoMemory>
+    ) -> Worked
         requires draft { (next : ℕ) × IsWork large next self }
         requires fit { MayJoin (contents self.tree) piece.now }
         requires pass { 1 < length piece.now → MayPass large (length piece.now) self }

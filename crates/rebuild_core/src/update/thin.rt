@@ -14,10 +14,10 @@ ghost use Rattle.rebuild_core.specs.OnePoint.{IsTurnedAway};
 use crate::update::draft::added_one;
 use crate::update::pieces::SCAN;
 use crate::update::waiting::thinned_at_once;
-use crate::update::work::Work;
+use crate::update::work::{Work, Worked};
 use kd_search::{Rivals, rivals_in};
 use kd_tree::{Scratch, Steps};
-use map_fold::{Choice, Item, MAX_POINTS, NoMemory, Points, Settings, Tag};
+use map_fold::{Choice, Item, MAX_POINTS, Points, Settings, Tag};
 use point_geom::{Cuboid, Point, voxel};
 use std::alloc::Global;
 use std::sync::ledger::Ledger;
@@ -31,7 +31,7 @@ pub(crate) fn thinned<L: Ledger>(
     points: &Points,
     scratch: &mut Scratch,
     steps: &mut Steps<L>,
-) -> Result<Work, NoMemory>
+) -> Worked
     requires draft { IsWork settings.now.large next work }
     requires few { next + length points.now ≤ MAX_POINTS }
     ensures stepped { IfOk result (λ w. map_of w.tree (next + length points.now) ≡ thin_points settings.now.voxel points.now (map_of work.tree next)) }
@@ -64,7 +64,7 @@ fn thinned_one<L: Ledger>(
     next: u32,
     point: Point,
     steps: &mut Steps<L>,
-) -> Result<Work, NoMemory>
+) -> Worked
     requires draft { IsWork settings.now.large next work }
     requires few { next < MAX_POINTS }
     ensures contents { IfOk result (λ w. contents w.tree ≡ thin settings.now.voxel (contents work.tree) next point) }
@@ -99,7 +99,7 @@ fn left_alone<L: Ledger>(
     cuboid: &Cuboid,
     item: Item,
     steps: &mut Steps<L>,
-) -> Result<Work, NoMemory>
+) -> Worked
     requires draft { IsWork large next work }
     requires few { next < MAX_POINTS }
     requires below { item.number < next + 1 }

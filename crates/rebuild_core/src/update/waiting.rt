@@ -16,7 +16,7 @@ ghost use Rattle.rebuild_core.specs.Parts.{PartAt};
 ghost use Rattle.rebuild_core.specs.Waiting.{IsClear, IsJoined, IsWaiting, held_by};
 
 use crate::update::entrants::{Entrant, firsts};
-use crate::update::work::Work;
+use crate::update::work::{Work, Worked};
 use kd_search::{Rivals, rivals_in};
 use kd_tree::{Scratch, Steps};
 use map_fold::{Choice, Item, MAX_POINTS, NoMemory, Settings, Tag};
@@ -42,7 +42,7 @@ pub(crate) fn thinned_at_once<L: Ledger>(
     points: &[Point],
     scratch: &mut Scratch,
     steps: &mut Steps<L>,
-) -> Result<Work, NoMemory>
+) -> Worked
     requires draft { IsWork settings.now.large next work }
     requires few { next + length points.now ≤ MAX_POINTS }
     ensures stepped { IfOk result (λ w. map_of w.tree (next + length points.now) ≡ thin_points settings.now.voxel points.now (map_of work.tree next)) }
@@ -82,7 +82,7 @@ impl Waiting {
         high: u32,
         scratch: &mut Scratch,
         steps: &mut Steps<L>,
-    ) -> Result<Work, NoMemory>
+    ) -> Worked
         requires waiting { IsWaiting large high self }
         requires few { high ≤ MAX_POINTS }
         ensures held { IfOk result (λ w. contents w.tree ≡ held_by self) }

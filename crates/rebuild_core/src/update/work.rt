@@ -24,6 +24,9 @@ pub(crate) struct Work {
     pub(crate) watches: Watches,
 }
 
+// What an operation makes of the work. Where memory runs out, the work is dropped.
+pub(crate) type Worked = Result<Work, NoMemory>;
+
 impl Work {
     // The work after this action on the chosen items.
     pub(crate) fn marked<L: Ledger>(
@@ -33,7 +36,7 @@ impl Work {
         choice: &Choice,
         tag: Tag,
         steps: &mut Steps<L>,
-    ) -> Result<Work, NoMemory>
+    ) -> Worked
         requires draft { (next : ℕ) × IsWork large next self }
         ensures contents { IfOk result (λ w. contents w.tree ≡ mark (contents self.tree) (chosen_by choice.now) tag) }
         ensures draft { (next : ℕ) → KeepsDraft large next next self result }
@@ -55,7 +58,7 @@ impl Work {
         number: u32,
         point: Point,
         steps: &mut Steps<L>,
-    ) -> Result<Work, NoMemory>
+    ) -> Worked
         requires draft { (next : ℕ) × IsWork large next self }
         requires few { length (contents self.tree) < MAX_NODES }
         requires new { times number keep_tag self.tree ≡ 0 }
@@ -73,12 +76,7 @@ impl Work {
     }
 
     // The work with room for one more point, and in each log for what that may add.
-    fn roomy<L: Ledger>(
-        self,
-        alloc: Global,
-        large: u32,
-        steps: &mut Steps<L>,
-    ) -> Result<Work, NoMemory>
+    fn roomy<L: Ledger>(self, alloc: Global, large: u32, steps: &mut Steps<L>) -> Worked
         requires draft { (next : ℕ) × IsWork large next self }
         requires few { length (contents self.tree) < MAX_NODES }
         ensures contents { IfOk result (λ w. contents w.tree ≡ contents self.tree) }
@@ -105,12 +103,7 @@ impl Work {
     }
 
     // The work without the subtrees whose logs have no room for two operations: each is rebuilt where it stands, in order.
-    fn without_full<L: Ledger>(
-        self,
-        alloc: Global,
-        large: u32,
-        steps: &mut Steps<L>,
-    ) -> Result<Work, NoMemory>
+    fn without_full<L: Ledger>(self, alloc: Global, large: u32, steps: &mut Steps<L>) -> Worked
         requires draft { (next : ℕ) × IsWork large next self }
         ensures contents { IfOk result (λ w. contents w.tree ≡ contents self.tree) }
         ensures draft { (next : ℕ) → KeepsDraft large next next self result }
@@ -135,7 +128,7 @@ impl Work {
         large: u32,
         place: usize,
         steps: &mut Steps<L>,
-    ) -> Result<Work, NoMemory>
+    ) -> Worked
         requires place { place < length self.watches }
         requires draft { (next : ℕ) × IsWork large next self }
         ensures contents { IfOk result (λ w. contents w.tree ≡ contents self.tree) }
@@ -152,15 +145,8 @@ impl Work {
         let node = node.copy(alloc, steps)?;
         let with = rebuilt(alloc, node, steps)?;
         let others = paths_of(alloc, watches.as_slice())?;
-        let Replaced { tree, anew } = replaced(
-            alloc,
-            tree,
-            large,
-            &path,
-            with,
-            others.as_slice(),
-            steps,
-        )?;
+        let (path, others) = (&path, others.as_slice());
+        let Replaced { tree, anew } = replaced(alloc, tree, large, path, with, others, steps)?;
         if anew {
             return Ok(Work {
                 tree,

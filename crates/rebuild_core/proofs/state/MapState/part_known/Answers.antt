@@ -1,10 +1,10 @@
-use Rattle.std.proofs.Common.{◌≡◌, List, Some, ap, sym, ◌∙◌, subst, take, length}
+use Rattle.std.proofs.Common.{rules, ◌≡◌, List, Some, ap, sym, ◌∙◌, subst, take, length, length-append, arith}
 use Rattle.map_fold.specs.declared.op.Op.{Op}
-use Rattle.rebuild_core.specs.Built.{BuiltAt, IsPartOf}
+use Rattle.rebuild_core.specs.Built.{BuiltAt, IsPartOf, undone}
 use Rattle.rebuild_core.specs.Lawful.{Stored}
 use Rattle.rebuild_core.specs.Parts.{PartAt, part_of}
 use Rattle.rebuild_core.proofs.KnownItems.{known_part}
-use Rattle.rebuild_core.proofs.Replaying.{undone_fit}
+use Rattle.rebuild_core.proofs.Replaying.{log_parts, undone_fit}
 use Rattle.rebuild_core.proofs.state.MapState.part_known.Goals as goal
 
 is_part : (c : goal.After-len-few) → IsPartOf c.args.built.now c.args.self.now.state.parts c.in_ok-part.part.now
@@ -13,8 +13,7 @@ is_part c =
     let b = c.args.built.now in
     let p = c.in_ok-part.part.now in
     let parts = c.as_slice.ensures.value ∙ ap (λ (x : Stored). x.state.parts) c.self.view_is in
-    let ticket = ap (λ (x : BuiltAt). x.ticket) c.built.view_is in
-    let found : part_of b.ticket s.parts ≡ Some p = ap (λ n. part_of n s.parts) (sym ticket) ∙ ap (part_of c.built.inside.ticket) (sym parts) ∙ c.in_ok-part.ensures.some in
+    let found : part_of b.ticket s.parts ≡ Some p = ap (λ n. part_of n s.parts) (sym c.ticket.ensures) ∙ ap (part_of c.ticket.result) (sym parts) ∙ sym c.in_ok-part.ensures in
     let ops = c.as_slice-2.result.now in
     let done : ops ≡ b.done = c.as_slice-2.ensures.value ∙ ap (λ (x : BuiltAt). x.done) c.built.view_is in
     let log : c.part.inside.log ≡ p.log = ap (λ (x : PartAt). x.log) c.part.view_is in
@@ -22,7 +21,14 @@ is_part c =
     record { found = found; items = sym (known_part b.ticket b.items p s.parts c.requires.known found); begins = subst (λ (l : List Op). take (length l) p.log ≡ l) done begins }
 
 pub returns-clause-some : goal.returns-clause-some
-returns-clause-some c = is_part c
-
-pub returns-clause-fit : goal.returns-clause-fit
-returns-clause-fit c = undone_fit c.args.self.now.state c.args.built.now c.in_ok-part.part.now c.history-history.ensures.lawful c.done-done.ensures.lawful (is_part c)
+returns-clause-some c =
+    let s = c.args.self.now.state in
+    let b = c.args.built.now in
+    let p = c.in_ok-part.part.now in
+    let of = is_part c in
+    record {
+      of = of;
+      done = omega (arith, ap (λ (ops : List Op). length ops) (log_parts b s.parts p of), length-append b.done (undone b p));
+      few = search rules;
+      fit = undone_fit s b p c.history-history.ensures.lawful c.done-done.ensures.lawful of;
+    }

@@ -1,5 +1,6 @@
-use Rattle.std.proofs.Common.{◌≡◌, ℕ, ◌<◌, List, [], ◌∷◌, ◌++◌, true, false, length, ap, ◌∙◌, sym, subst, arith}
+use Rattle.std.proofs.Common.{◌≡◌, ◌<◌, List, [], ◌∷◌, ◌++◌, true, false, ap, ◌∙◌, sym, subst}
 use Rattle.std.specs.Prelude.{All, ◌↔◌}
+use Rattle.std.proofs.lemmas.Result.{IfOk-weaker}
 use Rattle.map_fold.specs.Ops.{replay}
 use Rattle.kd_tree.specs.Shape.{Shape, numbers}
 use Rattle.kd_tree.specs.Contents.{contents}
@@ -9,10 +10,11 @@ use Rattle.kd_update.specs.Refresh.{AreAmong}
 use Rattle.kd_update.specs.Replace.{HasRoomAt, StandsFor}
 use Rattle.kd_update.specs.Several.{AreLargeAt, AreSameAt, IsBalancedClear}
 use Rattle.rebuild_core.specs.Built.{undone}
-use Rattle.rebuild_core.specs.Swap.{IsCaughtUp}
-use Rattle.rebuild_core.specs.Lawful.{IsLawful, Stored, VersionAt}
+use Rattle.rebuild_core.specs.Swap.{IsCaughtUp, IsSwapPlan}
+use Rattle.rebuild_core.specs.Lawful.{IsLawful, Stored}
 use Rattle.rebuild_core.specs.Logs.{planned_parts}
 use Rattle.rebuild_core.specs.Parts.{PartAt, paths, without}
+use Rattle.rebuild_core.specs.Steps.{PlannedAt, plan_with}
 use Rattle.rebuild_core.proofs.OtherParts.{part_among}
 use Rattle.rebuild_core.proofs.Swapping.{below_both, swap_among, swap_below, swap_caught, swap_clear, swap_fit, swap_outside, swap_stands, swap_there, swaps}
 use Rattle.rebuild_core.proofs.state.MapState.swapped.Goals as goal
@@ -44,10 +46,10 @@ replaced-requires-clause-there g c =
     let large = c.large-large.ensures.value ∙ ap (λ (x : Stored). x.state.settings.large) c.self.view_is in
     let parts = c.as_slice-parts.ensures.value ∙ ap (λ (x : Stored). x.state.parts) c.self.view_is in
     let ticket = ap (λ (x : PartAt). x.ticket) c.part.view_is ∙ sym (part_among b.ticket s.parts p c.requires.of.1.of.found).is in
-    let others : c.as_slice.result.now ≡ paths (without b.ticket s.parts) =
-    c.as_slice.ensures.value ∙ c.in_ok-others.ensures ∙ ap (λ n. paths (without n c.as_slice-parts.result.now)) ticket ∙ ap (λ (ps : List PartAt). paths (without b.ticket ps)) parts in
+    let others : c.as_slice-others.result.now ≡ paths (without b.ticket s.parts) =
+    c.as_slice-others.ensures.value ∙ c.in_ok-others.ensures ∙ ap (λ n. paths (without n c.as_slice-parts.result.now)) ticket ∙ ap (λ (ps : List PartAt). paths (without b.ticket ps)) parts in
     let at = subst (λ (t : Shape). AreLargeAt s.settings.large (paths (without b.ticket s.parts)) t) (sym tree) (swap_there s b p lawful c.requires.of.1.of) in
-    subst (λ n. AreLargeAt n c.as_slice.result.now c.in_ok-tree.tree) (sym large) (subst (λ (qs : List (List Side)). AreLargeAt s.settings.large qs c.in_ok-tree.tree) (sym others) at)
+    subst (λ n. AreLargeAt n c.as_slice-others.result.now c.in_ok-tree.tree) (sym large) (subst (λ (qs : List (List Side)). AreLargeAt s.settings.large qs c.in_ok-tree.tree) (sym others) at)
 
 pub replaced-requires-clause-apart : goal.replaced-requires-clause-apart
 replaced-requires-clause-apart g c =
@@ -60,9 +62,9 @@ replaced-requires-clause-apart g c =
     let large = c.large-large.ensures.value ∙ ap (λ (x : Stored). x.state.settings.large) c.self.view_is in
     let parts = c.as_slice-parts.ensures.value ∙ ap (λ (x : Stored). x.state.parts) c.self.view_is in
     let ticket = ap (λ (x : PartAt). x.ticket) c.part.view_is ∙ sym (part_among b.ticket s.parts p c.requires.of.1.of.found).is in
-    let others : c.as_slice.result.now ≡ paths (without b.ticket s.parts) =
-    c.as_slice.ensures.value ∙ c.in_ok-others.ensures ∙ ap (λ n. paths (without n c.as_slice-parts.result.now)) ticket ∙ ap (λ (ps : List PartAt). paths (without b.ticket ps)) parts in
-    subst (λ (q : List Side). IsClear q c.as_slice.result.now) (sym path) (subst (IsClear p.path) (sym others) (swap_clear s b p lawful c.requires.of.1.of))
+    let others : c.as_slice-others.result.now ≡ paths (without b.ticket s.parts) =
+    c.as_slice-others.ensures.value ∙ c.in_ok-others.ensures ∙ ap (λ n. paths (without n c.as_slice-parts.result.now)) ticket ∙ ap (λ (ps : List PartAt). paths (without b.ticket ps)) parts in
+    subst (λ (q : List Side). IsClear q c.as_slice-others.result.now) (sym path) (subst (IsClear p.path) (sym others) (swap_clear s b p lawful c.requires.of.1.of))
 
 pub returns-clause-planned : goal.returns-clause-planned
 returns-clause-planned g c = λ b r.
@@ -74,8 +76,8 @@ returns-clause-planned g c = λ b r.
     let large = c.large-large.ensures.value ∙ ap (λ (x : Stored). x.state.settings.large) c.self.view_is in
     let parts = c.as_slice-parts.ensures.value ∙ ap (λ (x : Stored). x.state.parts) c.self.view_is in
     let ticket = ap (λ (x : PartAt). x.ticket) c.part.view_is ∙ sym (part_among b.ticket s.parts p r.of.found).is in
-    let others : c.as_slice.result.now ≡ paths (without b.ticket s.parts) =
-    c.as_slice.ensures.value ∙ c.in_ok-others.ensures ∙ ap (λ n. paths (without n c.as_slice-parts.result.now)) ticket ∙ ap (λ (ps : List PartAt). paths (without b.ticket ps)) parts in
+    let others : c.as_slice-others.result.now ≡ paths (without b.ticket s.parts) =
+    c.as_slice-others.ensures.value ∙ c.in_ok-others.ensures ∙ ap (λ n. paths (without n c.as_slice-parts.result.now)) ticket ∙ ap (λ (ps : List PartAt). paths (without b.ticket ps)) parts in
     let with = c.in_ok-with.with in
     let t = c.in_ok-tree-2.field-0.tree in
     let anew = c.in_ok-tree-2.field-0.anew in
@@ -89,20 +91,18 @@ returns-clause-planned g c = λ b r.
     let room : (anew ≡ false) ↔ HasRoomAt p.path with s.tree =
     subst (λ (q : List Side). (anew ≡ false) ↔ HasRoomAt q with s.tree) path (subst (λ (x : Shape). (anew ≡ false) ↔ HasRoomAt c.part.inside.path with x) tree c.in_ok-tree-2.ensures.anew) in
     let outside = swap_outside s b p lawful r.of in
-    let outside_here : IsBalancedClear c.large-large.result (c.part.inside.path ∷ c.as_slice.result.now) c.in_ok-tree.tree =
-    subst (λ n. IsBalancedClear n (c.part.inside.path ∷ c.as_slice.result.now) c.in_ok-tree.tree) (sym large)
-    (subst (λ (q : List Side). IsBalancedClear s.settings.large (q ∷ c.as_slice.result.now) c.in_ok-tree.tree) (sym path)
+    let outside_here : IsBalancedClear c.large-large.result (c.part.inside.path ∷ c.as_slice-others.result.now) c.in_ok-tree.tree =
+    subst (λ n. IsBalancedClear n (c.part.inside.path ∷ c.as_slice-others.result.now) c.in_ok-tree.tree) (sym large)
+    (subst (λ (q : List Side). IsBalancedClear s.settings.large (q ∷ c.as_slice-others.result.now) c.in_ok-tree.tree) (sym path)
     (subst (λ (qs : List (List Side)). IsBalancedClear s.settings.large (p.path ∷ qs) c.in_ok-tree.tree) (sym others) (subst (λ (x : Shape). IsBalancedClear s.settings.large (p.path ∷ paths (without b.ticket s.parts)) x) (sym tree) outside))) in
     let balanced : IsBalancedClear s.settings.large (paths (without b.ticket s.parts)) t =
     subst (λ n. IsBalancedClear n (paths (without b.ticket s.parts)) t) large (subst (λ (qs : List (List Side)). IsBalancedClear c.large-large.result qs t) others (c.in_ok-tree-2.ensures.balance outside_here c.in_ok-with.ensures.balance)) in
     let same : anew ≡ false → AreSameAt (paths (without b.ticket s.parts)) t s.tree =
-    λ e. subst (λ (qs : List (List Side)). AreSameAt qs t s.tree) others (subst (λ (x : Shape). AreSameAt c.as_slice.result.now t x) tree (c.in_ok-tree-2.ensures.others e)) in
-    let V : ℕ → ℕ → VersionAt = λ n m. record { tree = t; next = n; len = m } in
-    let next = ap (λ (x : Stored). x.state.next) c.self.view_is in
-    let len : c.len.result ≡ length s.history = omega (arith, c.len.ensures, c.self.inside.history.ok, ap (λ (x : Stored). length x.state.history) c.self.view_is) in
-    let shown : c.in_ok-version.version.value ≡ V s.next (length s.history) = c.in_ok-version.ensures.shown ∙ ap (λ n. V n c.len.result) next ∙ ap (V s.next) len in
-    let none : anew ≡ true → planned_parts c.in_ok-logs.logs.items s.parts ≡ [] = λ e. ap (planned_parts c.in_ok-logs.logs.items) (sym parts) ∙ c.in_ok-logs.ensures.all e in
-    let one : anew ≡ false → planned_parts c.in_ok-logs.logs.items s.parts ≡ without b.ticket s.parts =
-    λ e. ap (planned_parts c.in_ok-logs.logs.items) (sym parts) ∙ c.in_ok-logs.ensures.one e ∙ ap (λ n. without n c.as_slice-parts.result.now) ticket ∙ ap (without b.ticket) parts in
-    swaps s b p with t anew c.self.inside.next c.in_ok-version.version.value c.in_ok-logs.logs.items lawful r.of c.size-size.ensures.sound caught held (below_both s.next (numbers t) (numbers with) (numbers s.tree) from below lawful.below) room
-    c.in_ok-tree-2.ensures.criteria same balanced none one shown next
+    λ e. subst (λ (qs : List (List Side)). AreSameAt qs t s.tree) others (subst (λ (x : Shape). AreSameAt c.as_slice-others.result.now t x) tree (c.in_ok-tree-2.ensures.others e)) in
+    let logs = c.in_ok-logs.logs.items in
+    let none : anew ≡ true → planned_parts logs s.parts ≡ [] = λ e. ap (planned_parts logs) (sym parts) ∙ c.in_ok-logs.ensures.all e in
+    let one : anew ≡ false → planned_parts logs s.parts ≡ without b.ticket s.parts =
+    λ e. ap (planned_parts logs) (sym parts) ∙ c.in_ok-logs.ensures.one e ∙ ap (λ n. without n c.as_slice-parts.result.now) ticket ∙ ap (without b.ticket) parts in
+    let plan : IsSwapPlan b s (plan_with t logs s) =
+    swaps s b p with t anew logs lawful r.of c.size-size.ensures.sound caught held (below_both s.next (numbers t) (numbers with) (numbers s.tree) from below lawful.below) room c.in_ok-tree-2.ensures.criteria same balanced none one in
+    IfOk-weaker c.plan_with.result (λ (q : PlannedAt). q ≡ plan_with t logs s) (IsSwapPlan b s) (λ q is. subst (IsSwapPlan b s) (sym is) plan) c.plan_with.ensures.planned

@@ -35,9 +35,9 @@ left_alone-requires-clause-new g c =
     let m = contents c.args.work.tree in
     let same : c.voxel-cube.result ≡ voxel edge p = rw c.voxel.ensures.value at c.voxel-cube.ensures.value in
     let best : IsBest m (voxel edge p) c.in-Some.held = rw (same, c.in-Some.is) at c.rivals_in-best.ensures.first in
-    let before : comes_before (voxel edge p) (live_at n p) c.in-Some.held ≡ true = rw same at (sym c.comes_before.ensures ∙ c.if-comes_before.true) in
+    let before : comes_before (voxel edge p) (live_at n p) c.in-Some.held ≡ true = rw (same, c.live-new.ensures) at (sym c.comes_before.ensures ∙ c.if-comes_before.true) in
     let held = draft_contents c.args.settings.now.large n c.args.work c.size-size.ensures.sound c.requires.draft in
-    rw same (subst (λ (i : Item). IsUnheld i.number (mark m (in_box (voxel edge p)) thin_tag)) (new_wins edge n m p c.in-Some.held (contents_rise 0 n m held) (unheld_above 0 n n m (omega arith) held) best before) (winner_unheld edge n m p held))
+    rw (same, c.live-new.ensures) (subst (λ (i : Item). IsUnheld i.number (mark m (in_box (voxel edge p)) thin_tag)) (new_wins edge n m p c.in-Some.held (contents_rise 0 n m held) (unheld_above 0 n n m (omega arith) held) best before) (winner_unheld edge n m p held))
 
 pub returns-then-comes_before-clause-contents : goal.returns-then-comes_before-clause-contents
 returns-then-comes_before-clause-contents g c =
@@ -47,11 +47,11 @@ returns-then-comes_before-clause-contents g c =
     let m = contents c.args.work.tree in
     let same : c.voxel-cube.result ≡ voxel edge p = rw c.voxel.ensures.value at c.voxel-cube.ensures.value in
     let best : IsBest m (voxel edge p) c.in-Some.held = rw (same, c.in-Some.is) at c.rivals_in-best.ensures.first in
-    let before : comes_before (voxel edge p) (live_at n p) c.in-Some.held ≡ true = rw same at (sym c.comes_before.ensures ∙ c.if-comes_before.true) in
+    let before : comes_before (voxel edge p) (live_at n p) c.in-Some.held ≡ true = rw (same, c.live-new.ensures) at (sym c.comes_before.ensures ∙ c.if-comes_before.true) in
     let held = draft_contents c.args.settings.now.large n c.args.work c.size-size.ensures.sound c.requires.draft in
     let wins = new_wins edge n m p c.in-Some.held (contents_rise 0 n m held) (unheld_above 0 n n m (omega arith) held) best before in
-    becomes c.left_alone.result (put (mark m (in_box c.voxel-cube.result) thin_tag) n p) (thin edge m n p)
-    (ap (λ (b : Bounds). put (mark m (in_box b) thin_tag) n p) same ∙ ap (λ (i : Item). put (mark m (in_box (voxel edge p)) thin_tag) i.number i.point) (sym wins))
+    becomes c.left_alone.result (put (mark m (in_box c.voxel-cube.result) thin_tag) c.live-new.result.number c.live-new.result.point) (thin edge m n p)
+    (ap (λ (i : Item). put (mark m (in_box c.voxel-cube.result) thin_tag) i.number i.point) c.live-new.ensures ∙ ap (λ (b : Bounds). put (mark m (in_box b) thin_tag) n p) same ∙ ap (λ (i : Item). put (mark m (in_box (voxel edge p)) thin_tag) i.number i.point) (sym wins))
     c.left_alone.ensures.contents
 
 pub returns-then-count-eq1-clause-contents : goal.returns-then-count-eq1-clause-contents
@@ -62,7 +62,7 @@ returns-then-count-eq1-clause-contents g c =
     let m = contents c.args.work.tree in
     let same : c.voxel-cube.result ≡ voxel edge p = rw c.voxel.ensures.value at c.voxel-cube.ensures.value in
     let best : IsBest m (voxel edge p) c.in-Some.held = rw (same, c.in-Some.is) at c.rivals_in-best.ensures.first in
-    let behind : comes_before (voxel edge p) (live_at n p) c.in-Some.held ≡ false = rw same at (sym c.comes_before.ensures ∙ c.if-comes_before.false) in
+    let behind : comes_before (voxel edge p) (live_at n p) c.in-Some.held ≡ false = rw (same, c.live-new.ensures) at (sym c.comes_before.ensures ∙ c.if-comes_before.false) in
     let one : length (inside_all m (voxel edge p)) ≡ 1 = rw same at (sym c.rivals_in-best.ensures.count ∙ c.if-count-eq1.true) in
     let held = draft_contents c.args.settings.now.large n c.args.work c.size-size.ensures.sound c.requires.draft in
     sym (thin_same edge n m p c.in-Some.held held (alone_inside m (voxel edge p) c.in-Some.held best one) behind)
@@ -79,7 +79,7 @@ left_alone-requires-2-clause-below g c =
     let m = contents c.args.work.tree in
     let same : c.voxel-cube.result ≡ voxel edge p = rw c.voxel.ensures.value at c.voxel-cube.ensures.value in
     let best : IsBest m (voxel edge p) c.in-Some.held = rw (same, c.in-Some.is) at c.rivals_in-best.ensures.first in
-    let behind : comes_before (voxel edge p) (live_at n p) c.in-Some.held ≡ false = rw same at (sym c.comes_before.ensures ∙ c.if-comes_before.false) in
+    let behind : comes_before (voxel edge p) (live_at n p) c.in-Some.held ≡ false = rw (same, c.live-new.ensures) at (sym c.comes_before.ensures ∙ c.if-comes_before.false) in
     let held = draft_contents c.args.settings.now.large n c.args.work c.size-size.ensures.sound c.requires.draft in
     subst (λ (i : Item). i.number < n + 1) (held_wins edge n m p c.in-Some.held (contents_rise 0 n m held) (unheld_above 0 n n m (omega arith) held) best behind) (winner_number edge n m p held)
 
@@ -91,7 +91,7 @@ left_alone-requires-2-clause-new g c =
     let m = contents c.args.work.tree in
     let same : c.voxel-cube.result ≡ voxel edge p = rw c.voxel.ensures.value at c.voxel-cube.ensures.value in
     let best : IsBest m (voxel edge p) c.in-Some.held = rw (same, c.in-Some.is) at c.rivals_in-best.ensures.first in
-    let behind : comes_before (voxel edge p) (live_at n p) c.in-Some.held ≡ false = rw same at (sym c.comes_before.ensures ∙ c.if-comes_before.false) in
+    let behind : comes_before (voxel edge p) (live_at n p) c.in-Some.held ≡ false = rw (same, c.live-new.ensures) at (sym c.comes_before.ensures ∙ c.if-comes_before.false) in
     let held = draft_contents c.args.settings.now.large n c.args.work c.size-size.ensures.sound c.requires.draft in
     rw same (subst (λ (i : Item). IsUnheld i.number (mark m (in_box (voxel edge p)) thin_tag)) (held_wins edge n m p c.in-Some.held (contents_rise 0 n m held) (unheld_above 0 n n m (omega arith) held) best behind) (winner_unheld edge n m p held))
 
@@ -103,7 +103,7 @@ returns-clause-contents g c =
     let m = contents c.args.work.tree in
     let same : c.voxel-cube.result ≡ voxel edge p = rw c.voxel.ensures.value at c.voxel-cube.ensures.value in
     let best : IsBest m (voxel edge p) c.in-Some.held = rw (same, c.in-Some.is) at c.rivals_in-best.ensures.first in
-    let behind : comes_before (voxel edge p) (live_at n p) c.in-Some.held ≡ false = rw same at (sym c.comes_before.ensures ∙ c.if-comes_before.false) in
+    let behind : comes_before (voxel edge p) (live_at n p) c.in-Some.held ≡ false = rw (same, c.live-new.ensures) at (sym c.comes_before.ensures ∙ c.if-comes_before.false) in
     let held = draft_contents c.args.settings.now.large n c.args.work c.size-size.ensures.sound c.requires.draft in
     let wins = held_wins edge n m p c.in-Some.held (contents_rise 0 n m held) (unheld_above 0 n n m (omega arith) held) best behind in
     becomes c.left_alone-2.result (put (mark m (in_box c.voxel-cube.result) thin_tag) c.in-Some.held.number c.in-Some.held.point) (thin edge m n p)

@@ -23,14 +23,14 @@ pub replaced-requires-clause-there : goal.replaced-requires-clause-there
 replaced-requires-clause-there g c =
     let r = c.requires.draft in
     let k = without_of c.args.large r.0 r.1.0 r.1.1 c.args.self c.args.place c.remove-path.result c.remove-path.new.self r.1.2 c.requires.place c.remove-path.ensures.value c.remove-path.ensures.items in
-    let others : c.as_slice-2.result.now ≡ paths_in c.remove-path.new.self = c.as_slice-2.ensures.value ∙ c.in_ok-others.ensures ∙ ap paths_in c.as_slice.ensures.value in
+    let others : c.as_slice-others.result.now ≡ paths_in c.remove-path.new.self = c.as_slice-others.ensures.value ∙ c.in_ok-others.ensures ∙ ap paths_in c.as_slice.ensures.value in
     subst (λ (qs : List (List Side)). AreLargeAt c.args.large qs c.args.self.tree) (sym others) k.others
 
 pub replaced-requires-clause-apart : goal.replaced-requires-clause-apart
 replaced-requires-clause-apart g c =
     let r = c.requires.draft in
     let k = without_of c.args.large r.0 r.1.0 r.1.1 c.args.self c.args.place c.remove-path.result c.remove-path.new.self r.1.2 c.requires.place c.remove-path.ensures.value c.remove-path.ensures.items in
-    let others : c.as_slice-2.result.now ≡ paths_in c.remove-path.new.self = c.as_slice-2.ensures.value ∙ c.in_ok-others.ensures ∙ ap paths_in c.as_slice.ensures.value in
+    let others : c.as_slice-others.result.now ≡ paths_in c.remove-path.new.self = c.as_slice-others.ensures.value ∙ c.in_ok-others.ensures ∙ ap paths_in c.as_slice.ensures.value in
     subst (IsClear c.remove-path.result.path) (sym others) k.clear
 
 pub returns-then-anew-clause-draft : goal.returns-then-anew-clause-draft
@@ -67,7 +67,7 @@ returns-clause-draft g c = λ next last ps d.
     let with = c.in_ok-with.with in
     let ws = c.remove-path.new.self in
     let k = without_of c.args.large next last ps c.args.self c.args.place c.remove-path.result ws d c.requires.place c.remove-path.ensures.value c.remove-path.ensures.items in
-    let others : c.as_slice-2.result.now ≡ paths_in ws = c.as_slice-2.ensures.value ∙ c.in_ok-others.ensures ∙ ap paths_in c.as_slice.ensures.value in
+    let others : c.as_slice-others.result.now ≡ paths_in ws = c.as_slice-others.ensures.value ∙ c.in_ok-others.ensures ∙ ap paths_in c.as_slice.ensures.value in
     let of_node : AreAmong (numbers with) (numbers node) = subst (λ (s : Shape). AreAmong (numbers with) (numbers s)) c.in_ok-node.ensures.shape c.in_ok-with.ensures.numbers in
     let among = among_part (numbers u) (numbers with) (numbers node) (numbers t) c.in_ok-tree.ensures.numbers of_node (at_numbers c.remove-path.result.path t node c.in-Some.ensures.some) in
     let outside = subst (λ (qs : List (List Side)). IsBalancedClear c.args.large (c.remove-path.result.path ∷ qs) t) (sym others) k.outside in
