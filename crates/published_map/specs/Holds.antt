@@ -1,5 +1,6 @@
 -- What detached subtrees held, as the lock keeps it.
-use Rattle.std.specs.Prelude.{ℕ, ◌≤◌, List, [], ◌∷◌, Option, Some, None, ◌==◌, if◌then◌else◌}
+use Rattle.std.specs.Prelude.{ℕ, ◌≤◌, List, [], ◌∷◌, Option, ◌==◌, if◌then◌else◌}
+use Rattle.std.specs.List.{find}
 use Rattle.map_fold.specs.declared.item.Item.{Item}
 use Rattle.rebuild_core.specs.Lawful.{StateAt}
 use Rattle.rebuild_core.specs.Parts.{AreItemsOf}
@@ -21,8 +22,7 @@ AreTrueOf s (h ∷ hs) = IsTrueOf s h × AreTrueOf s hs
 
 -- the hold of the ticket, if there is one
 abbrev pub hold_of : ℕ → List HoldAt → Option HoldAt
-hold_of ticket [] = None
-hold_of ticket (h ∷ hs) = if ticket == h.ticket then Some h else hold_of ticket hs
+hold_of ticket hs = find (λ h. ticket == h.ticket) hs
 
 -- the holds, with this one in the place of that of its slot
 abbrev pub with_hold : HoldAt → List HoldAt → List HoldAt

@@ -1,6 +1,7 @@
 //! What detached subtrees held, told by marks. A turn of the lock learns by them what an earlier one saw, though the state was out
 //! of sight between the two.
-ghost use Rattle.std.specs.Prelude.{◌≡◌, ◌<◌, ◌++◌, [], ◌∷◌, length, None, Some, slice_set, vec_len, vec_capacity, IfSome, IsNone};
+ghost use Rattle.std.specs.Prelude.{◌≡◌, ◌<◌, ◌++◌, [], ◌∷◌, length, slice_set, vec_len, vec_capacity, IfSome, IsNone};
+ghost use Rattle.std.specs.Option.{option_map};
 ghost use Rattle.published_map.specs.Holds.{HoldAt, hold_of, with_hold};
 
 use crate::mark::Mark;
@@ -39,14 +40,9 @@ impl<L: MapName> Hold<L> {
 
 /// The hold of the ticket.
 pub fn hold_of<L: MapName>(holds: &[Hold<L>], ticket: u64) -> Option<&Hold<L>>
-    ensures none { IsNone result → hold_of ticket holds.now ≡ None }
-    ensures some { IfSome result (λ h. hold_of ticket holds.now ≡ Some h.now) }
+    ensures { option_map (λ h. h.now) result ≡ hold_of ticket holds.now }
 {
-    let (first, rest) = holds.split_first()?;
-    if ticket == first.ticket {
-        return Some(first);
-    }
-    hold_of(rest, ticket)
+    holds.iter().find(|hold| ticket == hold.ticket)
 }
 
 /// Keeps the hold in the place of the one of its slot, so that no more are kept than there are slots. There is room for one more.

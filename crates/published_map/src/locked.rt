@@ -147,26 +147,28 @@ impl<L: MapName> Locked<L> {
         pass.kept = catch_up(rt, self.writer.published(), &mut pass.reader);
     }
 
-    /// One turn of the lock for an update. All memory is taken before the version is published.
+    /// One turn of the lock for an update. All memory is taken before the version is published. It gives as well what `keep`
+    /// does.
     pub fn update<R: Wait>(
         &mut self,
         rt: &R,
         alloc: Global,
         pass: &mut Pass<L>,
         update: Update,
-    ) -> Result<u64, StateFault>
-        ensures { Updated L.voxel result pass.old pass.new update }
+    ) -> (Result<u64, StateFault>, Option<Arc<Version>>)
+        ensures { Updated L.voxel result.0 pass.old pass.new update }
     {
+        let former = self.version();
         let _history = self.state.history();
         self.agree(rt, pass);
         let fault = match self.make::<Brand, R>(rt, alloc, pass, update, Blank::new(1)) {
-            Ok(mark) => return Ok(mark),
+            Ok(mark) => return (Ok(mark), self.keep(former, true, true)),
             Err(fault) => fault,
         };
         if fault != StateFault::NoMemory {
             self.give(rt, pass);
         }
-        Err(fault)
+        (Err(fault), former)
     }
 
     // Makes the update, where the pass has seen no more than there is, with a counter that nothing looks at.
@@ -192,13 +194,8 @@ impl<L: MapName> Locked<L> {
             .state
             .plan_update(alloc, pass.caller, update, &mut steps)?;
         pass.marks.reserve(1)?;
-        let mark = take_step(
-            rt,
-            &mut self.marks,
-            &mut self.state,
-            &mut self.writer,
-            planned,
-        )?;
+        let (marks, state, writer) = (&mut self.marks, &mut self.state, &mut self.writer);
+        let mark = take_step(rt, marks, state, writer, planned)?;
         self.book.add(&mut pass.share, 1);
         let shown = self.writer.published();
         pass.kept = catch_up(rt, shown, &mut pass.reader);
@@ -206,12 +203,21 @@ impl<L: MapName> Locked<L> {
         Ok(mark)
     }
 
-    /// One turn of the lock for a settled version of the same history.
-    pub fn settle<R: Wait>(&mut self, rt: &R, alloc: Global) -> Result<(), NoMemory>
+    /// One turn of the lock for a settled version of the same history. It gives as well what `keep` does.
+    pub fn settle<R: Wait>(
+        &mut self,
+        rt: &R,
+        alloc: Global,
+    ) -> (Result<(), NoMemory>, Option<Arc<Version>>)
         ensures { self.new.state.history ≡ self.old.state.history }
     {
-        let planned = self.state.plan_settle(alloc)?;
-        self.step(rt, planned)
+        let former = self.version();
+        let done = match self.state.plan_settle(alloc) {
+            Ok(planned) => self.step(rt, planned),
+            Err(none) => Err(none),
+        };
+        let spent = self.keep(former, done.is_ok(), false);
+        (done, spent)
     }
 
     // Publishes a planned step that is no update, and enters it.
@@ -220,13 +226,8 @@ impl<L: MapName> Locked<L> {
         requires none { planned.entry ≡ None }
         ensures { self.new.state.history ≡ self.old.state.history }
     {
-        take_step(
-            rt,
-            &mut self.marks,
-            &mut self.state,
-            &mut self.writer,
-            planned,
-        )?;
+        let (marks, state, writer) = (&mut self.marks, &mut self.state, &mut self.writer);
+        take_step(rt, marks, state, writer, planned)?;
         Ok(())
     }
 

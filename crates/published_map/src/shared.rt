@@ -85,10 +85,9 @@ impl<L: MapName> Shared<L> {
         // The pass may be the last that keeps its version.
         let kept = pass.kept.again().ok();
         let mut locked = self.lock.lock(rt);
-        let (former, holdings) = (locked.version(), locked.holdings());
+        let holdings = locked.holdings();
         let is_newest = locked.is_newest(&pass.kept);
-        let done = locked.update(rt, alloc, pass, update);
-        let spent = locked.keep(former, done.is_ok(), true);
+        let (done, spent) = locked.update(rt, alloc, pass, update);
         let kept = if is_newest {
             kept
         } else {
@@ -102,9 +101,8 @@ impl<L: MapName> Shared<L> {
     /// Rebuilds what breaches a criterion, as `MapState::settle` does, and publishes the version.
     pub fn settle<R: Wait>(&self, rt: &R, alloc: Global) -> Result<(), NoMemory> {
         let mut locked = self.lock.lock(rt);
-        let (former, holdings) = (locked.version(), locked.holdings());
-        let done = locked.settle(rt, alloc);
-        let spent = locked.keep(former, done.is_ok(), false);
+        let holdings = locked.holdings();
+        let (done, spent) = locked.settle(rt, alloc);
         MutexGuard::unlock(locked);
         drop((spent, holdings));
         done
