@@ -1,5 +1,5 @@
 -- What updates leave and how many nodes they make, said of equal states.
-use Rattle.std.proofs.Common.{◌≡◌, ℕ, ◌+◌, ◌*◌, ◌≤◌, List, [], ◌∷◌, ◌∙◌, arith, refl, subst, sym, Some}
+use Rattle.std.proofs.Common.{◌≡◌, ℕ, ◌+◌, ◌*◌, ◌≤◌, List, [], ◌∷◌, ◌∙◌, arith, subst, sym, Some}
 use Rattle.point_geom.specs.Place.{Place}
 use Rattle.map_fold.specs.declared.op.Op.{Op}
 use Rattle.map_fold.specs.declared.update.Update.{Update}

@@ -5,10 +5,8 @@ use Rattle.std.proofs.lemmas.List.Elements.{All-append, All-cons, All-map, All-n
 use Rattle.point_geom.specs.Place.{Place}
 use Rattle.map_fold.specs.Contents.{live_at}
 use Rattle.map_fold.specs.declared.item.Item.{Item}
-use Rattle.map_fold.specs.declared.op.Op.{Op}
 use Rattle.kd_tree.specs.Shape.{Shape, levels, nodes, numbers}
 use Rattle.kd_tree.specs.Apart.{AreAllApart}
-use Rattle.kd_tree.specs.declared.path.Side.{Side}
 use Rattle.kd_update.specs.declared.watch.Watch.{Watch}
 use Rattle.kd_update.specs.Crossing.{AreMore, HaveRoomAtOnce, logged_scan, with_scan}
 use Rattle.kd_update.specs.Refresh.{AreAmong}

@@ -1,5 +1,5 @@
 -- Work after some operations: what is watched stays while there is room.
-use Rattle.std.proofs.Common.{◌≡◌, ℕ, ◌+◌, ◌*◌, ◌<◌, ◌≤◌, List, [], ◌∷◌, refl, ap, sym, ◌∙◌, arith, subst}
+use Rattle.std.proofs.Common.{◌≡◌, ℕ, ◌+◌, ◌<◌, ◌≤◌, List, [], ◌∷◌, refl, ap, sym, ◌∙◌, arith, subst}
 use Rattle.point_geom.specs.Place.{Place}
 use Rattle.point_geom.specs.declared.axis.Axis.TheVariants.{X}
 use Rattle.node_labels.specs.Labels.{keep_tag}

@@ -1,4 +1,4 @@
-use Rattle.std.proofs.Common.{◌∙◌, ◌+◌, ap, refl}
+use Rattle.std.proofs.Common.{◌∙◌, ◌+◌, ap}
 use Rattle.map_fold.specs.Fold.{points_in}
 use Rattle.rebuild_core.specs.Lawful.{StateAt, Stored}
 use Rattle.rebuild_core.specs.StateView.{state_of}

@@ -20,7 +20,6 @@ use Rattle.rebuild_core.proofs.Both.{distinct_both}
 use Rattle.rebuild_core.proofs.Entering.{entered_none, entered_same, winner_below, winner_new}
 use Rattle.map_fold.proofs.Numbered.{contents_rise}
 use Rattle.rebuild_core.proofs.Winners.{alone_inside, held_wins, new_wins}
-use Rattle.rebuild_core.specs.declared.update.work.Work.{Work}
 use Rattle.rebuild_core.specs.declared.update.waiting.Waiting.{Waiting}
 use Rattle.rebuild_core.specs.Draft.{IsDraft, IsDraftLeft, IsWorked}
 use Rattle.rebuild_core.proofs.Detached.{left_itself}
