@@ -1,4 +1,4 @@
-use Rattle.tree_trials.proofs.tests.beside.Watching.put_at_once.Given as goal
+use Rattle.tree_trials.proofs.tests.watching.Watching.put_at_once.Given as goal
 
 abbrev pub ghosts-put_scan_beside : goal.ghosts-put_scan_beside
 ghosts-put_scan_beside g a = record { name = a.blank.name; parts = a.blank.parts }
