@@ -1,12 +1,12 @@
 -- Scans that are put while subtrees are watched.
-use Rattle.std.proofs.Common.{◌≡◌, ℕ, ◌+◌, ◌≤◌, Bool, true, false, not, cond, inl, refl, ap, ◌∙◌, sym, subst, arith, List, [], ◌∷◌, ◌++◌, Some, map, length, take, drop, length-append, append_assoc}
-use Rattle.std.specs.Prelude.{All, IsPermutation, count_by, filter, ◌==◌}
-use Rattle.std.proofs.lemmas.Bool.{cond_both, eq-eqb}
+use Rattle.std.proofs.Common.{◌≡◌, ℕ, ◌+◌, ◌≤◌, Bool, true, false, not, cond, inl, refl, ap, ◌∙◌, sym, subst, arith, List, [], ◌∷◌, ◌++◌, Some, map, length, take, drop, length-append, append_assoc, All, IsPermutation, count_by, filter, ◌==◌}
+use Rattle.std.proofs.lemmas.Bool.{cond_both}
 use Rattle.std.proofs.lemmas.List.{take-append-drop, append-nil}
 use Rattle.std.proofs.lemmas.List.Elements.{All-cons, All-head, All-nil, All-tail, All-filter, All-weaker, filter-append, recursion_from_All}
 use Rattle.std.specs.List.{AllByRecursion}
-use Rattle.std.proofs.lemmas.List.Sorted.{length_permutation, sum_by-IsPermutation, IsPermutation-middle, IsPermutation-sym, IsPermutation-trans}
-use Rattle.std.proofs.lemmas.List.Sums.{sum_by-append, sum_by-cons}
+use Rattle.std.proofs.lemmas.List.Sorted.{length_permutation, sum_by-IsPermutation, IsPermutation-append_comm, IsPermutation-middle, IsPermutation-sym, IsPermutation-trans}
+use Rattle.std.proofs.lemmas.List.Filters.{sum_by-filter_both}
+use Rattle.std.proofs.lemmas.List.Sums.{count_by-le-length, length-filter, sum_by-append}
 use Rattle.point_geom.specs.declared.axis.Axis.{Axis}
 use Rattle.node_labels.specs.Labels.{composed, keep_tag}
 use Rattle.node_labels.specs.declared.label.Label.TheVariants.{Live}
@@ -14,7 +14,7 @@ use Rattle.node_labels.proofs.Laws.{composed-keep_right}
 use Rattle.map_fold.specs.declared.item.Item.{Item}
 use Rattle.map_fold.specs.declared.op.Op.{Op}
 use Rattle.map_fold.specs.Contents.{all_items, kept, put, relabelled}
-use Rattle.map_fold.specs.Ops.{Extends, Fit, IsUnheld, numbers_put, replay}
+use Rattle.map_fold.specs.Ops.{Fit, numbers_put, replay}
 use Rattle.kd_tree.specs.Shape.{Head, Shape, leaf, fork, nodes, numbers}
 use Rattle.kd_tree.specs.Walk.{tagged, walk}
 use Rattle.kd_tree.specs.Sound.{IsSound}
@@ -37,7 +37,7 @@ use Rattle.node_labels.specs.declared.tag.Tag.{Tag}
 use Rattle.map_fold.specs.declared.op.Op.TheVariants.{Mark}
 use Rattle.kd_update.specs.Crossing.{AreMet, IsCrossed, IsMet, IsWholeGrown, going, logged_scan, puts_of}
 use Rattle.kd_update.proofs.Criteria.{apart}
-use Rattle.kd_update.proofs.Grown.{GoBeside, IsLive, IsStep, distinct_back, distinct_front, grown_built, grown_moved, grown_none, grown_put, step_grown}
+use Rattle.kd_update.proofs.Grown.{GoBeside, IsLive, IsStep, distinct_back, distinct_front, grown_built, grown_moved, grown_none, grown_put, new_first, step_grown}
 use Rattle.kd_update.proofs.Joins.{grown_held, put_new}
 use Rattle.kd_update.proofs.Refresh.{head}
 use Rattle.kd_update.proofs.Route.{nodes-put, route_none}
@@ -50,14 +50,7 @@ use Rattle.kd_update.proofs.Watched.{at-tagged, at_son, watched_handed, watched_
 -- lists
 
 filter_counts : (n : ℕ) (p : Item → Bool) (xs : List Item) → count_by (λ i. n == i.number) (filter p xs) ≤ count_by (λ i. n == i.number) xs
-filter_counts n p [] = omega arith
-filter_counts n p (i ∷ xs) =
-    let g : Item → ℕ = λ j. cond (n == j.number) 1 0 in
-    let rest = filter_counts n p xs in
-    let Q : List Item → Type 0 = λ ys. count_by (λ j. n == j.number) ys ≤ count_by (λ j. n == j.number) (i ∷ xs) in
-    cond_both (p i) (i ∷ filter p xs) (filter p xs) Q
-    (λ _. omega (arith, rest, sum_by-cons g i (filter p xs), sum_by-cons g i xs))
-    (λ _. omega (arith, rest, sum_by-cons g i xs))
+filter_counts n p xs = omega (arith, sum_by-filter_both p (λ i. not (p i)) (λ _. refl) (λ (i : Item). cond (n == i.number) 1 0) xs)
 
 pub distinct_filter : (p : Item → Bool) (xs : List Item) → AreDistinct xs → AreDistinct (filter p xs)
 distinct_filter p xs d = record { once = λ n. omega (arith, d.once n, filter_counts n p xs) }
@@ -117,12 +110,6 @@ replay_puts : (m : List Item) (is : List Item) → replay m (puts_of is) ≡ put
 replay_puts m [] = refl
 replay_puts m (i ∷ is) = replay_puts (put m i.number i.point) is
 
-unheld_first : (m is : List Item) (i : Item) → AreDistinct (m ++ i ∷ is) → IsUnheld i.number m
-unheld_first m is i d =
-    let g : Item → ℕ = λ j. cond (i.number == j.number) 1 0 in
-    let here : g i ≡ 1 = rw (eq-eqb i.number i.number refl) refl in
-    omega (arith, d.once i.number, sum_by-append g m (i ∷ is), sum_by-cons g i is, here)
-
 -- items that may join a tree's contents, put one after the other, fit them
 fit_puts : (w is : List Item) → AreDistinct (w ++ is) → AreLive is → length w + length is ≤ 4194304 → Fit (by_number w) (puts_of is)
 fit_puts w [] d live few = tt
@@ -131,7 +118,7 @@ fit_puts w (i ∷ is) d live few =
     let distinct : AreDistinct ((i ∷ w) ++ is) = once_moved (w ++ i ∷ is) ((i ∷ w) ++ is) moved d in
     let one : by_number (i ∷ w) ≡ put (by_number w) i.number i.point = put_new i w (All-head IsLive i is live) (distinct_front (i ∷ w) is distinct) in
     let g : Item → ℕ = λ j. cond (i.number == j.number) 1 0 in (
-      omega (arith, unheld_first w is i d, sum_by-IsPermutation g w (by_number w) (by_number_moves w)),
+      omega (arith, new_first w is i d, sum_by-IsPermutation g w (by_number w) (by_number_moves w)),
       omega (arith, few, length_permutation w (by_number w) (by_number_moves w)),
       subst (λ m. Fit m (puts_of is)) one (fit_puts (i ∷ w) is distinct (All-tail IsLive i is live) (omega (arith, few))),
     )
@@ -155,10 +142,7 @@ met_root s t is k w = record {
 }
 
 filter_short : (p : Item → Bool) (xs : List Item) → length (filter p xs) ≤ length xs
-filter_short p [] = omega arith
-filter_short p (i ∷ xs) =
-    let rest = filter_short p xs in
-    cond_both (p i) (i ∷ filter p xs) (filter p xs) (λ ys. length ys ≤ length (i ∷ xs)) (λ _. omega (arith, rest)) (λ _. omega (arith, rest))
+filter_short p xs = omega (arith, length-filter p xs, count_by-le-length p xs)
 
 come_side : (p : Item → Bool) (k a b is : List Item) (s : Shape) → walk keep_tag s ≡ a → AreLive is → AreDistinct ((k ++ (a ++ b)) ++ is) → length (k ++ (a ++ b)) + length is ≤ 4194304 → MayCome s (filter p is)
 come_side p k a b is s e live d room = record {
@@ -259,10 +243,7 @@ first_parted p is xs ys d m a b =
     subst (λ z. IsPermutation (filter p is) z) same (filter_moved p is (xs ++ ys) d m)
 
 last_parted : (p : Item → Bool) (is xs ys : List Item) → AreDistinct is → IsPermutation is (xs ++ ys) → All (λ i. p i ≡ false) xs → All (λ i. p i ≡ true) ys → IsPermutation (filter p is) ys
-last_parted p is xs ys d m a b =
-    let same : filter p (xs ++ ys) ≡ ys =
-    filter-append p xs ys ∙ ap (λ z. z ++ filter p ys) (filter_no p xs (recursion_from_All (λ (i : Item). p i ≡ false) xs a)) ∙ filter_every p ys (recursion_from_All (λ (i : Item). p i ≡ true) ys b) in
-    subst (λ z. IsPermutation (filter p is) z) same (filter_moved p is (xs ++ ys) d m)
+last_parted p is xs ys d m a b = first_parted p is ys xs d (IsPermutation-trans _ _ _ m (IsPermutation-append_comm xs ys)) b a
 
 met_fork : (ps : List (List Side)) (i : Item) (is : List Item) (h : Head) (l0 r0 l r : Shape) (xs ys : List Item) → AreDistinct (i ∷ is) → IsPermutation (i ∷ is) (xs ++ ys) → GoBeside h.item h.axis xs ys → is_here ps ≡ false
     → AreMet (onward Left ps) xs (tagged h.pending l0) l → AreMet (onward Right ps) ys (tagged h.pending r0) r → AreMet ps (i ∷ is) (fork h l0 r0) (fork (head h.item h.axis) l r)
@@ -311,9 +292,6 @@ crossed_step large ps s is f xs ys l r x k p there here any some u v =
 
 -- logs
 
-pub extends_then : (xs ys zs : List Op) → Extends xs ys → Extends ys zs → Extends xs zs
-extends_then xs ys zs k m = (k.0 ++ m.0, m.1 ∙ ap (λ z. z ++ m.0) k.1 ∙ append_assoc xs k.0 m.0)
-
 puts_length : (is : List Item) → length (puts_of is) ≡ length is
 puts_length [] = refl
 puts_length (i ∷ is) = omega (arith, puts_length is)
@@ -321,11 +299,7 @@ puts_length (i ∷ is) = omega (arith, puts_length is)
 pub ahead_scan : (side : Side) (path : List Side) (is : List Item) (q o : Tag) (t s : Shape) (h : Head) (l r : Shape) → t ≡ fork h l r → o ≡ composed h.pending q → s ≡ son side l r → (is ≡ [] → ⊥)
     → logged_scan (side ∷ path) is (tagged q t) ≡ handed path o ++ logged_scan path (going side h.axis h.item.point is) (tagged o s)
 ahead_scan side path [] q o t s h l r e owed on some = absurd (some refl)
-ahead_scan side path (i ∷ is) q o t s h l r e owed on some =
-    let xs = going side h.axis h.item.point (i ∷ is) in
-    ap (λ z. logged_scan (side ∷ path) (i ∷ is) (tagged q z)) e
-    ∙ ap (λ z. handed path z ++ logged_scan path xs (tagged z (son side l r))) (sym owed)
-    ∙ ap (λ z. handed path o ++ logged_scan path xs (tagged o z)) (sym on)
+ahead_scan side path (i ∷ is) q o t s h l r e owed on some = rw (e, owed, on) refl
 
 pub logged_scan_few : (path : List Side) (is : List Item) (t : Shape) → length (logged_scan path is t) ≤ length is + 1
 logged_scan_few [] is t = omega (arith, puts_length is)

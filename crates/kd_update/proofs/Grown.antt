@@ -1,9 +1,7 @@
 -- Trees with more items than before, some subtrees rebuilt.
-use Rattle.std.proofs.Common.{◌≡◌, ℕ, ◌+◌, ◌≤◌, ◌≤ℤ◌, true, false, cond, inl, inr, refl, ap, sym, subst, arith, List, [], ◌∷◌, ◌++◌, Some, map, length, take, drop, length-append, append_assoc}
-use Rattle.std.specs.Prelude.{All, Contains, IsPermutation, ◌==◌}
-use Rattle.std.proofs.lemmas.Bool.{eqb-true}
+use Rattle.std.proofs.Common.{◌≡◌, ℕ, ◌+◌, ◌≤◌, ◌≤ℤ◌, true, false, cond, inl, inr, refl, ap, sym, subst, arith, List, [], ◌∷◌, ◌++◌, Some, map, length, take, drop, length-append, append_assoc, All, Contains, IsPermutation, count_by, ◌==◌, eqb-true}
 use Rattle.std.proofs.lemmas.List.{map-append, take-append-drop, append-nil, get_or_append_left, get_or-append-add}
-use Rattle.std.proofs.lemmas.List.Elements.{All-append, All-map, All-weaker, All-contains, All-contains_itself, recursion_from_All, Contains-append_left, Contains-append_right}
+use Rattle.std.proofs.lemmas.List.Elements.{All-append, All-weaker, Contains-append_left}
 use Rattle.std.proofs.lemmas.List.Sorted.{All-permutation, Contains-permutation, length_permutation, IsPermutation-refl, IsPermutation-sym, IsPermutation-trans, IsPermutation-append, IsPermutation-append_left, IsPermutation-append_right, IsPermutation-append_comm, IsPermutation-map}
 use Rattle.std.proofs.lemmas.List.Sums.{sum_by-append}
 use Rattle.point_geom.specs.Place.{Place}
@@ -13,7 +11,6 @@ use Rattle.node_labels.specs.Labels.{keep_tag, is_dropped}
 use Rattle.node_labels.specs.declared.label.Label.TheVariants.{Live}
 use Rattle.map_fold.specs.declared.item.Item.{Item}
 use Rattle.map_fold.specs.Contents.{live_at, relabelled, kept}
-use Rattle.map_fold.specs.Nearest.{Member}
 use Rattle.kd_tree.specs.Shape.{Head, Shape, leaf, fork, levels, nodes, numbers}
 use Rattle.kd_tree.specs.Walk.{walk, times}
 use Rattle.kd_tree.specs.Sound.{IsSound, IsSoundFork}
@@ -22,7 +19,7 @@ use Rattle.kd_tree.specs.Build.{IsBuilt}
 use Rattle.kd_tree.specs.Parts.{pushed}
 use Rattle.kd_tree.specs.declared.change.Fork.{Fork}
 use Rattle.kd_tree.proofs.Contents.{times_walk}
-use Rattle.kd_tree.proofs.Held.{walk_kept, walk_few, walk_numbers}
+use Rattle.kd_tree.proofs.Held.{walk_kept, walk_few}
 use Rattle.kd_tree.proofs.Left.{all_left, left_all}
 use Rattle.kd_tree.proofs.Medians.{built_nodes, built_levels, built_walk}
 use Rattle.kd_tree.proofs.Numbered.{counted_in, once_moved}
@@ -31,7 +28,7 @@ use Rattle.kd_update.specs.Update.{IsBalancedBelow}
 use Rattle.kd_update.specs.Put.{goes_left, put_from}
 use Rattle.kd_update.specs.Scan.{AreLive, IsGrown, IsParted, IsPiece, numbers_in}
 use Rattle.kd_update.proofs.Trees.{among_same, among_append, among_fork, at_pushed, swapped}
-use Rattle.kd_update.proofs.Refresh.{head, refreshed_refresh}
+use Rattle.kd_update.proofs.Refresh.{head, left_among, refreshed_refresh}
 use Rattle.kd_update.proofs.Update.{criteria_balanced, balanced_sons}
 use Rattle.kd_update.proofs.Criteria.{IsApart, apart}
 use Rattle.kd_update.proofs.Route.{le_of_true, le_of_false, walk-put, nodes-put, levels-put, numbers-put}
@@ -119,14 +116,9 @@ pub kept_with : (s : Shape) (is : List Item) → AreLive is → AreKept (walk ke
 kept_with s is k = All-append (λ (i : Item). is_dropped i.label ≡ false) (walk keep_tag s) is (walk_kept keep_tag s) (live_kept is k)
 
 built_from : (s t : Shape) (is : List Item) → IsPermutation (map (λ i. i.number) (walk keep_tag s ++ is)) (numbers t) → AreAmong (numbers t) (numbers s ++ numbers_in is)
-built_from s t is ns = λ n k.
-    let number : Item → ℕ = λ i. i.number in
-    let F : ℕ → Type 0 = λ m. Contains (numbers s ++ numbers_in is) m in
-    let old : All F (numbers s) = All-weaker _ _ (λ m c. Contains-append_left (numbers s) (numbers_in is) m c) (numbers s) (All-contains_itself (numbers s)) in
-    let new : All F (numbers_in is) = All-weaker _ _ (λ m c. Contains-append_right (numbers s) (numbers_in is) m c) (numbers_in is) (All-contains_itself (numbers_in is)) in
-    let left : All F (map number (walk keep_tag s)) = All-map F number (walk keep_tag s) (walk_numbers F keep_tag s (recursion_from_All F (numbers s) old)) in
-    let all : All F (map number (walk keep_tag s ++ is)) = subst (All F) (sym (map-append number (walk keep_tag s) is)) (All-append F _ _ left new) in
-    All-contains F (numbers t) n (All-permutation F _ (numbers t) ns all) k
+built_from s t is ns n k =
+    among_append (numbers_in (walk keep_tag s)) (numbers s) (numbers_in is) (numbers_in is) (left_among s) (among_same (numbers_in is)) n
+    (subst (λ z. Contains z n) (map-append (λ (i : Item). i.number) (walk keep_tag s) is) (Contains-permutation _ _ n (IsPermutation-sym _ _ ns) k))
 
 built_grown : (s t : Shape) (is : List Item) → AreLive is → levels t ≤ levels s + 22 → IsBuilt (walk keep_tag s ++ is) t → IsPermutation (map (λ i. i.number) (walk keep_tag s ++ is)) (numbers t) → IsGrown s is t
 built_grown s t is live low b ns = record {
@@ -155,13 +147,15 @@ alone is (j ∷ rest) i e k = absurd (let h = eqb-true (length (j ∷ rest)) 0 k
 
 -- pieces
 
+-- the number of an item isn't among those before it
+pub new_first : (xs is : List Item) (i : Item) → AreDistinct (xs ++ i ∷ is) → count_by (λ j. i.number == j.number) xs ≡ 0
+new_first xs is i d =
+    let here = counted_in i i.number (i ∷ is) (inl refl) refl in
+    omega (arith, here, d.once i.number, sum_by-append (λ (j : Item). cond (i.number == j.number) 1 0) xs (i ∷ is))
+
 -- the number of an item isn't held
 pub piece_new : (large : ℕ) (s : Shape) (is rest : List Item) (i : Item) → is ≡ i ∷ rest → IsPiece large s is → times i.number keep_tag s ≡ 0
-piece_new large s is rest i e p =
-    let g : Item → ℕ = λ j. cond (i.number == j.number) 1 0 in
-    let once = p.distinct.once i.number in
-    let here = counted_in i i.number is (subst (Member i) (sym e) (inl refl)) refl in
-    omega (arith, once, here, times_walk i.number keep_tag s, sum_by-append g (walk keep_tag s) is)
+piece_new large s is rest i e p = omega (arith, times_walk i.number keep_tag s, new_first (walk keep_tag s) rest i (subst (λ js. AreDistinct (walk keep_tag s ++ js)) e p.distinct))
 
 -- no more items may be put in a tree that is no larger
 piece_part : (large : ℕ) (s t : Shape) (is js : List Item) → IsPiece large s is → AreLive js → AreDistinct (walk keep_tag t ++ js) → length js ≤ length is → nodes t ≤ nodes s → levels t ≤ levels s → IsPiece large t js
@@ -194,18 +188,14 @@ distinct_front xs ys d = record { once = λ n. let g : Item → ℕ = λ i. cond
 pub distinct_back : (xs ys : List Item) → AreDistinct (xs ++ ys) → AreDistinct ys
 distinct_back xs ys d = record { once = λ n. let g : Item → ℕ = λ i. cond (n == i.number) 1 0 in omega (arith, d.once n, sum_by-append g xs ys) }
 
-distinct_parts : (k xs ys : List Item) → AreDistinct (k ++ (xs ++ ys)) → AreDistinct xs × AreDistinct ys
-distinct_parts k xs ys d = let both = distinct_back k (xs ++ ys) d in (distinct_front xs ys both, distinct_back xs ys both)
-
 -- the items that go to each son may be put there
 piece_sons : (large : ℕ) (i : Item) (a : Axis) (l r : Shape) (xs ys : List Item) → IsPiece large (fork (head i a) l r) (xs ++ ys) → IsPiece large l xs × IsPiece large r ys
 piece_sons large i a l r xs ys p =
-    let own = kept (relabelled keep_tag i ∷ []) in
-    let parts = distinct_parts own (walk keep_tag l ++ xs) (walk keep_tag r ++ ys) (once_moved _ _ (spread own (walk keep_tag l) (walk keep_tag r) xs ys) p.distinct) in
+    let both : AreDistinct ((walk keep_tag l ++ xs) ++ (walk keep_tag r ++ ys)) = distinct_back _ _ (once_moved _ _ (spread (kept (relabelled keep_tag i ∷ [])) (walk keep_tag l) (walk keep_tag r) xs ys) p.distinct) in
     let size = length-append xs ys in
     let s = fork (head i a) l r in (
-      piece_part large s l (xs ++ ys) xs p (all_first IsLive xs ys p.live) parts.0 (omega (arith, size)) (omega arith) (omega arith),
-      piece_part large s r (xs ++ ys) ys p (all_last IsLive xs ys p.live) parts.1 (omega (arith, size)) (omega arith) (omega arith),
+      piece_part large s l (xs ++ ys) xs p (all_first IsLive xs ys p.live) (distinct_front (walk keep_tag l ++ xs) (walk keep_tag r ++ ys) both) (omega (arith, size)) (omega arith) (omega arith),
+      piece_part large s r (xs ++ ys) ys p (all_last IsLive xs ys p.live) (distinct_back (walk keep_tag l ++ xs) (walk keep_tag r ++ ys) both) (omega (arith, size)) (omega arith) (omega arith),
     )
 
 -- the first list goes left of the item, the second right
@@ -237,11 +227,8 @@ pub record IsStep (s : Shape) (is : List Item) (f : Fork) (xs ys : List Item) : 
   pub moved : IsPermutation is (xs ++ ys)
   pub beside : GoBeside f.item f.axis xs ys
 
-parted_fork : (h : Head) (l r : Shape) (n : ℕ) (js : List Item) → IsParted (fork h l r) n js → GoBeside h.item h.axis (take n js) (drop n js)
-parted_fork h l r n js k = record { left = k.1; right = k.2 }
-
 parted_at : (s : Shape) (f : Fork) (n : ℕ) (js : List Item) → Some f ≡ pushed s → IsParted s n js → GoBeside f.item f.axis (take n js) (drop n js)
-parted_at s f n js x = at_pushed (λ z g. IsParted z n js → GoBeside g.item g.axis (take n js) (drop n js)) s f x (λ h l r. parted_fork h l r n js)
+parted_at s f n js x = at_pushed (λ z g. IsParted z n js → GoBeside g.item g.axis (take n js) (drop n js)) s f x (λ h l r k. record { left = k.1; right = k.2 })
 
 pub step_at : (s : Shape) (f : Fork) (n : ℕ) (is js xs ys : List Item) → Some f ≡ pushed s → IsSound s → IsPermutation is js → IsParted s n js → xs ≡ take n js → ys ≡ drop n js → IsStep s is f xs ys
 step_at s f n is js xs ys x k m p e e' = record {
@@ -267,9 +254,6 @@ step_grown large s is f xs ys l r t k left right done =
 
 -- balance
 
-apart_balanced : (large : ℕ) (s : Shape) (f : Fork) → Some f ≡ pushed s → IsBalancedBelow large s → IsBalancedBelow large f.left × IsBalancedBelow large f.right
-apart_balanced large s f x = at_pushed (λ z g. IsBalancedBelow large z → IsBalancedBelow large g.left × IsBalancedBelow large g.right) s f x (balanced_sons large)
-
 balanced_due : (large : ℕ) (h : Head) (l r t : Shape) → IsBalancedBelow large l → IsBalancedBelow large r → RefreshesIfDue large (fork h l r) t → IsBalancedBelow large t
 balanced_due large h l r t left right (inl k) = subst (IsBalancedBelow large) k.1 ((λ many few. (k.0 many few).0), left, right)
 balanced_due large h l r t left right (inr k) = criteria_balanced large t k.2
@@ -277,5 +261,5 @@ balanced_due large h l r t left right (inr k) = criteria_balanced large t k.2
 pub step_balanced : (large : ℕ) (s : Shape) (f : Fork) (l r t : Shape) → Some f ≡ pushed s → (IsBalancedBelow large f.left → IsBalancedBelow large l) → (IsBalancedBelow large f.right → IsBalancedBelow large r) → RefreshesIfDue large (fork (head f.item f.axis) l r) t
     → IsBalancedBelow large s → IsBalancedBelow large t
 step_balanced large s f l r t x left right done balanced =
-    let both = apart_balanced large s f x balanced in
+    let both = at_pushed (λ z g. IsBalancedBelow large z → IsBalancedBelow large g.left × IsBalancedBelow large g.right) s f x (balanced_sons large) balanced in
     balanced_due large (head f.item f.axis) l r t (left both.0) (right both.1) done

@@ -1,31 +1,34 @@
--- A tree after an action on chosen items, without rebuilding.
-use Rattle.std.proofs.Common.{◌≡◌, ℕ, ◌+◌, ◌≤◌, max, true, false, cond, refl, ap, ◌∙◌, sym, arith, subst, Option, Some, None, List, [], ◌∷◌, ◌++◌}
-use Rattle.std.specs.Prelude.{All, count_by, ◌==◌, ◌≤ℤ◌}
+-- A list and a tree after an action on chosen items, without rebuilding.
+use Rattle.std.proofs.Common.{◌≡◌, ℕ, ◌+◌, ◌≤◌, max, true, false, cond, refl, ap, ◌∙◌, sym, arith, subst, Option, Some, None, List, [], ◌∷◌, ◌++◌, All, count_by, ◌==◌, ◌≤ℤ◌, Bool, not, map}
 use Rattle.std.proofs.lemmas.Bool.{cond_both, cond-true, cond-false, false_from_ne_true, false≢true, and_parts}
 use Rattle.std.proofs.lemmas.Bool.Decides.{nat_tests}
 use Rattle.std.specs.Cmp.Derive.{both_true}
-use Rattle.std.proofs.lemmas.List.Elements.{All-weaker, All-nil, All-cons, All-head, All-tail}
-use Rattle.point_geom.specs.Place.{Place, Bounds, Span}
+use Rattle.std.specs.List.{AllByRecursion}
+use Rattle.std.proofs.lemmas.List.Elements.{recursion_from_All, All-map, All-weaker, All-filter}
+use Rattle.std.proofs.lemmas.List.Sums.{sum_by-cons}
+use Rattle.point_geom.specs.Place.{Place, Bounds}
 use Rattle.map_fold.specs.declared.choice.Choice.{Choice}
 use Rattle.point_geom.specs.Axes.{on}
 use Rattle.point_geom.specs.Extents.{IsIn, spot}
 use Rattle.kd_update.specs.Reach.{covers, covers_box, meets, meets_box, reach, reach_of}
 use Rattle.kd_update.specs.declared.reach.Reach.{Reach}
 use Rattle.point_geom.proofs.Laws.{IsPart-same, held_meets, covered_held}
-use Rattle.node_labels.specs.Labels.{composed, keep_tag}
+use Rattle.node_labels.specs.Labels.{composed, keep_tag, is_dropped}
+use Rattle.node_labels.specs.declared.label.Label.{Label}
+use Rattle.node_labels.specs.declared.label.Label.TheVariants.{Live, Suspended, Dropped}
 use Rattle.node_labels.specs.declared.tag.Tag.{Tag}
 use Rattle.node_labels.proofs.Laws.{composed-keep_right}
 use Rattle.map_fold.specs.declared.item.Item.{Item}
 use Rattle.map_fold.specs.Contents.{relabelled, marked_item, kept, mark, chosen_by, everything, is_above, is_inside}
+use Rattle.map_fold.proofs.Numbered.{marked_number}
 use Rattle.kd_tree.specs.Shape.{Head, Shape, leaf, fork, nodes, levels, numbers}
 use Rattle.kd_tree.specs.Walk.{walk, extent, grown, tagged, AllKept, times}
 use Rattle.kd_tree.specs.Sound.{IsSound, IsSoundFork}
-use Rattle.kd_tree.specs.Contents.{contents, by_number}
+use Rattle.kd_tree.specs.Contents.{contents, by_number, AreKept}
 use Rattle.kd_tree.specs.Parts.{pushed}
 use Rattle.kd_tree.specs.declared.change.Fork.{Fork}
 use Rattle.kd_tree.proofs.Actions.{tagged-keep, tagged_nodes, tagged_levels, sound_once}
 use Rattle.kd_tree.specs.Numbers.{one_number, widened, range}
-use Rattle.kd_tree.specs.declared.numbers.Numbers.{Numbers}
 use Rattle.kd_tree.proofs.Extents.{walk_in}
 use Rattle.kd_tree.proofs.Ranges.{IsInRange, ranged_itself, walk_ranged}
 use Rattle.kd_tree.proofs.Held.{walk_kept}
@@ -33,10 +36,61 @@ use Rattle.kd_tree.proofs.Contents.{parts_alike, mark-append, by_number-mark, re
 use Rattle.kd_update.specs.Mark.{marked_under, marked_shape, is_entered, RebuildsNoneEntered}
 use Rattle.kd_update.specs.Refresh.{AreAmong, IsNotDue, IsRefresh}
 use Rattle.kd_tree.proofs.Left.{all_left, left_all}
-use Rattle.kd_update.proofs.Results.{some_same}
+use Rattle.std.proofs.lemmas.Option.{same_Some}
 use Rattle.kd_update.proofs.Trees.{forked, walk-tagged_keep}
-use Rattle.kd_update.proofs.Lists.{marked-point, marked-number, own-marked, mark_agree, mark_none, mark_points, mark_counts}
-use Rattle.kd_update.proofs.Refresh.{head, refresh_contents}
+use Rattle.kd_update.proofs.Refresh.{head, refresh_contents, tops_alike}
+
+-- actions on lists of items
+
+-- a mark changes no point
+pub marked-point : (chosen : Item → Bool) (a : Tag) (i : Item) → (marked_item chosen a i).point ≡ i.point
+marked-point chosen a i = let Q : Item → Type 0 = λ j. j.point ≡ i.point in cond_both (chosen i) (relabelled a i) i Q (λ _. refl) (λ _. refl)
+
+-- what is left of one item
+pub own-marked : (chosen : Item → Bool) (a : Tag) (i : Item) → kept (marked_item chosen a i ∷ []) ≡ mark (kept (i ∷ [])) chosen a
+own-marked chosen a i = own i.label
+  where
+    own : (x : Label) → kept (marked_item chosen a (record i { label = x }) ∷ []) ≡ mark (kept (record i { label = x } ∷ [])) chosen a
+    own Live = refl
+    own Suspended = refl
+    own Dropped = let Q : Item → Type 0 = λ j. kept (j ∷ []) ≡ [] in cond_both (chosen (record i { label = Dropped })) (relabelled a (record i { label = Dropped })) (record i { label = Dropped }) Q (λ _. refl) (λ _. refl)
+
+-- two choices that agree
+agree_by : (chosen other : Item → Bool) (a : Tag) (xs : List Item) → AllByRecursion (λ i. chosen i ≡ other i) xs → mark xs chosen a ≡ mark xs other a
+agree_by chosen other a [] k = refl
+agree_by chosen other a (i ∷ xs) k = rw (k.0, agree_by chosen other a xs k.1) refl
+
+pub mark_agree : (chosen other : Item → Bool) (a : Tag) (xs : List Item) → All (λ i. chosen i ≡ other i) xs → mark xs chosen a ≡ mark xs other a
+mark_agree chosen other a xs k = agree_by chosen other a xs (recursion_from_All (λ (i : Item). chosen i ≡ other i) xs k)
+
+none_by : (chosen : Item → Bool) (a : Tag) (xs : List Item) → AllByRecursion (λ i. chosen i ≡ false) xs → AllByRecursion (λ i. is_dropped i.label ≡ false) xs → mark xs chosen a ≡ xs
+none_by chosen a [] k d = refl
+none_by chosen a (i ∷ xs) k d = rw (k.0, d.0, none_by chosen a xs k.1 d.1) refl
+
+-- where none is chosen and none dropped, all stays
+pub mark_none : (chosen : Item → Bool) (a : Tag) (xs : List Item) → All (λ i. chosen i ≡ false) xs → AreKept xs → mark xs chosen a ≡ xs
+mark_none chosen a xs k d = none_by chosen a xs (recursion_from_All (λ (i : Item). chosen i ≡ false) xs k) (recursion_from_All (λ (i : Item). is_dropped i.label ≡ false) xs d)
+
+-- what holds of all points still does
+pub mark_points : (P : Place → Type 0) (chosen : Item → Bool) (a : Tag) (xs : List Item) → All (λ i. P i.point) xs → All (λ i. P i.point) (mark xs chosen a)
+mark_points P chosen a xs k =
+    let F : Item → Type 0 = λ i. P i.point in
+    All-filter (λ (i : Item). not (is_dropped i.label)) F (map (marked_item chosen a) xs)
+    (All-map F (marked_item chosen a) xs (All-weaker F (λ i. F (marked_item chosen a i)) (λ i p. subst P (sym (marked-point chosen a i)) p) xs k))
+
+-- no number stands more often
+pub mark_counts : (n : ℕ) (chosen : Item → Bool) (a : Tag) (xs : List Item) → count_by (λ i. n == i.number) (mark xs chosen a) ≤ count_by (λ i. n == i.number) xs
+mark_counts n chosen a [] = omega arith
+mark_counts n chosen a (i ∷ xs) =
+    let g : Item → ℕ = λ j. cond (n == j.number) 1 0 in
+    let same : g (marked_item chosen a i) ≡ g i = ap (λ m. cond (n == m) 1 0) (marked_number chosen a i) in
+    let rest = mark_counts n chosen a xs in
+    let Q : List Item → Type 0 = λ ys. count_by (λ j. n == j.number) ys ≤ count_by (λ j. n == j.number) (i ∷ xs) in
+    cond_both (not (is_dropped (marked_item chosen a i).label)) (marked_item chosen a i ∷ mark xs chosen a) (mark xs chosen a) Q
+    (λ _. omega (arith, same, rest, sum_by-cons g (marked_item chosen a i) (mark xs chosen a), sum_by-cons g i xs))
+    (λ _. omega (arith, rest, sum_by-cons g i xs))
+
+-- actions on trees
 
 -- an action on chosen items after one on all
 pub marked-tagged : (c : Choice) (a p : Tag) (t : Shape) → marked_under c a keep_tag (tagged p t) ≡ marked_under c a p t
@@ -47,6 +101,10 @@ marked-tagged c a p (fork h l r) =
     ap (λ s. F s (relabelled keep_tag (relabelled p h.item)) (composed (composed h.pending p) keep_tag)) (tagged-keep (tagged p (fork h l r)))
     ∙ ap (λ i. F (tagged p (fork h l r)) i (composed (composed h.pending p) keep_tag)) (relabelled-keep (relabelled p h.item))
     ∙ ap (λ q. F (tagged p (fork h l r)) (relabelled p h.item) q) (composed-keep_right (composed h.pending p))
+
+-- a son that was handed the action owed, marked
+pub son-marked : (c : Choice) (a q : Tag) (t : Shape) → marked_shape c a (tagged q t) ≡ marked_under c a (composed q keep_tag) t
+son-marked c a q t = marked-tagged c a q t ∙ ap (λ p. marked_under c a p t) (sym (composed-keep_right q))
 
 -- what holds where the choice misses a node, covers it or enters it
 marked_cases : (P : Shape → Type 0) (c : Choice) (a p : Tag) (h : Head) (l r : Shape) → P (tagged p (fork h l r)) → P (tagged a (tagged p (fork h l r)))
@@ -71,46 +129,33 @@ unfolding marked_under
 numbers-marked c a p leaf = refl
 numbers-marked c a p (fork h l r) =
     marked_cases (λ s. numbers s ≡ h.item.number ∷ (numbers l ++ numbers r)) c a p h l r refl refl
-    (ap (λ n. n ∷ (numbers (marked_under c a (composed h.pending p) l) ++ numbers (marked_under c a (composed h.pending p) r))) (marked-number (chosen_by c) a (relabelled p h.item))
-    ∙ ap (λ x. h.item.number ∷ (x ++ numbers (marked_under c a (composed h.pending p) r))) (numbers-marked c a (composed h.pending p) l)
-    ∙ ap (λ x. h.item.number ∷ (numbers l ++ x)) (numbers-marked c a (composed h.pending p) r))
+    (rw (marked_number (chosen_by c) a (relabelled p h.item), numbers-marked c a (composed h.pending p) l, numbers-marked c a (composed h.pending p) r) refl)
 
-extents_alike : (p q : Place) (a b c d : Option Span) → p ≡ q → a ≡ b → c ≡ d → grown (grown (spot p) a) c ≡ grown (grown (spot q) b) d
-extents_alike p q a b c d e f g = ap (λ x. grown (grown (spot x) a) c) e ∙ ap (λ x. grown (grown (spot q) x) c) f ∙ ap (λ x. grown (grown (spot q) b) x) g
+-- trees that reach the same
+abbrev AreAlike : Shape → Shape → Type 0
+AreAlike s t = (extent s ≡ extent t) × (range s ≡ range t)
 
-extent-marked : (c : Choice) (a p : Tag) (t : Shape) → extent (marked_under c a p t) ≡ extent t
+reaches_alike : (i j : Item) (l r l' r' : Shape) → i.point ≡ j.point → i.number ≡ j.number → AreAlike l l' → AreAlike r r'
+    → (grown (grown (spot i.point) (extent l)) (extent r) ≡ grown (grown (spot j.point) (extent l')) (extent r')) × (widened (widened (one_number i.number) (range l)) (range r) ≡ widened (widened (one_number j.number) (range l')) (range r'))
+reaches_alike i j l r l' r' p n e f = (rw (p, e.0, f.0) refl, rw (n, e.1, f.1) refl)
+
+reach-marked : (c : Choice) (a p : Tag) (t : Shape) → AreAlike (marked_under c a p t) t
 unfolding marked_under
-extent-marked c a p leaf = refl
-extent-marked c a p (fork h l r) =
-    marked_cases (λ s. extent s ≡ Some (grown (grown (spot h.item.point) (extent l)) (extent r))) c a p h l r refl refl
-    (ap Some (extents_alike _ _ _ _ _ _ (marked-point (chosen_by c) a (relabelled p h.item)) (extent-marked c a (composed h.pending p) l) (extent-marked c a (composed h.pending p) r)))
+reach-marked c a p leaf = (refl, refl)
+reach-marked c a p (fork h l r) =
+    let i = relabelled p h.item in
+    let q = composed h.pending p in
+    let all = reaches_alike (marked_item (chosen_by c) a i) i (marked_under c a q l) (marked_under c a q r) l r (marked-point (chosen_by c) a i) (marked_number (chosen_by c) a i) (reach-marked c a q l) (reach-marked c a q r) in
+    marked_cases (λ s. AreAlike s (fork h l r)) c a p h l r (refl, refl) (refl, refl) (ap Some all.0, ap Some all.1)
 
-ranges_alike : (n m : ℕ) (a b c d : Option Numbers) → n ≡ m → a ≡ b → c ≡ d → widened (widened (one_number n) a) c ≡ widened (widened (one_number m) b) d
-ranges_alike n m a b c d e f g = ap (λ x. widened (widened (one_number x) a) c) e ∙ ap (λ x. widened (widened (one_number m) x) c) f ∙ ap (λ x. widened (widened (one_number m) b) x) g
-
-range-marked : (c : Choice) (a p : Tag) (t : Shape) → range (marked_under c a p t) ≡ range t
-unfolding marked_under
-range-marked c a p leaf = refl
-range-marked c a p (fork h l r) =
-    marked_cases (λ s. range s ≡ Some (widened (widened (one_number h.item.number) (range l)) (range r))) c a p h l r refl refl
-    (ap Some (ranges_alike _ _ _ _ _ _ (marked-number (chosen_by c) a (relabelled p h.item)) (range-marked c a (composed h.pending p) l) (range-marked c a (composed h.pending p) r)))
-
-extent-tagged : (a : Tag) (t : Shape) → extent (tagged a t) ≡ extent t
-extent-tagged a leaf = refl
-extent-tagged a (fork h l r) = refl
-
-range-tagged : (a : Tag) (t : Shape) → range (tagged a t) ≡ range t
-range-tagged a leaf = refl
-range-tagged a (fork h l r) = refl
+reach-tagged : (a : Tag) (t : Shape) → AreAlike (tagged a t) t
+reach-tagged a leaf = (refl, refl)
+reach-tagged a (fork h l r) = (refl, refl)
 
 mark-fork : (c : Choice) (a p : Tag) (h : Head) (l r : Shape) → mark (walk p (fork h l r)) (chosen_by c) a ≡ mark (kept (relabelled p h.item ∷ [])) (chosen_by c) a ++ (mark (walk (composed h.pending p) l) (chosen_by c) a ++ mark (walk (composed h.pending p) r) (chosen_by c) a)
 mark-fork c a p h l r =
     mark-append (chosen_by c) a (kept (relabelled p h.item ∷ [])) (walk (composed h.pending p) l ++ walk (composed h.pending p) r)
     ∙ ap (λ z. mark (kept (relabelled p h.item ∷ [])) (chosen_by c) a ++ z) (mark-append (chosen_by c) a (walk (composed h.pending p) l) (walk (composed h.pending p) r))
-
-all_both : (P Q : Item → Type 0) (xs : List Item) → All P xs → All Q xs → All (λ i. P i × Q i) xs
-all_both P Q [] k l = All-nil (λ (i : Item). P i × Q i)
-all_both P Q (x ∷ xs) k l = All-cons (λ (i : Item). P i × Q i) x xs (All-head P x xs k, All-head Q x xs l) (all_both P Q xs (All-tail P x xs k) (All-tail Q x xs l))
 
 -- the item lies where the tree reaches
 abbrev IsReached : Reach → Item → Type 0
@@ -118,9 +163,9 @@ IsReached e i = IsIn e.extent i.point × IsInRange e.numbers i.number
 
 -- so does all that is left
 reached_all : (p : Tag) (h : Head) (l r : Shape) → All (IsReached (reach_of h l r)) (walk p (fork h l r))
-reached_all p h l r =
+reached_all p h l r = λ n d below.
     let e = reach_of h l r in
-    all_both (λ i. IsIn e.extent i.point) (λ i. IsInRange e.numbers i.number) (walk p (fork h l r)) (walk_in p (fork h l r) e.extent (IsPart-same e.extent)) (walk_ranged p (fork h l r) e.numbers (ranged_itself e.numbers))
+    (walk_in p (fork h l r) e.extent (IsPart-same e.extent) n d below, walk_ranged p (fork h l r) e.numbers (ranged_itself e.numbers) n d below)
 
 -- what the choice covers it chooses
 covered_chosen : (c : Choice) (e : Reach) (i : Item) → covers c e ≡ true → IsReached e i → chosen_by c i ≡ true
@@ -197,25 +242,17 @@ pub record IsEntered (c : Choice) (a : Tag) (s : Shape) (f : Fork) : Type 0 wher
 enters : (c : Choice) (a : Tag) (h : Head) (l r : Shape) → meets c (reach_of h l r) ≡ true → covers c (reach_of h l r) ≡ false → fork (head (marked_item (chosen_by c) a h.item) h.axis) (marked_shape c a (tagged h.pending l)) (marked_shape c a (tagged h.pending r)) ≡ marked_shape c a (fork h l r)
 unfolding marked_under
 enters c a h l r m k =
-    let F : Item → Shape → Shape → Shape = λ i x y. fork (head (marked_item (chosen_by c) a i) h.axis) x y in
-    let q : composed h.pending keep_tag ≡ h.pending = composed-keep_right h.pending in
-    let x : marked_shape c a (tagged h.pending l) ≡ marked_under c a (composed h.pending keep_tag) l = marked-tagged c a h.pending l ∙ ap (λ t. marked_under c a t l) (sym q) in
-    let y : marked_shape c a (tagged h.pending r) ≡ marked_under c a (composed h.pending keep_tag) r = marked-tagged c a h.pending r ∙ ap (λ t. marked_under c a t r) (sym q) in
-    ap (λ i. F i (marked_shape c a (tagged h.pending l)) (marked_shape c a (tagged h.pending r))) (sym (relabelled-keep h.item))
-    ∙ ap (λ z. F (relabelled keep_tag h.item) z (marked_shape c a (tagged h.pending r))) x
-    ∙ ap (λ z. F (relabelled keep_tag h.item) (marked_under c a (composed h.pending keep_tag) l) z) y
+    tops_alike (marked_item (chosen_by c) a) h _ _ _ _ (son-marked c a h.pending l) (son-marked c a h.pending r)
     ∙ sym (cond-true (meets c (reach_of h l r)) _ _ m ∙ cond-false (covers c (reach_of h l r)) _ _ k)
 
 entered_is : (c : Choice) (e : Reach) → meets c e ≡ true → covers c e ≡ false → is_entered c e ≡ true
 entered_is c e m k = rw (m, k) refl
 
-reaches_alike : (a b : Span) (m n : Numbers) → a ≡ b → m ≡ n → ◌≡◌ {A = Reach} (record { extent = a; numbers = m }) (record { extent = b; numbers = n })
-reaches_alike a b m n e f = λ i. record { extent = e i; numbers = f i }
-
 reach-entered : (c : Choice) (a : Tag) (h : Head) (l r : Shape) → reach_of (head (marked_item (chosen_by c) a h.item) h.axis) (marked_shape c a (tagged h.pending l)) (marked_shape c a (tagged h.pending r)) ≡ reach_of h l r
-reach-entered c a h l r = reaches_alike _ _ _ _
-    (extents_alike _ _ _ _ _ _ (marked-point (chosen_by c) a h.item) (extent-marked c a keep_tag (tagged h.pending l) ∙ extent-tagged h.pending l) (extent-marked c a keep_tag (tagged h.pending r) ∙ extent-tagged h.pending r))
-    (ranges_alike _ _ _ _ _ _ (marked-number (chosen_by c) a h.item) (range-marked c a keep_tag (tagged h.pending l) ∙ range-tagged h.pending l) (range-marked c a keep_tag (tagged h.pending r) ∙ range-tagged h.pending r))
+reach-entered c a h l r =
+    let son : (t : Shape) → AreAlike (marked_shape c a (tagged h.pending t)) t = λ t. let k = reach-marked c a keep_tag (tagged h.pending t) in let o = reach-tagged h.pending t in (k.0 ∙ o.0, k.1 ∙ o.1) in
+    let all = reaches_alike (marked_item (chosen_by c) a h.item) h.item (marked_shape c a (tagged h.pending l)) (marked_shape c a (tagged h.pending r)) l r (marked-point (chosen_by c) a h.item) (marked_number (chosen_by c) a h.item) (son l) (son r) in
+    λ i. record { extent = all.0 i; numbers = all.1 i }
 
 criteria_parts : (large : ℕ) (c : Choice) (h : Head) (l r : Shape) → is_entered c (reach_of h l r) ≡ true → RebuildsNoneEntered large c (fork h l r) → IsNotDue large (fork h l r) × RebuildsNoneEntered large c l × RebuildsNoneEntered large c r
 unfolding RebuildsNoneEntered
@@ -245,8 +282,8 @@ entered_fork c a h l r m k s =
 pub entered_all : (c : Choice) (a : Tag) (s : Shape) (f : Fork) (e : Reach) → Some e ≡ reach s → meets c e ≡ true → covers c e ≡ false → IsSound s → Some f ≡ pushed s → IsEntered c a s f
 entered_all c a leaf f e x m k s p = absurd (cc)
 entered_all c a (fork h l r) f e x m k s p =
-    let b = some_same e (reach_of h l r) x in
-    let g = some_same f (forked h l r) p in
+    let b = same_Some e (reach_of h l r) x in
+    let g = same_Some f (forked h l r) p in
     subst (IsEntered c a (fork h l r)) (sym g) (entered_fork c a h l r (rw b at m) (rw b at k) s.0)
 
 pub marked_none : (c : Choice) (a : Tag) (s : Shape) → ◌≡◌ {A = Option Reach} None (reach s) → s ≡ marked_shape c a s
@@ -258,14 +295,14 @@ pub marked_missed : (c : Choice) (a : Tag) (s : Shape) (e : Reach) → Some e �
 unfolding marked_under
 marked_missed c a leaf e x m = refl
 marked_missed c a (fork h l r) e x m =
-    let b = some_same e (reach_of h l r) x in
+    let b = same_Some e (reach_of h l r) x in
     sym (cond-false (meets c (reach_of h l r)) _ _ (rw b at m) ∙ tagged-keep (fork h l r))
 
 pub marked_covered : (c : Choice) (a : Tag) (s : Shape) (e : Reach) → Some e ≡ reach s → meets c e ≡ true → covers c e ≡ true → tagged a s ≡ marked_shape c a s
 unfolding marked_under
 marked_covered c a leaf e x m k = refl
 marked_covered c a (fork h l r) e x m k =
-    let b = some_same e (reach_of h l r) x in
+    let b = same_Some e (reach_of h l r) x in
     sym (cond-true (meets c (reach_of h l r)) _ _ (rw b at m) ∙ cond-true (covers c (reach_of h l r)) _ _ (rw b at k) ∙ ap (tagged a) (tagged-keep (fork h l r)))
 
 -- where some subtrees are rebuilt besides, the contents are those after the action

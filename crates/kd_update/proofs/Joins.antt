@@ -1,18 +1,15 @@
 -- Items put to those that are held, one after the other and at once.
-use Rattle.std.proofs.Common.{◌≡◌, ℕ, ◌+◌, ◌<◌, ◌≤◌, max, cond, inl, refl, ap, ◌∙◌, sym, subst, arith, List, [], ◌∷◌, ◌++◌, length, length-append, append_assoc}
-use Rattle.std.specs.Prelude.{IsPermutation, count_by, ◌==◌}
-use Rattle.std.proofs.lemmas.Bool.{eq-eqb}
+use Rattle.std.proofs.Common.{◌≡◌, ℕ, ◌+◌, ◌<◌, ◌≤◌, max, cond, refl, ap, ◌∙◌, sym, subst, arith, List, [], ◌∷◌, ◌++◌, length, length-append, append_assoc, IsPermutation, count_by, ◌==◌, eq-eqb}
 use Rattle.std.proofs.lemmas.List.{map-append, append-nil}
 use Rattle.std.proofs.lemmas.List.Elements.{All-cons, All-head, All-nil, All-tail}
 use Rattle.std.proofs.lemmas.List.Sorted.{Contains-permutation, length_permutation, IsPermutation-sym, IsPermutation-append_left, IsPermutation-append_comm, IsPermutation-middle}
-use Rattle.std.proofs.lemmas.List.Sums.{sum_by-append, sum_by-cons}
+use Rattle.std.proofs.lemmas.List.Sums.{sum_by-cons}
 use Rattle.point_geom.specs.Place.{Place}
 use Rattle.node_labels.specs.Labels.{keep_tag}
 use Rattle.node_labels.specs.declared.label.Label.TheVariants.{Live}
 use Rattle.map_fold.specs.declared.item.Item.{Item}
 use Rattle.map_fold.specs.Contents.{AreContents, live_at, put}
 use Rattle.map_fold.specs.Fold.{add_points}
-use Rattle.map_fold.specs.Nearest.{Member}
 use Rattle.map_fold.proofs.Numbered.{contents_length, contents_push}
 use Rattle.kd_tree.specs.Shape.{Shape, levels, nodes, numbers}
 use Rattle.kd_tree.specs.Walk.{walk, times}
@@ -24,7 +21,7 @@ use Rattle.kd_update.specs.Refresh.{AreAmong}
 use Rattle.kd_update.specs.Update.{IsBalancedBelow}
 use Rattle.kd_update.specs.Scan.{AreLive, IsGrown, IsPiece, IsPut, MayJoin, live_from, numbers_in, put_each}
 use Rattle.kd_update.proofs.Trees.{among_same, among_then}
-use Rattle.kd_update.proofs.Grown.{IsLive, all_first, all_last, distinct_front, live_of}
+use Rattle.kd_update.proofs.Grown.{IsLive, all_first, all_last, distinct_front, live_of, new_first}
 
 -- items put one after the other
 
@@ -32,19 +29,13 @@ pub put_each-append : (m xs ys : List Item) → put_each m (xs ++ ys) ≡ put_ea
 put_each-append m [] ys = refl
 put_each-append m (i ∷ xs) ys = put_each-append (put m i.number i.point) xs ys
 
--- the first of a list and what stands further on have other numbers
-first_other : (i j : Item) (xs : List Item) → AreDistinct (i ∷ xs) → Member j xs → j.number ≡ i.number → ⊥
-first_other i j xs d m e =
-    let g : Item → ℕ = λ k. cond (i.number == k.number) 1 0 in
-    let there = counted_in j i.number xs m e in
-    let here : g i ≡ 1 = rw (eq-eqb i.number i.number refl) refl in
-    omega (arith, d.once i.number, sum_by-cons g i xs)
-
 -- a new item comes to its place
 pub put_new : (i : Item) (xs : List Item) → i.label ≡ Live → AreDistinct (i ∷ xs) → insert_item i (by_number xs) ≡ put (by_number xs) i.number i.point
 put_new i xs live d =
+    let g : Item → ℕ = λ k. cond (i.number == k.number) 1 0 in
+    let here : g i ≡ 1 = rw (eq-eqb i.number i.number refl) refl in
     ap (λ j. insert_item j (by_number xs)) (live_of i live)
-    ∙ insert-put (by_number xs) i.number i.point (λ j m e. first_other i j xs d (numbered_from j xs m) e)
+    ∙ insert-put (by_number xs) i.number i.point (λ j m e. omega (arith, here, d.once i.number, sum_by-cons g i xs, counted_in j i.number xs (numbered_from j xs m) e))
 
 -- items put one after the other are those of both lists by number
 pub by_number-put_each : (xs is : List Item) → AreDistinct (xs ++ is) → AreLive is → by_number (xs ++ is) ≡ put_each (by_number xs) is
@@ -113,10 +104,7 @@ join_rest s t xs ys k e =
 
 -- the number of the first isn't held
 pub join_new : (m is : List Item) (i : Item) (s : Shape) → contents s ≡ m → MayJoin m (i ∷ is) → times i.number keep_tag s ≡ 0
-join_new m is i s e k =
-    let g : Item → ℕ = λ j. cond (i.number == j.number) 1 0 in
-    let here = counted_in i i.number (i ∷ is) (inl refl) refl in
-    omega (arith, here, k.distinct.once i.number, sum_by-append g m (i ∷ is), times_contents i.number s, ap (count_by (λ (j : Item). i.number == j.number)) e)
+join_new m is i s e k = omega (arith, new_first m is i k.distinct, times_contents i.number s, ap (count_by (λ (j : Item). i.number == j.number)) e)
 
 -- points under the numbers that come next
 

@@ -1,5 +1,6 @@
 -- Large subtrees at paths.
-use Rattle.std.proofs.Common.{◌≡◌, ℕ, ◌≤◌, ap, ◌∙◌, sym, arith, List, [], ◌∷◌, Option, Some}
+use Rattle.std.proofs.Common.{◌≡◌, ℕ, ◌≤◌, ap, ◌∙◌, sym, arith, List, [], ◌∷◌, Some}
+use Rattle.std.proofs.lemmas.Option.{same_Some}
 use Rattle.map_fold.specs.declared.op.Op.{Op}
 use Rattle.kd_tree.specs.Shape.{Shape, leaf, fork, nodes}
 use Rattle.kd_tree.specs.Parts.{at}
@@ -7,12 +8,9 @@ use Rattle.kd_tree.specs.declared.path.Side.{Side}
 use Rattle.kd_tree.specs.declared.path.Side.TheVariants.{Left, Right}
 use Rattle.kd_update.specs.Watch.{IsLargeAt, IsWatched}
 
-pub some_shape : (a b : Shape) → ◌≡◌ {A = Option Shape} (Some a) (Some b) → a ≡ b
-some_shape a b e = cc
-
 -- no subtree has more nodes than its tree
 pub at_nodes : (path : List Side) (t s : Shape) → at path t ≡ Some s → nodes s ≤ nodes t
-at_nodes [] t s e = omega (arith, ap nodes (some_shape t s e))
+at_nodes [] t s e = omega (arith, ap nodes (same_Some t s e))
 at_nodes (side ∷ path) leaf s e = absurd (cc)
 at_nodes (Left ∷ path) (fork h l r) s e = omega (arith, at_nodes path l s e)
 at_nodes (Right ∷ path) (fork h l r) s e = omega (arith, at_nodes path r s e)
@@ -24,7 +22,7 @@ large_nodes large path t k = omega (arith, k.size, at_nodes path t k.node k.ther
 -- the watched subtree is there afterwards, and no smaller
 pub large_after : (large : ℕ) (path : List Side) (old new : Shape) (ops : List Op) → IsLargeAt large path old → IsWatched path old new ops → IsLargeAt large path new
 large_after large path old new ops k w =
-    let same : k.node ≡ w.before = some_shape k.node w.before (sym k.there ∙ w.was) in
+    let same : k.node ≡ w.before = same_Some k.node w.before (sym k.there ∙ w.was) in
     record { node = w.after; there = w.is; size = omega (arith, k.size, w.size, ap nodes same) }
 
 -- where the same stands at the path, the same is large there

@@ -11,7 +11,6 @@ pub mod ManyLogs
 pub mod Near
 pub mod Numbers
 pub mod OpRuns
-pub mod Performed
 pub mod Refresh
 pub mod Results
 pub mod Route

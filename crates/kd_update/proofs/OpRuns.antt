@@ -1,8 +1,7 @@
--- Runs of points among operations, and the items that they put.
-use Rattle.std.proofs.Common.{◌≡◌, ℕ, ◌<◌, ◌≤◌, Bool, true, false, cond, List, [], ◌∷◌, ◌++◌, length, refl, ap, ◌∙◌, sym, subst, arith}
-use Rattle.std.specs.Prelude.{count_by, ◌==◌}
-use Rattle.std.proofs.lemmas.Bool.{eqb-true, false≢true}
-use Rattle.std.proofs.lemmas.List.{append-nil}
+-- Operations done on trees, one after the other, the runs of points among them, and the items that they put.
+use Rattle.std.proofs.Common.{◌≡◌, ℕ, ◌<◌, ◌≤◌, true, cond, List, [], ◌∷◌, ◌++◌, length, refl, ap, ◌∙◌, sym, subst, arith, count_by, ◌==◌, append-nil, length-append, Result, Ok, Err, IfOk, ◌+◌}
+use Rattle.std.proofs.lemmas.Bool.{false≢true}
+use Rattle.std.proofs.lemmas.List.{length-map}
 use Rattle.std.proofs.lemmas.List.Elements.{All-cons, All-head, All-nil, All-tail}
 use Rattle.std.proofs.lemmas.List.Sorted.{length_permutation, IsPermutation-middle, IsPermutation-sym, sum_by-IsPermutation}
 use Rattle.std.proofs.lemmas.List.Sums.{sum_by-cons}
@@ -11,7 +10,8 @@ use Rattle.map_fold.specs.declared.op.Op.{Op}
 use Rattle.map_fold.specs.declared.op.Op.TheVariants.{Mark, Put}
 use Rattle.map_fold.specs.Contents.{live_at, put}
 use Rattle.map_fold.specs.Ops.{Fit, IsUnheld, numbers_put, replay}
-use Rattle.kd_tree.specs.Shape.{Shape, numbers}
+use Rattle.map_fold.proofs.Replays.{numbers_put-append, replay-append}
+use Rattle.kd_tree.specs.Shape.{Shape, levels, nodes, numbers}
 use Rattle.kd_tree.specs.Contents.{AreDistinct, by_number, contents}
 use Rattle.kd_tree.specs.Sound.{IsSound}
 use Rattle.kd_tree.proofs.Held.{by_number-contents, contents_distinct, contents_few}
@@ -21,7 +21,40 @@ use Rattle.kd_update.specs.Update.{IsBalancedBelow}
 use Rattle.kd_update.specs.Scan.{IsGrown, IsPiece, MayJoin, numbers_in, put_each}
 use Rattle.kd_update.specs.Replay.{ArePuts, IsPerformed, IsRun, is_put, items_put}
 use Rattle.kd_update.proofs.Grown.{IsLive}
+use Rattle.kd_update.proofs.Route.{at_most_one}
+use Rattle.kd_update.proofs.Trees.{among_same, among_then}
 use Rattle.kd_update.proofs.Joins.{join_grown, join_piece, put_new}
+
+-- operations one after the other
+
+pub performed_none : (large : ℕ) (s : Shape) → IsPerformed large s [] s
+performed_none large s = record { held = refl; from = among_same (numbers s); balanced = λ k. k; low = omega arith; few = omega arith }
+
+puts-append : (a b : List Op) → length (numbers_put (a ++ b)) ≡ length (numbers_put a) + length (numbers_put b)
+puts-append a b = ap length (numbers_put-append a b) ∙ length-append (numbers_put a) (numbers_put b)
+
+-- some operations, and then others
+pub performed_then : (large : ℕ) (s t u : Shape) (a b : List Op) → IsPerformed large s a t → IsPerformed large t b u → IsPerformed large s (a ++ b) u
+performed_then large s t u a b f g = record {
+  held = g.held ∙ ap (λ m. replay m b) f.held ∙ sym (replay-append (contents s) a b);
+  from = subst (λ ns. AreAmong (numbers u) (ns ++ numbers s)) (sym (numbers_put-append a b)) (among_then (numbers_put a) (numbers_put b) (numbers s) (numbers t) (numbers u) f.from g.from);
+  balanced = λ k. g.balanced (f.balanced k);
+  low = omega (arith, f.low, g.low, puts-append a b);
+  few = omega (arith, f.few, g.few, puts-append a b);
+}
+
+-- all that is known of a result, as one fact
+pub all_performed : {E : Type 0} (large : ℕ) (s : Shape) (ops : List Op) (r : Result Shape E)
+    → IfOk r (λ t. contents t ≡ replay (contents s) ops)
+    → IfOk r (λ t. AreAmong (numbers t) (numbers_put ops ++ numbers s))
+    → (IsBalancedBelow large s → IfOk r (λ t. IsBalancedBelow large t))
+    → IfOk r (λ t. levels t ≤ levels s + length (numbers_put ops))
+    → IfOk r (λ t. nodes t ≤ nodes s + length (numbers_put ops))
+    → IfOk r (λ t. IsPerformed large s ops t)
+all_performed large s ops (Ok t) held from balanced low few = record { held = held; from = from; balanced = balanced; low = low; few = few }
+all_performed large s ops (Err e) held from balanced low few = tt
+
+-- runs of points
 
 abbrev IsPutOp : Op → Type 0
 IsPutOp op = is_put op ≡ true
@@ -34,9 +67,7 @@ numbers_put-items (Mark c a ∷ ops) = numbers_put-items ops
 numbers_put-items (Put n p ∷ ops) = ap (λ ns. n ∷ ns) (numbers_put-items ops)
 
 pub items_put-length : (ops : List Op) → length (items_put ops) ≡ length (numbers_put ops)
-items_put-length [] = refl
-items_put-length (Mark c a ∷ ops) = items_put-length ops
-items_put-length (Put n p ∷ ops) = omega (arith, items_put-length ops)
+items_put-length ops = sym (ap length (numbers_put-items ops) ∙ length-map (items_put ops) (λ (i : Item). i.number))
 
 puts-length : (ops : List Op) → ArePuts ops → length (numbers_put ops) ≡ length ops
 puts-length [] k = refl
@@ -51,17 +82,11 @@ replay-put_each m (Put n p ∷ ops) k = replay-put_each (put m n p) ops (All-tai
 -- where the operations fit, the items may join
 
 distinct_new : (x : Item) (xs : List Item) → IsUnheld x.number xs → AreDistinct xs → AreDistinct (x ∷ xs)
-distinct_new x xs new k = record { once = λ n. cases n (n == x.number) refl }
-  where
-    cases : (n : ℕ) (b : Bool) → (n == x.number) ≡ b → count_by (λ i. n == i.number) (x ∷ xs) ≤ 1
-    cases n true e =
-        let here : n ≡ x.number = eqb-true n x.number e in
-        let one : ◌≡◌ {A = ℕ} (cond (n == x.number) 1 0) 1 = ap (λ (b : Bool). cond {A = ℕ} b 1 0) e in
-        let none : IsUnheld n xs = subst (λ (m : ℕ). IsUnheld m xs) (sym here) new in
-        omega (arith, sum_by-cons (λ (i : Item). cond (n == i.number) 1 0) x xs, none)
-    cases n false e =
-        let zero : ◌≡◌ {A = ℕ} (cond (n == x.number) 1 0) 0 = ap (λ (b : Bool). cond {A = ℕ} b 1 0) e in
-        omega (arith, sum_by-cons (λ (i : Item). cond (n == i.number) 1 0) x xs, k.once n)
+distinct_new x xs new k = record {
+  once = λ n.
+      let held : ℕ → ℕ = λ m. count_by (λ i. m == i.number) xs in
+      omega (arith, sum_by-cons (λ (i : Item). cond (n == i.number) 1 0) x xs, at_most_one n x.number (held n) (held x.number) (λ e. ap held e) (k.once n) new);
+}
 
 join_list : (w : List Item) (ops : List Op) → ArePuts ops → AreDistinct w → length w ≤ 4194304 → Fit (by_number w) ops → MayJoin w (items_put ops)
 join_list w [] k d few f = record { live = All-nil IsLive; distinct = rw append-nil d; room = omega (arith, few) }

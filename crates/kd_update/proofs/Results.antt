@@ -1,6 +1,5 @@
--- Results of calls that may fail, and values that may be missing.
-use Rattle.std.proofs.Common.{◌≡◌, Option, Some}
-use Rattle.std.specs.Prelude.{Result, Ok, Err, IfOk, OnOk}
+-- Results of calls that may fail.
+use Rattle.std.proofs.Common.{Result, Ok, Err, IfOk}
 
 -- two facts of the value, if there is one
 pub ok_both : {X Y : Type 0} (r : Result X Y) (P Q R : X → Type 0) → ((x : X) → P x → Q x → R x) → IfOk r P → IfOk r Q → IfOk r R
@@ -10,10 +9,3 @@ ok_both (Err e) P Q R f p q = tt
 pub ok_three : {X E : Type 0} (r : Result X E) (P Q S R : X → Type 0) → ((x : X) → P x → Q x → S x → R x) → IfOk r P → IfOk r Q → IfOk r S → IfOk r R
 ok_three (Ok x) P Q S R f p q s = f x p q s
 ok_three (Err e) P Q S R f p q s = tt
-
-pub OnOk-weaker : {X Y P Q : Type 0} (r : Result X Y) → (P → Q) → OnOk r P → OnOk r Q
-OnOk-weaker (Ok x) f p = f p
-OnOk-weaker (Err e) f p = tt
-
-pub some_same : {X : Type 0} (a b : X) → ◌≡◌ {A = Option X} (Some a) (Some b) → a ≡ b
-some_same a b e = cc

@@ -1,6 +1,5 @@
 -- A tree with one more point, without rebuilding.
-use Rattle.std.proofs.Common.{◌≡◌, ℕ, ℤ, ◌+◌, ◌*◌, ◌≤◌, ◌<◌, ◌≤ℤ◌, max, true, false, cond, refl, ap, ◌∙◌, sym, arith, subst, Some, List, [], ◌∷◌, ◌++◌}
-use Rattle.std.specs.Prelude.{count_by, int_lt, IsPermutation, ◌==◌}
+use Rattle.std.proofs.Common.{◌≡◌, ℕ, ℤ, ◌+◌, ◌*◌, ◌≤◌, ◌<◌, ◌≤ℤ◌, max, Bool, true, false, cond, refl, ap, ◌∙◌, sym, arith, subst, Some, List, [], ◌∷◌, ◌++◌, count_by, int_lt, IsPermutation, ◌==◌}
 use Rattle.std.proofs.lemmas.Bool.{cond_both, cond-true, cond-false}
 use Rattle.std.proofs.lemmas.Bool.Decides.{nat_tests}
 use Rattle.std.proofs.lemmas.Int.{ints}
@@ -33,19 +32,18 @@ use Rattle.kd_update.specs.Put.{goes_left, put_under, put_from, side_of, Rebuild
 use Rattle.kd_update.specs.Several.{large_at}
 use Rattle.kd_tree.proofs.Left.{all_left, left_all}
 use Rattle.kd_update.proofs.Trees.{forked, at_pushed, walk-tagged_keep, among_same, among_left, among_right}
-use Rattle.kd_update.proofs.Refresh.{head, refresh_contents}
+use Rattle.kd_update.proofs.Refresh.{head, refresh_contents, tops_alike}
 use Rattle.kd_update.proofs.Near.{near, with_near}
 
 -- a put after an action on all
 pub put-tagged : (n : ℕ) (p : Place) (axis : Axis) (a : Tag) (t : Shape) → put_under n p axis keep_tag (tagged a t) ≡ put_under n p axis a t
 unfolding put_under
 put-tagged n p axis a leaf = refl
-put-tagged n p axis a (fork h l r) =
-    let F : Item → Tag → Shape = λ i q.
-    let top = record h { item = i; pending = keep_tag } in
-    cond (goes_left h.axis p h.item.point) (fork top (put_under n p (next_axis h.axis) q l) (tagged q r)) (fork top (tagged q l) (put_under n p (next_axis h.axis) q r)) in
-    ap (λ i. F i (composed (composed h.pending a) keep_tag)) (relabelled-keep (relabelled a h.item))
-    ∙ ap (F (relabelled a h.item)) (composed-keep_right (composed h.pending a))
+put-tagged n p axis a (fork h l r) = rw (relabelled-keep (relabelled a h.item), composed-keep_right (composed h.pending a)) refl
+
+-- a son that was handed the action owed
+pub son-put : (n : ℕ) (p : Place) (axis : Axis) (q : Tag) (t : Shape) → put_from n p axis (tagged q t) ≡ put_under n p axis (composed q keep_tag) t
+son-put n p axis q t = put-tagged n p axis q t ∙ ap (λ b. put_under n p axis b t) (sym (composed-keep_right q))
 
 pub nodes-put : (n : ℕ) (p : Place) (axis : Axis) (a : Tag) (t : Shape) → nodes (put_under n p axis a t) ≡ nodes t + 1
 unfolding put_under
@@ -115,7 +113,7 @@ times-put m n p axis t =
     let g : Item → ℕ = λ i. cond (m == i.number) 1 0 in
     omega (arith, times_walk m keep_tag (put_from n p axis t), times_walk m keep_tag t, sum_by-IsPermutation g _ _ (walk-put n p axis keep_tag t), sum_by-cons g (live_at n p) (walk keep_tag t))
 
-at_most_one : (m n x y : ℕ) → (m ≡ n → x ≡ y) → x ≤ 1 → y ≡ 0 → cond (m == n) 1 0 + x ≤ 1
+pub at_most_one : (m n x y : ℕ) → (m ≡ n → x ≡ y) → x ≤ 1 → y ≡ 0 → cond (m == n) 1 0 + x ≤ 1
 at_most_one m n x y same few none = grind (arith, nat_tests)
 
 -- no number is left twice, where the new one wasn't held
@@ -167,23 +165,16 @@ criteria_parts : (large : ℕ) (p : Place) (h : Head) (l r : Shape) → Rebuilds
 unfolding RebuildsNoneOnRoute
 criteria_parts large p h l r k = k
 
-tops_alike : (h : Head) (l r l' r' : Shape) → l ≡ l' → r ≡ r' → fork (head h.item h.axis) l r ≡ fork (record h { item = relabelled keep_tag h.item; pending = keep_tag }) l' r'
-tops_alike h l r l' r' f g = ap (λ i. fork (head i h.axis) l r) (sym (relabelled-keep h.item)) ∙ ap (λ x. fork (head (relabelled keep_tag h.item) h.axis) x r) f ∙ ap (λ x. fork (head (relabelled keep_tag h.item) h.axis) l' x) g
-
 value_left : (n : ℕ) (p : Place) (axis : Axis) (h : Head) (l r : Shape) → goes_left h.axis p h.item.point ≡ true → fork (head h.item h.axis) (put_from n p (next_axis h.axis) (tagged h.pending l)) (tagged h.pending r) ≡ put_from n p axis (fork h l r)
 unfolding put_under
 value_left n p axis h l r e =
-    let q : composed h.pending keep_tag ≡ h.pending = composed-keep_right h.pending in
-    tops_alike h _ _ (put_under n p (next_axis h.axis) (composed h.pending keep_tag) l) (tagged (composed h.pending keep_tag) r)
-    (put-tagged n p (next_axis h.axis) h.pending l ∙ ap (λ t. put_under n p (next_axis h.axis) t l) (sym q)) (ap (λ t. tagged t r) (sym q))
+    tops_alike (λ i. i) h _ _ _ (tagged (composed h.pending keep_tag) r) (son-put n p (next_axis h.axis) h.pending l) (ap (λ t. tagged t r) (sym (composed-keep_right h.pending)))
     ∙ sym (cond-true (goes_left h.axis p h.item.point) _ _ e)
 
 value_right : (n : ℕ) (p : Place) (axis : Axis) (h : Head) (l r : Shape) → goes_left h.axis p h.item.point ≡ false → fork (head h.item h.axis) (tagged h.pending l) (put_from n p (next_axis h.axis) (tagged h.pending r)) ≡ put_from n p axis (fork h l r)
 unfolding put_under
 value_right n p axis h l r e =
-    let q : composed h.pending keep_tag ≡ h.pending = composed-keep_right h.pending in
-    tops_alike h _ _ (tagged (composed h.pending keep_tag) l) (put_under n p (next_axis h.axis) (composed h.pending keep_tag) r)
-    (ap (λ t. tagged t l) (sym q)) (put-tagged n p (next_axis h.axis) h.pending r ∙ ap (λ t. put_under n p (next_axis h.axis) t r) (sym q))
+    tops_alike (λ i. i) h _ _ (tagged (composed h.pending keep_tag) l) _ (ap (λ t. tagged t l) (sym (composed-keep_right h.pending))) (son-put n p (next_axis h.axis) h.pending r)
     ∙ sym (cond-false (goes_left h.axis p h.item.point) _ _ e)
 
 pub new_sons : (n : ℕ) (h : Head) (l r : Shape) → times n keep_tag (fork h l r) ≡ 0 → (times n keep_tag (tagged h.pending l) ≡ 0) × (times n keep_tag (tagged h.pending r) ≡ 0)
@@ -201,13 +192,9 @@ unfolding entered_put
 entered_put-tagged p a leaf = refl
 entered_put-tagged p a (fork h l r) = refl
 
-entered_left : (p : Place) (h : Head) (l r : Shape) → goes_left h.axis p h.item.point ≡ true → entered_put p (fork h l r) ≡ 1 + entered_put p (tagged h.pending l)
+entered_son : (p : Place) (h : Head) (l r : Shape) (b : Bool) → goes_left h.axis p h.item.point ≡ b → entered_put p (fork h l r) ≡ 1 + cond b (entered_put p (tagged h.pending l)) (entered_put p (tagged h.pending r))
 unfolding entered_put
-entered_left p h l r e = ap (λ n. 1 + n) (cond-true (goes_left h.axis p h.item.point) (entered_put p l) (entered_put p r) e ∙ sym (entered_put-tagged p h.pending l))
-
-entered_right : (p : Place) (h : Head) (l r : Shape) → goes_left h.axis p h.item.point ≡ false → entered_put p (fork h l r) ≡ 1 + entered_put p (tagged h.pending r)
-unfolding entered_put
-entered_right p h l r e = ap (λ n. 1 + n) (cond-false (goes_left h.axis p h.item.point) (entered_put p l) (entered_put p r) e ∙ sym (entered_put-tagged p h.pending r))
+entered_son p h l r b e = rw (e, entered_put-tagged p h.pending l, entered_put-tagged p h.pending r) refl
 
 -- a node with the point put below it is sound, where its sons lie on their sides
 route_sound : (n : ℕ) (p : Place) (axis : Axis) (h : Head) (l r l' r' : Shape) → IsSound (fork h l r) → IsFree n (fork h l r) → fork (head h.item h.axis) l' r' ≡ put_from n p axis (fork h l r)
@@ -231,7 +218,7 @@ left_fork n p axis h l r e s k =
           (rw (put-tagged n p next h.pending l) (AllKept-put P n p next h.pending l (le_of_true (on h.axis p) (on h.axis h.item.point) e) s.0.below)) (pushed_sound h l r s).0.above;
       criteria = λ large all. let parts = criteria_parts large p (head h.item h.axis) (put_from n p next (tagged h.pending l)) (tagged h.pending r) (subst (RebuildsNoneOnRoute large p) (sym value) all) in (parts.0, parts.1 e);
       free = (free_sons n h l r k).0;
-      entered = entered_left p h l r e;
+      entered = entered_son p h l r true e;
     }
 
 right_fork : (n : ℕ) (p : Place) (axis : Axis) (h : Head) (l r : Shape) → goes_left h.axis p h.item.point ≡ false → IsSound (fork h l r) → IsFree n (fork h l r) → IsOnRoute n p axis (fork h l r) (forked h l r) Right
@@ -245,7 +232,7 @@ right_fork n p axis h l r e s k =
           (rw (put-tagged n p next h.pending r) (AllKept-put P n p next h.pending r (le_of_false (on h.axis p) (on h.axis h.item.point) e) s.0.above));
       criteria = λ large all. let parts = criteria_parts large p (head h.item h.axis) (tagged h.pending l) (put_from n p next (tagged h.pending r)) (subst (RebuildsNoneOnRoute large p) (sym value) all) in (parts.0, parts.2 e);
       free = (free_sons n h l r k).1;
-      entered = entered_right p h l r e;
+      entered = entered_son p h l r false e;
     }
 
 pub on_route : (n : ℕ) (p : Place) (axis : Axis) (s : Shape) (f : Fork) (side : Side) → Some f ≡ pushed s → side ≡ side_of f.axis p f.item.point → IsSound s → IsFree n s → IsOnRoute n p axis s f side

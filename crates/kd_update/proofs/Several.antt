@@ -1,6 +1,7 @@
 -- Updates while several subtrees are watched.
-use Rattle.std.proofs.Common.{◌≡◌, ℕ, ◌≤◌, ◌<◌, true, false, inl, inr, refl, ap, ◌∙◌, sym, subst, arith, List, [], ◌∷◌, Option, Some, None}
-use Rattle.std.proofs.lemmas.Bool.{cond_both}
+use Rattle.std.proofs.Common.{◌≡◌, ℕ, ◌≤◌, ◌<◌, true, false, inl, inr, refl, ap, ◌∙◌, sym, subst, arith, length, List, [], ◌∷◌, Option, Some, None}
+use Rattle.std.specs.Prelude.{◌==◌}
+use Rattle.std.proofs.lemmas.Bool.{cond_both, eqb-true}
 use Rattle.point_geom.specs.Place.{Place}
 use Rattle.map_fold.specs.declared.choice.Choice.{Choice}
 use Rattle.kd_update.specs.Reach.{covers, meets, reach}
@@ -24,6 +25,8 @@ use Rattle.kd_update.specs.Put.{leaf_of, put_from, put_under, RebuildsNoneOnRout
 use Rattle.kd_update.specs.Refresh.{IsNotDue, RefreshesIfDue}
 use Rattle.kd_update.specs.Update.{IsBalancedBelow}
 use Rattle.kd_update.specs.Watch.{IsLargeAt, IsWatched, logged_mark, logged_put}
+use Rattle.kd_update.specs.declared.watch.Watch.{Watch}
+use Rattle.kd_update.specs.Watches.{paths_in}
 use Rattle.kd_update.specs.Several.{IsBalancedClear, AreLargeAt, AreSameAt, AreWatched, IsUpdatedClear, large_at}
 use Rattle.kd_update.proofs.InBox.{IsEntered, marked_none, marked_missed, marked_covered}
 use Rattle.kd_update.proofs.Criteria.{criteria_none}
@@ -49,8 +52,13 @@ pub clear_balanced : (large : ℕ) (t : Shape) → IsBalancedClear large [] t �
 clear_balanced large leaf k = tt
 clear_balanced large (fork h l r) k = let all = k refl in (all.0, clear_balanced large l all.1, clear_balanced large r all.2)
 
-pub balanced_free : (large : ℕ) (ps : List (List Side)) (old plain new : Shape) (C : Type 0) → ps ≡ [] → IsUpdatedClear large ps old plain C new → IsBalancedBelow large old → IsBalancedBelow large new
-balanced_free large ps old plain new C e u k = clear_balanced large new (subst (λ (qs : List (List Side)). IsBalancedClear large qs new) e (u.balance (balanced_outside large ps old k)))
+-- where there is no watch, both are one
+pub balanced_unwatched : (large : ℕ) (ws : List Watch) (t : Shape) → (length ws == 0) ≡ true → (IsBalancedClear large (paths_in ws) t → IsBalancedBelow large t) × (IsBalancedBelow large t → IsBalancedClear large (paths_in ws) t)
+balanced_unwatched large [] t e = (clear_balanced large t, balanced_clear large t)
+balanced_unwatched large (w ∷ ws) t e = absurd (omega (arith, eqb-true (length (w ∷ ws)) 0 e))
+
+pub balanced_free : (large : ℕ) (old plain new : Shape) (C : Type 0) → IsUpdatedClear large [] old plain C new → IsBalancedBelow large old → IsBalancedBelow large new
+balanced_free large old plain new C u k = clear_balanced large new (u.balance (balanced_clear large old k))
 
 pub balanced_clear_tagged : (large : ℕ) (ps : List (List Side)) (q : Tag) (t : Shape) → IsBalancedClear large ps t → IsBalancedClear large ps (tagged q t)
 balanced_clear_tagged large ps q leaf k = tt
@@ -79,9 +87,6 @@ large_on large Left ((Left ∷ p) ∷ ps) h l r k = (large_tagged_at large p h.p
 large_on large Left ((Right ∷ p) ∷ ps) h l r k = large_on large Left ps h l r k.1
 large_on large Right ((Left ∷ p) ∷ ps) h l r k = large_on large Right ps h l r k.1
 large_on large Right ((Right ∷ p) ∷ ps) h l r k = (large_tagged_at large p h.pending r (record { node = k.0.node; there = k.0.there; size = k.0.size }), large_on large Right ps h l r k.1)
-
-pub large_nowhere : (large : ℕ) (ps : List (List Side)) (t : Shape) → ps ≡ [] → AreLargeAt large ps t
-large_nowhere large ps t e = subst (λ (qs : List (List Side)). AreLargeAt large qs t) (sym e) tt
 
 -- each subtree has 0 nodes at least
 large_any : (large : ℕ) (ps : List (List Side)) (t : Shape) → AreLargeAt large ps t → AreLargeAt 0 ps t
@@ -130,14 +135,12 @@ pub record IsPassedBy (large : ℕ) (ps : List (List Side)) (s : Shape) (f : For
   pub there : (side : Side) → AreLargeAt large (onward side ps) (near side f)
   pub balanced : is_here ps ≡ false → IsBalancedClear large ps s → IsBalancedClear large (onward Left ps) f.left × IsBalancedClear large (onward Right ps) f.right
 
-passed_fork : (large : ℕ) (ps : List (List Side)) (h : Head) (l r : Shape) → AreLargeAt large ps (fork h l r) → IsPassedBy large ps (fork h l r) (forked h l r)
-passed_fork large ps h l r k = record {
-  there = λ side. large_on large side ps h l r k;
-  balanced = λ e all. let parts = all e in (balanced_clear_tagged large (onward Left ps) h.pending l parts.1, balanced_clear_tagged large (onward Right ps) h.pending r parts.2);
-}
-
 pub passed_by : (large : ℕ) (ps : List (List Side)) (s : Shape) (f : Fork) → Some f ≡ pushed s → AreLargeAt large ps s → IsPassedBy large ps s f
-passed_by large ps s f x = at_pushed (λ z g. AreLargeAt large ps z → IsPassedBy large ps z g) s f x (passed_fork large ps)
+passed_by large ps s f x = at_pushed (λ z g. AreLargeAt large ps z → IsPassedBy large ps z g) s f x
+    (λ h l r k. record {
+      there = λ side. large_on large side ps h l r k;
+      balanced = λ e all. let parts = all e in (balanced_clear_tagged large (onward Left ps) h.pending l parts.1, balanced_clear_tagged large (onward Right ps) h.pending r parts.2);
+    })
 
 -- below it the same is asked of the paths that go on
 pub large_next : (large m : ℕ) (ps qs : List (List Side)) (s x : Shape) (f : Fork) (side : Side) → Some f ≡ pushed s → AreLargeAt large ps s → m ≡ large_at ps large → qs ≡ onward side ps → x ≡ near side f → AreLargeAt m qs x

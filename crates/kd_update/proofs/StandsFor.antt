@@ -1,9 +1,9 @@
 -- A subtree that another tree stands in for.
-use Rattle.std.proofs.Common.{◌≡◌, ℕ, ◌+◌, ◌≤◌, inl, inr, refl, ap, ◌∙◌, sym, subst, arith, List, [], ◌∷◌, length, Some}
-use Rattle.std.specs.Prelude.{cond, ◌==◌, ◌≤ℤ◌, IsPermutation}
+use Rattle.std.proofs.Common.{◌≡◌, ℕ, ◌+◌, ◌≤◌, inl, inr, refl, ap, ◌∙◌, sym, subst, arith, List, [], ◌∷◌, length, Some, cond, ◌==◌, ◌≤ℤ◌, IsPermutation}
 use Rattle.std.proofs.lemmas.Bool.{cases_lt}
 use Rattle.std.proofs.lemmas.List.Elements.{Contains-append_left}
 use Rattle.std.proofs.lemmas.List.Sorted.{All-permutation, sum_by-IsPermutation, IsPermutation-sym, IsPermutation-trans, IsPermutation-append_left, IsPermutation-append_right}
+use Rattle.std.proofs.lemmas.Option.{same_Some}
 use Rattle.point_geom.specs.Place.{Place}
 use Rattle.point_geom.specs.Axes.{on}
 use Rattle.node_labels.specs.Labels.{composed, keep_tag}
@@ -30,7 +30,7 @@ use Rattle.kd_tree.proofs.Left.{all_left, left_all}
 use Rattle.kd_update.proofs.Trees.{among_left, among_right, nodes_below}
 use Rattle.kd_update.proofs.Refresh.{refresh_contents, refreshed_refresh}
 use Rattle.kd_update.proofs.Several.{balanced_outside, refreshed_outside}
-use Rattle.kd_update.proofs.Large.{large_nodes, large_same, some_shape}
+use Rattle.kd_update.proofs.Large.{large_nodes, large_same}
 
 -- what is left under an action, by number, is what it leaves of the contents
 numbered-walk : (a : Tag) (t : Shape) → by_number (walk a t) ≡ mark (contents t) everything a
@@ -123,7 +123,7 @@ replaced_right large path h l r other r' t s u k sound =
 pub replaced_root : (large : ℕ) (path : List Side) (t other : Shape) → length path ≡ 0 → StandsFor path t other → IsReplaced large path t other other
 replaced_root large (side ∷ path) t other none k = absurd (omega (arith, none))
 replaced_root large [] t other none k = record {
-  held = k.same ∙ ap contents (some_shape k.node t (sym k.there));
+  held = k.same ∙ ap contents (same_Some k.node t (sym k.there));
   size = record { few = omega arith; low = omega arith };
   from = λ n c. Contains-append_left (numbers other) (numbers t) n c;
   beside = λ p a big. absurd a;
@@ -149,31 +149,27 @@ replaced_nodes (Right ∷ path) other (fork h l r) s e = omega (arith, replaced_
 
 pub son_stands : (side : Side) (path : List Side) (t other s : Shape) → at (side ∷ []) t ≡ Some s → StandsFor (side ∷ path) t other → StandsFor path s other
 son_stands side path leaf other s e k = absurd (cc)
-son_stands Left path (fork h l r) other s e k = record { node = k.node; there = subst (λ x. at path x ≡ Some k.node) (some_shape l s e) k.there; same = k.same }
-son_stands Right path (fork h l r) other s e k = record { node = k.node; there = subst (λ x. at path x ≡ Some k.node) (some_shape r s e) k.there; same = k.same }
-
-sound_left : (large : ℕ) (path : List Side) (h : Head) (l r other l' : Shape) → IsSound (fork h l r) → HasRoomAt (Left ∷ path) other (fork h l r) → IsReplaced large path l other l' → IsSoundFork h l' r
-sound_left large path h l r other l' s k u = same_sound h l r l' r s.0 (sym u.held) refl (omega (arith, k.few, u.size.few)) (omega (arith, k.low, u.size.low)) (omega (arith, k.low))
-
-sound_right : (large : ℕ) (path : List Side) (h : Head) (l r other r' : Shape) → IsSound (fork h l r) → HasRoomAt (Right ∷ path) other (fork h l r) → IsReplaced large path r other r' → IsSoundFork h l r'
-sound_right large path h l r other r' s k u = same_sound h l r l r' s.0 refl (sym u.held) (omega (arith, k.few, u.size.few)) (omega (arith, k.low)) (omega (arith, k.low, u.size.low))
+son_stands Left path (fork h l r) other s e k = record { node = k.node; there = subst (λ x. at path x ≡ Some k.node) (same_Some l s e) k.there; same = k.same }
+son_stands Right path (fork h l r) other s e k = record { node = k.node; there = subst (λ x. at path x ≡ Some k.node) (same_Some r s e) k.there; same = k.same }
 
 -- the tree with the changed son is sound
 pub son_sound : (large : ℕ) (side : Side) (path : List Side) (t other s new : Shape) → at (side ∷ []) t ≡ Some s → IsSound t → HasRoomAt (side ∷ path) other t → IsReplaced large path s other new → IsTopSound (with_son side new t)
 son_sound large side path leaf other s new e sound k u = absurd (cc)
-son_sound large Left path (fork h l r) other s new e sound k u = sound_left large path h l r other new sound k (subst (λ x. IsReplaced large path x other new) (sym (some_shape l s e)) u)
-son_sound large Right path (fork h l r) other s new e sound k u = sound_right large path h l r other new sound k (subst (λ x. IsReplaced large path x other new) (sym (some_shape r s e)) u)
+son_sound large Left path (fork h l r) other s new e sound k u =
+    let f = subst (λ x. IsReplaced large path x other new) (sym (same_Some l s e)) u in
+    same_sound h l r new r sound.0 (sym f.held) refl (omega (arith, k.few, f.size.few)) (omega (arith, k.low, f.size.low)) (omega (arith, k.low))
+son_sound large Right path (fork h l r) other s new e sound k u =
+    let f = subst (λ x. IsReplaced large path x other new) (sym (same_Some r s e)) u in
+    same_sound h l r l new sound.0 refl (sym f.held) (omega (arith, k.few, f.size.few)) (omega (arith, k.low)) (omega (arith, k.low, f.size.low))
 
 -- and where it is rebuilt if it is to be, the whole is replaced
 pub son_replaced : (large : ℕ) (side : Side) (path : List Side) (t other s new u : Shape) → at (side ∷ []) t ≡ Some s → IsSound t → HasRoomAt (side ∷ path) other t → IsReplaced large path s other new
     → RefreshesIfDue large (with_son side new t) u → IsReplaced large (side ∷ path) t other u
 son_replaced large side path leaf other s new u e sound k f g = absurd (cc)
 son_replaced large Left path (fork h l r) other s new u e sound k f g =
-    let f' = subst (λ x. IsReplaced large path x other new) (sym (some_shape l s e)) f in
-    replaced_left large path h l r other new u sound f' g (sound_left large path h l r other new sound k f')
+    replaced_left large path h l r other new u sound (subst (λ x. IsReplaced large path x other new) (sym (same_Some l s e)) f) g (son_sound large Left path (fork h l r) other s new e sound k f)
 son_replaced large Right path (fork h l r) other s new u e sound k f g =
-    let f' = subst (λ x. IsReplaced large path x other new) (sym (some_shape r s e)) f in
-    replaced_right large path h l r other new u sound f' g (sound_right large path h l r other new sound k f')
+    replaced_right large path h l r other new u sound (subst (λ x. IsReplaced large path x other new) (sym (same_Some r s e)) f) g (son_sound large Right path (fork h l r) other s new e sound k f)
 
 -- several paths
 
@@ -186,7 +182,7 @@ same_beside large path (p ∷ ps) old other new u a k = (u.beside p a.0 k.0, sam
 
 -- the plain result holds what the tree holds
 pub replaced_contents : (path : List Side) (t other : Shape) → IsSound t → StandsFor path t other → contents (replaced_at path other t) ≡ contents t
-replaced_contents [] t other sound k = k.same ∙ ap contents (some_shape k.node t (sym k.there))
+replaced_contents [] t other sound k = k.same ∙ ap contents (same_Some k.node t (sym k.there))
 replaced_contents (side ∷ path) leaf other sound k = refl
 replaced_contents (Left ∷ path) (fork h l r) other sound k =
     same_fork h l r (replaced_at path other l) r sound.0.once (sym (replaced_contents path l other sound.1 (son_stands Left path (fork h l r) other l refl k))) refl

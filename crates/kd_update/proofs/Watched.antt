@@ -1,8 +1,8 @@
 -- What an update does to a watched subtree.
-use Rattle.std.proofs.Common.{◌≡◌, ℕ, ◌≤◌, ◌<◌, Bool, true, false, not, ◌&&◌, cond, refl, ap, ◌∙◌, sym, subst, arith, List, [], ◌∷◌, ◌++◌, Some}
-use Rattle.std.specs.Prelude.{◌==◌}
+use Rattle.std.proofs.Common.{◌≡◌, ℕ, ◌≤◌, ◌<◌, Bool, true, false, not, ◌&&◌, cond, refl, ap, ◌∙◌, sym, subst, arith, List, [], ◌∷◌, ◌++◌, Some, ◌==◌}
 use Rattle.std.proofs.lemmas.Bool.{cond_both, and_parts}
 use Rattle.std.proofs.lemmas.List.Sorted.{sum_by-IsPermutation}
+use Rattle.std.proofs.lemmas.Option.{same_Some}
 use Rattle.point_geom.specs.Place.{Place}
 use Rattle.map_fold.specs.declared.choice.Choice.{Choice}
 use Rattle.point_geom.specs.Axes.{next_axis}
@@ -32,9 +32,8 @@ use Rattle.kd_tree.proofs.Numbered.{by_number_moves}
 use Rattle.kd_update.specs.Mark.{marked_under, marked_shape}
 use Rattle.kd_update.specs.Put.{goes_left, put_under, put_from}
 use Rattle.kd_update.specs.Watch.{is_keep, goes_to, handed, is_met, logged_mark, logged_put, IsWatched}
-use Rattle.kd_update.proofs.Large.{some_shape}
-use Rattle.kd_update.proofs.InBox.{marked-tagged, nodes-marked, contents-marked, marked_missed}
-use Rattle.kd_update.proofs.Route.{put-tagged, nodes-put, contents-put, new_sons}
+use Rattle.kd_update.proofs.InBox.{son-marked, nodes-marked, contents-marked, marked_missed}
+use Rattle.kd_update.proofs.Route.{son-put, nodes-put, contents-put, new_sons}
 
 only_live : (x : Label) → is_live x ≡ true → x ≡ Live
 only_live Live e = refl
@@ -57,7 +56,7 @@ watched_same path t s e = record { before = s; after = s; was = e; is = e; size 
 -- an action that is handed to the watched root is its first operation
 handed_first : (q : Tag) (t u : Shape) (ops : List Op) → IsWatched [] (tagged q t) u ops → IsWatched [] t u (handed [] q ++ ops)
 handed_first q t u ops w =
-    let top : tagged q t ≡ w.before = some_shape (tagged q t) w.before w.was in
+    let top : tagged q t ≡ w.before = same_Some (tagged q t) w.before w.was in
     let is : contents w.before ≡ mark (contents t) everything q = ap contents (sym top) ∙ contents-tagged q t in
     let size : nodes t ≤ nodes w.after = omega (arith, tagged_nodes q t, w.size, ap nodes top) in
     let P : List Op → Type 0 = λ os. IsWatched [] t u (os ++ ops) in
@@ -112,10 +111,6 @@ mark_root c a t =
     (λ e. record { before = t; after = marked_shape c a t; was = refl; is = refl; size = size; fit = tt; replayed = contents-marked c a t })
     (λ e. record { before = t; after = marked_shape c a t; was = refl; is = refl; size = size; fit = tt; replayed = ap contents (mark_missed c a t e) })
 
--- a son that was handed the action owed, marked
-son-marked : (c : Choice) (a q : Tag) (t : Shape) → marked_shape c a (tagged q t) ≡ marked_under c a (composed q keep_tag) t
-son-marked c a q t = marked-tagged c a q t ∙ ap (λ p. marked_under c a p t) (sym (composed-keep_right q))
-
 -- A mark on a tree is, for the subtree at a path, what is logged of it.
 pub watched-mark : (c : Choice) (a : Tag) (path : List Side) (t s : Shape) → at path t ≡ Some s → IsWatched path t (marked_shape c a t) (logged_mark c a path t)
 unfolding marked_under logged_mark
@@ -147,9 +142,6 @@ new_in : (n : ℕ) (t : Shape) → times n keep_tag t ≡ 0 → IsUnheld n (cont
 new_in n t none =
     let g : Item → ℕ = λ i. cond (n == i.number) 1 0 in
     omega (arith, times_walk n keep_tag t, sum_by-IsPermutation g _ _ (by_number_moves (walk keep_tag t)))
-
-son-put : (n : ℕ) (p : Place) (axis : Axis) (q : Tag) (t : Shape) → put_from n p axis (tagged q t) ≡ put_under n p axis (composed q keep_tag) t
-son-put n p axis q t = put-tagged n p axis q t ∙ ap (λ b. put_under n p axis b t) (sym (composed-keep_right q))
 
 at_son_tagged : (path : List Side) (q : Tag) (t s : Shape) → at path t ≡ Some s → IsWatched path t (tagged (composed q keep_tag) t) (handed path q ++ [])
 at_son_tagged path q t s e =

@@ -47,6 +47,7 @@ IsMet (side ∷ path) (i ∷ is) leaf t = ⊥
 IsMet (side ∷ path) (i ∷ is) (fork h l r) leaf = ⊥
 IsMet (side ∷ path) (i ∷ is) (fork h l r) (fork g l' r') = IsMet path (going side h.axis h.item.point (i ∷ is)) (tagged h.pending (son side l r)) (son side l' r')
 
+-- the same for the subtree at each of the paths
 abbrev pub AreMet : List (List Side) → List Item → Shape → Shape → Type 0
 AreMet [] is s t = Unit {0}
 AreMet (p ∷ ps) is s t = IsMet p is s t × AreMet ps is s t

@@ -17,14 +17,17 @@ reach_of h l r = record {
   numbers = widened (widened (one_number h.item.number) (range l)) (range r);
 }
 
+-- what a tree reaches; an empty one reaches nothing
 abbrev pub reach : Shape → Option Reach
 reach leaf = None
 reach (fork h l r) = Some (reach_of h l r)
 
+-- a point of the closed box is in the half-open one, or no half-open one is given
 abbrev pub meets_box : Option Bounds → Span → Bool
 meets_box None e = true
 meets_box (Some c) e = Extents.meets c e
 
+-- every point of the closed box is in the half-open one, or no half-open one is given
 abbrev pub covers_box : Option Bounds → Span → Bool
 covers_box None e = true
 covers_box (Some c) e = Extents.covers c e

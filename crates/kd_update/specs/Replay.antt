@@ -19,10 +19,12 @@ pub record IsPerformed (large : ℕ) (s : Shape) (ops : List Op) (t : Shape) : T
   pub low : levels t ≤ levels s + length (numbers_put ops)
   pub few : nodes t ≤ nodes s + length (numbers_put ops)
 
+-- the operation puts a point, and marks nothing
 abbrev pub is_put : Op → Bool
 is_put (Mark choice a) = false
 is_put (Put n p) = true
 
+-- each of the operations puts a point
 abbrev pub ArePuts : List Op → Type 0
 ArePuts ops = All (λ op. is_put op ≡ true) ops
 

@@ -23,9 +23,11 @@ abbrev pub live_from : ℕ → List Place → List Item
 live_from n [] = []
 live_from n (p ∷ ps) = live_at n p ∷ live_from (n + 1) ps
 
+-- each of the items is live
 abbrev pub AreLive : List Item → Type 0
 AreLive is = All (λ i. i.label ≡ Live) is
 
+-- the items' numbers, in their order
 abbrev pub numbers_in : List Item → List ℕ
 numbers_in is = map (λ i. i.number) is
 

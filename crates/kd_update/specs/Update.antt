@@ -4,10 +4,14 @@ use Rattle.kd_tree.specs.Shape.{Shape, leaf, fork, nodes}
 use Rattle.kd_tree.specs.Criteria.{IsBalanced, AllMeetCriteria}
 use Rattle.kd_update.specs.Refresh.{IsRefresh}
 
--- each node from 10 nodes on, and of fewer than large ones have, meets the balance criterion
+-- a node from 10 nodes on, and of fewer than large ones have, meets the balance criterion
+abbrev pub IsBalancedTop : ℕ → Shape → Shape → Type 0
+IsBalancedTop large l r = 10 ≤ nodes l + nodes r + 1 → nodes l + nodes r + 1 < large → IsBalanced l r
+
+-- so does each node
 abbrev pub IsBalancedBelow : ℕ → Shape → Type 0
 IsBalancedBelow large leaf = Unit {0}
-IsBalancedBelow large (fork h l r) = (10 ≤ nodes l + nodes r + 1 → nodes l + nodes r + 1 < large → IsBalanced l r) × IsBalancedBelow large l × IsBalancedBelow large r
+IsBalancedBelow large (fork h l r) = IsBalancedTop large l r × IsBalancedBelow large l × IsBalancedBelow large r
 
 -- where the first tree is balanced, so is the second, from whatever number of nodes on a subtree is large
 abbrev pub KeepsBalance : Shape → Shape → Type 0

@@ -1,5 +1,5 @@
 -- What an update does to the subtree at a path, as operations on that subtree's own items.
-use Rattle.std.specs.Prelude.{◌≡◌, ℕ, ◌+◌, ◌<◌, ◌≤◌, Bool, false, not, ◌&&◌, List, [], ◌∷◌, ◌++◌, Some, if◌then◌else◌}
+use Rattle.std.specs.Prelude.{◌≡◌, ℕ, ◌≤◌, Bool, false, not, ◌&&◌, List, [], ◌∷◌, ◌++◌, Some, if◌then◌else◌}
 use Rattle.point_geom.specs.Place.{Place}
 use Rattle.map_fold.specs.declared.choice.Choice.{Choice}
 use Rattle.kd_update.specs.Reach.{meets, reach_of}
@@ -13,7 +13,6 @@ use Rattle.kd_tree.specs.Shape.{Shape, leaf, fork, nodes}
 use Rattle.kd_tree.specs.Walk.{tagged}
 use Rattle.kd_tree.specs.Contents.{contents}
 use Rattle.kd_tree.specs.Parts.{at, son}
-use Rattle.kd_tree.specs.Criteria.{IsBalanced}
 use Rattle.kd_tree.specs.declared.path.Side.{Side}
 use Rattle.kd_tree.specs.declared.path.Side.TheVariants.{Left, Right}
 use Rattle.kd_update.specs.Mark.{is_entered}
@@ -24,10 +23,6 @@ pub record IsLargeAt (large : ℕ) (path : List Side) (t : Shape) : Type 0 where
   pub node : Shape
   pub there : at path t ≡ Some node
   pub size : large ≤ nodes node
-
--- a node from 10 nodes on, and of fewer than large ones have, meets the balance criterion
-abbrev pub IsBalancedTop : ℕ → Shape → Shape → Type 0
-IsBalancedTop large l r = 10 ≤ nodes l + nodes r + 1 → nodes l + nodes r + 1 < large → IsBalanced l r
 
 -- the action that changes no label
 abbrev pub is_keep : Tag → Bool

@@ -11,11 +11,10 @@ ghost use Rattle.kd_update.specs.Update.{IsBalancedBelow};
 ghost use Rattle.kd_update.specs.Made.{entered_put};
 ghost use Rattle.kd_update.specs.Put.{RebuildsNoneOnRoute, goes_left, leaf_of, put_from, put_shape, side_of};
 ghost use Rattle.kd_update.specs.Several.{AreLargeAt, IsUpdatedClear};
-ghost use Rattle.kd_update.specs.Ways.{paths_of};
 
 use crate::rebuild::rejoined;
 use crate::sides::by_side;
-use crate::ways::Ways;
+use crate::ways::{Unwatched, Ways, spared_from};
 use kd_tree::{Block, MAX_LEVELS, MAX_NODES, OpenNode, Side, Steps, Tree};
 use map_fold::{Item, NoMemory};
 use point_geom::{Axis, Point};
@@ -54,19 +53,19 @@ pub fn put<L: Ledger>(
 {
     let _size = tree.size();
     let item = Item::live(number, point);
-    let (ways, block) = (Ways::none(), Block::none());
-    put_below(alloc, tree, large, item, Axis::X, &ways, block, steps)
+    let block = Block::none();
+    put_below(alloc, tree, large, item, Axis::X, &Unwatched, block, steps)
 }
 
 // The same, by shape, where nothing is rebuilt above the ends of the ways, at them or below them. The axis is that of the new
 // leaf, should the tree be empty, and the block is what the leaf is made in.
-pub(crate) fn put_below<L: Ledger>(
+pub(crate) fn put_below<L: Ledger, W: Ways>(
     alloc: Global,
     tree: Tree,
     large: u32,
     item: Item,
     axis: Axis,
-    ways: &Ways<'_>,
+    ways: &W,
     block: Block,
     steps: &mut Steps<L>,
 ) -> Result<Tree, NoMemory>
@@ -74,9 +73,9 @@ pub(crate) fn put_below<L: Ledger>(
     requires low { levels tree < MAX_LEVELS }
     requires few { nodes tree < MAX_NODES }
     requires new { times item.number keep_tag tree ≡ 0 }
-    requires there { AreLargeAt large (paths_of ways.now) tree }
+    requires there { AreLargeAt large (W.paths ways.now) tree }
     ensures updated { let plain = put_from item.number item.point axis tree in
-        IfOk result (λ t. IsUpdatedClear large (paths_of ways.now) tree plain (RebuildsNoneOnRoute large item.point plain) t) }
+        IfOk result (λ t. IsUpdatedClear large (W.paths ways.now) tree plain (RebuildsNoneOnRoute large item.point plain) t) }
     ensures ticks { RebuildsNoneOnRoute large item.point (put_from item.number item.point axis tree)
         → steps.new ≤ steps.old + (3 * entered_put item.point tree + 1) }
 {
@@ -84,7 +83,7 @@ pub(crate) fn put_below<L: Ledger>(
     let Some(node) = tree.take_apart(alloc, steps)? else {
         return leaf(alloc, item, axis, block, steps);
     };
-    let large = ways.spared_from(large);
+    let large = spared_from(ways, large);
     let next = node.axis.next();
     let side = side_of(&item.point, node.axis, &node.item.point);
     let below = ways.onward(side);

@@ -13,9 +13,9 @@ ghost use Rattle.kd_update.specs.Watch.{IsWatched, logged_put};
 ghost use Rattle.kd_update.specs.Watches.{AreExtended, AreFewMore, HaveRoom, paths_in, with_puts};
 
 use crate::Watches;
-use crate::insert::put_below;
+use crate::insert::{put, put_below};
 use crate::log_put::log_puts;
-use crate::ways::Ways;
+use crate::ways::Watched;
 use kd_tree::{Block, MAX_LEVELS, MAX_NODES, Steps, Tree};
 use map_fold::{Item, NoMemory};
 use point_geom::{Axis, Point};
@@ -59,9 +59,12 @@ pub fn put_watched<L: Ledger>(
     ensures ticks { RebuildsNoneOnRoute large point (put_shape number point tree)
         → steps.new ≤ steps.old + 5 * entered_put point tree + 1 }
 {
+    if watches.is_empty() {
+        return put(alloc, tree, large, number, point, steps);
+    }
     let _size = tree.size();
     log_puts(&tree, watches, number, point)?;
-    let ways = Ways::of(watches.as_slice());
+    let ways = Watched::of(watches.as_slice());
     let item = Item::live(number, point);
     let block = Block::none();
     put_below(alloc, tree, large, item, Axis::X, &ways, block, steps)

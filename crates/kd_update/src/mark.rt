@@ -9,11 +9,10 @@ ghost use Rattle.kd_update.specs.Update.{IsBalancedBelow};
 ghost use Rattle.kd_update.specs.Made.{entered_mark, made_mark};
 ghost use Rattle.kd_update.specs.Mark.{RebuildsNoneEntered, marked_shape};
 ghost use Rattle.kd_update.specs.Several.{AreLargeAt, IsUpdatedClear};
-ghost use Rattle.kd_update.specs.Ways.{paths_of};
 
 use crate::reach::{covers, meets, reach_of};
 use crate::rebuild::rejoined;
-use crate::ways::Ways;
+use crate::ways::{Unwatched, Ways, spared_from};
 use kd_tree::{OpenNode, Side, Steps, Tree};
 use map_fold::{Choice, NoMemory, Tag};
 use std::alloc::Global;
@@ -47,23 +46,22 @@ pub fn marked<L: Ledger>(
         → steps.new ≤ steps.old + 5 * entered_mark choice.now tree + 1 }
 {
     let _size = tree.size();
-    let ways = Ways::none();
-    marked_within(alloc, tree, large, choice, tag, &ways, steps)
+    marked_within(alloc, tree, large, choice, tag, &Unwatched, steps)
 }
 
 // The same, by shape, where nothing is rebuilt above the ends of the ways, at them or below them.
-pub(crate) fn marked_within<L: Ledger>(
+pub(crate) fn marked_within<L: Ledger, W: Ways>(
     alloc: Global,
     tree: Tree,
     large: u32,
     choice: &Choice,
     tag: Tag,
-    ways: &Ways<'_>,
+    ways: &W,
     steps: &mut Steps<L>,
 ) -> Result<Tree, NoMemory>
-    requires { AreLargeAt large (paths_of ways.now) tree }
+    requires { AreLargeAt large (W.paths ways.now) tree }
     ensures updated { let plain = marked_shape choice.now tag tree in
-        IfOk result (λ t. IsUpdatedClear large (paths_of ways.now) tree plain (RebuildsNoneEntered large choice.now plain) t) }
+        IfOk result (λ t. IsUpdatedClear large (W.paths ways.now) tree plain (RebuildsNoneEntered large choice.now plain) t) }
     ensures ticks { RebuildsNoneEntered large choice.now (marked_shape choice.now tag tree)
         → steps.new ≤ steps.old + made_mark choice.now tree }
 {
@@ -80,7 +78,7 @@ pub(crate) fn marked_within<L: Ledger>(
     let Some(node) = tree.take_apart(alloc, steps)? else {
         return Ok(Tree::empty());
     };
-    let large = ways.spared_from(large);
+    let large = spared_from(ways, large);
     let item = node.item.marked(choice, tag);
     let lefts = ways.onward(Side::Left);
     let left = marked_within(alloc, node.left, large, choice, tag, &lefts, steps)?;

@@ -12,8 +12,8 @@ ghost use Rattle.kd_update.specs.Watches.{AreExtended, AreFewMore, HaveRoom, pat
 
 use crate::Watches;
 use crate::log_mark::log_marks;
-use crate::mark::marked_within;
-use crate::ways::Ways;
+use crate::mark::{marked, marked_within};
+use crate::ways::Watched;
 use kd_tree::{Steps, Tree};
 use map_fold::{Choice, NoMemory, Tag};
 use std::alloc::Global;
@@ -53,8 +53,11 @@ pub fn marked_watched<L: Ledger>(
     ensures ticks { RebuildsNoneEntered large choice.now (marked_shape choice.now tag tree)
         → steps.new ≤ steps.old + 5 * entered_mark choice.now tree + 1 }
 {
+    if watches.is_empty() {
+        return marked(alloc, tree, large, choice, tag, steps);
+    }
     let _size = tree.size();
     log_marks(&tree, watches, choice, tag)?;
-    let ways = Ways::of(watches.as_slice());
+    let ways = Watched::of(watches.as_slice());
     marked_within(alloc, tree, large, choice, tag, &ways, steps)
 }

@@ -9,7 +9,7 @@ ghost use Rattle.kd_update.specs.Scan.{IsGrown, IsPiece};
 use crate::insert::put_below;
 use crate::part_items::parted;
 use crate::rebuild::rejoined;
-use crate::ways::Ways;
+use crate::ways::Unwatched;
 use kd_tree::{OpenNode, Scratch, Steps, Tree};
 use map_fold::{Item, NoMemory};
 use point_geom::Axis;
@@ -37,8 +37,7 @@ pub(crate) fn put_at_once<L: Ledger>(
     };
     if size == 0 && rest.is_empty() {
         let block = scratch.block();
-        let ways = Ways::none();
-        return put_below(alloc, tree, large, *first, axis, &ways, block, steps);
+        return put_below(alloc, tree, large, *first, axis, &Unwatched, block, steps);
     }
     let Some(count) = parted(&tree, large, items) else {
         return built_with(alloc, tree, large, items, scratch, steps);

@@ -11,7 +11,7 @@ use crate::insert::put_below;
 use crate::one_pass::put_at_once;
 use crate::part_items::moved_left;
 use crate::rebuild::{NEVER, joined};
-use crate::ways::Ways;
+use crate::ways::{Unwatched, Watched, Ways};
 use kd_tree::{OpenNode, Scratch, Side, Steps, Tree};
 use map_fold::{Item, NoMemory};
 use point_geom::Axis;
@@ -25,7 +25,7 @@ pub(crate) fn put_beside<L: Ledger>(
     large: u32,
     items: &mut [Item],
     axis: Axis,
-    ways: &Ways<'_>,
+    ways: &Watched<'_>,
     scratch: &mut Scratch,
     steps: &mut Steps<L>,
 ) -> Result<Tree, NoMemory>
@@ -86,8 +86,7 @@ fn put_within<L: Ledger>(
     if size == 0 {
         if rest.is_empty() {
             let block = scratch.block();
-            let ways = Ways::none();
-            return put_below(alloc, tree, NEVER, *first, axis, &ways, block, steps);
+            return put_below(alloc, tree, NEVER, *first, axis, &Unwatched, block, steps);
         }
         return tree.rebuilt_with(alloc, items, scratch, steps);
     }

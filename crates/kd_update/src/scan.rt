@@ -9,7 +9,7 @@ ghost use Rattle.kd_update.specs.Scan.{IsPut, MayJoin, numbers_in, put_each};
 use crate::insert::put_below;
 use crate::one_pass::put_at_once;
 use crate::roomy;
-use crate::ways::Ways;
+use crate::ways::Unwatched;
 use kd_tree::{Block, MAX_LEVELS, MAX_NODES, Scratch, Steps, Tree};
 use map_fold::{Item, NoMemory};
 use point_geom::Axis;
@@ -149,6 +149,6 @@ fn put_one<L: Ledger>(
 {
     let _size = tree.size();
     let tree = roomy(alloc, tree, steps)?;
-    let (ways, block) = (Ways::none(), Block::none());
-    put_below(alloc, tree, large, *item, Axis::X, &ways, block, steps)
+    let block = Block::none();
+    put_below(alloc, tree, large, *item, Axis::X, &Unwatched, block, steps)
 }

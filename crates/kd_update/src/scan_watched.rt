@@ -14,7 +14,7 @@ ghost use Rattle.kd_update.specs.Crossing.{AreMore, HaveRoomAtOnce, logged_scan,
 use crate::Watches;
 use crate::log_scan::log_scans;
 use crate::put_beside::put_beside;
-use crate::ways::Ways;
+use crate::ways::Watched;
 use kd_tree::{MAX_NODES, Scratch, Steps, Tree};
 use map_fold::{Item, NoMemory};
 use point_geom::Axis;
@@ -60,7 +60,7 @@ pub fn put_all_watched<L: Ledger>(
 {
     let _size = tree.size();
     log_scans(alloc, &tree, watches, items)?;
-    let ways = Ways::of(watches.as_slice());
+    let ways = Watched::of(watches.as_slice());
     let mut items = Vec::from_slice(alloc, items)?;
     let items = items.as_mut_slice();
     put_beside(alloc, tree, large, items, Axis::X, &ways, scratch, steps)

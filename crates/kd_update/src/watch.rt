@@ -4,7 +4,7 @@ ghost use Rattle.map_fold.specs.Ops.{Extends};
 ghost use Rattle.kd_update.specs.Watch.{is_keep};
 
 use kd_tree::Path;
-use map_fold::{Label, NoMemory, Op, Tag};
+use map_fold::{NoMemory, Op, Tag};
 use op_logger::{MAX_LOGGED, OpLog};
 
 /// A subtree that is watched: its path, and the operations on its own items that were met since the log was empty.
@@ -31,11 +31,5 @@ pub(crate) fn note(log: &mut OpLog, op: Op) -> Result<(), NoMemory>
 pub(crate) fn is_keep(tag: Tag) -> bool
     ensures { result ≡ is_keep tag }
 {
-    match tag.live {
-        Label::Live => match tag.suspended {
-            Label::Suspended => true,
-            Label::Live | Label::Dropped => false,
-        },
-        Label::Suspended | Label::Dropped => false,
-    }
+    tag == Tag::KEEP
 }

@@ -1,40 +1,81 @@
-//! At most four paths at once: which of them end at a node, and which go on to a son.
-ghost use Rattle.std.specs.Prelude.{◌≡◌, ◌-◌, ◌≤◌, [], ◌∷◌, ◌++◌, length};
+//! What is watched of a tree, as an update goes down: which paths end at a node, and which go on to a son.
+ghost use Rattle.std.specs.Prelude.{◌≡◌, ◌-◌, ◌≤◌, ◌∷◌, ◌++◌, length};
 ghost use Rattle.kd_tree.specs.Apart.{is_here, is_none_left, onward};
 ghost use Rattle.kd_update.specs.Several.{large_at};
 ghost use Rattle.kd_update.specs.Watches.{paths_in};
-ghost use Rattle.kd_update.specs.Ways.{paths_in_four, paths_of, way_of};
+ghost use Rattle.kd_update.specs.Ways.{paths_of, way_of};
 
 use crate::Watch;
 use crate::rebuild::NEVER;
 use kd_tree::Side;
 
-// The sides that each of them still takes, or None where none of them goes on: so it is in most of a tree, and there nothing but
-// that is looked at and handed on.
-#[derive(Clone, Copy)]
-pub(crate) struct Ways<'a> {
-    left: Option<Four<'a>>,
+// The paths that are left at a node. They are a parameter, so that an update of a tree of which nothing is watched asks nothing at
+// its nodes, and hands nothing on.
+pub(crate) trait Ways: Copy {
+    ghost use Rattle.std.specs.Prelude.{◌≡◌, List};
+    ghost use Rattle.kd_tree.specs.Apart.{is_here, onward};
+    ghost use Rattle.kd_tree.specs.declared.path.Side.{Side};
+
+    ghost paths: { Self → List (List Side) };
+
+    // Whether one of them ends here.
+    fn is_here(&self) -> bool
+        ensures { result ≡ is_here (paths self.now) };
+
+    // Those that go on to this side, from there.
+    fn onward(&self, side: Side) -> Self
+        ensures { paths result ≡ onward side (paths self.now) };
 }
 
-// A list would take memory at each node above the ends.
+// No path.
 #[derive(Clone, Copy)]
-struct Four<'a> {
+pub(crate) struct Unwatched;
+
+// At most four: the sides that each of them still takes. A list would take memory at each node above the ends.
+#[derive(Clone, Copy)]
+pub(crate) struct Watched<'a> {
     first: Option<&'a [Side]>,
     second: Option<&'a [Side]>,
     third: Option<&'a [Side]>,
     fourth: Option<&'a [Side]>,
 }
 
-impl<'a> Ways<'a> {
-    // No path.
-    pub(crate) fn none() -> Ways<'a>
-        ensures { paths_of result ≡ [] }
-    {
-        Ways { left: None }
+impl Ways for Unwatched {
+    ghost use Rattle.std.specs.Prelude.{[]};
+
+    ghost paths = { λ w. [] };
+
+    fn is_here(&self) -> bool {
+        false
     }
 
+    fn onward(&self, _side: Side) -> Unwatched {
+        Unwatched
+    }
+}
+
+impl Ways for Watched<'_> {
+    ghost use Rattle.kd_update.specs.Ways.{paths_of};
+
+    ghost paths = { paths_of };
+
+    fn is_here(&self) -> bool {
+        ends(self.first) || ends(self.second) || ends(self.third) || ends(self.fourth)
+    }
+
+    fn onward(&self, side: Side) -> Self {
+        Watched {
+            first: below(self.first, side),
+            second: below(self.second, side),
+            third: below(self.third, side),
+            fourth: below(self.fourth, side),
+        }
+    }
+}
+
+impl<'a> Watched<'a> {
     // The paths of the watches.
-    pub(crate) fn of(watches: &'a [Watch]) -> Ways<'a>
+    pub(crate) fn of(watches: &'a [Watch]) -> Watched<'a>
         requires { length watches.now ≤ 4 }
         ensures { paths_of result ≡ paths_in watches.now }
     {
@@ -42,91 +83,30 @@ impl<'a> Ways<'a> {
         let (second, rest) = next_way(rest);
         let (third, rest) = next_way(rest);
         let (fourth, _none) = next_way(rest);
-        let four = Four {
+        Watched {
             first,
             second,
             third,
             fourth,
-        };
-        four.left()
+        }
     }
 
     pub(crate) fn is_empty(&self) -> bool
         ensures { result ≡ is_none_left (paths_of self.now) }
-    {
-        match &self.left {
-            None => true,
-            Some(four) => four.is_empty(),
-        }
-    }
-
-    // Whether one of them ends here.
-    #[inline]
-    pub(crate) fn is_here(&self) -> bool
-        ensures { result ≡ is_here (paths_of self.now) }
-    {
-        match &self.left {
-            None => false,
-            Some(four) => four.is_here(),
-        }
-    }
-
-    // From how many nodes on none is rebuilt: at the end of a path and below it that is any, and elsewhere it is as before.
-    #[inline]
-    pub(crate) fn spared_from(&self, large: u32) -> u32
-        ensures { result ≡ large_at (paths_of self.now) large }
-    {
-        if self.is_here() { NEVER } else { large }
-    }
-
-    // Those that go on to this side, from there.
-    #[inline]
-    pub(crate) fn onward(&self, side: Side) -> Ways<'a>
-        ensures { paths_of result ≡ onward side (paths_of self.now) }
-    {
-        match &self.left {
-            None => Ways::none(),
-            Some(four) => four.onward(side).left(),
-        }
-    }
-}
-
-impl<'a> Four<'a> {
-    // Those that there are.
-    fn left(self) -> Ways<'a>
-        ensures { paths_of result ≡ paths_in_four self.entry }
-    {
-        if self.is_empty() {
-            return Ways::none();
-        }
-        Ways { left: Some(self) }
-    }
-
-    fn is_empty(&self) -> bool
-        ensures { result ≡ is_none_left (paths_in_four self.now) }
     {
         self.first.is_none()
             && self.second.is_none()
             && self.third.is_none()
             && self.fourth.is_none()
     }
+}
 
-    fn is_here(&self) -> bool
-        ensures { result ≡ is_here (paths_in_four self.now) }
-    {
-        ends(self.first) || ends(self.second) || ends(self.third) || ends(self.fourth)
-    }
-
-    fn onward(&self, side: Side) -> Four<'a>
-        ensures { paths_in_four result ≡ onward side (paths_in_four self.now) }
-    {
-        Four {
-            first: below(self.first, side),
-            second: below(self.second, side),
-            third: below(self.third, side),
-            fourth: below(self.fourth, side),
-        }
-    }
+// From how many nodes on none is rebuilt: at the end of a path and below it that is any, and elsewhere it is as before.
+#[inline]
+pub(crate) fn spared_from<W: Ways>(ways: &W, large: u32) -> u32
+    ensures { result ≡ large_at (W.paths ways.now) large }
+{
+    if ways.is_here() { NEVER } else { large }
 }
 
 // The path of the first watch, if there is one, and the other watches.

@@ -1,4 +1,4 @@
-use Rattle.std.proofs.Common.{◌≡◌, sym, subst, arith, List}
+use Rattle.std.proofs.Common.{◌≡◌, ◌∙◌, sym, subst, arith, List}
 use Rattle.std.specs.Prelude.{IfOk}
 use Rattle.std.proofs.lemmas.Result.{IfOk-weaker}
 use Rattle.point_geom.specs.declared.axis.Axis.TheVariants.{X}
@@ -9,7 +9,7 @@ use Rattle.kd_update.specs.Watches.{paths_in}
 use Rattle.kd_update.specs.Ways.{paths_of}
 use Rattle.kd_update.proofs.Route.{put_contents, put_numbers}
 use Rattle.kd_update.proofs.ManyLogs.{watched_before}
-use Rattle.kd_update.proofs.Several.{all_watched-put, large_all_put, large_all_same}
+use Rattle.kd_update.proofs.Several.{balanced_unwatched, all_watched-put, large_all_put, large_all_same}
 use Rattle.kd_update.proofs.insert_watched.put_watched.Goals as goal
 use Rattle.kd_update.proofs.insert_watched.put_watched.Goals.{After-of-ways, After-put_below}
 
@@ -42,3 +42,9 @@ returns-clause-watched g c =
 
 pub returns-clause-balance : goal.returns-clause-balance
 returns-clause-balance g c = λ balanced. IfOk-weaker c.put_below.result _ _ (λ t u. u.balance balanced) (updated g (goal.at.returns-clause-balance g c).After-put_below)
+
+pub returns-then-is_empty-clause-balance : goal.returns-then-is_empty-clause-balance
+returns-then-is_empty-clause-balance g c = λ balanced.
+    let none = sym c.is_empty.ensures ∙ c.if-is_empty.true in
+    let large = c.args.large in
+    IfOk-weaker c.put.result _ _ (λ t. (balanced_unwatched large _ t none).1) (c.put.ensures.balance ((balanced_unwatched large _ c.args.tree none).0 balanced))

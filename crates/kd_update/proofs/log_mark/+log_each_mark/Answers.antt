@@ -12,15 +12,14 @@ log_mark-requires t c =
     omega (arith, room.0, logged_mark_few c.args.choice.now c.args.tag c.as_slice.result.now (tagged keep_tag c.args.tree.now))
 
 pub returns-in_err-log_mark-clause-begins : goal.returns-in_err-log_mark-clause-begins
-returns-in_err-log_mark-clause-begins t c =
-    extended_front c.args.watches.now c.in-Some.rest.now c.in-Some.rest.now c.in-Some.watch.now c.log_mark.new.log c.in-Some.ensures.cases.0 c.log_mark.ensures.begins (extended_itself c.in-Some.rest.now)
+returns-in_err-log_mark-clause-begins t c = extended_front _ c.in-Some.rest.now _ _ _ c.in-Some.ensures.cases.0 c.log_mark.ensures.begins (extended_itself c.in-Some.rest.now)
 
 pub returns-in_err-log_mark-clause-few : goal.returns-in_err-log_mark-clause-few
 returns-in_err-log_mark-clause-few t c =
-    more_front 2 c.args.watches.now c.in-Some.rest.now c.in-Some.rest.now c.in-Some.watch.now c.log_mark.new.log c.in-Some.ensures.cases.0
+    more_front 2 _ c.in-Some.rest.now _ _ c.log_mark.new.log c.in-Some.ensures.cases.0
     (omega (arith, c.log_mark.ensures.few, logged_mark_few c.args.choice.now c.args.tag c.as_slice.result.now (tagged keep_tag c.args.tree.now))) (more_itself 2 c.in-Some.rest.now)
 
 pub returns-clause-few : goal.returns-clause-few
 returns-clause-few t c =
-    more_front 2 c.args.watches.now c.in-Some.rest.now c.log_each_mark.new.watches c.in-Some.watch.now c.log_mark.new.log c.in-Some.ensures.cases.0
+    more_front 2 _ c.in-Some.rest.now _ _ c.log_mark.new.log c.in-Some.ensures.cases.0
     (omega (arith, c.log_mark.ensures.few, logged_mark_few c.args.choice.now c.args.tag c.as_slice.result.now (tagged keep_tag c.args.tree.now))) c.log_each_mark.ensures.few

@@ -12,15 +12,14 @@ log_put-requires t c =
     omega (arith, room.0, logged_put_few c.args.number c.args.point c.as_slice.result.now (tagged keep_tag c.args.tree.now))
 
 pub returns-in_err-log_put-clause-begins : goal.returns-in_err-log_put-clause-begins
-returns-in_err-log_put-clause-begins t c =
-    extended_front c.args.watches.now c.in-Some.rest.now c.in-Some.rest.now c.in-Some.watch.now c.log_put.new.log c.in-Some.ensures.cases.0 c.log_put.ensures.begins (extended_itself c.in-Some.rest.now)
+returns-in_err-log_put-clause-begins t c = extended_front _ c.in-Some.rest.now _ _ _ c.in-Some.ensures.cases.0 c.log_put.ensures.begins (extended_itself c.in-Some.rest.now)
 
 pub returns-in_err-log_put-clause-few : goal.returns-in_err-log_put-clause-few
 returns-in_err-log_put-clause-few t c =
-    more_front 2 c.args.watches.now c.in-Some.rest.now c.in-Some.rest.now c.in-Some.watch.now c.log_put.new.log c.in-Some.ensures.cases.0
+    more_front 2 _ c.in-Some.rest.now _ _ c.log_put.new.log c.in-Some.ensures.cases.0
     (omega (arith, c.log_put.ensures.few, logged_put_few c.args.number c.args.point c.as_slice.result.now (tagged keep_tag c.args.tree.now))) (more_itself 2 c.in-Some.rest.now)
 
 pub returns-clause-few : goal.returns-clause-few
 returns-clause-few t c =
-    more_front 2 c.args.watches.now c.in-Some.rest.now c.log_each_put.new.watches c.in-Some.watch.now c.log_put.new.log c.in-Some.ensures.cases.0
+    more_front 2 _ c.in-Some.rest.now _ _ c.log_put.new.log c.in-Some.ensures.cases.0
     (omega (arith, c.log_put.ensures.few, logged_put_few c.args.number c.args.point c.as_slice.result.now (tagged keep_tag c.args.tree.now))) c.log_each_put.ensures.few

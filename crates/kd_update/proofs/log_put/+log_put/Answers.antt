@@ -1,10 +1,9 @@
-use Rattle.std.proofs.Common.{◌≡◌, Bool, true, false, [], ◌++◌, length, sym, ap, ◌∙◌, subst, arith, append-nil, refl}
-use Rattle.std.specs.Prelude.{OnOk, cond}
+use Rattle.std.proofs.Common.{◌≡◌, Bool, true, false, [], ◌++◌, length, sym, ap, ◌∙◌, subst, arith, append-nil, refl, OnOk, cond}
 use Rattle.kd_tree.specs.Shape.{Head}
 use Rattle.kd_tree.specs.Walk.{tagged}
 use Rattle.kd_update.specs.Watch.{goes_to, handed, logged_put}
-use Rattle.kd_update.proofs.Logged.{ahead_put, ahead_put_none, ahead_put_root, few_first, few_rest, logged_all, no_sides, room_first, room_rest}
-use Rattle.kd_update.proofs.Results.{OnOk-weaker}
+use Rattle.kd_update.proofs.Logged.{ahead_put, ahead_put_none, ahead_put_root, few_first, few_rest, logged_all, logged_none, room_first, room_rest}
+use Rattle.std.proofs.lemmas.Result.{on_ok_weaker}
 use Rattle.kd_update.proofs.log_put.+log_put.Goals as goal
 use Rattle.kd_update.proofs.log_put.+log_put.Goals.{After-goes_to-goes_on}
 
@@ -20,18 +19,17 @@ parts t c b e =
 
 pub note-requires : goal.note-requires
 note-requires t c =
-    let one = ap length (ap (λ q. logged_put c.args.number c.args.point q (tagged c.args.owed c.args.tree.now)) (no_sides c.args.sides.now c.in_default.ensures.cases) ∙ ahead_put_root c.args.number c.args.point c.args.owed c.args.tree.now) in
-    omega (arith, c.requires, one)
+    omega (arith, c.requires, ap length (ahead_put_root c.args.number c.args.point c.args.owed c.args.sides.now c.args.tree.now c.in_default.ensures.cases))
 
 pub returns-in_default-clause-logged : goal.returns-in_default-clause-logged
 returns-in_default-clause-logged t c =
-    let one = ap (λ q. logged_put c.args.number c.args.point q (tagged c.args.owed c.args.tree.now)) (no_sides c.args.sides.now c.in_default.ensures.cases) ∙ ahead_put_root c.args.number c.args.point c.args.owed c.args.tree.now in
+    let one = ahead_put_root c.args.number c.args.point c.args.owed c.args.sides.now c.args.tree.now c.in_default.ensures.cases in
     subst (λ ops. OnOk c.note.result (c.note.new.log ≡ c.args.log.now ++ ops)) (sym one) c.note.ensures.logged
 
 pub returns-in_default-top-clause-logged : goal.returns-in_default-top-clause-logged
 returns-in_default-top-clause-logged t c =
-    let none = ap (λ q. logged_put c.args.number c.args.point q (tagged c.args.owed c.args.tree.now)) c.in-Some.ensures.cases.0 ∙ ahead_put_none c.args.number c.args.point c.args.owed c.in-Some.side.now c.in-Some.rest.now c.args.tree.now (c.in_default-top.ensures.none.0 refl) in
-    sym (ap (λ ops. c.args.log.now ++ ops) none ∙ append-nil c.args.log.now)
+    logged_none c.args.log.now _ (ap (λ q. logged_put c.args.number c.args.point q (tagged c.args.owed c.args.tree.now)) c.in-Some.ensures.cases.0
+    ∙ ahead_put_none c.args.number c.args.point c.args.owed c.in-Some.side.now c.in-Some.rest.now c.args.tree.now (c.in_default-top.ensures.none.0 refl))
 
 pub note_owed-requires : goal.note_owed-requires
 note_owed-requires t c = room_first _ _ _ _ (parts t (goal.at.note_owed-requires t c).After-goes_to-goes_on _ refl) c.requires
@@ -43,12 +41,11 @@ pub log_put-requires : goal.log_put-requires
 log_put-requires t c = (omega (arith, c.in-Some.ensures.cases.1), room_rest _ _ _ _ _ (parts t (goal.at.log_put-requires t c).After-goes_to-goes_on true c.if-not-goes_on.false) c.in_ok-note_owed.ensures.logged c.requires)
 
 pub returns-clause-logged : goal.returns-clause-logged
-returns-clause-logged t c = OnOk-weaker c.log_put.result (λ e. logged_all _ _ _ _ _ _ (parts t (goal.at.returns-clause-logged t c).After-goes_to-goes_on true c.if-not-goes_on.false) c.in_ok-note_owed.ensures.logged e) c.log_put.ensures.logged
+returns-clause-logged t c = on_ok_weaker c.log_put.result (λ e. logged_all _ _ _ _ _ _ (parts t (goal.at.returns-clause-logged t c).After-goes_to-goes_on true c.if-not-goes_on.false) c.in_ok-note_owed.ensures.logged e) c.log_put.ensures.logged
 
 pub returns-in_default-clause-few : goal.returns-in_default-clause-few
 returns-in_default-clause-few t c =
-    let one = ap length (ap (λ q. logged_put c.args.number c.args.point q (tagged c.args.owed c.args.tree.now)) (no_sides c.args.sides.now c.in_default.ensures.cases) ∙ ahead_put_root c.args.number c.args.point c.args.owed c.args.tree.now) in
-    omega (arith, c.note.ensures.few, one)
+    omega (arith, c.note.ensures.few, ap length (ahead_put_root c.args.number c.args.point c.args.owed c.args.sides.now c.args.tree.now c.in_default.ensures.cases))
 
 pub returns-in_err-note_owed-clause-few : goal.returns-in_err-note_owed-clause-few
 returns-in_err-note_owed-clause-few t c = few_first _ _ _ _ _ (parts t (goal.at.returns-in_err-note_owed-clause-few t c).After-goes_to-goes_on _ refl) c.note_owed.ensures.few

@@ -21,20 +21,14 @@ log_scan-requires t c =
     omega (arith, room.0, logged_scan_few c.as_slice.result.now c.in_ok-items_there.items_there.items (tagged keep_tag c.args.tree.now), ap (λ (xs : List Item). length xs) c.in_ok-items_there.ensures.items)
 
 pub returns-in_err-log_scan-clause-begins : goal.returns-in_err-log_scan-clause-begins
-returns-in_err-log_scan-clause-begins t c =
-    extended_front c.args.watches.now c.in-Some.rest.now c.in-Some.rest.now c.in-Some.watch.now c.log_scan.new.log c.in-Some.ensures.cases.0 c.log_scan.ensures.begins (extended_itself c.in-Some.rest.now)
+returns-in_err-log_scan-clause-begins t c = extended_front _ c.in-Some.rest.now _ _ _ c.in-Some.ensures.cases.0 c.log_scan.ensures.begins (extended_itself c.in-Some.rest.now)
 
 pub returns-in_err-log_scan-clause-few : goal.returns-in_err-log_scan-clause-few
 returns-in_err-log_scan-clause-few t c =
-    more_front (length c.args.items.now + 1) c.args.watches.now c.in-Some.rest.now c.in-Some.rest.now c.in-Some.watch.now c.log_scan.new.log c.in-Some.ensures.cases.0
+    more_front (length c.args.items.now + 1) _ c.in-Some.rest.now _ _ c.log_scan.new.log c.in-Some.ensures.cases.0
     (omega (arith, c.log_scan.ensures.few, logged_scan_few c.as_slice.result.now c.in_ok-items_there.items_there.items (tagged keep_tag c.args.tree.now), ap (λ (xs : List Item). length xs) c.in_ok-items_there.ensures.items)) (more_itself (length c.args.items.now + 1) c.in-Some.rest.now)
-
-pub log_each_scan-requires : goal.log_each_scan-requires
-log_each_scan-requires t c =
-    let room = subst (HaveRoomAtOnce (length c.args.items.now)) c.in-Some.ensures.cases.0 c.requires in
-    (omega (arith, c.in-Some.ensures.cases.1), room.1)
 
 pub returns-clause-few : goal.returns-clause-few
 returns-clause-few t c =
-    more_front (length c.args.items.now + 1) c.args.watches.now c.in-Some.rest.now c.log_each_scan.new.watches c.in-Some.watch.now c.log_scan.new.log c.in-Some.ensures.cases.0
+    more_front (length c.args.items.now + 1) _ c.in-Some.rest.now _ _ c.log_scan.new.log c.in-Some.ensures.cases.0
     (omega (arith, c.log_scan.ensures.few, logged_scan_few c.as_slice.result.now c.in_ok-items_there.items_there.items (tagged keep_tag c.args.tree.now), ap (λ (xs : List Item). length xs) c.in_ok-items_there.ensures.items)) c.log_each_scan.ensures.few

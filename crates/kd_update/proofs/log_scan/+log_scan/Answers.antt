@@ -6,7 +6,7 @@ use Rattle.kd_update.specs.Watch.{handed}
 use Rattle.kd_update.specs.Crossing.{logged_scan}
 use Rattle.kd_update.proofs.Logged.{room_rest, few_rest, logged_all}
 use Rattle.kd_update.proofs.Crossing.{ahead_scan}
-use Rattle.kd_update.proofs.Results.{OnOk-weaker}
+use Rattle.std.proofs.lemmas.Result.{on_ok_weaker}
 use Rattle.kd_update.proofs.log_scan.+log_scan.Goals as goal
 use Rattle.kd_update.proofs.log_scan.+log_scan.Goals.{After-keep_going}
 
@@ -26,7 +26,7 @@ pub log_scan-requires : goal.log_scan-requires
 log_scan-requires t c = (omega (arith, c.in-Some.ensures.cases.1), room_rest _ _ _ _ _ (parts t (goal.at.log_scan-requires t c).After-keep_going) c.in_ok-note_owed.ensures.logged c.requires)
 
 pub returns-clause-logged : goal.returns-clause-logged
-returns-clause-logged t c = OnOk-weaker c.log_scan.result (λ e. logged_all _ _ _ _ _ _ (parts t (goal.at.returns-clause-logged t c).After-keep_going) c.in_ok-note_owed.ensures.logged e) c.log_scan.ensures.logged
+returns-clause-logged t c = on_ok_weaker c.log_scan.result (λ e. logged_all _ _ _ _ _ _ (parts t (goal.at.returns-clause-logged t c).After-keep_going) c.in_ok-note_owed.ensures.logged e) c.log_scan.ensures.logged
 
 pub returns-clause-few : goal.returns-clause-few
 returns-clause-few t c = few_rest _ _ _ _ _ _ (parts t (goal.at.returns-clause-few t c).After-keep_going) c.note_owed.ensures.few c.log_scan.ensures.few

@@ -1,4 +1,4 @@
-use Rattle.std.proofs.Common.{◌≡◌, sym, subst, arith, List}
+use Rattle.std.proofs.Common.{◌≡◌, ◌∙◌, sym, subst, arith, List}
 use Rattle.std.specs.Prelude.{IfOk}
 use Rattle.std.proofs.lemmas.Result.{IfOk-weaker}
 use Rattle.kd_tree.specs.declared.path.Side.{Side}
@@ -9,7 +9,7 @@ use Rattle.kd_update.specs.Ways.{paths_of}
 use Rattle.kd_update.proofs.InBox.{marked_contents, marked_numbers}
 use Rattle.kd_update.proofs.Made.{made_few}
 use Rattle.kd_update.proofs.ManyLogs.{watched_before}
-use Rattle.kd_update.proofs.Several.{all_watched-mark, large_all_marked, large_all_same}
+use Rattle.kd_update.proofs.Several.{balanced_unwatched, all_watched-mark, large_all_marked, large_all_same}
 use Rattle.kd_update.proofs.mark_watched.marked_watched.Goals as goal
 use Rattle.kd_update.proofs.mark_watched.marked_watched.Goals.{After-marked_within, After-of-ways}
 
@@ -44,3 +44,9 @@ returns-clause-balance g c = λ balanced. IfOk-weaker c.marked_within.result _ _
 
 pub returns-clause-ticks : goal.returns-clause-ticks
 returns-clause-ticks g c = λ criteria. omega (arith, c.marked_within.ensures.ticks criteria, made_few c.args.choice.now c.args.tree)
+
+pub returns-then-is_empty-clause-balance : goal.returns-then-is_empty-clause-balance
+returns-then-is_empty-clause-balance g c = λ balanced.
+    let none = sym c.is_empty.ensures ∙ c.if-is_empty.true in
+    let large = c.args.large in
+    IfOk-weaker c.marked.result _ _ (λ t. (balanced_unwatched large _ t none).1) (c.marked.ensures.balance ((balanced_unwatched large _ c.args.tree none).0 balanced))

@@ -8,7 +8,7 @@ use Rattle.kd_update.specs.Update.{IsBalancedBelow}
 use Rattle.kd_update.specs.Scan.{AreLive, IsGrown}
 use Rattle.kd_update.proofs.Trees.{pushed_smaller}
 use Rattle.kd_update.proofs.Grown.{IsLive, IsStep, alone, grown_moved, grown_none, grown_put, piece_moved, piece_new, step_at, step_pieces, step_sound, step_grown, step_balanced}
-use Rattle.kd_update.proofs.Several.{balanced_free, large_nowhere}
+use Rattle.kd_update.proofs.Several.{balanced_free}
 use Rattle.kd_update.proofs.one_pass.+put_at_once.Goals as goal
 use Rattle.kd_update.proofs.one_pass.+put_at_once.Goals.{After-split_at_mut-lefts}
 
@@ -21,9 +21,6 @@ step g t c =
 pub put_below-requires-clause-new : goal.put_below-requires-clause-new
 put_below-requires-clause-new g t c = piece_new c.args.large c.args.tree c.args.items.now c.in-Some.rest.now c.in-Some.first.now c.in-Some.ensures.cases.0 c.requires
 
-pub put_below-requires-clause-there : goal.put_below-requires-clause-there
-put_below-requires-clause-there g t c = large_nowhere c.args.large _ c.args.tree c.none-ways.ensures
-
 pub returns-in_default-clause-grown : goal.returns-in_default-clause-grown
 returns-in_default-clause-grown g t c = subst (λ (xs : List Item). IsGrown c.args.tree xs c.args.tree) (sym (nil_from_length c.args.items.now c.in_default.ensures.cases)) (grown_none c.args.tree)
 
@@ -35,7 +32,7 @@ returns-then-is_empty-clause-grown g t c =
     (λ v u. subst (λ (xs : List Item). IsGrown c.args.tree xs v) (sym e) (grown_put i c.args.axis c.args.tree v (All-head IsLive i [] (subst AreLive e c.requires.live)) u.refresh)) c.put_below.ensures.updated
 
 pub returns-then-is_empty-clause-balance : goal.returns-then-is_empty-clause-balance
-returns-then-is_empty-clause-balance g t c = IfOk-weaker c.put_below.result _ (λ v. IsBalancedBelow c.args.large c.args.tree → IsBalancedBelow c.args.large v) (λ v u. balanced_free _ _ _ _ v _ c.none-ways.ensures u) c.put_below.ensures.updated
+returns-then-is_empty-clause-balance g t c = IfOk-weaker c.put_below.result _ (λ v. IsBalancedBelow c.args.large c.args.tree → IsBalancedBelow c.args.large v) (λ v u. balanced_free _ _ _ v _ u) c.put_below.ensures.updated
 
 pub built_with-requires-clause-piece : goal.built_with-requires-clause-piece
 built_with-requires-clause-piece g t c = piece_moved c.args.large c.args.tree c.args.items.now c.parted.new.items c.parted.ensures.moved c.requires

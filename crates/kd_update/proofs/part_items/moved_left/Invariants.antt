@@ -1,5 +1,4 @@
-use Rattle.std.proofs.Common.{◌≡◌, ◌≤◌, true, false}
-use Rattle.std.specs.Prelude.{IsPermutation}
+use Rattle.std.proofs.Common.{◌≡◌, ◌≤◌, true, false, IsPermutation}
 use Rattle.std.specs.List.{AllWithin}
 use Rattle.kd_update.specs.Put.{goes_left}
 use Rattle.kd_update.proofs.part_items.moved_left.Given as goal

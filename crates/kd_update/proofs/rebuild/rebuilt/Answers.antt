@@ -1,7 +1,5 @@
-use Rattle.std.proofs.Common.{◌≡◌, ◌∙◌, List, [], ◌++◌, ap, subst, sym, arith}
-use Rattle.std.specs.Prelude.{IsPermutation, map, length, IfOk}
+use Rattle.std.proofs.Common.{◌≡◌, ◌∙◌, List, [], ◌++◌, ap, subst, sym, arith, IsPermutation, map, length, IfOk, append-nil}
 use Rattle.std.proofs.lemmas.Result.{IfOk-weaker}
-use Rattle.std.proofs.lemmas.List.{append-nil}
 use Rattle.std.proofs.lemmas.List.Sorted.{length_permutation}
 use Rattle.node_labels.specs.Labels.{keep_tag}
 use Rattle.map_fold.specs.declared.item.Item.{Item}
@@ -19,12 +17,8 @@ use Rattle.kd_update.specs.Refresh.{AreAmong, IsRefresh}
 use Rattle.kd_update.proofs.rebuild.rebuilt.Goals as goal
 use Rattle.kd_update.proofs.rebuild.rebuilt.Goals.{After-rebuilt_with}
 
--- nothing is added to what is left
-alone : (s : Shape) → walk keep_tag s ++ [] ≡ walk keep_tag s
-alone s = append-nil (walk keep_tag s)
-
 pub rebuilt_with-requires-clause-distinct : goal.rebuilt_with-requires-clause-distinct
-rebuilt_with-requires-clause-distinct g c = subst AreDistinct (sym (alone c.args.tree)) (once_walk c.args.tree (sound_once c.args.tree c.size-size.ensures.sound))
+rebuilt_with-requires-clause-distinct g c = subst AreDistinct (sym (append-nil (walk keep_tag c.args.tree))) (once_walk c.args.tree (sound_once c.args.tree c.size-size.ensures.sound))
 
 pub rebuilt_with-requires-clause-few : goal.rebuilt_with-requires-clause-few
 rebuilt_with-requires-clause-few g c = omega (arith, walk_few keep_tag c.args.tree, c.size-size.ensures.value, c.size-size.ensures.few)
@@ -32,8 +26,9 @@ rebuilt_with-requires-clause-few g c = omega (arith, walk_few keep_tag c.args.tr
 refresh : (g : _) (c : After-rebuilt_with g) → IfOk c.rebuilt_with.result (IsRefresh c.args.tree)
 refresh g c =
     let s = c.args.tree in
-    let same = subst (λ (xs : List Item). IfOk c.rebuilt_with.result (λ t. IsBuilt xs t)) (alone s) c.rebuilt_with.ensures.shape in
-    let all = subst (λ (xs : List Item). IfOk c.rebuilt_with.result (λ t. IsPermutation (map (λ (i : Item). i.number) xs) (numbers t))) (alone s) c.rebuilt_with.ensures.numbers in
+    let alone = append-nil (walk keep_tag s) in
+    let same = subst (λ (xs : List Item). IfOk c.rebuilt_with.result (λ t. IsBuilt xs t)) alone c.rebuilt_with.ensures.shape in
+    let all = subst (λ (xs : List Item). IfOk c.rebuilt_with.result (λ t. IsPermutation (map (λ (i : Item). i.number) xs) (numbers t))) alone c.rebuilt_with.ensures.numbers in
     ok_both c.rebuilt_with.result _ _ (IsRefresh s) (λ t b ns. built_refresh s t b ns) same all
 
 pub returns-clause-refresh : goal.returns-clause-refresh
@@ -44,7 +39,7 @@ returns-clause-numbers g c = IfOk-weaker c.rebuilt_with.result _ (λ t. AreAmong
 
 -- as many items as the contents have
 as_many : (s : Shape) → length (walk keep_tag s ++ []) ≡ length (contents s)
-as_many s = ap length (alone s) ∙ sym (length_permutation (walk keep_tag s) (contents s) (by_number_moves (walk keep_tag s)))
+as_many s = ap length (append-nil (walk keep_tag s)) ∙ sym (length_permutation (walk keep_tag s) (contents s) (by_number_moves (walk keep_tag s)))
 
 pub returns-clause-nodes : goal.returns-clause-nodes
 returns-clause-nodes g c = IfOk-weaker c.rebuilt_with.result _ (λ t. nodes t ≡ length (contents c.args.tree)) (λ t e. e ∙ as_many c.args.tree) c.rebuilt_with.ensures.nodes

@@ -1,10 +1,8 @@
-use Rattle.std.proofs.Common.{◌∷◌, [], ◌∙◌, List, ap, length, subst, sym}
-use Rattle.std.proofs.lemmas.Bool.{eqb-true}
+use Rattle.std.proofs.Common.{◌∷◌, [], ◌∙◌, List, ap, length, subst, sym, eqb-true, IfOk}
 use Rattle.std.proofs.lemmas.List.{nil_from_length}
-use Rattle.std.specs.Prelude.{IfOk}
 use Rattle.map_fold.specs.declared.op.Op.{Op}
 use Rattle.kd_update.specs.Replay.{IsPerformed}
-use Rattle.kd_update.proofs.Performed.{all_performed, performed_none}
+use Rattle.kd_update.proofs.OpRuns.{all_performed, performed_none}
 use Rattle.kd_update.proofs.replay.done.Goals as goal
 
 pub returns-in_default : goal.returns-in_default

@@ -2,14 +2,11 @@ use Rattle.std.proofs.Common.{◌+◌, ◌≤◌, arith, length}
 use Rattle.node_labels.specs.Labels.{keep_tag}
 use Rattle.kd_tree.specs.Walk.{walk}
 use Rattle.kd_update.specs.Scan.{IsGrown, IsPut}
-use Rattle.kd_update.proofs.Grown.{grown_anew, live_kept}
+use Rattle.kd_update.proofs.Grown.{grown_anew}
 use Rattle.kd_update.proofs.Joins.{contents_size, join_grown, walk_distinct}
 use Rattle.kd_update.proofs.Results.{ok_both}
 use Rattle.kd_update.proofs.Update.{criteria_balanced}
 use Rattle.kd_update.proofs.scan.built_with_rest.Goals as goal
-
-pub rebuilt_with-requires-clause-kept : goal.rebuilt_with-requires-clause-kept
-rebuilt_with-requires-clause-kept g c = live_kept c.args.items.now c.requires.fit.live
 
 pub rebuilt_with-requires-clause-few : goal.rebuilt_with-requires-clause-few
 rebuilt_with-requires-clause-few g c = omega (arith, contents_size c.args.tree, c.requires.fit.room)

@@ -1,5 +1,4 @@
-use Rattle.std.proofs.Common.{◌∙◌, List, length, sym, subst}
-use Rattle.std.proofs.lemmas.Bool.{eqb-true}
+use Rattle.std.proofs.Common.{◌∙◌, List, length, sym, subst, eqb-true}
 use Rattle.std.proofs.lemmas.List.{nil_from_length}
 use Rattle.std.proofs.lemmas.Result.{IfOk-weaker}
 use Rattle.map_fold.specs.declared.item.Item.{Item}
@@ -10,19 +9,15 @@ use Rattle.kd_update.proofs.scan.put_in_pieces.Goals as goal
 
 pub put_piece-requires-clause-fit : goal.put_piece-requires-clause-fit
 put_piece-requires-clause-fit g c =
-    let m = contents c.loop-rest.tree in
-    join_first m c.split_at.result.0.now c.split_at.result.1.now (subst (λ (xs : List Item). MayJoin m xs) c.split_at.ensures.by_index.0 c.loop-rest.invariant.fit)
+    join_first _ _ c.split_at.result.1.now (subst (λ (xs : List Item). MayJoin (contents c.loop-rest.tree) xs) c.split_at.ensures.by_index.0 c.loop-rest.invariant.fit)
 
 pub loop-rest-preserved : goal.loop-rest-preserved
 loop-rest-preserved g c =
     let s = c.loop-rest.tree in
-    let t = c.in_ok-tree.tree in
-    let piece = c.split_at.result.0.now in
-    let more = c.split_at.result.1.now in
     let cut = c.split_at.ensures.by_index.0 in
     record {
-      fit = join_rest s t piece more (subst (λ (xs : List Item). MayJoin (contents s) xs) cut c.loop-rest.invariant.fit) c.in_ok-tree.ensures.held;
-      rest = λ u k. c.loop-rest.invariant.rest u (subst (λ (xs : List Item). IsPut c.args.large s xs u) (sym cut) (put_then c.args.large s t u piece more c.in_ok-tree.ensures k));
+      fit = join_rest s c.in_ok-tree.tree _ _ (subst (λ (xs : List Item). MayJoin (contents s) xs) cut c.loop-rest.invariant.fit) c.in_ok-tree.ensures.held;
+      rest = λ u k. c.loop-rest.invariant.rest u (subst (λ (xs : List Item). IsPut c.args.large s xs u) (sym cut) (put_then c.args.large s _ u _ _ c.in_ok-tree.ensures k));
     }
 
 pub returns-then-levels-ge-MAX_LEVELS : goal.returns-then-levels-ge-MAX_LEVELS

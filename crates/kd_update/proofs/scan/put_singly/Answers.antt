@@ -21,11 +21,10 @@ loop-item-preserved g c =
     let x = c.item-item.result in
     let rest = drop (i + 1) c.args.items.now in
     let s = c.loop-item.tree in
-    let t = c.in_ok-tree.tree in
     let cut : drop i c.args.items.now ≡ x ∷ rest = drop-at c.args.items.now _ i x (omega arith) c.loop-item-test.true c.item-item.is in
     record {
-      fit = join_rest s t (x ∷ []) rest (subst (λ (xs : List Item). MayJoin (contents s) xs) cut c.loop-item.invariant.fit) c.in_ok-tree.ensures.held;
-      rest = λ u k. c.loop-item.invariant.rest u (subst (λ (xs : List Item). IsPut c.args.large s xs u) (sym cut) (put_then c.args.large s t u (x ∷ []) rest c.in_ok-tree.ensures k));
+      fit = join_rest s c.in_ok-tree.tree (x ∷ []) rest (subst (λ (xs : List Item). MayJoin (contents s) xs) cut c.loop-item.invariant.fit) c.in_ok-tree.ensures.held;
+      rest = λ u k. c.loop-item.invariant.rest u (subst (λ (xs : List Item). IsPut c.args.large s xs u) (sym cut) (put_then c.args.large s _ u (x ∷ []) rest c.in_ok-tree.ensures k));
     }
 
 pub returns : goal.returns

@@ -1,6 +1,6 @@
 use Rattle.kd_update.specs.Ways.{way_of}
 use Rattle.kd_update.proofs.WayLists.{onward_four}
-use Rattle.kd_update.proofs.ways.Four.onward.Goals as goal
+use Rattle.kd_update.proofs.ways.WatchedWays.onward.Goals as goal
 
 pub returns : goal.returns
 returns c =
