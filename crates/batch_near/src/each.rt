@@ -9,7 +9,7 @@ ghost use Rattle.kd_tree.specs.Contents.{contents};
 
 use kd_search::nearest;
 use kd_tree::Tree;
-use map_fold::{HitLists, Hits, NoMemory, Points};
+use map_fold::{HitLists, Hits, MAX_FOUND, MAX_WITHIN, NoMemory, Points};
 use point_geom::Point;
 use rayon::prelude::*;
 use rayon::{current_num_threads, join_mut};
@@ -107,11 +107,11 @@ fn fill<R: Threads + Sync>(
     join_mut(
         rt,
         &mut ||
-            requires { (1 ≤ k) × (k ≤ 16) × ForSome within (λ r. r ≤ 4398046511104) × (length first.now ≡ length these.now) }
+            requires { (1 ≤ k) × (k ≤ 16) × ForSome within (λ r. r ≤ MAX_WITHIN) × (length first.now ≡ length these.now) }
             ensures { first.exit.now ≡ nearest_each (contents tree.entry.now) k these.entry.now within }
         { fill_piece(alloc, tree, k, within, these, first) },
         &mut ||
-            requires { IsSync R.row × (1 ≤ k) × (k ≤ 16) × ForSome within (λ r. r ≤ 4398046511104) × (2 ≤ pieces) × (length rest.now ≡ length others.now) }
+            requires { IsSync R.row × (1 ≤ k) × (k ≤ 16) × ForSome within (λ r. r ≤ MAX_WITHIN) × (2 ≤ pieces) × (length rest.now ≡ length others.now) }
             ensures { rest.exit.now ≡ nearest_each (contents tree.entry.now) k others.entry.now within }
         { fill(rt, alloc, tree, k, within, pieces - 1, others, rest) },
     );
@@ -192,7 +192,7 @@ fn in_pieces<R: Threads + Sync>(
         .with_min_len(LEAST_PIECE)
         .map(
             move |q: &Point| -> Result<Hits, NoMemory>
-                requires { (1 ≤ k) × (k ≤ 256) × ForSome within (λ r. r ≤ 4398046511104) }
+                requires { (1 ≤ k) × (k ≤ MAX_FOUND) × ForSome within (λ r. r ≤ MAX_WITHIN) }
                 ensures { IfOk result (λ hits. hits ≡ nearest (contents tree.entry.now) k q.now within) }
             { nearest(alloc, tree, k, q, within) },
         )

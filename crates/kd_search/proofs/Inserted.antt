@@ -48,7 +48,7 @@ pub insert_all-nil : (xs : List Item) → insert_all xs [] ≡ by_number xs
 insert_all-nil [] = refl
 insert_all-nil (x ∷ xs) = ap (insert_item x) (insert_all-nil xs)
 
-in_turn : (k : ℕ) (top left right m one two three : List Item) → one ≡ take k (insert_all right m) → two ≡ take k (insert_all left one) → three ≡ take k (insert_all top two)
+pub in_turn : (k : ℕ) (top left right m one two three : List Item) → one ≡ take k (insert_all right m) → two ≡ take k (insert_all left one) → three ≡ take k (insert_all top two)
     → three ≡ take k (insert_all (top ++ (left ++ right)) m)
 in_turn k top left right m one two three e f g =
     g ∙ ap (λ z. take k (insert_all top z)) f ∙ insert_all-take k top (insert_all left one)

@@ -13,6 +13,7 @@ use Rattle.map_fold.specs.Answers.{is_nearer, put_hit, in_order, hit_of, is_with
 use Rattle.map_fold.proofs.Order.{nearer_not_back, nearer_chain, nearer_either}
 use Rattle.map_fold.proofs.Ranking.{put_hit-take}
 use Rattle.map_fold.specs.Nearest.{Member}
+use Rattle.map_fold.proofs.FirstOnes.{put_hit_by, put_hit_front}
 use Rattle.kd_tree.specs.Contents.{AreDistinct, insert_item, by_number}
 use Rattle.kd_tree.proofs.Numbered.{Apart, apart_once, numbered_from}
 use Rattle.kd_search.specs.Nearest.{put_all}
@@ -21,29 +22,23 @@ use Rattle.kd_search.proofs.Inserted.{take-take}
 use Rattle.kd_search.proofs.Others.{AreApart, HitsApart, candidates_apart, live_in, three_of}
 use Rattle.kd_search.proofs.Walks.{live-kept, live-append}
 
-past : (h x : Hit) (xs : List Hit) → is_nearer x h ≡ true → put_hit h (x ∷ xs) ≡ x ∷ put_hit h xs
-past h x xs e = rw e refl
-
-front : (h x : Hit) (xs : List Hit) → is_nearer x h ≡ false → put_hit h (x ∷ xs) ≡ h ∷ x ∷ xs
-front h x xs e = rw e refl
-
 not_back : (a b : Hit) → is_nearer a b ≡ true → is_nearer b a ≡ false
 not_back a b e = false_from_ne_true _ (λ f. nearer_not_back a b e f)
 
 -- of two hits the nearer one may be put in first
 nearer_first : (a b : Hit) (xs : List Hit) → is_nearer a b ≡ true → put_hit a (put_hit b xs) ≡ put_hit b (put_hit a xs)
-nearer_first a b [] e = front a b [] (not_back a b e) ∙ sym (past b a [] e)
+nearer_first a b [] e = put_hit_front a b [] (not_back a b e) ∙ sym (put_hit_by b a [] e)
 nearer_first a b (x ∷ xs) e = elim (cases_Bool (is_nearer x a)) [
   | inl xa ↦
       let xb : is_nearer x b ≡ true = nearer_chain x a b xa e in
-      ap (put_hit a) (past b x xs xb) ∙ past a x (put_hit b xs) xa ∙ ap (λ ys. x ∷ ys) (nearer_first a b xs e)
-      ∙ sym (past b x (put_hit a xs) xb) ∙ ap (put_hit b) (sym (past a x xs xa))
-  | inr xa ↦ sym (ap (put_hit b) (front a x xs xa) ∙ past b a (x ∷ xs) e ∙ sym (later (cases_Bool (is_nearer x b)) xa))
+      ap (put_hit a) (put_hit_by b x xs xb) ∙ put_hit_by a x (put_hit b xs) xa ∙ ap (λ ys. x ∷ ys) (nearer_first a b xs e)
+      ∙ sym (put_hit_by b x (put_hit a xs) xb) ∙ ap (put_hit b) (sym (put_hit_by a x xs xa))
+  | inr xa ↦ sym (ap (put_hit b) (put_hit_front a x xs xa) ∙ put_hit_by b a (x ∷ xs) e ∙ sym (later (cases_Bool (is_nearer x b)) xa))
 ]
   where
     later : (is_nearer x b ≡ true) ⊎ (is_nearer x b ≡ false) → is_nearer x a ≡ false → put_hit a (put_hit b (x ∷ xs)) ≡ a ∷ put_hit b (x ∷ xs)
-    later (inl xb) xa = ap (put_hit a) (past b x xs xb) ∙ front a x (put_hit b xs) xa ∙ ap (λ ys. a ∷ ys) (sym (past b x xs xb))
-    later (inr xb) xa = ap (put_hit a) (front b x xs xb) ∙ front a b (x ∷ xs) (not_back a b e) ∙ ap (λ ys. a ∷ ys) (sym (front b x xs xb))
+    later (inl xb) xa = ap (put_hit a) (put_hit_by b x xs xb) ∙ put_hit_front a x (put_hit b xs) xa ∙ ap (λ ys. a ∷ ys) (sym (put_hit_by b x xs xb))
+    later (inr xb) xa = ap (put_hit a) (put_hit_front b x xs xb) ∙ put_hit_front a b (x ∷ xs) (not_back a b e) ∙ ap (λ ys. a ∷ ys) (sym (put_hit_front b x xs xb))
 
 -- either of two hits with different numbers may be put in first
 pub put_hit-put_hit : (a b : Hit) (xs : List Hit) → (a.number ≡ b.number → ⊥) → put_hit a (put_hit b xs) ≡ put_hit b (put_hit a xs)

@@ -14,7 +14,7 @@ use Rattle.map_fold.specs.Answers.{is_nearer, put_hit, hit_of, is_within, candid
 use Rattle.map_fold.proofs.Order.{nearer_not_back}
 use Rattle.map_fold.proofs.Ranking.{put_hit-take}
 use Rattle.kd_search.specs.Points.{AreAway}
-use Rattle.kd_search.specs.Nearest.{put_all, is_admitted, AreFrom, AreBefore, Recede, AreHeld, AreFull}
+use Rattle.kd_search.specs.Nearest.{put_all, is_admitted, AreFrom, AreBefore, Recede, AreNearestFirst, AreFull}
 
 -- what is less far comes first
 nearer_by : (g h : Hit) → g.dist2 < h.dist2 → is_nearer g h ≡ true
@@ -61,12 +61,12 @@ put_all_recede [] hits h = h
 put_all_recede (g ∷ found) hits h = put_recede g (put_all found hits) (put_all_recede found hits h)
 
 -- after more hits the first k are held
-pub held_more : (k : ℕ) (found hits new : List Hit) → AreHeld k hits → new ≡ take k (put_all found hits) → AreHeld k new
+pub held_more : (k : ℕ) (found hits new : List Hit) → AreNearestFirst k hits → new ≡ take k (put_all found hits) → AreNearestFirst k new
 held_more k found hits new h e =
-    subst (AreHeld k) (sym e) (record { few = take_few k (put_all found hits); recede = take_recede k (put_all found hits) (put_all_recede found hits h.recede) })
+    subst (AreNearestFirst k) (sym e) (record { few = take_few k (put_all found hits); recede = take_recede k (put_all found hits) (put_all_recede found hits h.recede) })
 
 -- no more hits leave what is held
-pub held_same : (k : ℕ) (hits : List Hit) → AreHeld k hits → hits ≡ take k (put_all [] hits)
+pub held_same : (k : ℕ) (hits : List Hit) → AreNearestFirst k hits → hits ≡ take k (put_all [] hits)
 held_same k hits h = sym (take_all k hits h.few)
 
 from_at : (d j : ℕ) (hits : List Hit) (x : Hit) → AreFrom d hits → j < length hits → d ≤ (get_or hits j x).dist2
@@ -81,7 +81,7 @@ before_at d zero (g ∷ f ∷ hits) x h l e = absurd (omega arith)
 before_at d (suc j) (g ∷ hits) x h l e = (omega (arith, from_at g.dist2 j hits x h.0 (omega arith), e), before_at d j hits x h.1 (omega arith) e)
 
 -- where the last of k hits is nearer than this, all are
-pub full_at : (k d : ℕ) (hits : List Hit) (x : Hit) → 1 ≤ k → AreHeld k hits → length hits ≡ k → (get_or hits (k - 1) x).dist2 < d → AreFull k hits d
+pub full_at : (k d : ℕ) (hits : List Hit) (x : Hit) → 1 ≤ k → AreNearestFirst k hits → length hits ≡ k → (get_or hits (k - 1) x).dist2 < d → AreFull k hits d
 full_at k d hits x some h l e = record { all = l; before = before_at d (k - 1) hits x h.recede (omega arith) e }
 
 put_behind : (d : ℕ) (h : Hit) (hits : List Hit) → d ≤ h.dist2 → AreBefore d hits → put_hit h hits ≡ hits ++ h ∷ []

@@ -1,4 +1,4 @@
--- Items put in the order of their numbers.
+-- Items put in the order of their numbers. Cited by private functions alone.
 use Rattle.std.specs.Prelude.{List, [], ◌∷◌}
 use Rattle.map_fold.specs.declared.item.Item.{Item}
 use Rattle.kd_tree.specs.Contents.{insert_item}

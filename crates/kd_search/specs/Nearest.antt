@@ -1,4 +1,4 @@
--- Hits that a search has met so far.
+-- Hits that a search has met so far. Cited by private functions alone.
 use Rattle.std.specs.Prelude.{◌≡◌, ℕ, ◌*◌, ◌^◌, ◌≤◌, ◌<◌, ◌⊎◌, Bool, true, false, List, [], ◌∷◌, length, nat_le}
 use Rattle.std.specs.declared.option.Option.{Option}
 use Rattle.std.specs.declared.option.Option.TheVariants.{None, Some}
@@ -31,7 +31,7 @@ Recede [] = Unit {0}
 Recede (h ∷ hits) = AreFrom h.dist2 hits × Recede hits
 
 -- at most k hits, the nearest first
-pub record AreHeld (k : ℕ) (hits : List Hit) : Type 0 where
+pub record AreNearestFirst (k : ℕ) (hits : List Hit) : Type 0 where
   pub few : length hits ≤ k
   pub recede : Recede hits
 
@@ -42,7 +42,7 @@ pub record AreFull (k : ℕ) (hits : List Hit) (d : ℕ) : Type 0 where
 
 -- The bound on squared distances of a search for k hits within r, which holds these.
 pub record IsBound (k : ℕ) (r : Option ℕ) (hits : List Hit) (bound : ℕ) : Type 0 where
-  pub held : AreHeld k hits
+  pub held : AreNearestFirst k hits
   -- what is no farther is near enough
   pub admits : (d : ℕ) → d ≤ bound → is_admitted r d ≡ true
   -- what is farther isn't, or doesn't come among the hits

@@ -13,6 +13,7 @@ use Rattle.kd_tree.specs.declared.limits.TheConstants.{MAX_NODES}
 abbrev pub items_of : Part → List Item
 items_of p = walk p.owed p.tree.now
 
+-- how many nodes it has, dropped ones too
 abbrev pub nodes_of : Part → ℕ
 nodes_of p = nodes p.tree.now
 

@@ -1,4 +1,4 @@
--- Where items are.
+-- Where items are. Cited by private functions alone.
 use Rattle.std.specs.Prelude.{ℕ, ◌≤◌, ◌≤ℤ◌, All, List}
 use Rattle.point_geom.specs.Place.{Place, Span}
 use Rattle.point_geom.specs.Axes.{on}

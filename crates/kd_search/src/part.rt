@@ -1,5 +1,5 @@
 //! Parts of a tree as a search meets them: a subtree with the action that it owes from above, which is done to its items as
-//! they are looked at; the tree stays as it is. Of what is searched for, no more is known here than round which point.
+//! they are looked at; the tree stays as it is.
 ghost use Rattle.std.specs.Prelude.{◌≡◌, [], length, IfNone, IfSome};
 ghost use Rattle.node_labels.specs.Labels.{keep_tag};
 ghost use Rattle.map_fold.specs.Contents.{live_items};

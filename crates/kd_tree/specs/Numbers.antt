@@ -3,9 +3,11 @@ use Rattle.std.specs.Prelude.{ℕ, ◌≤◌, min, max, List, All, Contains, Opt
 use Rattle.kd_tree.specs.Shape.{Shape, leaf, fork}
 use Rattle.kd_tree.specs.declared.numbers.Numbers.{Numbers}
 
+-- the range of one number alone: it is the least and the greatest
 abbrev pub one_number : ℕ → Numbers
 one_number n = record { least = n; greatest = n }
 
+-- the least range that covers both, where there is a second one
 abbrev pub widened : Numbers → Option Numbers → Numbers
 widened a None = a
 widened a (Some b) = record { least = min a.least b.least; greatest = max a.greatest b.greatest }

@@ -17,6 +17,7 @@ pub record IsSoundFork (h : Head) (l r : Shape) : Type 0 where
   pub few : nodes l + nodes r + 1 ≤ MAX_NODES
   pub low : max (levels l) (levels r) + 1 ≤ MAX_LEVELS
 
+-- Of each node: what is left on its left side isn't above it on its axis, nor below it on its right, no number is left twice, and nodes and levels are few enough.
 abbrev pub IsSound : Shape → Type 0
 IsSound leaf = Unit {0}
 IsSound (fork h l r) = IsSoundFork h l r × IsSound l × IsSound r

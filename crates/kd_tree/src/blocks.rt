@@ -3,8 +3,8 @@ use crate::{Block, Tree};
 use map_fold::NoMemory;
 use std::alloc::Global;
 
-// So many blocks are kept at the most: 1 MB.
-pub(crate) const MOST: usize = 8_192;
+// The most blocks that are kept: 1 MB.
+const MAX_KEPT: usize = 8_192;
 
 // The memory of old nodes, and trees that are dropped. These are taken apart node by node, as memory is wanted: so a node is written
 // just after it was read, while the processor has it at hand.
@@ -24,7 +24,7 @@ impl Blocks {
 
     // Keeps the block, or drops it where so many are kept.
     pub(crate) fn push(&mut self, block: Block) -> Result<(), NoMemory> {
-        if self.ready.len() < MOST {
+        if self.ready.len() < MAX_KEPT {
             self.ready.push(block)?;
         }
         Ok(())

@@ -6,7 +6,7 @@ ghost use Rattle.kd_tree.specs.Shape.{leaf, fork, numbers};
 ghost use Rattle.kd_tree.specs.Sound.{IsSound, IsSoundFork, IsTopSound};
 ghost use Rattle.kd_tree.specs.Contents.{contents};
 ghost use Rattle.kd_tree.specs.Parts.{contents_of_parts, fork_in, fork_of, joined, pushed};
-ghost use Rattle.kd_tree.specs.View.{IsKeptAt, IsOpened, IsTakenOf, shape_at, top_of};
+ghost use Rattle.kd_tree.specs.View.{IsKeptAt, AreTopParts, IsTakenOf, shape_at, top_of};
 
 use crate::node::{Node, Root};
 use crate::{Scratch, Steps, Tree};
@@ -106,7 +106,7 @@ impl Tree {
     // The top node, if there is one.
     #[inline(always)]
     pub(crate) fn opened(self) -> Result<Option<Opened>, NoMemory>
-        ensures { IfOk result (λ o. IsOpened self o) }
+        ensures { IfOk result (λ o. AreTopParts self o) }
     {
         match self.root {
             Root::Empty => Ok(None),
@@ -120,7 +120,7 @@ impl Tree {
     // The top node, if nobody else holds it, and else the tree as it was.
     #[inline(always)]
     pub(crate) fn opened_if_own(self) -> Result<Opened, Tree>
-        ensures own { IfOk result (λ o. IsOpened self (Some o)) }
+        ensures own { IfOk result (λ o. AreTopParts self (Some o)) }
         ensures stays { IfErr result (λ t. t ≡ self) }
     {
         match self.root {

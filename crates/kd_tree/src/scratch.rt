@@ -8,13 +8,16 @@ ghost use Rattle.kd_tree.specs.Contents.{AreDistinct, AreKept, by_number, conten
 ghost use Rattle.kd_tree.specs.Criteria.{AllMeetCriteria};
 ghost use Rattle.kd_tree.specs.Build.{IsBuilt};
 
-use crate::blocks::{Blocks, MOST};
+use crate::blocks::Blocks;
 use crate::build::built;
 use crate::flatten::{gather_owed, push_kept};
 use crate::{Block, MAX_NODES, Steps, Tree};
 use map_fold::{Item, NoMemory, Tag};
 use std::alloc::Global;
 use std::sync::ledger::Ledger;
+
+// From how many items on a subtree is built in fresh memory, so that its nodes lie near one another.
+const FRESH_FROM: usize = 8_192;
 
 /// Memory for new nodes, and for rebuilding. What it holds between two calls means nothing.
 #[derive(Debug, Drop)]
@@ -99,7 +102,7 @@ fn built_in<L: Ledger>(
     ensures once { OnOk result (steps.new ≡ steps.old + length items.old) }
     ensures ticks { steps.new ≤ steps.old + length items.old }
 {
-    if items.len() < MOST {
+    if items.len() < FRESH_FROM {
         return built(alloc, items, blocks, steps);
     }
     Tree::build(alloc, items, steps)

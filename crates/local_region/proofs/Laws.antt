@@ -12,25 +12,16 @@ use Rattle.point_geom.specs.declared.cuboid.Corner.{Corner}
 use Rattle.point_geom.specs.Refusals.{cuboid_of, corner_within, upright}
 use Rattle.point_geom.specs.declared.axis.Axis.{Axis}
 use Rattle.point_geom.specs.declared.axis.Axis.TheVariants.{X, Y, Z}
-use Rattle.point_geom.proofs.Laws.{all_parts}
+use Rattle.point_geom.proofs.Laws.{all_parts, between_parts, is_between_by}
 use Rattle.local_region.specs.declared.range.Range.{Range}
 use Rattle.local_region.specs.declared.limits.TheConstants.{LEAST, GREATEST, LONGEST}
 use Rattle.local_region.specs.Regions.{RegionAt, IsStart, IsRegion, is_in, begun, first_start}
 use Rattle.local_region.specs.Rules.{Rules, AreRules}
 use Rattle.local_region.specs.Moves.{MovesOn, Moves, next_start, after}
 use Rattle.local_region.specs.Ranges.{whole_range, kept_range, left_range, shift, cut, is_filled, IsCut}
-use Rattle.local_region.specs.Removed.{is_in_some, times_in, box_of, IsFilledBox, AreLeft, listed, slabs, removed}
+use Rattle.local_region.specs.Removed.{is_in_some, times_in, box_of, IsFilledBox, AreLeftBehind, box_if_any, slabs, removed}
 
 -- numbers in ranges
-
-between_parts : (lo c hi : ℤ) → is_between lo c hi ≡ true → (lo ≤ℤ c) × (c <ℤ hi)
-between_parts lo c hi h =
-    let p = and_parts (int_le lo c) (int_lt c hi) h in
-    let low = p.0 in
-    let high = p.1 in (grind (arith, ints), grind (arith, ints))
-
-is_between_by : (lo c hi : ℤ) → lo ≤ℤ c → c <ℤ hi → is_between lo c hi ≡ true
-is_between_by lo c hi h k = grind (arith, ints)
 
 -- a region begins with its point in it
 pub first_between : (side : ℕ) (c : ℤ) → 2 ≤ side → is_between (first_start side c) c (first_start side c +ℤ pos side) ≡ true
@@ -186,23 +177,23 @@ held_filled x y z p h =
 cut_is_cut : (r : Range) → is_filled (cut r) ≡ true → IsCut (cut r)
 cut_is_cut r h = record { lo = omega (arith, ints, clamps); filled = grind (arith, ints); hi = omega (arith, ints, clamps) }
 
--- what is listed
+-- what is box_if_any
 
 cut_held : (x y z : Range) (p : Place) → IsPlace p → holds (box_of (cut x) (cut y) (cut z)) p ≡ (in_range x p.x && in_range y p.y && in_range z p.z)
 cut_held x y z p h = rw (cut_between x p.x h.0, cut_between y p.y h.1, cut_between z p.z h.2) refl
 
-listed_some : (x y z : Range) (p : Place) → IsPlace p → is_in_some (listed x y z) p ≡ (in_range x p.x && in_range y p.y && in_range z p.z)
+listed_some : (x y z : Range) (p : Place) → IsPlace p → is_in_some (box_if_any x y z) p ≡ (in_range x p.x && in_range y p.y && in_range z p.z)
 listed_some x y z p h =
     some_if _ (box_of (cut x) (cut y) (cut z)) p (held_filled (cut x) (cut y) (cut z) p) ∙ cut_held x y z p h
 
-listed_times : (x y z : Range) (p : Place) → IsPlace p → times_in (listed x y z) p ≡ cond (in_range x p.x && in_range y p.y && in_range z p.z) 1 0
+listed_times : (x y z : Range) (p : Place) → IsPlace p → times_in (box_if_any x y z) p ≡ cond (in_range x p.x && in_range y p.y && in_range z p.z) 1 0
 listed_times x y z p h =
     times_if _ (box_of (cut x) (cut y) (cut z)) p (held_filled (cut x) (cut y) (cut z) p) ∙ ap (λ t. cond t 1 0) (cut_held x y z p h)
 
-listed_few : (x y z : Range) → length (listed x y z) ≤ 1
+listed_few : (x y z : Range) → length (box_if_any x y z) ≤ 1
 listed_few x y z = few_if _ _
 
-listed_each : (x y z : Range) → AllByRecursion IsFilledBox (listed x y z)
+listed_each : (x y z : Range) → AllByRecursion IsFilledBox (box_if_any x y z)
 listed_each x y z =
     each_if (is_filled (cut x) && is_filled (cut y) && is_filled (cut z)) (box_of (cut x) (cut y) (cut z))
     (λ h. let t = all_parts _ _ _ h in record { x = cut_is_cut x t.0; y = cut_is_cut y t.1; z = cut_is_cut z t.2 })
@@ -243,9 +234,9 @@ slabs_of side a b = slabs (shift side a.x b.x) (shift side a.y b.y) (shift side 
 slabs_exact : (side : ℕ) (a b : Corner) (p : Place) → AreNear side a b → IsPlace p → is_in_some (slabs_of side a b) p ≡ (holds (cube side a) p && not (holds (cube side b) p))
 slabs_exact side a b p n h =
     let test : Bounds → Bool = λ c. holds c p in
-    let A = listed (left_range side a.x b.x) (whole_range side a.y) (whole_range side a.z) in
-    let B = listed (kept_range side a.x b.x) (left_range side a.y b.y) (whole_range side a.z) in
-    let C = listed (kept_range side a.x b.x) (kept_range side a.y b.y) (left_range side a.z b.z) in
+    let A = box_if_any (left_range side a.x b.x) (whole_range side a.y) (whole_range side a.z) in
+    let B = box_if_any (kept_range side a.x b.x) (left_range side a.y b.y) (whole_range side a.z) in
+    let C = box_if_any (kept_range side a.x b.x) (kept_range side a.y b.y) (left_range side a.z b.z) in
     list_any-append test (A ++ B) C ∙ ap (λ t. t || list_any test C) (list_any-append test A B) ∙
     rw (listed_some (left_range side a.x b.x) (whole_range side a.y) (whole_range side a.z) p h, listed_some (kept_range side a.x b.x) (left_range side a.y b.y) (whole_range side a.z) p h, listed_some (kept_range side a.x b.x) (kept_range side a.y b.y) (left_range side a.z b.z) p h)
     (rw (left_between side a.x b.x p.x n.x, left_between side a.y b.y p.y n.y, left_between side a.z b.z p.z n.z, kept_between side a.x b.x p.x, kept_between side a.y b.y p.y)
@@ -254,9 +245,9 @@ slabs_exact side a b p n h =
 slabs_apart : (side : ℕ) (a b : Corner) (p : Place) → AreNear side a b → IsPlace p → times_in (slabs_of side a b) p ≤ 1
 slabs_apart side a b p n h =
     let score : Bounds → ℕ = λ c. cond (holds c p) 1 0 in
-    let A = listed (left_range side a.x b.x) (whole_range side a.y) (whole_range side a.z) in
-    let B = listed (kept_range side a.x b.x) (left_range side a.y b.y) (whole_range side a.z) in
-    let C = listed (kept_range side a.x b.x) (kept_range side a.y b.y) (left_range side a.z b.z) in
+    let A = box_if_any (left_range side a.x b.x) (whole_range side a.y) (whole_range side a.z) in
+    let B = box_if_any (kept_range side a.x b.x) (left_range side a.y b.y) (whole_range side a.z) in
+    let C = box_if_any (kept_range side a.x b.x) (kept_range side a.y b.y) (left_range side a.z b.z) in
     let parts : times_in (A ++ B ++ C) p ≡ times_in A p + times_in B p + times_in C p =
     sum_by-append score (A ++ B) C ∙ ap (λ t. t + sum_by score C) (sum_by-append score A B) in
     rw parts
@@ -266,9 +257,9 @@ slabs_apart side a b p n h =
 
 slabs_few : (side : ℕ) (a b : Corner) → length (slabs_of side a b) ≤ 3
 slabs_few side a b =
-    let A = listed (left_range side a.x b.x) (whole_range side a.y) (whole_range side a.z) in
-    let B = listed (kept_range side a.x b.x) (left_range side a.y b.y) (whole_range side a.z) in
-    let C = listed (kept_range side a.x b.x) (kept_range side a.y b.y) (left_range side a.z b.z) in
+    let A = box_if_any (left_range side a.x b.x) (whole_range side a.y) (whole_range side a.z) in
+    let B = box_if_any (kept_range side a.x b.x) (left_range side a.y b.y) (whole_range side a.z) in
+    let C = box_if_any (kept_range side a.x b.x) (kept_range side a.y b.y) (left_range side a.z b.z) in
     let first = listed_few (left_range side a.x b.x) (whole_range side a.y) (whole_range side a.z) in
     let second = listed_few (kept_range side a.x b.x) (left_range side a.y b.y) (whole_range side a.z) in
     let third = listed_few (kept_range side a.x b.x) (kept_range side a.y b.y) (left_range side a.z b.z) in
@@ -288,7 +279,7 @@ pub removed_exact : (p : Place) (r : RegionAt) (q : Place) → IsRegion r → Is
 removed_exact p r q h k = slabs_exact r.rules.side r.lo (after p r).lo q (after_near p r h) k
 
 -- what the region leaves is shared out among the boxes
-pub removed_left : (p : Place) (r : RegionAt) → IsRegion r → AreLeft r (after p r) (removed r (after p r))
+pub removed_left : (p : Place) (r : RegionAt) → IsRegion r → AreLeftBehind r (after p r) (removed r (after p r))
 removed_left p r h =
     let near = after_near p r h in record {
       exact =

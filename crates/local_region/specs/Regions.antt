@@ -34,6 +34,7 @@ begun r p = record {
 abbrev pub IsStart : ℤ → Type 0
 IsStart c = ((pos 0 -ℤ FARTHEST) ≤ℤ c) × (c ≤ℤ FARTHEST)
 
+-- on each axis a region starts within this distance, 4,398,046,511,104 millimetres, of 0
 abbrev pub IsStartCorner : Corner → Type 0
 IsStartCorner p = IsStart p.x × IsStart p.y × IsStart p.z
 

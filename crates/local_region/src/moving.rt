@@ -1,7 +1,7 @@
 //! Regions that follow a point.
 ghost use Rattle.std.specs.Prelude.{◌≡◌, ℕ, IfOk};
 ghost use Rattle.local_region.specs.Moves.{Moves, after};
-ghost use Rattle.local_region.specs.Removed.{AreLeft, removed};
+ghost use Rattle.local_region.specs.Removed.{AreLeftBehind, removed};
 ghost use Rattle.local_region.specs.Map.{AreHeld, not_left};
 ghost use Rattle.map_fold.specs.Fold.{MapAt, step};
 ghost use Rattle.map_fold.specs.declared.update.Update.TheVariants as update;
@@ -30,7 +30,7 @@ impl Region {
         ensures removed { IfOk result (λ m. m.removed ≡ removed self m.region) }
 
         // What these boxes are, said without the way they are made.
-        ensures left { IfOk result (λ m. AreLeft self m.region m.removed) }
+        ensures left { IfOk result (λ m. AreLeftBehind self m.region m.removed) }
 
         // A deletion in them drops what was in the region and no longer is, and nothing else.
         ensures drops { IfOk result (λ m. (voxel : ℕ) (map : MapAt) → AreHeld map.items

@@ -3,7 +3,7 @@ ghost use Rattle.std.specs.Prelude.{IfOk};
 ghost use Rattle.map_fold.specs.Contents.{AreContents};
 
 use crate::draws::Draws;
-use map_fold::{Cuboids, Item, Items, Label, NoMemory, Points, Update};
+use map_fold::{Cuboids, Item, Items, NoMemory, Points, Update};
 use point_geom::{Corner, Cuboid, Point};
 use std::alloc::Global;
 use std::ops::Range;
@@ -157,11 +157,7 @@ pub fn items(alloc: Global, count: u32, draws: &mut Draws) -> Result<Items, NoMe
     let mut items = Items::new(alloc);
     for number in 0..count {
         let point = draws.point(number / POINTS_OF_SCAN);
-        items.push(Item {
-            number,
-            point,
-            label: Label::Live,
-        })?;
+        items.push(Item::live(number, point))?;
     }
     Ok(items)
 }

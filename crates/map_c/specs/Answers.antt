@@ -5,6 +5,7 @@ use Rattle.point_geom.specs.Place as geom
 use Rattle.map_fold.specs.Answers.{count, inside, live_count, nearest, suspended_count}
 use Rattle.map_fold.specs.declared.hits.Hit as found
 use Rattle.map_fold.specs.declared.item.Item as held
+use Rattle.map_fold.specs.declared.limits.TheConstants.{MAX_FOUND, MAX_WITHIN}
 use Rattle.kd_tree.specs.Contents.{contents}
 use Rattle.rebuild_core.specs.Lawful.{VersionAt}
 use Rattle.map_c.specs.declared.content.Content.{Content}
@@ -36,14 +37,16 @@ shown_in (Some (content.Built b)) = None
 shown_in (Some content.Nothing) = None
 
 -- a point, a hit and an item, as C has them
-abbrev pub point_of : geom.Place → Point
-point_of p = record { x = p.x; y = p.y; z = p.z; intensity = p.intensity }
+abbrev pub c_point : geom.Place → Point
+c_point p = record { x = p.x; y = p.y; z = p.z; intensity = p.intensity }
 
-abbrev pub hit_of : found.Hit → Hit
-hit_of h = record { point = point_of h.point; dist2_high = h.dist2 / 18446744073709551616; dist2_low = h.dist2 % 18446744073709551616; number = h.number }
+-- a hit: its squared distance, in squared millimetres, is the high number times 2 ^ 64, and the low one added
+abbrev pub c_hit : found.Hit → Hit
+c_hit h = record { point = c_point h.point; dist2_high = h.dist2 / 18446744073709551616; dist2_low = h.dist2 % 18446744073709551616; number = h.number }
 
-abbrev pub item_of : held.Item → Item
-item_of i = record { point = point_of i.point; number = i.number }
+-- an item, without its label: what is answered is live
+abbrev pub c_item : held.Item → Item
+c_item i = record { point = c_point i.point; number = i.number }
 
 -- the greatest distance that C gives; none, where it is below 0
 abbrev pub within_at : ℤ → Option ℕ
@@ -53,12 +56,12 @@ within_at (negsuc n) = None
 -- a search may ask for so many, within so many millimetres
 pub record IsSearch (k : ℕ) (within : ℤ) : Type 0 where
   pub k_from : 1 ≤ k
-  pub k_to : k ≤ 256
-  pub within_to : within ≤ℤ pos 4398046511104
+  pub k_to : k ≤ MAX_FOUND
+  pub within_to : within ≤ℤ pos MAX_WITHIN
 
 -- the k nearest to a place of what is shown, within so many millimetres, as C has them
 abbrev pub nearest_hits : VersionAt → ℕ → Option ℕ → Place → List Hit
-nearest_hits v k r p = map hit_of (nearest (contents v.tree) k (place_at p) r)
+nearest_hits v k r p = map c_hit (nearest (contents v.tree) k (place_at p) r)
 
 -- The front of the hits, as long as the count, is the k nearest to the place of what the handle shows.
 pub record IsNearest (c : Option Content) (p : Place) (k : ℕ) (within : ℤ) (hits : List Hit) (count : ℕ) : Type 0 where
@@ -78,6 +81,7 @@ IsSearchRefusal p k within room status =
     ⊎ ((status ≡ out_of_range) × (IsRightPlace p → ⊥))
     ⊎ ((status ≡ no_memory) × (16 < k))
 
+-- why the nearest aren't told: the handle shows nothing, or the search is refused
 abbrev pub IsNearestRefusal : Option Content → Place → ℕ → ℤ → ℕ → ℤ → Type 0
 IsNearestRefusal c p k within room status = ((status ≡ empty) × (shown_in c ≡ None)) ⊎ IsSearchRefusal p k within room status
 
@@ -109,6 +113,7 @@ AreSearchesRefusal ps k within room counts_room status =
     ⊎ ((status ≡ out_of_range) × Any (λ p. IsRightPlace p → ⊥) ps)
     ⊎ ((status ≡ no_memory) × (16 < k))
 
+-- why those of several places aren't told: the handle shows nothing, or the searches are refused
 abbrev pub IsNearestEachRefusal : Option Content → List Place → ℕ → ℤ → ℕ → ℕ → ℤ → Type 0
 IsNearestEachRefusal c ps k within room counts_room status =
     ((status ≡ empty) × (shown_in c ≡ None)) ⊎ AreSearchesRefusal ps k within room counts_room status
@@ -127,11 +132,11 @@ IsCountRefusal c b status = ((status ≡ empty) × (shown_in c ≡ None)) ⊎ ((
 -- a list may have so many items
 pub record IsMost (most : ℕ) : Type 0 where
   pub from : 1 ≤ most
-  pub to : most ≤ 256
+  pub to : most ≤ MAX_FOUND
 
 -- the live points of what is shown in the box, by number, the first `most` of them, as C has them
-abbrev pub items_in : VersionAt → Bounds → ℕ → List Item
-items_in v b most = map item_of (inside (contents v.tree) (bounds_at b) most)
+abbrev pub c_items : VersionAt → Bounds → ℕ → List Item
+c_items v b most = map c_item (inside (contents v.tree) (bounds_at b) most)
 
 -- The front of the items, as long as the count, is the live points in the box of what the handle shows.
 pub record IsInside (c : Option Content) (b : Bounds) (most : ℕ) (items : List Item) (count : ℕ) : Type 0 where
@@ -140,8 +145,8 @@ pub record IsInside (c : Option Content) (b : Bounds) (most : ℕ) (items : List
   pub asked : IsMost most
   pub room : most ≤ length items
   pub range : IsRightBox b
-  pub list : take count items ≡ items_in version b most
-  pub number : count ≡ length (items_in version b most)
+  pub list : take count items ≡ c_items version b most
+  pub number : count ≡ length (c_items version b most)
 
 -- why they aren't listed
 abbrev pub IsListRefusal : Bounds → ℕ → ℕ → ℤ → Type 0
@@ -151,6 +156,7 @@ IsListRefusal b most room status =
     ⊎ ((status ≡ bad_box) × (IsRightBox b → ⊥))
     ⊎ (status ≡ no_memory)
 
+-- why the points in a box aren't told: the handle shows nothing, or the list is refused
 abbrev pub IsInsideRefusal : Option Content → Bounds → ℕ → ℕ → ℤ → Type 0
 IsInsideRefusal c b most room status = ((status ≡ empty) × (shown_in c ≡ None)) ⊎ IsListRefusal b most room status
 

@@ -1,7 +1,7 @@
 -- What detaching, building, replaying and swapping leave in handles.
 use Rattle.std.specs.Prelude.{◌≡◌, ◌<◌, ◌≤◌, ◌⊎◌, ℕ, ℤ, Bool, false, [], length, Option, None, Some}
 use Rattle.rebuild_core.specs.Built.{BuiltAt, IsBuiltOf, IsPartOf, IsReplayOf, IsStale, undone}
-use Rattle.rebuild_core.specs.Detach.{IsDetachStep, IsNoDetach}
+use Rattle.rebuild_core.specs.Detach.{IsDetachStep, IsNoDetach, IsSlot}
 use Rattle.rebuild_core.specs.Lawful.{StateAt}
 use Rattle.rebuild_core.specs.Parts.{PartAt}
 use Rattle.rebuild_core.specs.Swap.{IsSwapStep, MaySwap}
@@ -32,11 +32,6 @@ built_in (Some (content.Job w)) = None
 built_in (Some (content.Built b)) = Some b
 built_in (Some content.Nothing) = None
 
--- a subtree is given out under one of these
-pub record IsSlot (slot : ℕ) : Type 0 where
-  pub from : 1 ≤ slot
-  pub to : slot ≤ 4
-
 -- The handle held a map, and holds it with a subtree detached into the slot, of which the other handle holds the job.
 pub record IsDetached (slot : ℕ) (old new job : Option Content) : Type 0 where
   pub before : StateAt
@@ -62,7 +57,7 @@ IsDetachRefusal slot c was status =
     ⊎ (status ≡ no_memory)
 
 -- The handle held a job, and the other holds the subtree that was built of it, with nothing to be done on it next.
-pub record IsBuilt (job built : Option Content) : Type 0 where
+pub record IsJobBuilt (job built : Option Content) : Type 0 where
   pub work : Work
   pub of : BuiltAt
   pub held : job_in job ≡ Some work

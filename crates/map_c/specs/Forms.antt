@@ -11,18 +11,23 @@ use Rattle.map_c.specs.declared.forms.Bounds.{Bounds}
 abbrev pub place_at : Place → geom.Place
 place_at p = record { x = p.x; y = p.y; z = p.z; intensity = 0 }
 
+-- a point, with its intensity
 abbrev pub point_at : Point → geom.Place
 point_at p = record { x = p.x; y = p.y; z = p.z; intensity = p.intensity }
 
+-- a place as the corner of a box
 abbrev pub corner_at : Place → Corner
 corner_at p = record { x = p.x; y = p.y; z = p.z }
 
+-- a half-open box, from its corners
 abbrev pub bounds_at : Bounds → geom.Bounds
 bounds_at b = record { lo = corner_at b.lo; hi = corner_at b.hi }
 
+-- the points of a list, in order
 abbrev pub points_at : List Point → List geom.Place
 points_at ps = map point_at ps
 
+-- the boxes of a list, in order
 abbrev pub boxes_at : List Bounds → List geom.Bounds
 boxes_at bs = map bounds_at bs
 
@@ -30,6 +35,7 @@ boxes_at bs = map bounds_at bs
 abbrev pub IsRightPlace : Place → Type 0
 IsRightPlace p = IsOk (point_of p.x p.y p.z)
 
+-- the same of a point, whatever its intensity
 abbrev pub IsRightPoint : Point → Type 0
 IsRightPoint p = IsOk (point_of p.x p.y p.z)
 

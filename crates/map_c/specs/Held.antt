@@ -13,9 +13,11 @@ use Rattle.map_c.specs.contracts.content.Content.{the_row}
 abbrev pub Contents : Type 0
 Contents = the_row.Denot
 
+-- what a handle owns at its pointer: a box of the content, which this allocator frees, or nothing
 abbrev pub held_owns : Global → Ptr → Option Contents → Fml
 held_owns alloc p None = ftrue
 held_owns alloc p (Some c) = box_owns (ghosts.dealloc_token alloc) the_row p c
 
+-- how contracts store what a handle holds: as a content, or as nothing
 abbrev pub held_coded : Coded (Option Contents)
 held_coded = coded_option the_row.coded

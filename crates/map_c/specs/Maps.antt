@@ -28,7 +28,7 @@ abbrev pub IsNew : ℕ → ℕ → Option Content → Type 0
 IsNew voxel large c = map_in c ≡ Some (new_state (record { voxel = voxel; large = large }))
 
 -- The handle held a map, which had room for the update, and holds it after that.
-pub record IsMade (u : Update) (old new : Option Content) : Type 0 where
+pub record IsUpdated (u : Update) (old new : Option Content) : Type 0 where
   pub before : StateAt
   pub after : StateAt
   pub held : map_in old ≡ Some before
@@ -69,20 +69,20 @@ IsBoxesRefusal u bs c status = IsNoList bad_box (HasWrongBox bs) status ⊎ IsUp
 
 -- The update is made, or a status says why not, and then the handle holds what it held.
 pub record IsAnswer (u : Update) (old new : Option Content) (status : ℤ) : Type 0 where
-  pub made : status ≡ done → IsMade u old new
+  pub made : status ≡ done → IsUpdated u old new
   pub refused : status ≢ done → IsUpdateRefusal u old status
   pub same : status ≢ done → new ≡ old
 
 -- the same of an update by these points
 pub record IsPointsAnswer (u : Update) (ps : List Point) (old new : Option Content) (status : ℤ) : Type 0 where
-  pub made : status ≡ done → IsMade u old new
+  pub made : status ≡ done → IsUpdated u old new
   pub range : status ≡ done → All IsRightPoint ps
   pub refused : status ≢ done → IsPointsRefusal u ps old status
   pub same : status ≢ done → new ≡ old
 
 -- and by these boxes
 pub record IsBoxesAnswer (u : Update) (bs : List Bounds) (old new : Option Content) (status : ℤ) : Type 0 where
-  pub made : status ≡ done → IsMade u old new
+  pub made : status ≡ done → IsUpdated u old new
   pub range : status ≡ done → All IsRightBox bs
   pub refused : status ≢ done → IsBoxesRefusal u bs old status
   pub same : status ≢ done → new ≡ old

@@ -1,6 +1,6 @@
 //! Detached subtrees, rebuilt and brought up to date. Nothing here asks the map.
 ghost use Rattle.std.specs.Prelude.{◌≡◌, ◌≢◌, IfErr, None, OnErr, OnOk, Some};
-ghost use Rattle.map_c.specs.Building.{IsBuildRefusal, IsBuilt, IsReplayRefusal, IsReplayed};
+ghost use Rattle.map_c.specs.Building.{IsBuildRefusal, IsJobBuilt, IsReplayRefusal, IsReplayed};
 ghost use Rattle.map_c.specs.Status.{code, done};
 
 use crate::content::Content;
@@ -12,10 +12,10 @@ use rebuild_core::{BuiltLeft, JobLeft};
 use std::alloc::Global;
 use std::mem;
 
-/// Builds the job's subtree anew, and leaves the job's handle empty.
+/// Rebuilds the job's subtree, and leaves the job's handle empty.
 #[unsafe(no_mangle)]
 pub extern "C" fn corv_job_build(alloc: Global, job: &mut Handle, built: &mut Handle) -> i32
-    ensures built { result ≡ done → IsBuilt job.old.held.content built.new.held.content }
+    ensures built { result ≡ done → IsJobBuilt job.old.held.content built.new.held.content }
     ensures empty { result ≡ done → job.new.held.content ≡ None }
     ensures was { result ≡ done → built.old.held.content ≡ None }
     ensures refused { result ≢ done → IsBuildRefusal job.old.held.content built.old.held.content result }
@@ -42,7 +42,7 @@ pub extern "C" fn corv_job_build(alloc: Global, job: &mut Handle, built: &mut Ha
 }
 
 fn build(alloc: Global, content: &mut Content) -> Result<(), Refusal>
-    ensures built { OnOk result (IsBuilt (Some content.old) (Some content.new)) }
+    ensures built { OnOk result (IsJobBuilt (Some content.old) (Some content.new)) }
     ensures refused { IfErr result (λ r. IsBuildRefusal (Some content.old) None (code r)) }
     ensures same { OnErr result (content.new ≡ content.old) }
 {

@@ -1,6 +1,7 @@
 //! Subtrees, detached and given out as jobs.
 ghost use Rattle.std.specs.Prelude.{◌≡◌, ◌≢◌, ◌≤◌, IfErr, IfOk, None, OnErr, Some};
-ghost use Rattle.map_c.specs.Building.{IsDetachRefusal, IsDetached, IsSlot};
+ghost use Rattle.rebuild_core.specs.Detach.{IsSlot};
+ghost use Rattle.map_c.specs.Building.{IsDetachRefusal, IsDetached};
 ghost use Rattle.map_c.specs.Status.{code, done};
 ghost use Rattle.map_c.specs.declared.content.Content.TheVariants as is;
 
@@ -49,7 +50,7 @@ pub extern "C" fn corv_map_detach(
     }
 }
 
-// The memory for the job's handle is taken first, so that nothing is detached where it is wanting.
+// The memory for the job's handle is taken first, so that nothing is detached where there is none.
 fn detached(alloc: Global, content: &mut Content, slot: u8) -> Result<Box<Content>, Refusal>
     requires slot_from { 1 ≤ slot }
     requires slot_to { slot ≤ 4 }

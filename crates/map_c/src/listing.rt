@@ -10,6 +10,7 @@ use crate::refusal::Refusal;
 use crate::showing::shown;
 use crate::writing::write_items;
 use kd_search::{count_in, in_cuboid};
+use map_fold::MAX_FOUND;
 use std::alloc::Global;
 
 /// How many live points of what is shown are in the box.
@@ -54,5 +55,5 @@ fn is_most(most: u32) -> bool
     ensures yes { result ≡ true → IsMost most }
     ensures no { result ≡ false → IsMost most → ⊥ }
 {
-    1 <= most && most <= 256
+    1 <= most && most <= MAX_FOUND
 }

@@ -1,6 +1,6 @@
 //! Why a call is refused, and what it answers then.
 ghost use Rattle.std.specs.Prelude.{◌≡◌};
-ghost use Rattle.map_c.specs.Status.{code, refusal_of, status_of};
+ghost use Rattle.map_c.specs.Status.{code, refusal_of, c_status};
 ghost use Rattle.map_c.specs.declared.refusal.Refusal.TheVariants.{NoMemory};
 
 use map_fold::NoMemory;
@@ -59,7 +59,7 @@ impl Refusal {
 
 /// The status of a call that ended so.
 pub fn status_of(ended: Result<(), Refusal>) -> i32
-    ensures { result ≡ status_of ended }
+    ensures { result ≡ c_status ended }
 {
     match ended {
         Ok(()) => DONE,

@@ -13,6 +13,7 @@ use crate::refusal::Refusal;
 use crate::showing::shown;
 use crate::writing::write_hits;
 use kd_search::nearest;
+use map_fold::{MAX_FOUND, MAX_WITHIN};
 use rebuild_core::Version;
 use std::alloc::Global;
 
@@ -133,14 +134,14 @@ fn is_search(k: u32, within: i64) -> bool
     ensures yes { result ≡ true → IsSearch k within }
     ensures no { result ≡ false → IsSearch k within → ⊥ }
 {
-    1 <= k && k <= 256 && within <= 4_398_046_511_104
+    1 <= k && k <= MAX_FOUND && within <= 4_398_046_511_104
 }
 
 // The greatest distance, if there is one.
 fn reach(within: i64) -> Option<u64>
-    requires { within ≤ℤ pos 4398046511104 }
+    requires { within ≤ℤ pos MAX_WITHIN }
     ensures value { result ≡ within_at within }
-    ensures bound { ForSome result (λ r. r ≤ 4398046511104) }
+    ensures bound { ForSome result (λ r. r ≤ MAX_WITHIN) }
 {
     if within < 0 {
         None

@@ -4,7 +4,7 @@ ghost use Rattle.map_fold.specs.declared.update.Update.TheVariants.{Add, Delete,
 ghost use Rattle.kd_tree.specs.Counter.{IsBlankOf};
 ghost use Rattle.rebuild_core.specs.Steps.{HasRoom, IsFault, IsUpdateStep};
 ghost use Rattle.map_c.specs.Forms.{boxes_at, points_at};
-ghost use Rattle.map_c.specs.Maps.{IsAnswer, IsBoxesAnswer, IsMade, IsPointsAnswer, IsUpdateRefusal};
+ghost use Rattle.map_c.specs.Maps.{IsAnswer, IsBoxesAnswer, IsUpdated, IsPointsAnswer, IsUpdateRefusal};
 ghost use Rattle.map_c.specs.Status.{code};
 
 use crate::content::Content;
@@ -110,7 +110,7 @@ fn updated(alloc: Global, map: &mut Handle, update: Update) -> i32
 }
 
 fn changed(alloc: Global, content: &mut Content, update: Update) -> Result<(), Refusal>
-    ensures made { OnOk result (IsMade update (Some content.old) (Some content.new)) }
+    ensures made { OnOk result (IsUpdated update (Some content.old) (Some content.new)) }
     ensures refused { IfErr result (λ r. IsUpdateRefusal update (Some content.old) (code r)) }
     ensures same { OnErr result (content.new ≡ content.old) }
 {

@@ -1,13 +1,13 @@
 //! Hits and items, written where C wants them.
 ghost use Rattle.std.specs.Prelude.{◌≡◌, ◌+◌, ◌≤◌, ◌++◌, length, map, take};
-ghost use Rattle.map_c.specs.Answers.{hit_of, item_of, point_of};
+ghost use Rattle.map_c.specs.Answers.{c_hit, c_item, c_point};
 
 use crate::forms::{Hit, Item, Point};
 
 /// Writes the hits from a place on.
 pub fn write_hits(found: &[map_fold::Hit], at: usize, hits: &mut [Hit])
     requires { at + length found.now ≤ length hits.old }
-    ensures written { take (at + length found.now) hits.new ≡ take at hits.old ++ map hit_of found.now }
+    ensures written { take (at + length found.now) hits.new ≡ take at hits.old ++ map c_hit found.now }
     ensures length { length hits.new ≡ length hits.old }
 {
     for i in 0..found.len() {
@@ -18,7 +18,7 @@ pub fn write_hits(found: &[map_fold::Hit], at: usize, hits: &mut [Hit])
 /// Writes the items.
 pub fn write_items(found: &[map_fold::Item], items: &mut [Item])
     requires { length found.now ≤ length items.old }
-    ensures written { take (length found.now) items.new ≡ map item_of found.now }
+    ensures written { take (length found.now) items.new ≡ map c_item found.now }
     ensures length { length items.new ≡ length items.old }
 {
     for i in 0..found.len() {
@@ -27,7 +27,7 @@ pub fn write_items(found: &[map_fold::Item], items: &mut [Item])
 }
 
 fn hit_of(hit: &map_fold::Hit) -> Hit
-    ensures { result ≡ hit_of hit.now }
+    ensures { result ≡ c_hit hit.now }
 {
     const WORD: u128 = 18_446_744_073_709_551_616;
     Hit {
@@ -39,7 +39,7 @@ fn hit_of(hit: &map_fold::Hit) -> Hit
 }
 
 fn item_of(item: &map_fold::Item) -> Item
-    ensures { result ≡ item_of item.now }
+    ensures { result ≡ c_item item.now }
 {
     Item {
         point: point_of(&item.point),
@@ -48,7 +48,7 @@ fn item_of(item: &map_fold::Item) -> Item
 }
 
 fn point_of(point: &point_geom::Point) -> Point
-    ensures { result ≡ point_of point.now }
+    ensures { result ≡ c_point point.now }
 {
     Point {
         x: point.x(),

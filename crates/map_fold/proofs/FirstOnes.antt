@@ -50,10 +50,10 @@ not_before x h e other =
       | inr either ↦ elim either [ inl first ↦ first | inr back ↦ absurd (cc (back, e)) ]
     ]
 
-put_hit_by : (h x : Hit) (xs : List Hit) → is_nearer x h ≡ true → put_hit h (x ∷ xs) ≡ x ∷ put_hit h xs
+pub put_hit_by : (h x : Hit) (xs : List Hit) → is_nearer x h ≡ true → put_hit h (x ∷ xs) ≡ x ∷ put_hit h xs
 put_hit_by h x xs e = rw e refl
 
-put_hit_front : (h x : Hit) (xs : List Hit) → is_nearer x h ≡ false → put_hit h (x ∷ xs) ≡ h ∷ x ∷ xs
+pub put_hit_front : (h x : Hit) (xs : List Hit) → is_nearer x h ≡ false → put_hit h (x ∷ xs) ≡ h ∷ x ∷ xs
 put_hit_front h x xs e = rw e refl
 
 pub put_hit_in_order : (h : Hit) (xs : List Hit) → IsInOrder xs → ((g : Hit) → Member g xs → g.number ≡ h.number → ⊥) → IsInOrder (put_hit h xs)

@@ -56,7 +56,7 @@ contents_within low least high most [] below above h = tt
 contents_within low least high most (i ∷ m) below above h =
     (omega (arith, h.0), omega (arith, h.1), h.2, contents_within (i.number + 1) (i.number + 1) high most m (omega arith) above h.3)
 
-marked_number : (chosen : Item → Bool) (a : Tag) (i : Item) → (marked_item chosen a i).number ≡ i.number
+pub marked_number : (chosen : Item → Bool) (a : Tag) (i : Item) → (marked_item chosen a i).number ≡ i.number
 marked_number chosen a i = elim (chosen i) as (λ b. (cond b (relabelled a i) i).number ≡ i.number) [ true ↦ refl | false ↦ refl ]
 
 contents_kept : (low high : ℕ) (j : Item) (m : List Item) (b : Bool) → low ≤ j.number → j.number < high → is_dropped j.label ≡ b → AreContents (j.number + 1) high m → AreContents low high (cond (not b) (j ∷ m) m)

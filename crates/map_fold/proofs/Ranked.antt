@@ -6,29 +6,23 @@ use Rattle.map_fold.specs.declared.hits.Hit.{Hit}
 use Rattle.map_fold.specs.Answers.{put_hit, is_nearer}
 use Rattle.map_fold.specs.Nearest.{Member, AreRanked}
 use Rattle.map_fold.proofs.Order.{nearer_order}
-use Rattle.map_fold.proofs.FirstOnes.{member-put_hit, member-take}
+use Rattle.map_fold.proofs.FirstOnes.{member-put_hit, member-take, put_hit_by, put_hit_front}
 use Rattle.map_fold.proofs.Numbered.{drop-at}
 
 tested : (b : Bool) → (b ≡ true) ⊎ (b ≡ false)
 tested true = inl refl
 tested false = inr refl
 
-past : (h x : Hit) (xs : List Hit) → is_nearer x h ≡ true → put_hit h (x ∷ xs) ≡ x ∷ put_hit h xs
-past h x xs e = rw e refl
-
-before : (h x : Hit) (xs : List Hit) → is_nearer x h ≡ false → put_hit h (x ∷ xs) ≡ h ∷ x ∷ xs
-before h x xs e = rw e refl
-
 -- one more in its place among hits in order
 pub put_hit_ranked : (h : Hit) (xs : List Hit) → AreRanked xs → AreRanked (put_hit h xs)
 put_hit_ranked h [] s = ((λ g m. absurd m), tt)
 put_hit_ranked h (x ∷ xs) s =
     elim (tested (is_nearer x h)) [
-      | inl e ↦ subst AreRanked (sym (past h x xs e)) (
+      | inl e ↦ subst AreRanked (sym (put_hit_by h x xs e)) (
         (λ g m. elim (member-put_hit g h xs m) [ inl same ↦ subst (λ (w : Hit). is_nearer w x ≡ false) (sym same) (nearer_order.one_way x h e) | inr n ↦ s.0 g n ]),
         put_hit_ranked h xs s.1,
       )
-      | inr e ↦ subst AreRanked (sym (before h x xs e)) (
+      | inr e ↦ subst AreRanked (sym (put_hit_front h x xs e)) (
         (λ g m. elim m [ inl same ↦ subst (λ (w : Hit). is_nearer w h ≡ false) (sym same) e | inr n ↦ nearer_order.chain g x h (s.0 g n) e ]),
         s,
       )
@@ -42,7 +36,7 @@ take_ranked (suc k) (x ∷ xs) s = ((λ g m. s.0 g (member-take g k xs m)), take
 
 -- a last hit that doesn't come before h stays the last
 put_hit-last : (h x : Hit) (xs : List Hit) → is_nearer x h ≡ false → put_hit h (xs ++ x ∷ []) ≡ put_hit h xs ++ x ∷ []
-put_hit-last h x [] e = before h x [] e
+put_hit-last h x [] e = put_hit_front h x [] e
 put_hit-last h x (y ∷ xs) e =
     elim (is_nearer y h) as (λ b. cond b (y ∷ put_hit h (xs ++ x ∷ [])) (h ∷ y ∷ (xs ++ x ∷ [])) ≡ cond b (y ∷ put_hit h xs) (h ∷ y ∷ xs) ++ x ∷ []) [
       | true ↦ ap (λ ys. y ∷ ys) (put_hit-last h x xs e)
@@ -55,10 +49,10 @@ member_last x (y ∷ xs) = inr (member_last x xs)
 
 -- where the last of hits in order comes before h, h goes behind it
 put_hit-behind : (h x : Hit) (xs : List Hit) → AreRanked (xs ++ x ∷ []) → is_nearer x h ≡ true → put_hit h (xs ++ x ∷ []) ≡ (xs ++ x ∷ []) ++ h ∷ []
-put_hit-behind h x [] s e = past h x [] e
+put_hit-behind h x [] s e = put_hit_by h x [] e
 put_hit-behind h x (y ∷ xs) s e =
     elim (tested (is_nearer y h)) [
-      | inl f ↦ past h y (xs ++ x ∷ []) f ∙ ap (λ ys. y ∷ ys) (put_hit-behind h x xs s.1 e)
+      | inl f ↦ put_hit_by h y (xs ++ x ∷ []) f ∙ ap (λ ys. y ∷ ys) (put_hit-behind h x xs s.1 e)
       | inr f ↦ absurd (cc (e, nearer_order.chain x y h (s.0 x (member_last x xs)) f))
     ]
 

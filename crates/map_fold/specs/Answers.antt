@@ -31,6 +31,7 @@ abbrev pub in_order : List Hit → List Hit
 in_order [] = []
 in_order (h ∷ hits) = put_hit h (in_order hits)
 
+-- the item as it is found from q, with its squared distance in squared millimetres
 abbrev pub hit_of : Place → Item → Hit
 hit_of q i = record { number = i.number; point = i.point; dist2 = dist2 q i.point }
 
@@ -59,15 +60,19 @@ nears m k qs = nearest_each m k qs None
 abbrev pub inside_all : List Item → Bounds → List Item
 inside_all m c = filter (in_box c) (live_items m)
 
+-- the first live items in the box by number, so many at most
 abbrev pub inside : List Item → Bounds → ℕ → List Item
 inside m c most = take most (inside_all m c)
 
+-- how many live items are in the box
 abbrev pub count : List Item → Bounds → ℕ
 count m c = length (inside_all m c)
 
+-- how many items are live
 abbrev pub live_count : List Item → ℕ
 live_count m = length (live_items m)
 
+-- how many items are suspended
 abbrev pub suspended_count : List Item → ℕ
 suspended_count m = length (filter (λ i. is_suspended i.label) m)
 

@@ -75,12 +75,15 @@ chosen_by c i = is_above c.below i.number && is_inside c.within i.point
 abbrev pub all_items : Choice
 all_items = record { within = None; below = None }
 
+-- the items in the box, whatever their numbers
 abbrev pub inside_box : Bounds → Choice
 inside_box c = record { within = Some c; below = None }
 
+-- the items of a number below the bound, wherever they are
 abbrev pub below_number : ℕ → Choice
 below_number n = record { within = None; below = Some n }
 
+-- the items that are live, in their order
 abbrev pub live_items : List Item → List Item
 live_items m = filter (λ i. is_live i.label) m
 

@@ -13,6 +13,7 @@ pub record MapAt : Type 0 where
   pub items : List Item
   pub next : ℕ
 
+-- a map to which nothing was submitted
 abbrev pub no_points : MapAt
 no_points = record { items = []; next = 0 }
 
@@ -45,6 +46,7 @@ abbrev pub fold_from : ℕ → List Update → MapAt → MapAt
 fold_from voxel [] m = m
 fold_from voxel (u ∷ us) m = fold_from voxel us (step voxel u m)
 
+-- all updates in order, from nothing, on a map whose voxels have this edge, in millimetres
 abbrev pub fold : ℕ → List Update → MapAt
 fold voxel us = fold_from voxel us no_points
 

@@ -6,6 +6,7 @@ use Rattle.map_fold.specs.declared.op.Op.TheVariants.{Mark, Put}
 use Rattle.map_fold.specs.Contents.{put, mark, chosen_by}
 use Rattle.map_fold.specs.declared.limits.TheConstants.{MAX_POINTS}
 
+-- what one operation makes of the items: an action on the chosen ones, or a point put under its number
 abbrev pub perform : List Item → Op → List Item
 perform m (Mark choice a) = mark m (chosen_by choice) a
 perform m (Put n p) = put m n p

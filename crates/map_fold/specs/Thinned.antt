@@ -16,9 +16,11 @@ NoneBefore c w m = (i : Item) → Member i m → comes_before c i w ≡ false
 abbrev pub rivals : ℕ → List Item → ℕ → Place → List Item
 rivals edge m n p = live_at n p ∷ inside_all m (voxel edge p)
 
+-- the items that are not in the box, live or not
 abbrev pub outside : List Item → Bounds → List Item
 outside m c = filter (λ i. not (in_box c i)) m
 
+-- the items that are suspended, in their order
 abbrev pub suspended_items : List Item → List Item
 suspended_items m = filter (λ i. is_suspended i.label) m
 

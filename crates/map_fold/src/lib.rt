@@ -21,7 +21,7 @@ pub use entry::Entry;
 pub use group::{Group, Groups};
 pub use hits::{Hit, HitLists, Hits};
 pub use item::{Item, Items};
-pub use limits::MAX_POINTS;
+pub use limits::{MAX_FOUND, MAX_LARGE, MAX_POINTS, MAX_WITHIN, MIN_LARGE};
 pub use memory::NoMemory;
 pub use node_labels::{Counts, Label, Tag};
 pub use op::{Op, Ops};

@@ -10,12 +10,12 @@ ghost use Rattle.map_fold.specs.Nearest.{AreNearest};
 ghost use Rattle.map_fold.specs.Thinned.{IsThinned};
 ghost use Rattle.map_fold.specs.declared.update.Update.TheVariants as Update;
 
-use crate::limits::MAX_POINTS;
+use crate::limits::{MAX_FOUND, MAX_POINTS, MAX_WITHIN};
 use crate::thin::thin_one;
 use crate::{
     Choice, Counts, Cuboids, Hit, Hits, Item, Items, Label, NoMemory, Points, Settings, Tag, Update,
 };
-use point_geom::{Cuboid, Point, dist2};
+use point_geom::{Cuboid, MAX_EDGE, Point, dist2};
 use std::alloc::Global;
 use std::marker::Model;
 
@@ -104,7 +104,7 @@ impl PlainMap {
 
     fn thin(self, edge: u32, points: &Points) -> Result<PlainMap, NoMemory>
         requires edge_from { 1 ≤ edge }
-        requires edge_to { edge ≤ 1000000 }
+        requires edge_to { edge ≤ MAX_EDGE }
         requires room { self.next + points_in (Update.Thin points.now) ≤ MAX_POINTS }
         ensures stepped { IfOk result (λ m. m ≡ thin_points edge points.now self) }
         ensures thinned { (p : Place) → points.now ≡ p ∷ [] → IfOk result (λ m. IsThinned edge self.items self.next p m.items) }
@@ -148,8 +148,8 @@ impl PlainMap {
         within: Option<u64>,
     ) -> Result<Hits, NoMemory>
         requires k_from { 1 ≤ k }
-        requires k_to { k ≤ 256 }
-        requires within_to { ForSome within (λ r. r ≤ 4398046511104) }
+        requires k_to { k ≤ MAX_FOUND }
+        requires within_to { ForSome within (λ r. r ≤ MAX_WITHIN) }
         ensures found { IfOk result (λ hits. hits ≡ nearest self.now.items k q.now within) }
 
         // What that list is, said without the way it is made.
@@ -162,7 +162,7 @@ impl PlainMap {
     /// The first live points in the cuboid by number, as many as are asked for. Costs a step an item.
     pub fn in_cuboid(&self, alloc: Global, c: &Cuboid, most: u32) -> Result<Items, NoMemory>
         requires most_from { 1 ≤ most }
-        requires most_to { most ≤ 256 }
+        requires most_to { most ≤ MAX_FOUND }
         ensures { IfOk result (λ items. items ≡ inside self.now.items c.now most) }
     {
         inside_of(alloc, self.items.as_slice(), c, most as usize)
@@ -229,7 +229,7 @@ fn nearest_of(
     within: Option<u64>,
 ) -> Result<Hits, NoMemory>
     requires k_from { 1 ≤ k }
-    requires within_to { ForSome within (λ r. r ≤ 4398046511104) }
+    requires within_to { ForSome within (λ r. r ≤ MAX_WITHIN) }
     ensures found { IfOk result (λ hits. hits ≡ nearest items.now k q.now within) }
     ensures inline { k ≤ 16 → IsOk result }
 {
@@ -253,7 +253,7 @@ fn nearest_of(
 }
 
 fn is_within(within: Option<u64>, hit: &Hit) -> bool
-    requires { ForSome within (λ r. r ≤ 4398046511104) }
+    requires { ForSome within (λ r. r ≤ MAX_WITHIN) }
     ensures { result ≡ is_within within hit.now }
 {
     match within {

@@ -8,7 +8,7 @@ ghost use Rattle.map_fold.specs.Contents.{AreContents, centre_cmp, in_box, least
 
 use crate::plain_map::mark_items;
 use crate::{Choice, Item, NoMemory, Tag};
-use point_geom::{Cuboid, Point, voxel};
+use point_geom::{Cuboid, MAX_EDGE, Point, voxel};
 
 // What is live in a voxel.
 enum Rivals {
@@ -26,7 +26,7 @@ pub(crate) fn thin_one(
     point: &Point,
 ) -> Result<(), NoMemory>
     requires edge_from { 1 ≤ edge }
-    requires edge_to { edge ≤ 1000000 }
+    requires edge_to { edge ≤ MAX_EDGE }
     requires held { AreContents 0 number items.old.items }
     ensures { OnOk result (items.new.items ≡ thin edge items.old.items number point.now) }
 {

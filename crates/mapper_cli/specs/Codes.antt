@@ -3,6 +3,7 @@ use Rattle.std.specs.Prelude.{ℕ}
 use Rattle.mapper_core.specs.declared.status.Status.{Status}
 use Rattle.mapper_core.specs.declared.status.Status.TheVariants.{Done, BadLog, Usage, ReadFault, WriteFault, NoMemory, OverLimit}
 
+-- the number with which the program exits, for each status of a run
 abbrev pub code_of : Status → ℕ
 code_of Done = 0
 code_of BadLog = 1

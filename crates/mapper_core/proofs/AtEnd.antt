@@ -7,13 +7,13 @@ use Rattle.map_fold.specs.declared.entry.Entry.{Entry}
 use Rattle.map_fold.specs.declared.update.Update.{Update}
 use Rattle.map_fold.specs.Fold.{fold, points_in}
 use Rattle.rebuild_core.specs.History.{updates}
-use Rattle.published_map.specs.Marks.{Seen, times, AllOf, callers_of, AllMet, AllGrown, AllMetNow}
+use Rattle.published_map.specs.Marks.{Seen, times_listed, AllOf, callers_of, AllMet, AllGrown, AllMetNow}
 use Rattle.scan_log.specs.Commands.{Concerns, command_update, is_by, updates_made}
 use Rattle.scan_log.specs.declared.command.Command.{Command}
 use Rattle.scan_log.specs.declared.command.Command.TheVariants.{Change}
 use Rattle.scan_log.specs.declared.reply.Reply.{Reply}
 use Rattle.scan_log.specs.Scripts.{ScriptAt, submitted, points_of}
-use Rattle.scan_log.specs.Legal.{counted, AreLegalReplies}
+use Rattle.scan_log.specs.Legal.{numbers_from, AreLegalReplies}
 use Rattle.scan_log.specs.Transcript.{totals_reply, mark_of}
 use Rattle.mapper_core.specs.Told.{Answers, raised, Told}
 use Rattle.mapper_core.specs.Mine.{keep_made, updates_by, Ran, Stopped, Turned}
@@ -155,13 +155,13 @@ all_ran voxel cs ds ps qs ss lists old few standing back met = record {
       (back.each k p q rs at there here);
 }
 
-only_at : (cs : List ℕ) (h : List Entry) (k : ℕ) (e : Entry) → AllOf cs h → slice_get h k ≡ Some e → times e.caller cs ≡ 1
+only_at : (cs : List ℕ) (h : List Entry) (k : ℕ) (e : Entry) → AllOf cs h → slice_get h k ≡ Some e → times_listed e.caller cs ≡ 1
 only_at cs [] k e o at = absurd cc
-only_at cs (g ∷ h) zero e o at = let same : g ≡ e = cc (at) in subst (λ z. times z.caller cs ≡ 1) same o.0
+only_at cs (g ∷ h) zero e o at = let same : g ≡ e = cc (at) in subst (λ z. times_listed z.caller cs ≡ 1) same o.0
 only_at cs (g ∷ h) (suc k) e o at = only_at cs h k e o.1 at
 
-told_own : (voxel : ℕ) (cs : List ℕ) (h : List Entry) (low x : ℕ) (u : Update) (r : Reply) → AllOf cs h → Answers voxel h low (Change x u) r → times x cs ≡ 1
-told_own voxel cs h low x u r o a = let at = a.reply.placed in subst (λ z. times z cs ≡ 1) at.2.2 (only_at cs h at.0 at.2.0 o at.2.1)
+told_own : (voxel : ℕ) (cs : List ℕ) (h : List Entry) (low x : ℕ) (u : Update) (r : Reply) → AllOf cs h → Answers voxel h low (Change x u) r → times_listed x cs ≡ 1
+told_own voxel cs h low x u r o a = let at = a.reply.placed in subst (λ z. times_listed z cs ≡ 1) at.2.2 (only_at cs h at.0 at.2.0 o at.2.1)
 
 -- each update that was told is of one of the callers
 changes_told : (voxel : ℕ) (cs : List ℕ) (h : List Entry) (lows : ℕ → ℕ) (ds : List Command) (rs : List Reply) (highs : ℕ → ℕ) → AllOf cs h → Told voxel h lows ds rs highs → AllChangesOf cs ds
@@ -206,7 +206,7 @@ have_ended n s ps rs e =
     let t : Standing s.sizes.voxel s.commands ps e.front = e.standing in
     record {
       history = t.history;
-      callers = t.order ∙ ap (counted 1) e.all;
+      callers = t.order ∙ ap (numbers_from 1) e.all;
       seen = t.met;
       only = t.only;
       done = t.done;

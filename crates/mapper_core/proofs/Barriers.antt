@@ -10,7 +10,7 @@ use Rattle.scan_log.specs.declared.command.Command.TheVariants.{Sync}
 use Rattle.scan_log.specs.Commands.{command_update, updates_made}
 use Rattle.scan_log.specs.Transcript.{updates_in, put_if, put_update, marked_updates}
 use Rattle.scan_log.proofs.Whose.{anyone, anyone_concerned, follows_later}
-use Rattle.scan_log.specs.Legal.{counted, MayFollow, IsLater, AllFollow, AreInOrder, IsLegal}
+use Rattle.scan_log.specs.Legal.{numbers_from, MayFollow, IsLater, AllFollow, AreInOrder, IsLegal}
 
 -- 1 where the mark isn't above top
 abbrev one : ℕ → ℕ → ℕ
@@ -27,11 +27,11 @@ abbrev few : ℕ → List ℕ → ℕ
 few top [] = 0
 few top (m ∷ ms) = one top m + few top ms
 
-few_high : (top n k : ℕ) → top < n → few top (counted n k) ≡ 0
+few_high : (top n k : ℕ) → top < n → few top (numbers_from n k) ≡ 0
 few_high top n zero lt = refl
 few_high top n (suc k) lt = omega (arith, one_high top n lt, few_high top (n + 1) k (omega arith))
 
-few_by : (top n k : ℕ) → n ≤ top + 1 → top + 1 ≤ n + k → (b : Bool) → nat_le n top ≡ b → n + few top (counted n k) ≡ top + 1
+few_by : (top n k : ℕ) → n ≤ top + 1 → top + 1 ≤ n + k → (b : Bool) → nat_le n top ≡ b → n + few top (numbers_from n k) ≡ top + 1
 few_by top n zero low high b is = omega arith
 few_by top n (suc k) low high true is =
     let le : n ≤ top = grind (arith, nat_tests) in
@@ -117,7 +117,7 @@ pub barrier_is : (cs : List Command) (ms : List ℕ) (k n : ℕ) → IsLegal cs 
 barrier_is cs ms k n legal at there =
     let le : n ≤ updates_in cs = below_at (λ m. m ≤ updates_in cs) ms k n legal.none_above there in
     let a = few_by n 1 (updates_in cs) (omega arith) (omega arith) (nat_le 1 n) refl in
-    let b : few n (map (λ h. h.0) (marked_updates cs ms)) ≡ few n (counted 1 (updates_in cs)) = ap (few n) legal.each_once in
+    let b : few n (map (λ h. h.0) (marked_updates cs ms)) ≡ few n (numbers_from 1 (updates_in cs)) = ap (few n) legal.each_once in
     let c = early_few n cs ms in
     let d = early_at n cs ms k legal.in_order at there in
     omega arith

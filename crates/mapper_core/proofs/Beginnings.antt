@@ -20,22 +20,6 @@ take_early xs ys m p le = ap (take m) (sym p.1) ∙ take-append-le m xs p.0 le
 pub take_prefix : {A : Type 0} (xs ys : List A) → IsPrefix xs ys → take (length xs) ys ≡ xs
 take_prefix xs ys p = ap (take (length xs)) (sym p.1) ∙ take-append_seam xs p.0
 
--- what stands in a beginning stands in the whole, at the same place
-pub get_prefix : {A : Type 0} (xs ys : List A) (k : ℕ) (x : A) → IsPrefix xs ys → slice_get xs k ≡ Some x → slice_get ys k ≡ Some x
-get_prefix [] ys k x p h = absurd cc
-get_prefix (y ∷ xs) [] k x p h = absurd (cc (p.1))
-get_prefix (y ∷ xs) (z ∷ ys) zero x p h = cc (p.1, h)
-get_prefix (y ∷ xs) (z ∷ ys) (suc k) x p h = get_prefix xs ys k x (p.0, cc (p.1)) h
-
-pub get_last : {A : Type 0} (xs : List A) (x : A) → slice_get (xs ++ x ∷ []) (length xs) ≡ Some x
-get_last [] x = refl
-get_last (y ∷ xs) x = get_last xs x
-
-pub get_below : {A : Type 0} (xs : List A) (k : ℕ) (x : A) → slice_get xs k ≡ Some x → k < length xs
-get_below [] k x h = absurd cc
-get_below (y ∷ xs) zero x h = omega arith
-get_below (y ∷ xs) (suc k) x h = omega (arith, get_below xs k x h)
-
 pub drop_get : {A : Type 0} (xs : List A) (k : ℕ) (x : A) → slice_get xs k ≡ Some x → drop k xs ≡ x ∷ drop (suc k) xs
 drop_get [] k x h = absurd cc
 drop_get (y ∷ xs) zero x h = cc (h)

@@ -2,11 +2,11 @@
 use Rattle.std.proofs.Common.{◌≡◌, ◌⊎◌, inl, inr, ⊎_elim, length-append, ℕ, zero, suc, List, [], ◌∷◌, ◌++◌, length, Some, Ok, Err, Result, slice_get, IfOk, refl, sym, ap, subst, arith}
 use Rattle.map_fold.specs.declared.memory.NoMemory.{NoMemory}
 use Rattle.published_map.specs.Marks.{Seen, callers_of}
+use Rattle.published_map.proofs.Marking.{get_length}
 use Rattle.scan_log.specs.declared.command.Command.{Command}
 use Rattle.scan_log.specs.declared.reply.Reply.{Reply}
 use Rattle.mapper_core.specs.Mine.{Ran, Stopped, Turned}
 use Rattle.mapper_core.specs.Meetings.{AllTurned, AllParted}
-use Rattle.mapper_core.proofs.Beginnings.{get_below}
 
 -- of each pass it is known how it came back, and with which replies
 pub record AllBack (P : Seen → Seen → List Reply → Type 0) (ps qs : List Seen) (lists : List (List Reply)) : Type 0 where
@@ -106,10 +106,10 @@ turned_more voxel cs all ps p ts t is a ran = subst (λ z. AllTurned voxel cs z 
       ⊎_elim
       (λ (here : slice_get ps k ≡ Some q).
       ⊎_elim (λ (also : slice_get ts k ≡ Some s). a.1 k q s here also)
-      (λ (last : (k ≡ length ts) × (t ≡ s)). absurd (let b = get_below ps k q here in let e = last.0 in let l = a.0 in omega arith))
+      (λ (last : (k ≡ length ts) × (t ≡ s)). absurd (let b = get_length ps k q here in let e = last.0 in let l = a.0 in omega arith))
       (get_more ts t s k there))
       (λ (end : (k ≡ length ps) × (p ≡ q)).
-      ⊎_elim (λ (also : slice_get ts k ≡ Some s). absurd (let b = get_below ts k s also in let e = end.0 in let l = a.0 in omega arith))
+      ⊎_elim (λ (also : slice_get ts k ≡ Some s). absurd (let b = get_length ts k s also in let e = end.0 in let l = a.0 in omega arith))
       (λ (last : (k ≡ length ts) × (t ≡ s)).
       subst (λ (z : Seen × Result (Seen × List Reply) NoMemory). IfOk z.1 (λ u. Turned voxel cs z.0 u.0 u.1)) (λ i. (end.1 i, last.1 i)) ran)
       (get_more ts t s k there))

@@ -7,15 +7,16 @@ use Rattle.std.specs.Option.{option_to_list}
 use Rattle.map_fold.specs.declared.entry.Entry.{Entry}
 use Rattle.map_fold.specs.declared.update.Update.{Update}
 use Rattle.rebuild_core.specs.History.{updates}
+use Rattle.published_map.proofs.Marking.{get_length}
 use Rattle.scan_log.specs.Commands.{Concerns, command_caller, command_update, updates_made}
 use Rattle.scan_log.specs.declared.command.Command.{Command}
 use Rattle.scan_log.specs.declared.command.Command.TheVariants.{Change}
 use Rattle.scan_log.specs.declared.reply.Reply.{Reply}
 use Rattle.scan_log.specs.Scripts.{ScriptAt}
-use Rattle.scan_log.specs.Legal.{counted, AllFollow, AreInOrder, IsLegal, AreLegalReplies}
+use Rattle.scan_log.specs.Legal.{numbers_from, AllFollow, AreInOrder, IsLegal, AreLegalReplies}
 use Rattle.scan_log.specs.Transcript.{updates_in, put_if, put_update, marked_updates, totals_reply, replies_from, replies, mark_of}
-use Rattle.mapper_core.specs.Told.{HasPlace, IsPlaced, IsReply, Answers, raised, Told}
-use Rattle.mapper_core.proofs.Beginnings.{get_below, drop_get}
+use Rattle.mapper_core.specs.Told.{HasPlace, StandsInHistory, IsReply, Answers, raised, Told}
+use Rattle.mapper_core.proofs.Beginnings.{drop_get}
 use Rattle.scan_log.proofs.Whose.{anyone, anyone_concerned, change_or_none, concerns_for, may_follow, later_less, later_le}
 use Rattle.mapper_core.proofs.Whose.{raised_own, raises}
 
@@ -85,7 +86,7 @@ abbrev StandsAt : List Entry → ℕ × Update → Type 0
 StandsAt h g = (k : ℕ) × (g.0 ≡ k + 1) × ((e : Entry) × (slice_get h k ≡ Some e) × (e.update ≡ g.1))
 
 -- at one place stands one caller's entry
-same_caller : (h : List Entry) (m x y : ℕ) (u v : Update) → IsPlaced h (Change x u) m → IsPlaced h (Change y v) m → y ≡ x
+same_caller : (h : List Entry) (m x y : ℕ) (u v : Update) → StandsInHistory h (Change x u) m → StandsInHistory h (Change y v) m → y ≡ x
 same_caller h m x y u v a b =
     let k : a.0 ≡ b.0 = (let p = a.1 in let q = b.1 in omega arith) in
     let e : a.2.0 ≡ b.2.0 = (let p : slice_get h a.0 ≡ Some a.2.0 = a.2.1 in let q : slice_get h b.0 ≡ Some b.2.0 = b.2.1 in cc (p, q, k)) in
@@ -98,16 +99,16 @@ put_if_all P m None hs p r = r
 
 -- an update that is told later has another mark
 other_change : (voxel : ℕ) (h : List Entry) (lows : ℕ → ℕ) (r : Reply) (x m : ℕ) (u : Update) (y : ℕ) (v : Update)
-    → ((z : ℕ) → Concerns z (Change y v) → Answers voxel h (lows z) (Change y v) r) → m ≤ lows x → IsPlaced h (Change x u) m → mark_of r ≢ m
+    → ((z : ℕ) → Concerns z (Change y v) → Answers voxel h (lows z) (Change y v) r) → m ≤ lows x → StandsInHistory h (Change x u) m → mark_of r ≢ m
 other_change voxel h lows r x m u y v t le at =
     let a : Answers voxel h (lows y) (Change y v) r = t y refl in
     let k : lows y < mark_of r = a.later in
     λ same.
-    let by : y ≡ x = same_caller h m x y u v at (subst (λ z. IsPlaced h (Change y v) z) same a.reply.placed) in
+    let by : y ≡ x = same_caller h m x y u v at (subst (λ z. StandsInHistory h (Change y v) z) same a.reply.placed) in
     let j : lows y ≡ lows x = ap lows by in let i : mark_of r ≡ m = same in absurd (omega arith)
 
 other_mark : (voxel : ℕ) (h : List Entry) (lows : ℕ → ℕ) (d : Command) (r : Reply) (x m : ℕ) (u v : Update) → command_update d ≡ Some v
-    → ((z : ℕ) → Concerns z d → Answers voxel h (lows z) d r) → m ≤ lows x → IsPlaced h (Change x u) m → mark_of r ≢ m
+    → ((z : ℕ) → Concerns z d → Answers voxel h (lows z) d r) → m ≤ lows x → StandsInHistory h (Change x u) m → mark_of r ≢ m
 other_mark voxel h lows d r x m u v made t le at = elim (change_or_none d) [
   | inl is ↦ other_change voxel h lows r x m u is.0 is.1 (subst (λ c. (z : ℕ) → Concerns z c → Answers voxel h (lows z) c r) is.2 t) le at
   | inr none ↦ absurd (cc (made, none))
@@ -115,7 +116,7 @@ other_mark voxel h lows d r x m u v made t le at = elim (change_or_none d) [
 
 -- no later update has the mark of an earlier one
 no_other : (voxel : ℕ) (h : List Entry) (lows : ℕ → ℕ) (cs : List Command) (rs : List Reply) (highs : ℕ → ℕ) (ends : List ℕ) (x m : ℕ) (u : Update)
-    → Told voxel h lows cs rs highs → m ≤ lows x → IsPlaced h (Change x u) m → AllByRecursion (λ g. g.0 ≢ m) (marked_updates cs (map mark_of rs ++ ends))
+    → Told voxel h lows cs rs highs → m ≤ lows x → StandsInHistory h (Change x u) m → AllByRecursion (λ g. g.0 ≢ m) (marked_updates cs (map mark_of rs ++ ends))
 no_other voxel h lows [] rs highs ends x m u t le at = tt
 no_other voxel h lows (d ∷ cs) [] highs ends x m u t le at = absurd t
 no_other voxel h lows (d ∷ cs) (r ∷ rs) highs ends x m u t le at =
@@ -135,7 +136,7 @@ placed_change : (voxel : ℕ) (h : List Entry) (lows : ℕ → ℕ) (cs : List C
     → Placed h (updates_in (Change x u ∷ cs)) (put_update (mark_of r) u (marked_updates cs (map mark_of rs ++ ends)))
 placed_change voxel h lows cs rs highs ends r x u t p =
     let a : Answers voxel h (lows x) (Change x u) r = t.0 x refl in
-    let at : IsPlaced h (Change x u) (mark_of r) = a.reply.placed in
+    let at : StandsInHistory h (Change x u) (mark_of r) = a.reply.placed in
     let hs = marked_updates cs (map mark_of rs ++ ends) in
     let k : lows x < mark_of r = a.later in
     let own = raised_own lows (Change x u) (mark_of r) x (concerns_for x (Change x u) refl) in
@@ -161,7 +162,7 @@ placed voxel h lows (d ∷ cs) (r ∷ rs) highs ends t =
     ]
 
 stands_below : (h : List Entry) (g : ℕ × Update) → StandsAt h g → g.0 ≤ length h
-stands_below h g p = let k = get_below h p.0 p.2.0 p.2.1 in let e = p.1 in omega arith
+stands_below h g p = let k = get_length h p.0 p.2.0 p.2.1 in let e = p.1 in omega arith
 
 -- so many marks that rise from above m on reach so far
 rising_most : (h : List Entry) (m : ℕ) (hs : List (ℕ × Update)) → Rising m hs → AllByRecursion (StandsAt h) hs → m ≤ length h → m + length hs ≤ length h
@@ -170,7 +171,7 @@ rising_most h m (g ∷ hs) r p le = let a : m < g.0 = r.0 in let b = rising_most
 
 -- the updates with their places
 rising_whole : (h : List Entry) (low : ℕ) (hs : List (ℕ × Update)) → Rising low hs → AllByRecursion (StandsAt h) hs → low + length hs ≡ length h
-    → (map (λ g. g.0) hs ≡ counted (low + 1) (length hs)) × (map (λ g. g.1) hs ≡ updates (drop low h))
+    → (map (λ g. g.0) hs ≡ numbers_from (low + 1) (length hs)) × (map (λ g. g.1) hs ≡ updates (drop low h))
 rising_whole h low [] r p is = let e : drop low h ≡ [] = drop_of_length-le h (omega (arith, is)) in (refl, rw e refl)
 rising_whole h low (g ∷ hs) r p is =
     let above : low < g.0 = r.0 in
@@ -180,7 +181,7 @@ rising_whole h low (g ∷ hs) r p is =
     let rest = rising_whole h g.0 hs r.1 p.1 (omega arith) in
     let at : slice_get h low ≡ Some p.0.2.0 = subst (λ z. slice_get h z ≡ Some p.0.2.0) place p.0.2.1 in
     let here : drop low h ≡ p.0.2.0 ∷ drop (low + 1) h = rw add-one (drop_get h low p.0.2.0 at) in
-    let marks : map (λ g. g.0) hs ≡ counted (low + 1 + 1) (length hs) = subst (λ z. map (λ g. g.0) hs ≡ counted (z + 1) (length hs)) next rest.0 in
+    let marks : map (λ g. g.0) hs ≡ numbers_from (low + 1 + 1) (length hs) = subst (λ z. map (λ g. g.0) hs ≡ numbers_from (z + 1) (length hs)) next rest.0 in
     let later : map (λ g. g.1) hs ≡ updates (drop (low + 1) h) = subst (λ z. map (λ g. g.1) hs ≡ updates (drop z h)) next rest.1 in
     let same : p.0.2.0.update ≡ g.1 = p.0.2.2 in (
       cc (next, marks),
@@ -188,10 +189,10 @@ rising_whole h low (g ∷ hs) r p is =
     )
 
 below_by : (h : List Entry) (made : Option Update) (owner : Option ℕ) (m : ℕ) → MatchOption made (m ≤ length h) (HasPlace h owner m) → m ≤ length h
-below_by h (Some u) owner m a = let k = get_below h a.0 a.2.0 a.2.1 in let e = a.1 in omega arith
+below_by h (Some u) owner m a = let k = get_length h a.0 a.2.0 a.2.1 in let e = a.1 in omega arith
 below_by h None owner m a = a
 
-pub placed_below : (h : List Entry) (c : Command) (m : ℕ) → IsPlaced h c m → m ≤ length h
+pub placed_below : (h : List Entry) (c : Command) (m : ℕ) → StandsInHistory h c m → m ≤ length h
 placed_below h c m a = below_by h (command_update c) (command_caller c) m a
 
 -- the replies as a whole: those of the transcript over the history, marks that it has, one reply for each command
@@ -237,7 +238,7 @@ told_is_legal s h lows rs highs ending t is total =
     let r = subst P (sym (map_last mark_of rs ending)) (
       record {
         many = w.many;
-        each_once = all.0 ∙ ap (counted 1) p.many;
+        each_once = all.0 ∙ ap (numbers_from 1) p.many;
         in_order = in_order voxel h lows cs rs highs (mark_of ending ∷ []) t;
         none_above = w.below;
         at_end = w.at_end ∙ ap (λ z. Some z) last;

@@ -8,30 +8,32 @@ use mathlib.Core.List.{IsPrefix}
 use Rattle.map_fold.specs.declared.entry.Entry.{Entry}
 use Rattle.map_fold.specs.declared.update.Update.{Update}
 use Rattle.rebuild_core.specs.History.{updates}
-use Rattle.published_map.specs.Marks.{Seen, times, IsDistinct, AllOf, callers_of, AllMet, AllGrown, AllMetNow, seen_by_new}
+use Rattle.published_map.specs.Marks.{Seen, times_listed, IsDistinct, AllOf, callers_of, AllMet, AllGrown, AllMetNow, seen_by_new}
+use Rattle.published_map.proofs.Marking.{get_prefix}
+use Rattle.published_map.proofs.Counting.{grown_callers}
 use Rattle.scan_log.specs.Commands.{command_caller, command_update, is_by, is_for}
 use Rattle.scan_log.specs.declared.command.Command.{Command}
 use Rattle.scan_log.specs.declared.command.Command.TheVariants.{Sync}
 use Rattle.scan_log.specs.declared.reply.Reply.{Reply}
-use Rattle.scan_log.specs.Legal.{counted}
+use Rattle.scan_log.specs.Legal.{numbers_from}
 use Rattle.scan_log.specs.Transcript.{mark_of, totals_reply}
-use Rattle.mapper_core.specs.Told.{HasPlace, IsPlaced, IsReply, raised, Told}
+use Rattle.mapper_core.specs.Told.{HasPlace, StandsInHistory, IsReply, raised, Told}
 use Rattle.mapper_core.specs.Mine.{keep_made, updates_by, Mine, Ran}
 use Rattle.mapper_core.specs.Meetings.{AllMine, MergedFrom, MergedTo, AllDone, Standing, IsTotal}
-use Rattle.mapper_core.proofs.Beginnings.{prefix_trans, prefix_length, get_prefix, take_early}
+use Rattle.mapper_core.proofs.Beginnings.{prefix_trans, prefix_length, take_early}
 use Rattle.scan_log.proofs.Whose.{later_less}
 use Rattle.mapper_core.proofs.Whose.{keep_append, reply_take}
 use Rattle.mapper_core.proofs.LegalMarks.{placed_below}
 use Rattle.mapper_core.proofs.OneCaller.{mine_other, mine_next, mine_skip}
 use Rattle.mapper_core.proofs.CameBack.{AllBack, back_rest, back_callers}
 
-none_below : (x n k : ℕ) → x < n → times x (counted n k) ≡ 0
+none_below : (x n k : ℕ) → x < n → times_listed x (numbers_from n k) ≡ 0
 none_below x n zero lt = refl
 none_below x n (suc k) lt =
     let test : (x == n) ≡ false = grind (arith, nat_tests) in
     let rest = none_below x (n + 1) k (omega arith) in rw test (omega (arith, rest))
 
-pub distinct_counted : (n k : ℕ) → IsDistinct (counted n k)
+pub distinct_counted : (n k : ℕ) → IsDistinct (numbers_from n k)
 distinct_counted n zero = tt
 distinct_counted n (suc k) = (none_below n (n + 1) k (omega arith), distinct_counted (n + 1) k)
 
@@ -44,7 +46,7 @@ longer_by : (h g : List Entry) (made : Option Update) (owner : Option ℕ) (m : 
 longer_by h g (Some u) owner m p a = (a.0, a.1, (a.2.0, get_prefix h g a.0 a.2.0 p a.2.1, a.2.2, a.2.3))
 longer_by h g None owner m p a = let l = prefix_length h g p in let le : m ≤ length h = a in omega arith
 
-placed_longer : (h g : List Entry) (c : Command) (m : ℕ) → IsPrefix h g → IsPlaced h c m → IsPlaced g c m
+placed_longer : (h g : List Entry) (c : Command) (m : ℕ) → IsPrefix h g → StandsInHistory h c m → StandsInHistory g c m
 placed_longer h g c m p a = longer_by h g (command_update c) (command_caller c) m p a
 
 -- a reply stands in a longer history too
@@ -104,7 +106,7 @@ mine_higher voxel h x (c ∷ cs) low rs high top le m =
     mine_higher_by voxel h x c cs low rs high top (λ l ss n. mine_higher voxel h x cs l ss high top le n) (is_by x c) refl m
 
 -- where all have met, each caller's replies stand in the history
-all_mine : (voxel : ℕ) (h g : List Entry) (cs : List Command) (n : ℕ) (ps qs ss : List Seen) (lists : List (List Reply)) → callers_of ps ≡ counted n (length ps)
+all_mine : (voxel : ℕ) (h g : List Entry) (cs : List Command) (n : ℕ) (ps qs ss : List Seen) (lists : List (List Reply)) → callers_of ps ≡ numbers_from n (length ps)
     → AllMet h ps → AllBack (Ran voxel cs) ps qs lists → AllGrown qs ss → AllMet g ss
     → (k x : ℕ) (rs : List Reply) → x ≡ n + k → slice_get lists k ≡ Some rs → Mine voxel g x cs (length h) rs (length g)
 all_mine voxel h g cs n [] qs ss [] order met ran grown all k x rs is at = absurd cc
@@ -122,7 +124,7 @@ all_mine voxel h g cs n (p ∷ ps) (q ∷ qs) (s ∷ ss) (l ∷ ls) order met ra
     mine_higher voxel g p.caller cs (length p.seen) l (length q.seen) (length g) (prefix_length q.seen g pre) (r.told g pre) in
     subst (λ (z : ℕ × (List Entry × List Reply)). Mine voxel g z.0 cs (length z.1.0) z.1.1 (length g)) (λ i. (who i, (met.0 i, what i))) m
 all_mine voxel h g cs n (p ∷ ps) (q ∷ qs) (s ∷ ss) (l ∷ ls) order met ran grown all (suc k) x rs is at =
-    let more : callers_of ps ≡ counted (n + 1) (length ps) = cc order in
+    let more : callers_of ps ≡ numbers_from (n + 1) (length ps) = cc order in
     all_mine voxel h g cs (n + 1) ps qs ss ls more met.2 (back_rest (Ran voxel cs) p q l ps qs ls ran) grown.1 all.2 k x rs (omega arith) at
 
 all_longer : (voxel : ℕ) (h g : List Entry) (cs : List Command) (ps qs ss : List Seen) (lists : List (List Reply)) → AllOf (callers_of ps) h
@@ -163,12 +165,6 @@ grown_length [] (q ∷ qs) g = absurd g
 grown_length (p ∷ ps) [] g = absurd g
 grown_length (p ∷ ps) (q ∷ qs) g = let r = grown_length ps qs g.1 in omega arith
 
-pub grown_callers : (ps qs : List Seen) → AllGrown ps qs → callers_of qs ≡ callers_of ps
-grown_callers [] [] g = refl
-grown_callers [] (q ∷ qs) g = absurd g
-grown_callers (p ∷ ps) [] g = absurd g
-grown_callers (p ∷ ps) (q ∷ qs) g = let a : q.caller ≡ p.caller = g.0.0 in let r = grown_callers ps qs g.1 in cc (a, r)
-
 -- the replies that were told are there for each caller, in the history of the meeting
 pub told_mine : (voxel : ℕ) (cs ds : List Command) (ps qs ss : List Seen) (lists : List (List Reply)) (old : List Reply) (s : Standing voxel cs ps old) → AllBack (Ran voxel ds) ps qs lists
     → (met : AllMetNow qs ss) → AllMine voxel met.1.0 ds (λ x. length s.history) lists (length met.1.0) × (length s.history ≤ length met.1.0)
@@ -194,7 +190,7 @@ standing_phase voxel cs ds ps qs ss all lists old new s ran met to =
     let len : length ss ≡ length ps = grown_length qs ss met.0 ∙ ran.passes in
     record {
       history = g;
-      order = callers ∙ s.order ∙ ap (counted 1) (sym len);
+      order = callers ∙ s.order ∙ ap (numbers_from 1) (sym len);
       met = met.1.1;
       only = met.1.2;
       done = all_done voxel cs ds ps qs ss all s.done ran met.0;
@@ -226,7 +222,7 @@ standing_again voxel cs ps ss rs s met =
     let longer = prefix_length h g pre in
     record {
       history = g;
-      order = grown_callers ps ss met.0 ∙ s.order ∙ ap (counted 1) (sym (grown_length ps ss met.0));
+      order = grown_callers ps ss met.0 ∙ s.order ∙ ap (numbers_from 1) (sym (grown_length ps ss met.0));
       met = met.1.1;
       only = met.1.2;
       done = met_done cs ps ss s.done met.0;
@@ -259,7 +255,7 @@ standing_sync voxel cs ps rs r s t =
       told = told_append voxel h (λ x. 0) cs rs s.lasts (Sync ∷ []) (r ∷ []) (λ x. n) s.told same;
     }
 
-start_order : (n : ℕ) (ps : List Seen) → ((k : ℕ) → k < length ps → slice_get ps k ≡ Some (seen_by_new (k + n))) → callers_of ps ≡ counted n (length ps)
+start_order : (n : ℕ) (ps : List Seen) → ((k : ℕ) → k < length ps → slice_get ps k ≡ Some (seen_by_new (k + n))) → callers_of ps ≡ numbers_from n (length ps)
 start_order n [] all = refl
 start_order n (p ∷ ps) all =
     let first : p ≡ seen_by_new (0 + n) = (let e = all 0 (omega arith) in cc (e)) in

@@ -11,6 +11,7 @@ use Rattle.rebuild_core.specs.History.{updates, entry_by}
 use Rattle.rebuild_core.specs.Lawful.{VersionAt}
 use Rattle.published_map.specs.Marks.{Seen, Grown, Added, keep_if}
 use Rattle.published_map.specs.Versions.{IsVersionOf, held}
+use Rattle.published_map.proofs.Marking.{get_prefix, get_snoc}
 use Rattle.scan_log.specs.Commands.{command_update, is_by}
 use Rattle.scan_log.specs.declared.command.Command.{Command}
 use Rattle.scan_log.specs.declared.command.Command.TheVariants.{Change}
@@ -19,9 +20,9 @@ use Rattle.scan_log.specs.declared.reply.Reply.TheVariants as reply
 use Rattle.scan_log.specs.Legal.{IsLater}
 use Rattle.scan_log.specs.Transcript.{reply_on, reply_to, mark_of}
 use Rattle.scan_log.proofs.Serial.{mark_of-reply_on}
-use Rattle.mapper_core.specs.Told.{Answers, IsPlaced}
+use Rattle.mapper_core.specs.Told.{Answers, StandsInHistory}
 use Rattle.mapper_core.specs.Mine.{keep_made, updates_by, Mine, Answered, Tried, RanTo, Turned}
-use Rattle.mapper_core.proofs.Beginnings.{prefix_self, prefix_trans, prefix_length, take_prefix, get_prefix, get_last}
+use Rattle.mapper_core.proofs.Beginnings.{prefix_self, prefix_trans, prefix_length, take_prefix}
 use Rattle.mapper_core.proofs.Whose.{all_taken, keep_append, passed_by, reply_take}
 
 keep_own : (c : ℕ) (u : Update) (us : List Update) → keep_if (c == c) u us ≡ u ∷ us
@@ -40,7 +41,7 @@ change_answered voxel p q u n a =
       mine = a.2 ∙ ap (λ us. p.mine ++ us) (sym (keep_own p.caller u []));
       mark = a.3;
       told = λ h pre.
-          let at : slice_get q.seen (length before) ≡ Some e = subst (λ z. slice_get z (length before) ≡ Some e) (sym is) (get_last before e) in
+          let at : slice_get q.seen (length before) ≡ Some e = subst (λ z. slice_get z (length before) ≡ Some e) (sym is) (get_snoc before e) in
           let k = a.3 in record {
             reply = record { placed = (length before, omega arith, (e, get_prefix q.seen h (length before) e pre at, refl, refl)); told = refl };
             later = omega arith;
@@ -58,7 +59,7 @@ seen_tells voxel s h c pre =
     reply_take voxel (length s) (updates s) (updates h) c (all_taken s ∙ sym early)
 
 -- a command that makes no update may be anywhere in a history, and its mark may stay
-none_placed : (h : List Entry) (c : Command) (m : ℕ) → command_update c ≡ None → m ≤ length h → IsPlaced h c m
+none_placed : (h : List Entry) (c : Command) (m : ℕ) → command_update c ≡ None → m ≤ length h → StandsInHistory h c m
 none_placed h c m none le = rw none le
 
 none_later : (m : ℕ) (c : Command) (n : ℕ) → command_update c ≡ None → m ≤ n → IsLater m c n

@@ -9,7 +9,7 @@ use Rattle.point_geom.specs.Refusals.{within, point_of, corner_within, corner_ch
 use Rattle.point_geom.specs.declared.axis.Axis.{Axis}
 use Rattle.scan_log.specs.Scripts.{IsLogCoordinate, IsBoxNumber, IsBoxCorner, IsCallerBox}
 use Rattle.scan_log.specs.declared.format.Format.TheVariants.{One}
-use Rattle.mapper_core.specs.Generated.{behind}
+use Rattle.mapper_core.specs.Generated.{box_behind}
 
 coordinate_fits : (axis : Axis) (c : ℤ) → IsLogCoordinate One c → within axis c ≡ Ok tt
 coordinate_fits axis c h =
@@ -41,8 +41,8 @@ upright_fits lo hi h =
 pub box_fits : (b : Bounds) → IsCallerBox One b → cuboid_of b.lo b.hi ≡ Ok b
 box_fits b h = rw (corner_fits b.lo h.lo, corner_fits b.hi h.hi, upright_fits b.lo b.hi h.below) refl
 
--- what lies behind is a box of a caller
-pub behind_good : (i : ℕ) → i < 200 → IsCallerBox One (behind i)
+-- what lies box_behind is a box of a caller
+pub behind_good : (i : ℕ) → i < 200 → IsCallerBox One (box_behind i)
 behind_good i few = record {
   lo = ((grind (arith, ints, few), grind (arith, ints, few)), (omega arith, omega arith), (omega arith, omega arith));
   hi = ((grind (arith, ints, few), grind (arith, ints, few)), (omega arith, omega arith), (omega arith, omega arith));

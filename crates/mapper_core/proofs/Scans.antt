@@ -9,6 +9,7 @@ use Rattle.scan_log.specs.Scripts.{IsScannedPlace}
 use Rattle.map_fold.specs.Sizes.{Sizes}
 use Rattle.scan_log.specs.declared.command.Command.{Command}
 use Rattle.scan_log.specs.Scripts.{ScriptAt, IsScript, IsCommand, points_of, hits_of, submitted, asked, with_command}
+use Rattle.scan_log.proofs.Growth.{points_of-push, hits_of-push}
 use Rattle.mapper_core.specs.Generated.{next, drawn, next_draws, after, point, points_of_draws, scan_commands, commands_from, generated}
 
 -- more draws are the first ones, and those after them
@@ -60,14 +61,6 @@ each_push P (x ∷ xs) y each last = (each.0, each_push P xs y each.1 last)
 pub length_push : {X : Type 0} (xs : List X) (y : X) → length (xs ++ y ∷ []) ≡ length xs + 1
 length_push xs y = length-append xs (y ∷ [])
 
-pub points_push : (cs : List Command) (c : Command) → points_of (cs ++ c ∷ []) ≡ points_of cs + submitted c
-points_push [] c = omega arith
-points_push (d ∷ cs) c = omega (arith, points_push cs c)
-
-pub hits_push : (cs : List Command) (c : Command) → hits_of (cs ++ c ∷ []) ≡ hits_of cs + asked c
-hits_push [] c = omega arith
-hits_push (d ∷ cs) c = omega (arith, hits_push cs c)
-
 -- a script with one more command is in its limits, where there was room
 pub script_push : (s : ScriptAt) (c : Command) → IsScript s → IsCommand s.format c → length s.commands < 65536 → points_of s.commands + submitted c ≤ 4194304
     → hits_of s.commands ≤ 256 * length s.commands → asked c ≤ 256 → IsScript (with_command s c)
@@ -75,8 +68,8 @@ script_push s c is good few room held asks = record {
   sizes = is.sizes;
   each = each_push (IsCommand s.format) s.commands c is.each good;
   few = omega (arith, few, length_push s.commands c);
-  room = omega (arith, room, points_push s.commands c);
-  hits = omega (arith, few, held, asks, hits_push s.commands c);
+  room = omega (arith, room, points_of-push s.commands c);
+  hits = omega (arith, few, held, asks, hits_of-push s.commands c);
 }
 
 pub seen_next : (i s left k t u : ℕ) (ps : List Place) (p : Place) → HasSeen i s left t ps → left ≡ suc k → IsScannedPlace One p

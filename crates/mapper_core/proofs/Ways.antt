@@ -19,12 +19,12 @@ use Rattle.mapper_core.specs.declared.words.Ask.{Ask}
 use Rattle.mapper_core.specs.declared.words.Ask.TheVariants.{Run, Serial, Make, Drive, Check}
 use Rattle.mapper_core.specs.Asks.{Asks, AskForRun, AskForScans, AskNothing, AskOfLog, IsOfLog, log_of, most_of}
 use Rattle.mapper_core.specs.Causes.{Says, NotRead, IsDoneOn, IsTextOf, HasPrinted, HasRefused, Ended}
-use Rattle.mapper_core.specs.Done.{IsChecked, IsDriven, IsMade, IsTranscribed, IsTranscribedInOrder}
+use Rattle.mapper_core.specs.Done.{IsChecked, IsDriven, IsScriptMade, IsTranscribed, IsTranscribedInOrder}
 use Rattle.mapper_core.specs.Endings.{IsOrNoMemory, status_of}
 use Rattle.mapper_core.specs.Generated.{generated}
 use Rattle.mapper_core.specs.Inputs.{IsOverLimit}
 use Rattle.mapper_core.specs.Outside.{NoFault, HasRead, AppendsFront}
-use Rattle.mapper_core.specs.Seen.{Seen, LogSeen}
+use Rattle.mapper_core.specs.Seen.{RunSeen, LogSeen}
 use Rattle.mapper_core.specs.Summary.{summary_of}
 use Rattle.mapper_core.specs.Verdicts.{IsFound, verdict_line}
 use Rattle.mapper_core.proofs.OneAsk.{same_ask}
@@ -35,7 +35,7 @@ bad_status true e = cc
 bad_status false e = cc
 
 -- only one way has the status of all done
-done_way : (s : Seen) (e : Ending) → Ended s e → status_of e ≡ status.Done → HasPrinted s (Appends s.out.held s.out.held_after)
+done_way : (s : RunSeen) (e : Ending) → Ended s e → status_of e ≡ status.Done → HasPrinted s (Appends s.out.held s.out.held_after)
 done_way s Done h e = h
 done_way s Usage h e = absurd (cc)
 done_way s ReadFault h e = absurd (cc)
@@ -53,11 +53,11 @@ if_both None P Q R f h k = tt
 if_both (Some x) P Q R f h k = f x h k
 
 -- what was printed is the text of what is asked for
-asked_text : (s : Seen) (so_far : List ℕ → Type 0) (a : Ask) (p : HasPrinted s so_far) → Asks a s.words → IsTextOf a s.log p.lines
+asked_text : (s : RunSeen) (so_far : List ℕ → Type 0) (a : Ask) (p : HasPrinted s so_far) → Asks a s.words → IsTextOf a s.log p.lines
 asked_text s so_far a p asked = subst (λ b. IsTextOf b s.log p.lines) (same_ask p.ask a s.words p.asked asked) p.text
 
 -- what was refused is what is asked for
-asked_cause : (s : Seen) (e : Ending) (a : Ask) → HasRefused s e → Asks a s.words → NotRead a s.log e
+asked_cause : (s : RunSeen) (e : Ending) (a : Ask) → HasRefused s e → Asks a s.words → NotRead a s.log e
 asked_cause s e a h asked = subst (λ b. NotRead b s.log e) (same_ask h.ask a s.words h.asked.0 asked) h.unread
 
 -- what is done of a log is done on what the log says
@@ -68,14 +68,14 @@ said_of (Make n) log x of h = absurd of
 said_of (Drive n) log x of h = absurd of
 said_of (Check n) log x of h = h
 
-legal_text : (s : Seen) (x : ScriptAt) (lines : List ℕ) → Says Run s.log x → AreLegalLines x lines → Appends s.out.held s.out.held_after lines → IsTranscribed s.log s.out
+legal_text : (s : RunSeen) (x : ScriptAt) (lines : List ℕ) → Says Run s.log x → AreLegalLines x lines → Appends s.out.held s.out.held_after lines → IsTranscribed s.log s.out
 legal_text s x lines said legal written =
     let transcript = if_some s.log.left _ (λ bytes. IsLegalTranscript bytes lines)
     (λ bytes q. record { script = x; spelled = q.1.0; told = legal.told; legal = legal.legal; lines = legal.text }) said.1 in
     (said.0, (lines, transcript, written))
 
 -- where a run was asked for and all was done, the log was read to its end, and a legal transcript of it was written
-pub done_legal : (s : Seen) (e : Ending) → Ended s e → status_of e ≡ status.Done → AskForRun s.words → IsTranscribed s.log s.out
+pub done_legal : (s : RunSeen) (e : Ending) → Ended s e → status_of e ≡ status.Done → AskForRun s.words → IsTranscribed s.log s.out
 done_legal s e h done (inl asked) =
     let p = done_way s e h done in
     let t = asked_text s (Appends s.out.held s.out.held_after) Run p asked in
@@ -86,28 +86,28 @@ done_legal s e h done (inr asked) =
     legal_text s t.script p.lines t.said t.printed.0 p.written
 
 -- and for the words of a serial run it is the text of the marks in the log's order
-pub done_serial : (s : Seen) (e : Ending) → Ended s e → status_of e ≡ status.Done → Asks Serial s.words → IsTranscribedInOrder s.log s.out
+pub done_serial : (s : RunSeen) (e : Ending) → Ended s e → status_of e ≡ status.Done → Asks Serial s.words → IsTranscribedInOrder s.log s.out
 done_serial s e h done asked =
     let p = done_way s e h done in
     let t = asked_text s (Appends s.out.held s.out.held_after) Serial p asked in
     (t.script, if_some s.log.left _ _ (λ bytes q. q.1.0) t.said.1, subst (Appends s.out.held s.out.held_after) t.printed.1 p.written)
 
 -- the log of the generated script was written
-pub done_made : (s : Seen) (e : Ending) (n : ℕ) → Ended s e → status_of e ≡ status.Done → Asks (Make n) s.words → IsMade n s.out
+pub done_made : (s : RunSeen) (e : Ending) (n : ℕ) → Ended s e → status_of e ≡ status.Done → Asks (Make n) s.words → IsScriptMade n s.out
 done_made s e n h done asked =
     let p = done_way s e h done in
     let t = asked_text s (Appends s.out.held s.out.held_after) (Make n) p asked in
     subst (Appends s.out.held s.out.held_after) (t.printed ∙ ap script_text t.said) p.written
 
 -- the line of its sums was written
-pub done_driven : (s : Seen) (e : Ending) (n : ℕ) → Ended s e → status_of e ≡ status.Done → Asks (Drive n) s.words → IsDriven n s.out
+pub done_driven : (s : RunSeen) (e : Ending) (n : ℕ) → Ended s e → status_of e ≡ status.Done → Asks (Drive n) s.words → IsDriven n s.out
 done_driven s e n h done asked =
     let p = done_way s e h done in
     let t = asked_text s (Appends s.out.held s.out.held_after) (Drive n) p asked in
     subst (Appends s.out.held s.out.held_after) (t.printed ∙ ap (summary_of n) t.said) p.written
 
 -- where a check was asked for and all was done, the input was read to its end, and the line of its verdict was written
-pub done_checked : (s : Seen) (e : Ending) (n : ℕ) → Ended s e → status_of e ≡ status.Done → Asks (Check n) s.words → IsChecked n s.log s.out
+pub done_checked : (s : RunSeen) (e : Ending) (n : ℕ) → Ended s e → status_of e ≡ status.Done → Asks (Check n) s.words → IsChecked n s.log s.out
 done_checked s e n h done asked =
     let p = done_way s e h done in
     let t = asked_text s (Appends s.out.held s.out.held_after) (Check n) p asked in
@@ -133,14 +133,14 @@ unlong left left_after bytes most told few (read, consumed, long) =
     consumed_few (Some rest) bytes read h = omega (arith, ap length h, length-append read rest)
 
 -- nothing was printed of a log that has a fault
-unprinted : (s : Seen) (so_far : List ℕ → Type 0) (a : Ask) (bytes : List ℕ) (f : FaultAt) → HasPrinted s so_far → AskOfLog a s.words → s.log.left ≡ Some bytes
+unprinted : (s : RunSeen) (so_far : List ℕ → Type 0) (a : Ask) (bytes : List ℕ) (f : FaultAt) → HasPrinted s so_far → AskOfLog a s.words → s.log.left ≡ Some bytes
     → first_fault (log_of a bytes) ≡ Some f → ⊥
 unprinted s so_far a bytes f p asked told fault =
     let t = asked_text s so_far a p asked.0 in
     unsaid a s.log t.script bytes f (said_of a s.log t.script asked.1 t.said) told fault
 
 -- a log whose first fault is no limit is a bad one
-pub bad_way : (s : Seen) (e : Ending) (a : Ask) (bytes : List ℕ) (f : FaultAt) → Ended s e → AskOfLog a s.words → s.log.left ≡ Some bytes → length bytes ≤ most_of a
+pub bad_way : (s : RunSeen) (e : Ending) (a : Ask) (bytes : List ℕ) (f : FaultAt) → Ended s e → AskOfLog a s.words → s.log.left ≡ Some bytes → length bytes ≤ most_of a
     → first_fault (log_of a bytes) ≡ Some f → is_limit f.cause ≡ false → NoFault s.log.faults s.log.faults_after → IsOrNoMemory (status_of e) status.BadLog
 bad_way s Done a bytes f h asked told few fault small sure = absurd (unprinted s (Appends s.out.held s.out.held_after) a bytes f h asked told fault)
 bad_way s Usage a bytes f h asked told few fault small sure = absurd (h.0 a asked.0)
@@ -156,7 +156,7 @@ bad_way s WriteFault a bytes f h asked told few fault small sure = absurd (unpri
 bad_way s NoMemory a bytes f h asked told few fault small sure = inr refl
 
 -- words that ask for nothing are told so
-pub nothing_way : (s : Seen) (e : Ending) → Ended s e → AskNothing s.words → IsOrNoMemory (status_of e) status.Usage
+pub nothing_way : (s : RunSeen) (e : Ending) → Ended s e → AskNothing s.words → IsOrNoMemory (status_of e) status.Usage
 nothing_way s Done h nothing = absurd (nothing h.ask h.asked)
 nothing_way s Usage h nothing = inl refl
 nothing_way s ReadFault h nothing = absurd (nothing h.ask h.asked.0)
@@ -166,7 +166,7 @@ nothing_way s WriteFault h nothing = absurd (nothing h.0.ask h.0.asked)
 nothing_way s NoMemory h nothing = inr refl
 
 -- a log that is spelled is done
-pub spelled_way : (s : Seen) (e : Ending) (a : Ask) (bytes : List ℕ) (x : ScriptAt) → Ended s e → AskOfLog a s.words → s.log.left ≡ Some bytes → length bytes ≤ most_of a
+pub spelled_way : (s : RunSeen) (e : Ending) (a : Ask) (bytes : List ℕ) (x : ScriptAt) → Ended s e → AskOfLog a s.words → s.log.left ≡ Some bytes → length bytes ≤ most_of a
     → Spells (log_of a bytes) x → NoFault s.log.faults s.log.faults_after → NoFault s.out.faults s.out.faults_after → IsOrNoMemory (status_of e) status.Done
 spelled_way s Done a bytes x h asked told few spelled sure out = inl refl
 spelled_way s Usage a bytes x h asked told few spelled sure out = absurd (h.0 a asked.0)
@@ -190,7 +190,7 @@ scans_asked words (n, inl made) nothing = nothing (Make n) made
 scans_asked words (n, inr driven) nothing = nothing (Drive n) driven
 
 -- what is generated is done
-pub scans_way : (s : Seen) (e : Ending) → Ended s e → AskForScans s.words → NoFault s.out.faults s.out.faults_after → IsOrNoMemory (status_of e) status.Done
+pub scans_way : (s : RunSeen) (e : Ending) → Ended s e → AskForScans s.words → NoFault s.out.faults s.out.faults_after → IsOrNoMemory (status_of e) status.Done
 scans_way s Done h asked out = inl refl
 scans_way s Usage h asked out = absurd (scans_asked s.words asked h.0)
 scans_way s ReadFault h asked out = absurd (not_both s.words h.ask asked h.asked)
@@ -213,13 +213,13 @@ over_bad a line cause bytes few first (inr fault) =
     let same : cause ≡ fault.0.cause = (let e = first.fault in cc) in
     rw same fault.2
 
-over_unprinted : (s : Seen) (so_far : List ℕ → Type 0) (a : Ask) (bytes : List ℕ) → HasPrinted s so_far → AskOfLog a s.words → s.log.left ≡ Some bytes → IsOverLimit a bytes → ⊥
+over_unprinted : (s : RunSeen) (so_far : List ℕ → Type 0) (a : Ask) (bytes : List ℕ) → HasPrinted s so_far → AskOfLog a s.words → s.log.left ≡ Some bytes → IsOverLimit a bytes → ⊥
 over_unprinted s so_far a bytes p asked told over =
     let t = asked_text s so_far a p asked.0 in
     over_unsaid a s.log t.script bytes (said_of a s.log t.script asked.1 t.said) told over
 
 -- a log that is over a limit is told so
-pub over_way : (s : Seen) (e : Ending) (a : Ask) (bytes : List ℕ) → Ended s e → AskOfLog a s.words → s.log.left ≡ Some bytes → IsOverLimit a bytes
+pub over_way : (s : RunSeen) (e : Ending) (a : Ask) (bytes : List ℕ) → Ended s e → AskOfLog a s.words → s.log.left ≡ Some bytes → IsOverLimit a bytes
     → NoFault s.log.faults s.log.faults_after → IsOrNoMemory (status_of e) status.OverLimit
 over_way s Done a bytes h asked told over sure = absurd (over_unprinted s (Appends s.out.held s.out.held_after) a bytes h asked told over)
 over_way s Usage a bytes h asked told over sure = absurd (h.0 a asked.0)

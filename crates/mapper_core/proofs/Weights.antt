@@ -7,7 +7,7 @@ use Rattle.map_fold.specs.declared.update.Update.{Update}
 use Rattle.map_fold.specs.Fold.{MapAt, step, fold, fold_from, no_points, points_in}
 use Rattle.map_fold.proofs.Folds.{step_next}
 use Rattle.rebuild_core.specs.History.{updates}
-use Rattle.published_map.specs.Marks.{Seen, keep_if, updates_of, one_if, times, IsDistinct, AllOf, callers_of, AllMet}
+use Rattle.published_map.specs.Marks.{Seen, keep_if, own_updates, one_if, times_listed, IsDistinct, AllOf, callers_of, AllMet}
 use Rattle.scan_log.specs.declared.command.Command.{Command}
 use Rattle.scan_log.specs.declared.command.Command.TheVariants.{Change}
 use Rattle.scan_log.specs.Commands.{command_update, updates_made}
@@ -54,21 +54,21 @@ share : ℕ → List ℕ → ℕ → ℕ
 share x [] n = 0
 share x (c ∷ cs) n = weight_if (x == c) n + share x cs n
 
-share_none : (x : ℕ) (cs : List ℕ) (n : ℕ) → times x cs ≡ 0 → share x cs n ≡ 0
+share_none : (x : ℕ) (cs : List ℕ) (n : ℕ) → times_listed x cs ≡ 0 → share x cs n ≡ 0
 unfolding share weight_if
 share_none x [] n is = refl
 share_none x (c ∷ cs) n is = by_case (λ e. share_none x cs n e) (x == c) is
   where
-    by_case : (times x cs ≡ 0 → share x cs n ≡ 0) → (b : Bool) → one_if b + times x cs ≡ 0 → weight_if b n + share x cs n ≡ 0
+    by_case : (times_listed x cs ≡ 0 → share x cs n ≡ 0) → (b : Bool) → one_if b + times_listed x cs ≡ 0 → weight_if b n + share x cs n ≡ 0
     by_case more true e = absurd (omega arith)
     by_case more false e = let r = more (omega arith) in omega arith
 
-share_one : (x : ℕ) (cs : List ℕ) (n : ℕ) → times x cs ≡ 1 → share x cs n ≡ n
+share_one : (x : ℕ) (cs : List ℕ) (n : ℕ) → times_listed x cs ≡ 1 → share x cs n ≡ n
 unfolding share weight_if
 share_one x [] n is = absurd (omega arith)
 share_one x (c ∷ cs) n is = by_case (λ e. share_one x cs n e) (x == c) is
   where
-    by_case : (times x cs ≡ 1 → share x cs n ≡ n) → (b : Bool) → one_if b + times x cs ≡ 1 → weight_if b n + share x cs n ≡ n
+    by_case : (times_listed x cs ≡ 1 → share x cs n ≡ n) → (b : Bool) → one_if b + times_listed x cs ≡ 1 → weight_if b n + share x cs n ≡ n
     by_case more true e = let r = share_none x cs n (omega arith) in omega arith
     by_case more false e = let r = more (omega arith) in omega arith
 
@@ -80,13 +80,13 @@ share_most x (c ∷ cs) n d = by_case (share_most x cs n d.1) (x == c) refl
     by_case : share x cs n ≤ n → (b : Bool) → (x == c) ≡ b → weight_if b n + share x cs n ≤ n
     by_case more true e =
         let same : c ≡ x = grind (arith, nat_tests) in
-        let r = share_none x cs n (subst (λ z. times z cs ≡ 0) same d.0) in omega arith
+        let r = share_none x cs n (subst (λ z. times_listed z cs ≡ 0) same d.0) in omega arith
     by_case more false e = omega (arith, more)
 
 -- the weight of these callers' entries
 pub entries_of : (Update → ℕ) → List ℕ → List Entry → ℕ
 entries_of w [] h = 0
-entries_of w (c ∷ cs) h = weigh w (updates_of c h) + entries_of w cs h
+entries_of w (c ∷ cs) h = weigh w (own_updates c h) + entries_of w cs h
 
 -- and of their commands
 unfoldable pub commands_of : (Update → ℕ) → List ℕ → List Command → ℕ
@@ -101,7 +101,7 @@ entries_nil w (c ∷ cs) = let r = entries_nil w cs in omega arith
 entries_cons : (w : Update → ℕ) (cs : List ℕ) (e : Entry) (h : List Entry) → entries_of w cs (e ∷ h) ≡ share e.caller cs (w e.update) + entries_of w cs h
 unfolding entries_of share
 entries_cons w [] e h = refl
-entries_cons w (c ∷ cs) e h = let r = entries_cons w cs e h in let k = keep_weight w (e.caller == c) e.update (updates_of c h) in omega arith
+entries_cons w (c ∷ cs) e h = let r = entries_cons w cs e h in let k = keep_weight w (e.caller == c) e.update (own_updates c h) in omega arith
 
 -- where all entries are of these callers, each once, theirs weigh as much as all
 pub entries_whole : (w : Update → ℕ) (cs : List ℕ) (h : List Entry) → AllOf cs h → entries_of w cs h ≡ weigh w (updates h)
@@ -144,7 +144,7 @@ commands_most w cs (c ∷ ds) d =
 -- each of the updates is of one of these callers
 unfoldable pub AllChangesOf : List ℕ → List Command → Type 0
 AllChangesOf cs [] = Unit {0}
-AllChangesOf cs (d ∷ ds) = ((x : ℕ) (u : Update) → d ≡ Change x u → times x cs ≡ 1) × AllChangesOf cs ds
+AllChangesOf cs (d ∷ ds) = ((x : ℕ) (u : Update) → d ≡ Change x u → times_listed x cs ≡ 1) × AllChangesOf cs ds
 
 pub commands_whole : (w : Update → ℕ) (cs : List ℕ) (ds : List Command) → AllChangesOf cs ds → commands_of w cs ds ≡ weigh w (updates_made ds)
 unfolding weigh AllChangesOf
@@ -177,7 +177,7 @@ made w (p ∷ ps) = weigh w p.mine + made w ps
 pub made_met : (w : Update → ℕ) (h : List Entry) (ps : List Seen) → AllMet h ps → made w ps ≡ entries_of w (callers_of ps) h
 unfolding made entries_of
 made_met w h [] met = refl
-made_met w h (p ∷ ps) met = let r = made_met w h ps met.2 in let e : weigh w p.mine ≡ weigh w (updates_of p.caller h) = ap (weigh w) met.1 in omega arith
+made_met w h (p ∷ ps) met = let r = made_met w h ps met.2 in let e : weigh w p.mine ≡ weigh w (own_updates p.caller h) = ap (weigh w) met.1 in omega arith
 
 pub made_done : (w : Update → ℕ) (ds : List Command) (ps : List Seen) → AllDone ds ps → made w ps ≡ commands_of w (callers_of ps) ds
 unfolding made commands_of

@@ -16,7 +16,7 @@ use Rattle.mapper_core.specs.Endings.{status_of, note_of}
 use Rattle.mapper_core.specs.Generated.{generated}
 use Rattle.mapper_core.specs.Outside.{Rose, HasRead, AppendsFront}
 use Rattle.mapper_core.specs.Prints.{Prints}
-use Rattle.mapper_core.specs.Seen.{LogSeen, Seen}
+use Rattle.mapper_core.specs.Seen.{LogSeen, RunSeen}
 
 -- a byte more than the input may have was read
 abbrev pub IsTooLong : Ask → LogSeen → Type 0
@@ -71,7 +71,7 @@ HasNoText (ask.Drive n) log e = e ≡ NoMemory
 HasNoText (ask.Check n) log e = NotRead (ask.Check n) log e
 
 -- What the words ask for has been written so far.
-pub record HasPrinted (s : Seen) (so_far : List ℕ → Type 0) : Type 0 where
+pub record HasPrinted (s : RunSeen) (so_far : List ℕ → Type 0) : Type 0 where
   pub ask : Ask
   pub asked : Asks ask s.words
   pub lines : List ℕ
@@ -79,14 +79,14 @@ pub record HasPrinted (s : Seen) (so_far : List ℕ → Type 0) : Type 0 where
   pub written : so_far lines
 
 -- no script was read, and out got nothing
-pub record HasRefused (s : Seen) (e : Ending) : Type 0 where
+pub record HasRefused (s : RunSeen) (e : Ending) : Type 0 where
   pub ask : Ask
   pub asked : AskOfLog ask s.words
   pub unread : NotRead ask s.log e
   pub kept : Keeps s.out.held s.out.held_after
 
 -- why a run ended so
-abbrev pub Ended : Seen → Ending → Type 0
+abbrev pub Ended : RunSeen → Ending → Type 0
 Ended s Done = HasPrinted s (Appends s.out.held s.out.held_after)
 Ended s Usage = AskNothing s.words × Keeps s.log.left s.log.left_after × Keeps s.out.held s.out.held_after
 Ended s ReadFault = HasRefused s ReadFault
@@ -96,7 +96,7 @@ Ended s WriteFault = HasPrinted s (AppendsFront s.out.held s.out.held_after) × 
 Ended s NoMemory = Keeps s.out.held s.out.held_after ⊎ HasPrinted s (AppendsFront s.out.held s.out.held_after)
 
 -- The run ended in one of these ways, and answers its status; notes got its line or a front of it.
-pub record Ends (s : Seen) (notes notes_after : Option (List ℕ)) (status : Status) : Type 0 where
+pub record Ends (s : RunSeen) (notes notes_after : Option (List ℕ)) (status : Status) : Type 0 where
   pub way : Ending
   pub answered : status ≡ status_of way
   pub ended : Ended s way

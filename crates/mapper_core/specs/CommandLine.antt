@@ -1,4 +1,4 @@
--- The command line, as `clap` is told of it, and what is heard in its words.
+-- The command line, as `clap` is told of it, and what is heard in its words. Cited by private functions alone.
 use Rattle.std.specs.Prelude.{◌≡◌, List, codes, decimal, Option, Some, None}
 use Rattle.clap.specs.Words.{App, Rule, Text, first_value, one_text, new_app, new_rule, with_rule, with_subcommand}
 use Rattle.clap.specs.declared.parser.matches.Found.{Found}
@@ -15,6 +15,7 @@ serial = record (new_rule (codes "serial")) { long = Some (codes "serial"); acti
 abbrev pub number : Rule
 number = record (new_rule (codes "n")) { action = Some Set }
 
+-- the command that runs a log, which takes the flag
 abbrev pub run : App
 run = with_rule (new_app (codes "run")) serial
 

@@ -26,8 +26,8 @@ abbrev pub IsChecked : ℕ → LogSeen → OutSeen → Type 0
 IsChecked n log out = (log.ended ≡ true) × ((v : Verdict) × IfSome log.left (λ bytes. IsFound n bytes v) × Appends out.held out.held_after (verdict_line v))
 
 -- the log of the generated script of n scans was written
-abbrev pub IsMade : ℕ → OutSeen → Type 0
-IsMade n out = Appends out.held out.held_after (script_text (generated n))
+abbrev pub IsScriptMade : ℕ → OutSeen → Type 0
+IsScriptMade n out = Appends out.held out.held_after (script_text (generated n))
 
 -- the line of the sums of that script's run was written
 abbrev pub IsDriven : ℕ → OutSeen → Type 0

@@ -8,7 +8,7 @@ use Rattle.scan_log.specs.declared.command.Command.{Command}
 use Rattle.scan_log.specs.declared.reply.Reply.{Reply}
 use Rattle.scan_log.specs.Scripts.{ScriptAt}
 use Rattle.scan_log.specs.Transcript.{totals_reply}
-use Rattle.scan_log.specs.Legal.{counted}
+use Rattle.scan_log.specs.Legal.{numbers_from}
 use Rattle.mapper_core.specs.Told.{IsReply}
 use Rattle.mapper_core.specs.Meetings.{AllDone, AreNewcomers, HasCaller}
 
@@ -37,7 +37,7 @@ AllReplied voxel h (c ∷ cs) [] = ⊥
 pub record HaveEnded (n : ℕ) (s : ScriptAt) (ps : List Seen) (rs : List Reply) : Type 0 where
   pub history : List Entry
   -- those of the callers from 1 to n
-  pub callers : callers_of ps ≡ counted 1 n
+  pub callers : callers_of ps ≡ numbers_from 1 n
   pub seen : AllMet history ps
   pub only : AllOf (callers_of ps) history
   pub done : AllDone s.commands ps

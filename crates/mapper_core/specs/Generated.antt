@@ -38,16 +38,16 @@ points_of_draws i ds = []
 abbrev pub robot : ℕ → Place
 robot i = record { x = pos (1000 * i); y = pos 0; z = pos 0; intensity = 0 }
 
--- what lies 30 to 60 metres behind it
-abbrev pub behind : ℕ → Bounds
-behind i = record {
+-- what lies 30 to 60 metres box_behind it
+abbrev pub box_behind : ℕ → Bounds
+box_behind i = record {
   lo = record { x = pos (1000 * i) -ℤ pos 60000; y = neg_ℤ (pos 30000); z = neg_ℤ (pos 3000) };
   hi = record { x = pos (1000 * i) -ℤ pos 30000; y = pos 30001; z = pos 3001 };
 }
 
--- each tenth scan drops what lies behind
+-- each tenth scan drops what lies box_behind
 abbrev pub deletions : ℕ → List Command
-deletions i = if i % 10 == 9 then Change 1 (Delete (behind i ∷ [])) ∷ [] else []
+deletions i = if i % 10 == 9 then Change 1 (Delete (box_behind i ∷ [])) ∷ [] else []
 
 -- scan i: its points, a question of each of two callers, and a barrier
 abbrev pub scan_commands : ℕ → List Place → List Command

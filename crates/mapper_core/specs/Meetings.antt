@@ -8,11 +8,12 @@ use Rattle.published_map.specs.Marks.{Seen, AllMet, AllOf, callers_of, seen_by_n
 use Rattle.scan_log.specs.Commands.{IsBy, command_caller}
 use Rattle.scan_log.specs.declared.command.Command.{Command}
 use Rattle.scan_log.specs.declared.reply.Reply.{Reply}
-use Rattle.scan_log.specs.Legal.{counted}
+use Rattle.scan_log.specs.Legal.{numbers_from}
 use Rattle.scan_log.specs.Transcript.{totals_reply}
 use Rattle.mapper_core.specs.Told.{Told}
 use Rattle.mapper_core.specs.Mine.{updates_by, Mine, Turned}
 
+-- the command is nobody's: all callers meet there
 abbrev pub is_barrier : Command → Bool
 is_barrier c = is_none (command_caller c)
 
@@ -28,6 +29,7 @@ HasCaller n c = IfSome (command_caller c) (λ caller. (1 ≤ caller) × (caller 
 abbrev pub AllMine : ℕ → List Entry → List Command → (ℕ → ℕ) → List (List Reply) → ℕ → Type 0
 AllMine voxel h cs lows lists high = (k : ℕ) (rs : List Reply) → slice_get lists k ≡ Some rs → Mine voxel h (k + 1) cs (lows (k + 1)) rs high
 
+-- no caller's last mark is above this number
 abbrev pub AllBelow : (ℕ → ℕ) → ℕ → Type 0
 AllBelow lows high = (x : ℕ) → lows x ≤ high
 
@@ -97,7 +99,7 @@ AreNewcomers n ps = (length ps ≡ n) × ((k : ℕ) → k < length ps → slice_
 -- all callers have met after these commands, with these replies
 pub record Standing (voxel : ℕ) (cs : List Command) (ps : List Seen) (rs : List Reply) : Type 0 where
   pub history : List Entry
-  pub order : callers_of ps ≡ counted 1 (length ps)
+  pub order : callers_of ps ≡ numbers_from 1 (length ps)
   pub met : AllMet history ps
   pub only : AllOf (callers_of ps) history
   pub done : AllDone cs ps

@@ -4,12 +4,12 @@ use Rattle.std.specs.declared.option.Option.{Option}
 use Rattle.std.specs.Io.KnownBytes.{Appends, Consumes}
 
 -- a count that is one higher, or stands still at its type's end
-abbrev pub raised : ℕ → ℕ
-raised n = min (n + 1) (2 ^ 64 - 1)
+abbrev pub one_higher : ℕ → ℕ
+one_higher n = min (n + 1) (2 ^ 64 - 1)
 
 -- a count rose, or stands at its type's end
 abbrev pub Rose : ℕ → ℕ → Type 0
-Rose before now = raised before ≤ now
+Rose before now = one_higher before ≤ now
 
 -- no failure came between: the count didn't rise, and stands below its type's end
 abbrev pub NoFault : ℕ → ℕ → Type 0

@@ -20,7 +20,8 @@ pub record OutSeen : Type 0 where
   pub faults : ℕ
   pub faults_after : ℕ
 
-pub record Seen : Type 0 where
+-- what is seen of a run: its words as bytes, the log, and out
+pub record RunSeen : Type 0 where
   pub words : List (List ℕ)
   pub log : LogSeen
   pub out : OutSeen
@@ -38,5 +39,5 @@ abbrev pub out_seen : {W : Type 0} → SinkOf W → W → W → OutSeen
 out_seen sink old new = record { held = sink.held old; held_after = sink.held new; faults = sink.faults old; faults_after = sink.faults new }
 
 -- a run with these words, this log and this out
-abbrev pub run_seen : List (List ℕ) → LogSeen → OutSeen → Seen
+abbrev pub run_seen : List (List ℕ) → LogSeen → OutSeen → RunSeen
 run_seen words log out = record { words = words; log = log; out = out }

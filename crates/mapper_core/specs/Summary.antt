@@ -9,20 +9,20 @@ use Rattle.scan_log.specs.Transcript.{replies, serial_marks}
 use Rattle.mapper_core.specs.Generated.{generated}
 
 -- the hits of a reply to a single search
-abbrev pub hits_of : Reply → ℕ
-hits_of (Near r) = length r.hits
-hits_of (Done mark) = 0
-hits_of (Nears r) = 0
-hits_of (Inside r) = 0
-hits_of (Ball r) = 0
-hits_of (Lonely r) = 0
-hits_of (Clusters r) = 0
-hits_of (Totals mark live suspended) = 0
+abbrev pub hits_in_reply : Reply → ℕ
+hits_in_reply (Near r) = length r.hits
+hits_in_reply (Done mark) = 0
+hits_in_reply (Nears r) = 0
+hits_in_reply (Inside r) = 0
+hits_in_reply (Ball r) = 0
+hits_in_reply (Lonely r) = 0
+hits_in_reply (Clusters r) = 0
+hits_in_reply (Totals mark live suspended) = 0
 
 -- the hits of all single searches
 abbrev pub hits_in : List Reply → ℕ
 hits_in [] = 0
-hits_in (r ∷ rs) = hits_of r + hits_in rs
+hits_in (r ∷ rs) = hits_in_reply r + hits_in rs
 
 -- how many points are held
 pub record Held : Type 0 where

@@ -14,12 +14,12 @@ abbrev pub HasPlace : List Entry → Option ℕ → ℕ → Update → Type 0
 HasPlace h owner m u = (k : ℕ) × (m ≡ k + 1) × ((e : Entry) × (slice_get h k ≡ Some e) × IfSome owner (λ caller. e.caller ≡ caller) × (e.update ≡ u))
 
 -- the mark has a place in the history: an update's is that of its entry
-abbrev pub IsPlaced : List Entry → Command → ℕ → Type 0
-IsPlaced h c m = MatchOption (command_update c) (m ≤ length h) (HasPlace h (command_caller c) m)
+abbrev pub StandsInHistory : List Entry → Command → ℕ → Type 0
+StandsInHistory h c m = MatchOption (command_update c) (m ≤ length h) (HasPlace h (command_caller c) m)
 
 -- the reply to the command after so many entries of the history as its mark says
 pub record IsReply (voxel : ℕ) (h : List Entry) (c : Command) (r : Reply) : Type 0 where
-  pub placed : IsPlaced h c (mark_of r)
+  pub placed : StandsInHistory h c (mark_of r)
   pub told : r ≡ reply_to voxel (updates h) c (mark_of r)
 
 -- such a reply, whose mark is later than this one

@@ -1,4 +1,4 @@
--- What a command makes of a state, and what is replied.
+-- What a command makes of a state, and what is replied. Cited by private functions alone.
 use Rattle.std.specs.Prelude.{◌≡◌, ◌+◌, List, [], ◌∷◌, ◌++◌, length}
 use Rattle.kd_tree.specs.Contents.{contents}
 use Rattle.map_fold.specs.declared.update.Update.{Update}

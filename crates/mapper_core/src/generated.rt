@@ -4,7 +4,7 @@ ghost use Rattle.std.specs.List.{AllByRecursion};
 ghost use Rattle.std.specs.Option.{ForSome};
 ghost use Rattle.scan_log.specs.declared.format.Format.TheVariants.{One};
 ghost use Rattle.scan_log.specs.Scripts.{IsCaller, IsCallerBox, IsCommand, IsScannedPlace, asked, hits_of, points_of, submitted, with_command};
-ghost use Rattle.mapper_core.specs.Generated.{after, behind, deletions, generated, next_draws, points_of_draws, robot, scan_commands};
+ghost use Rattle.mapper_core.specs.Generated.{after, box_behind, deletions, generated, next_draws, points_of_draws, robot, scan_commands};
 
 use crate::draws::{Draws, point_at};
 use map_fold::{Cuboids, MAX_POINTS, NoMemory, Points, Settings, Update};
@@ -126,7 +126,7 @@ fn push_deletions(alloc: Global, script: &mut Script, scan: u32) -> Result<(), N
 // What lies 30 to 60 metres behind the robot.
 fn behind(scan: u32) -> Cuboid
     requires { scan < 200 }
-    ensures value { result ≡ behind scan }
+    ensures value { result ≡ box_behind scan }
     ensures good { IsCallerBox One result }
 {
     let x = 1_000 * scan as i64;

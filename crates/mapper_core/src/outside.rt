@@ -7,6 +7,7 @@ ghost use Rattle.mapper_core.specs.Outside.{HasCause, is_end};
 ghost use Rattle.mapper_core.specs.declared.outside.SinkFault.TheVariants.{NoMemory};
 
 use std::alloc::AllocError;
+use std::fmt::{Display, Error, Formatter, Write};
 
 /// A read failed.
 #[derive(Clone, Copy, Debug, PartialEq, Eq)]
@@ -26,6 +27,21 @@ impl From<AllocError> for SinkFault {
 
     fn from(_error: AllocError) -> SinkFault {
         SinkFault::NoMemory
+    }
+}
+
+impl Display for Failed {
+    fn fmt<W: Write>(&self, f: &mut Formatter<W>) -> Result<(), Error> {
+        f.write_str("a read failed")
+    }
+}
+
+impl Display for SinkFault {
+    fn fmt<W: Write>(&self, f: &mut Formatter<W>) -> Result<(), Error> {
+        f.write_str(match self {
+            SinkFault::Failed => "a write failed",
+            SinkFault::NoMemory => "no memory",
+        })
     }
 }
 

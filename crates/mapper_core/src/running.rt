@@ -3,7 +3,7 @@ ghost use Rattle.std.specs.Prelude.{◌≡◌, ℕ, Some, IfOk, IfErr};
 ghost use Rattle.scan_log.specs.Legal.{AreLegalLines};
 ghost use Rattle.mapper_core.specs.Asks.{Asks, AskForLog, AskForRun, AskForScans, AskNothing, CanBeDone, IsOfLog};
 ghost use Rattle.mapper_core.specs.Causes.{Ended, Ends, HasNoText, IsTextOf, ReadsInLimit};
-ghost use Rattle.mapper_core.specs.Done.{IsChecked, IsDriven, IsMade, IsTranscribed, IsTranscribedInOrder};
+ghost use Rattle.mapper_core.specs.Done.{IsChecked, IsDriven, IsScriptMade, IsTranscribed, IsTranscribedInOrder};
 ghost use Rattle.mapper_core.specs.Endings.{IsOrNoMemory};
 ghost use Rattle.mapper_core.specs.Inputs.{IfBad, IfOverLimit, IfSpelled};
 ghost use Rattle.mapper_core.specs.Outside.{NoFault};
@@ -53,7 +53,7 @@ pub fn run<H: Threads + Wait + Sync, R: Source, W: Sink, E: Sink, G: Gate + Sync
 
     // A check has the line of its verdict written, and of a generated script its log is, or the line of its sums.
     ensures checked { (n : ℕ) → result ≡ Status.Done → Asks (Ask.Check n) (texts words.now) → IsChecked n (log_seen R.Source log.old log.new) (out_seen W.Sink out.old out.new) }
-    ensures made { (n : ℕ) → result ≡ Status.Done → Asks (Ask.Make n) (texts words.now) → IsMade n (out_seen W.Sink out.old out.new) }
+    ensures made { (n : ℕ) → result ≡ Status.Done → Asks (Ask.Make n) (texts words.now) → IsScriptMade n (out_seen W.Sink out.old out.new) }
     ensures driven { (n : ℕ) → result ≡ Status.Done → Asks (Ask.Drive n) (texts words.now) → IsDriven n (out_seen W.Sink out.old out.new) }
 
     // Each status has its cause, and notes get its line or a front of it. Only the words decide on Usage, where memory did not run out.

@@ -1,7 +1,7 @@
 //! The line of sums that is told of a run.
 ghost use Rattle.std.specs.Prelude.{◌≡◌, ◌++◌, decimal, IfOk, OnOk};
 ghost use Rattle.scan_log.specs.Scripts.{points_of};
-ghost use Rattle.mapper_core.specs.Summary.{held_at_end, hits_in, hits_of, sum_text, summary_text};
+ghost use Rattle.mapper_core.specs.Summary.{held_at_end, hits_in, hits_in_reply, sum_text, summary_text};
 
 use itoa::Buffer;
 use map_fold::NoMemory;
@@ -91,7 +91,7 @@ fn hits_in(replies: &[Reply]) -> u128
 }
 
 fn hits_of(reply: &Reply) -> usize
-    ensures { result ≡ hits_of reply.now }
+    ensures { result ≡ hits_in_reply reply.now }
 {
     match reply {
         Reply::Near(found) => found.hits.len(),

@@ -5,7 +5,7 @@ use Rattle.scan_log.specs.declared.command.Command.{Command}
 use Rattle.scan_log.specs.declared.command.Command.TheVariants.{Change, Near, Nears, Inside, Ball, Lonely, Clusters, Pose, Sync}
 use Rattle.scan_log.specs.declared.format.Format.{Format}
 use Rattle.scan_log.specs.Scripts.{IsCommand}
-use Rattle.scan_log.specs.Legal.{counted}
+use Rattle.scan_log.specs.Legal.{numbers_from}
 use Rattle.published_map.specs.Marks.{Seen, IsDistinct, callers_of}
 use Rattle.mapper_core.specs.Meetings.{HasCaller}
 use Rattle.mapper_core.proofs.Meeting.{distinct_counted}
@@ -29,12 +29,12 @@ length_callers : (ps : List Seen) → length (callers_of ps) ≡ length ps
 length_callers [] = refl
 length_callers (p ∷ ps) = ap suc (length_callers ps)
 
-length_counted : (n k : ℕ) → length (counted n k) ≡ k
+length_counted : (n k : ℕ) → length (numbers_from n k) ≡ k
 length_counted n zero = refl
 length_counted n (suc k) = ap suc (length_counted (n + 1) k)
 
-pub as_many : (n : ℕ) (ps : List Seen) → callers_of ps ≡ counted 1 n → length ps ≡ n
+pub as_many : (n : ℕ) (ps : List Seen) → callers_of ps ≡ numbers_from 1 n → length ps ≡ n
 as_many n ps are = sym (length_callers ps) ∙ ap length are ∙ length_counted 1 n
 
-pub apart : (n : ℕ) (ps : List Seen) → callers_of ps ≡ counted 1 n → IsDistinct (callers_of ps)
+pub apart : (n : ℕ) (ps : List Seen) → callers_of ps ≡ numbers_from 1 n → IsDistinct (callers_of ps)
 apart n ps are = subst IsDistinct (sym are) (distinct_counted 1 n)

@@ -1,7 +1,7 @@
 -- Laws of actions on labels, and of counts.
 use Rattle.std.proofs.Common.{◌≡◌, ℕ, ◌+◌, List, [], ◌∷◌, map, refl, ap, ◌∙◌, sym, arith}
 use Rattle.node_labels.specs.Labels.{apply, composed, keep_tag}
-use Rattle.node_labels.specs.Tallies.{none, counted, added, applied, total, tally}
+use Rattle.node_labels.specs.Tallies.{none, counted, added, applied, total, label_counts}
 use Rattle.node_labels.specs.declared.label.Label.{Label}
 use Rattle.node_labels.specs.declared.label.Label.TheVariants.{Live, Suspended, Dropped}
 use Rattle.node_labels.specs.declared.tag.Tag.{Tag}
@@ -112,11 +112,11 @@ pub added_total : (x y : Counts) → total (added x y) ≡ total x + total y
 added_total x y = omega arith
 
 -- the counts after an action are those of the labels after it
-pub tally-map : (a : Tag) (xs : List Label) → tally (map (apply a) xs) ≡ applied a (tally xs)
+pub tally-map : (a : Tag) (xs : List Label) → label_counts (map (apply a) xs) ≡ applied a (label_counts xs)
 tally-map a [] = sym (applied-none a)
 tally-map a (x ∷ xs) =
-    added_alike _ _ _ _ (sym (applied-counted a x)) (tally-map a xs) ∙ sym (applied-added a (counted x 1) (tally xs))
+    added_alike _ _ _ _ (sym (applied-counted a x)) (tally-map a xs) ∙ sym (applied-added a (counted x 1) (label_counts xs))
 
 -- where counts are those of labels, so are the counts after an action
-pub applied_tally : (a : Tag) (c : Counts) (xs : List Label) → c ≡ tally xs → applied a c ≡ tally (map (apply a) xs)
+pub applied_tally : (a : Tag) (c : Counts) (xs : List Label) → c ≡ label_counts xs → applied a c ≡ label_counts (map (apply a) xs)
 applied_tally a c xs e = ap (λ z. applied a z) e ∙ sym (tally-map a xs)

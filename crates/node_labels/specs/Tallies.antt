@@ -5,6 +5,7 @@ use Rattle.node_labels.specs.declared.label.Label.TheVariants.{Live, Suspended, 
 use Rattle.node_labels.specs.declared.tag.Tag.{Tag}
 use Rattle.node_labels.specs.declared.counts.Counts.{Counts}
 
+-- nothing was counted
 abbrev pub none : Counts
 none = record { live = 0; suspended = 0; dropped = 0 }
 
@@ -14,6 +15,7 @@ counted Live n = record none { live = n }
 counted Suspended n = record none { suspended = n }
 counted Dropped n = record none { dropped = n }
 
+-- two counts together, label by label
 abbrev pub added : Counts → Counts → Counts
 added a b = record { live = a.live + b.live; suspended = a.suspended + b.suspended; dropped = a.dropped + b.dropped }
 
@@ -26,6 +28,6 @@ abbrev pub total : Counts → ℕ
 total c = c.live + c.suspended + c.dropped
 
 -- the counts of a list of labels
-abbrev pub tally : List Label → Counts
-tally [] = none
-tally (x ∷ xs) = added (counted x 1) (tally xs)
+abbrev pub label_counts : List Label → Counts
+label_counts [] = none
+label_counts (x ∷ xs) = added (counted x 1) (label_counts xs)

@@ -1,7 +1,7 @@
 //! Counts of labels.
 ghost use Rattle.std.specs.Prelude.{◌≡◌, ◌+◌, ◌≤◌, List, map};
 ghost use Rattle.node_labels.specs.Labels.{apply};
-ghost use Rattle.node_labels.specs.Tallies.{added, applied, counted, tally, total};
+ghost use Rattle.node_labels.specs.Tallies.{added, applied, counted, label_counts, total};
 ghost use Rattle.node_labels.specs.declared.label.Label.{Label};
 
 use crate::{Label, Tag};
@@ -22,7 +22,7 @@ impl Counts {
     pub fn apply(self, tag: Tag) -> Counts
         requires { total self ≤ MAX_COUNTED }
         ensures value { result ≡ applied tag self }
-        ensures counts { (labels : List Label) → self ≡ tally labels → result ≡ tally (map (apply tag) labels) }
+        ensures counts { (labels : List Label) → self ≡ label_counts labels → result ≡ label_counts (map (apply tag) labels) }
         ensures same { total result ≡ total self }
     {
         let mut counts = Counts {

@@ -18,13 +18,13 @@ use Rattle.point_geom.specs.Extents.{IsIn, IsPart, HoldsAll, HoldsSome, spot, lo
 ≤ℤ-trans : (a b c : ℤ) → a ≤ℤ b → b ≤ℤ c → a ≤ℤ c
 ≤ℤ-trans a b c h k = omega (arith, ints)
 
-between_parts : (lo c hi : ℤ) → is_between lo c hi ≡ true → (lo ≤ℤ c) × (c <ℤ hi)
+pub between_parts : (lo c hi : ℤ) → is_between lo c hi ≡ true → (lo ≤ℤ c) × (c <ℤ hi)
 between_parts lo c hi h =
     let p = and_parts (int_le lo c) (int_lt c hi) h in
     let low = p.0 in
     let high = p.1 in (grind (arith, ints), grind (arith, ints))
 
-is_between_by : (lo c hi : ℤ) → lo ≤ℤ c → c <ℤ hi → is_between lo c hi ≡ true
+pub is_between_by : (lo c hi : ℤ) → lo ≤ℤ c → c <ℤ hi → is_between lo c hi ≡ true
 is_between_by lo c hi h k = grind (arith, ints)
 
 crossed_parts : (lo hi low high : ℤ) → is_crossed lo hi low high ≡ true → (lo ≤ℤ high) × (low <ℤ hi) × (lo <ℤ hi)

@@ -29,6 +29,7 @@ unit_box p = cube 1 (corner_of p)
 abbrev pub cell_start : ℕ → ℤ → ℤ
 cell_start length c = c -ℤ int_rem_euclid c (pos length)
 
+-- the lower corner of the grid cube of this length, in millimetres, that the point is in
 abbrev pub cell_corner : ℕ → Place → Corner
 cell_corner length p = record { x = cell_start length p.x; y = cell_start length p.y; z = cell_start length p.z }
 

@@ -19,9 +19,11 @@ pub record IsPart (a b : Span) : Type 0 where
 abbrev pub spot : Place → Span
 spot p = record { lo = bare p; hi = bare p }
 
+-- on each axis the lesser of two points' coordinates; the intensity is 0
 abbrev pub low_corner : Place → Place → Place
 low_corner p q = record { x = int_min p.x q.x; y = int_min p.y q.y; z = int_min p.z q.z; intensity = 0 }
 
+-- on each axis the greater of them; the intensity is 0
 abbrev pub high_corner : Place → Place → Place
 high_corner p q = record { x = int_max p.x q.x; y = int_max p.y q.y; z = int_max p.z q.z; intensity = 0 }
 

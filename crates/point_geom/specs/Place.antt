@@ -23,6 +23,7 @@ pub record Span : Type 0 where
 abbrev pub IsCoordinate : ℤ → Type 0
 IsCoordinate c = (negsuc 1099511627775 ≤ℤ c) × (c ≤ℤ pos 1099511627776)
 
+-- each coordinate of a point lies within 2 ^ 40 millimetres of 0, and its intensity is at most 65,535
 abbrev pub IsPlace : Place → Type 0
 IsPlace p = IsCoordinate p.x × IsCoordinate p.y × IsCoordinate p.z × (p.intensity < 65536)
 
@@ -40,6 +41,7 @@ bare p = record p { intensity = 0 }
 abbrev pub IsCornerNumber : ℤ → Type 0
 IsCornerNumber c = (negsuc 1099512627775 ≤ℤ c) × (c ≤ℤ pos 1099512627776)
 
+-- each number of a box's corner lies at most a kilometre farther out than a coordinate may
 abbrev pub IsCorner : Corner → Type 0
 IsCorner p = IsCornerNumber p.x × IsCornerNumber p.y × IsCornerNumber p.z
 
@@ -47,6 +49,7 @@ IsCorner p = IsCornerNumber p.x × IsCornerNumber p.y × IsCornerNumber p.z
 abbrev pub IsLowNumber : ℤ → Type 0
 IsLowNumber c = (negsuc 1099512627775 ≤ℤ c) × (c ≤ℤ pos 1099511627776)
 
+-- each number of a cube's lower corner is in its limits, so that the upper corner's are in theirs
 abbrev pub IsLowCorner : Corner → Type 0
 IsLowCorner p = IsLowNumber p.x × IsLowNumber p.y × IsLowNumber p.z
 
@@ -62,6 +65,7 @@ pub record IsUpright (lo hi : Corner) : Type 0 where
   pub y : lo.y ≤ℤ hi.y
   pub z : lo.z ≤ℤ hi.z
 
+-- both corners of a box are in their limits, and no number of lo is above hi's
 pub record IsBounds (b : Bounds) : Type 0 where
   pub lo : IsCorner b.lo
   pub hi : IsCorner b.hi

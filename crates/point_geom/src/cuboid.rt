@@ -45,6 +45,9 @@ impl Model for Cuboid {
     ghost inverse = { λ b. record { lo = b.lo; hi = b.hi } };
 }
 
+/// The longest edge of a cube of the grid: a kilometre, in millimetres.
+pub const MAX_EDGE: u32 = 1_000_000;
+
 impl Cuboid {
     const LEAST: i64 = -1_099_511_627_776;
 
@@ -167,7 +170,7 @@ impl Cuboid {
     // Its corners may lie a kilometre farther out than those of `new`.
     fn cube(lo: Corner, length: u32) -> Cuboid
         requires low { IsLowCorner lo }
-        requires short { length ≤ 1000000 }
+        requires short { length ≤ MAX_EDGE }
         ensures { result ≡ cube length lo }
     {
         let hi = Corner {
@@ -199,7 +202,7 @@ fn all(x: bool, y: bool, z: bool) -> bool
 
 fn far_end(start: i64, length: u32) -> i64
     requires low { IsLowNumber start }
-    requires short { length ≤ 1000000 }
+    requires short { length ≤ MAX_EDGE }
     ensures value { result ≡ (start +ℤ pos length) }
     ensures range { IsCornerNumber result }
     ensures above { start ≤ℤ result }
@@ -211,7 +214,7 @@ fn far_end(start: i64, length: u32) -> i64
 /// has its lower corner at 0.
 pub fn voxel(p: &Point, length: u32) -> Cuboid
     requires positive { 1 ≤ length }
-    requires short { length ≤ 1000000 }
+    requires short { length ≤ MAX_EDGE }
     ensures value { result ≡ voxel length p.now }
     ensures inside { holds result p.now ≡ true }
     ensures grid { IsOnGrid length result.lo }
@@ -227,7 +230,7 @@ pub fn voxel(p: &Point, length: u32) -> Cuboid
 fn cell_start(c: i64, length: u32) -> i64
     requires range { IsCoordinate c }
     requires positive { 1 ≤ length }
-    requires short { length ≤ 1000000 }
+    requires short { length ≤ MAX_EDGE }
     ensures value { result ≡ cell_start length c }
     ensures low { IsLowNumber result }
 {

@@ -4,7 +4,7 @@ use Rattle.std.proofs.lemmas.Bool.Decides.{nat_tests}
 use mathlib.Core.List.{IsPrefix}
 use Rattle.map_fold.specs.declared.entry.Entry.{Entry}
 use Rattle.map_fold.specs.declared.update.Update.{Update}
-use Rattle.published_map.specs.Marks.{Seen, update_in, at_places, IsMarked, keep_if, updates_of, one_if, times, IsDistinct, AllOf, callers_of, made_by, AllMet, AllSeen, IsMade, AllMade, AllGrown, AllBegin, AllOwn, AllEnded}
+use Rattle.published_map.specs.Marks.{Seen, update_in, at_places, AreOwnPlaces, keep_if, own_updates, one_if, times_listed, IsDistinct, AllOf, callers_of, made_by, AllMet, AllSeen, IsMade, AllMade, AllGrown, AllBegin, AllOwn, AllEnded}
 
 -- xs is ys with some items left out
 abbrev IsSub : {A : Type 0} → List A → List A → Type 0
@@ -34,14 +34,14 @@ lower [] = []
 lower (zero ∷ ks) = zero ∷ lower ks
 lower (suc k ∷ ks) = k ∷ lower ks
 
-shift : (c : ℕ) (e : Entry) (es : List Entry) (low above : ℕ) (ks : List ℕ) → above ≡ low + 1 → IsMarked c (e ∷ es) above ks → IsMarked c es low (lower ks)
+shift : (c : ℕ) (e : Entry) (es : List Entry) (low above : ℕ) (ks : List ℕ) → above ≡ low + 1 → AreOwnPlaces c (e ∷ es) above ks → AreOwnPlaces c es low (lower ks)
 unfolding lower
 shift c e es low above [] is m = tt
 shift c e es low above (zero ∷ ks) is m = let le = m.0 in absurd (omega arith)
 shift c e es low above (suc k ∷ ks) is m =
     let le = m.0 in (omega arith, (m.1.0, m.1.1, m.1.2), shift c e es (k + 1) (suc k + 1) ks (omega arith) m.2)
 
-places_shift : (c : ℕ) (e : Entry) (es : List Entry) (low above : ℕ) (ks : List ℕ) → above ≡ low + 1 → IsMarked c (e ∷ es) above ks → at_places (e ∷ es) ks ≡ at_places es (lower ks)
+places_shift : (c : ℕ) (e : Entry) (es : List Entry) (low above : ℕ) (ks : List ℕ) → above ≡ low + 1 → AreOwnPlaces c (e ∷ es) above ks → at_places (e ∷ es) ks ≡ at_places es (lower ks)
 unfolding lower
 places_shift c e es low above [] is m = refl
 places_shift c e es low above (zero ∷ ks) is m = let le = m.0 in absurd (omega arith)
@@ -57,26 +57,26 @@ keep_same true xs u us is s = inl (refl, s)
 keep_same false xs u us is s = absurd (cc is)
 
 -- the updates at a caller's marks are among that caller's
-marked_sub : (c : ℕ) (h : List Entry) (ks : List ℕ) → IsMarked c h 0 ks → IsSub (at_places h ks) (updates_of c h)
+marked_sub : (c : ℕ) (h : List Entry) (ks : List ℕ) → AreOwnPlaces c h 0 ks → IsSub (at_places h ks) (own_updates c h)
 marked_sub c h [] m = tt
 marked_sub c [] (k ∷ ks) m = let at = m.1.1 in absurd (cc at)
 marked_sub c (e ∷ es) (zero ∷ ks) m =
     let rest : at_places (e ∷ es) ks ≡ at_places es (lower ks) = places_shift c e es 0 (zero + 1) ks (omega arith) m.2 in
-    let below : IsSub (at_places es (lower ks)) (updates_of c es) = marked_sub c es (lower ks) (shift c e es 0 (zero + 1) ks (omega arith) m.2) in
+    let below : IsSub (at_places es (lower ks)) (own_updates c es) = marked_sub c es (lower ks) (shift c e es 0 (zero + 1) ks (omega arith) m.2) in
     let same : e ≡ m.1.0 = cc (m.1.1) in
     let by : e.caller ≡ c = ap (λ x. x.caller) same ∙ m.1.2 in
     let test : (e.caller == c) ≡ true = grind (arith, nat_tests) in
-    subst (λ (us : List Update). IsSub (e.update ∷ us) (updates_of c (e ∷ es))) (sym rest) (keep_same (e.caller == c) (at_places es (lower ks)) e.update (updates_of c es) test below)
+    subst (λ (us : List Update). IsSub (e.update ∷ us) (own_updates c (e ∷ es))) (sym rest) (keep_same (e.caller == c) (at_places es (lower ks)) e.update (own_updates c es) test below)
 marked_sub c (e ∷ es) (suc k ∷ ks) m =
-    let up : IsMarked c (e ∷ es) (0 + 1) (suc k ∷ ks) = (omega arith, m.1, m.2) in
+    let up : AreOwnPlaces c (e ∷ es) (0 + 1) (suc k ∷ ks) = (omega arith, m.1, m.2) in
     let all : at_places (e ∷ es) (suc k ∷ ks) ≡ at_places es (lower (suc k ∷ ks)) = places_shift c e es 0 (0 + 1) (suc k ∷ ks) refl up in
-    let below : IsSub (at_places es (lower (suc k ∷ ks))) (updates_of c es) = marked_sub c es (lower (suc k ∷ ks)) (shift c e es 0 (0 + 1) (suc k ∷ ks) refl up) in
-    subst (λ (us : List Update). IsSub us (updates_of c (e ∷ es))) (sym all) (keep_skip (e.caller == c) (at_places es (lower (suc k ∷ ks))) e.update (updates_of c es) below)
+    let below : IsSub (at_places es (lower (suc k ∷ ks))) (own_updates c es) = marked_sub c es (lower (suc k ∷ ks)) (shift c e es 0 (0 + 1) (suc k ∷ ks) refl up) in
+    subst (λ (us : List Update). IsSub us (own_updates c (e ∷ es))) (sym all) (keep_skip (e.caller == c) (at_places es (lower (suc k ∷ ks))) e.update (own_updates c es) below)
 
 -- how many entries are of these callers
 all_of : List ℕ → List Entry → ℕ
 all_of [] h = 0
-all_of (c ∷ cs) h = length (updates_of c h) + all_of cs h
+all_of (c ∷ cs) h = length (own_updates c h) + all_of cs h
 
 keep_length : (b : Bool) (u : Update) (us : List Update) → length (keep_if b u us) ≡ one_if b + length us
 keep_length true u us = omega arith
@@ -87,25 +87,25 @@ unfolding all_of
 all_of_nil [] = refl
 all_of_nil (c ∷ cs) = let r = all_of_nil cs in omega arith
 
-all_of_cons : (cs : List ℕ) (e : Entry) (es : List Entry) → all_of cs (e ∷ es) ≡ times e.caller cs + all_of cs es
+all_of_cons : (cs : List ℕ) (e : Entry) (es : List Entry) → all_of cs (e ∷ es) ≡ times_listed e.caller cs + all_of cs es
 unfolding all_of
 all_of_cons [] e es = refl
 all_of_cons (c ∷ cs) e es =
     let r = all_of_cons cs e es in
-    let k = keep_length (e.caller == c) e.update (updates_of c es) in
+    let k = keep_length (e.caller == c) e.update (own_updates c es) in
     omega arith
 
 one_if_most : (b : Bool) → one_if b ≤ 1
 one_if_most true = omega arith
 one_if_most false = omega arith
 
-times_by : (x c : ℕ) (cs : List ℕ) → times c cs ≡ 0 → times x cs ≤ 1 → (b : Bool) → (x == c) ≡ b → one_if b + times x cs ≤ 1
+times_by : (x c : ℕ) (cs : List ℕ) → times_listed c cs ≡ 0 → times_listed x cs ≤ 1 → (b : Bool) → (x == c) ≡ b → one_if b + times_listed x cs ≤ 1
 times_by x c cs none most true is =
     let same : x ≡ c = grind (arith, nat_tests) in
-    let zero_x : times x cs ≡ 0 = subst (λ (z : ℕ). times z cs ≡ 0) (sym same) none in omega arith
+    let zero_x : times_listed x cs ≡ 0 = subst (λ (z : ℕ). times_listed z cs ≡ 0) (sym same) none in omega arith
 times_by x c cs none most false is = omega arith
 
-times_most : (x : ℕ) (cs : List ℕ) → IsDistinct cs → times x cs ≤ 1
+times_most : (x : ℕ) (cs : List ℕ) → IsDistinct cs → times_listed x cs ≤ 1
 times_most x [] d = omega arith
 times_most x (c ∷ cs) d = times_by x c cs d.0 (times_most x cs d.1) (x == c) refl
 
@@ -119,8 +119,8 @@ all_of_whole cs (e ∷ es) d le =
     let r = all_of_cons cs e es in let t = times_most e.caller cs d in let q = all_of_most cs es d in
     (omega arith, all_of_whole cs es d (omega arith))
 
-made_length : (h : List Entry) (p : Seen) → IsMade h p → length p.mine ≤ length (updates_of p.caller h)
-made_length h p m = let s = sub_length (at_places h m.0) (updates_of p.caller h) (marked_sub p.caller h m.0 m.1) in let e = ap length m.2 in omega arith
+made_length : (h : List Entry) (p : Seen) → IsMade h p → length p.mine ≤ length (own_updates p.caller h)
+made_length h p m = let s = sub_length (at_places h m.0) (own_updates p.caller h) (marked_sub p.caller h m.0 m.1) in let e = ap length m.2 in omega arith
 
 made_most : (h : List Entry) (ps : List Seen) → AllMade h ps → made_by ps ≤ all_of (callers_of ps) h
 unfolding all_of
@@ -132,8 +132,8 @@ unfolding all_of
 made_whole h [] s m le = tt
 made_whole h (p ∷ ps) s m le =
     let a = made_length h p m.0 in let b = made_most h ps m.1 in let e = ap length m.0.2 in
-    let sub : IsSub (at_places h m.0.0) (updates_of p.caller h) = marked_sub p.caller h m.0.0 m.0.1 in
-    (s.0, m.0.2 ∙ sub_whole (at_places h m.0.0) (updates_of p.caller h) sub (omega arith), made_whole h ps s.1 m.1 (omega arith))
+    let sub : IsSub (at_places h m.0.0) (own_updates p.caller h) = marked_sub p.caller h m.0.0 m.0.1 in
+    (s.0, m.0.2 ∙ sub_whole (at_places h m.0.0) (own_updates p.caller h) sub (omega arith), made_whole h ps s.1 m.1 (omega arith))
 
 -- Where all passes together have made as many updates as there are entries, each has made exactly its caller's, and there are no others
 pub exactly_once : (h : List Entry) (ps : List Seen) → AllSeen h ps → AllMade h ps → IsDistinct (callers_of ps) → made_by ps ≡ length h → AllMet h ps × AllOf (callers_of ps) h
@@ -142,7 +142,7 @@ exactly_once h ps s m d is =
     (made_whole h ps s m (omega arith), all_of_whole (callers_of ps) h d (omega arith))
 
 -- as many updates as marks
-pub places_length : (c : ℕ) (h : List Entry) (low : ℕ) (ks : List ℕ) → IsMarked c h low ks → length (at_places h ks) ≡ length ks
+pub places_length : (c : ℕ) (h : List Entry) (low : ℕ) (ks : List ℕ) → AreOwnPlaces c h low ks → length (at_places h ks) ≡ length ks
 places_length c h low [] m = refl
 places_length c h low (k ∷ ks) m =
     let r : length (at_places h ks) ≡ length ks = places_length c h (k + 1) ks m.2 in
@@ -170,4 +170,4 @@ all_ended h ps qs g m o = (begins ps qs g m, owns ps qs g m, subst (λ (cs : Lis
     owns : (ps qs : List Seen) → AllGrown ps qs → AllMet h qs → AllOwn h ps
     owns [] qs g m = tt
     owns (p ∷ ps) [] g m = absurd g
-    owns (p ∷ ps) (q ∷ qs) g m = (sym g.0.2 ∙ (m.1 ∙ ap (λ c. updates_of c h) g.0.0), owns ps qs g.1 m.2)
+    owns (p ∷ ps) (q ∷ qs) g m = (sym g.0.2 ∙ (m.1 ∙ ap (λ c. own_updates c h) g.0.0), owns ps qs g.1 m.2)

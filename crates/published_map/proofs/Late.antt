@@ -3,6 +3,7 @@ use Rattle.std.proofs.Common.{◌≡◌, ℕ, ◌≤◌, List, [], ◌∷◌, le
 use Rattle.std.specs.Prelude.{◌==◌}
 use Rattle.std.proofs.lemmas.Bool.{cond_both}
 use Rattle.std.proofs.lemmas.List.{length-drop}
+use Rattle.std.proofs.lemmas.Option.{same_Some}
 use Rattle.kd_tree.specs.Shape.{Shape}
 use Rattle.rebuild_core.specs.Built.{BuiltAt}
 use Rattle.rebuild_core.specs.Lawful.{IsLawful, StateAt}
@@ -12,14 +13,11 @@ use Rattle.rebuild_core.specs.declared.fault.Late.{Late}
 use Rattle.rebuild_core.specs.declared.fault.Late.TheVariants.{Stale, Behind, NoMemory}
 use Rattle.published_map.specs.Late.{IsLateCause}
 
-some_part : (a b : PartAt) → ◌≡◌ {A = Option PartAt} (Some a) (Some b) → a ≡ b
-some_part a b e = cc
-
 -- the log of a part has at most 65,536 operations
 few_logged : (large next last : ℕ) (t : Shape) (ticket : ℕ) (ps : List PartAt) (p : PartAt) → part_of ticket ps ≡ Some p → AreEachLawful large next last t ps → length p.log ≤ 65536
 few_logged large next last t ticket [] p e k = absurd cc
 few_logged large next last t ticket (r ∷ ps) p e k =
-    cond_both (ticket == r.ticket) (Some r) (part_of ticket ps) (λ o. o ≡ Some p → length p.log ≤ 65536) (λ _ f. subst (λ (x : PartAt). length x.log ≤ 65536) (some_part r p f) k.0.few)
+    cond_both (ticket == r.ticket) (Some r) (part_of ticket ps) (λ o. o ≡ Some p → length p.log ≤ 65536) (λ _ f. subst (λ (x : PartAt). length x.log ≤ 65536) (same_Some r p f) k.0.few)
     (λ _ f. few_logged large next last t ticket ps p f k.1) e
 
 -- a refusal by a lawful state

@@ -3,7 +3,7 @@ use Rattle.std.proofs.Common.{◌≡◌, ℕ, zero, suc, ◌+◌, ◌<◌, ◌�
 use mathlib.Core.List.{IsPrefix}
 use Rattle.map_fold.specs.declared.entry.Entry.{Entry}
 use Rattle.published_map.specs.Held.{IsPass}
-use Rattle.published_map.specs.Marks.{at_places, IsMarked}
+use Rattle.published_map.specs.Marks.{at_places, AreOwnPlaces}
 
 -- what stands in a beginning stands in the whole, at the same place
 pub get_prefix : {A : Type 0} (xs ys : List A) (k : ℕ) (x : A) → IsPrefix xs ys → slice_get xs k ≡ Some x → slice_get ys k ≡ Some x
@@ -21,12 +21,12 @@ pub get_snoc : {A : Type 0} (xs : List A) (x : A) → slice_get (xs ++ x ∷ [])
 get_snoc [] x = refl
 get_snoc (y ∷ xs) x = get_snoc xs x
 
-pub marked_longer : (c : ℕ) (h k : List Entry) (low : ℕ) (ks : List ℕ) → IsPrefix h k → IsMarked c h low ks → IsMarked c k low ks
+pub marked_longer : (c : ℕ) (h k : List Entry) (low : ℕ) (ks : List ℕ) → IsPrefix h k → AreOwnPlaces c h low ks → AreOwnPlaces c k low ks
 marked_longer c h k low [] p m = tt
 marked_longer c h k low (j ∷ js) p m = (m.0, (m.1.0, get_prefix h k j m.1.0 p m.1.1, m.1.2), marked_longer c h k (j + 1) js p m.2)
 
 -- the caller's updates stay where they are
-pub places_longer : (c : ℕ) (h k : List Entry) (low : ℕ) (ks : List ℕ) → IsPrefix h k → IsMarked c h low ks → at_places k ks ≡ at_places h ks
+pub places_longer : (c : ℕ) (h k : List Entry) (low : ℕ) (ks : List ℕ) → IsPrefix h k → AreOwnPlaces c h low ks → at_places k ks ≡ at_places h ks
 places_longer c h k low [] p m = refl
 places_longer c h k low (j ∷ js) p m =
     let a : slice_get h j ≡ Some m.1.0 = m.1.1 in
@@ -34,13 +34,13 @@ places_longer c h k low (j ∷ js) p m =
     let r : at_places k js ≡ at_places h js = places_longer c h k (j + 1) js p m.2 in
     rw (a, b, r) refl
 
-pub marked_snoc : (c : ℕ) (h : List Entry) (low : ℕ) (ks : List ℕ) (e : Entry) → IsMarked c h low ks → low ≤ length h → e.caller ≡ c → IsMarked c (h ++ e ∷ []) low (ks ++ length h ∷ [])
+pub marked_snoc : (c : ℕ) (h : List Entry) (low : ℕ) (ks : List ℕ) (e : Entry) → AreOwnPlaces c h low ks → low ≤ length h → e.caller ≡ c → AreOwnPlaces c (h ++ e ∷ []) low (ks ++ length h ∷ [])
 marked_snoc c h low [] e m le is = (le, (e, get_snoc h e, is), tt)
 marked_snoc c h low (j ∷ js) e m le is =
     let in_it : j < length h = get_length h j m.1.0 m.1.1 in
     (m.0, (m.1.0, get_prefix h (h ++ e ∷ []) j m.1.0 (e ∷ [], refl) m.1.1, m.1.2), marked_snoc c h (j + 1) js e m.2 (omega arith) is)
 
-pub places_snoc : (c : ℕ) (h : List Entry) (low : ℕ) (ks : List ℕ) (e : Entry) → IsMarked c h low ks → at_places (h ++ e ∷ []) (ks ++ length h ∷ []) ≡ at_places h ks ++ e.update ∷ []
+pub places_snoc : (c : ℕ) (h : List Entry) (low : ℕ) (ks : List ℕ) (e : Entry) → AreOwnPlaces c h low ks → at_places (h ++ e ∷ []) (ks ++ length h ∷ []) ≡ at_places h ks ++ e.update ∷ []
 places_snoc c h low [] e m = let a : slice_get (h ++ e ∷ []) (length h) ≡ Some e = get_snoc h e in rw a refl
 places_snoc c h low (j ∷ js) e m =
     let a : slice_get h j ≡ Some m.1.0 = m.1.1 in
@@ -49,17 +49,17 @@ places_snoc c h low (j ∷ js) e m =
     rw (a, b, r) refl
 
 -- the caller's entry comes after a history that begins with what was marked
-pub marked_after : (c : ℕ) (s h n : List Entry) (ks js : List ℕ) (place : ℕ) (e : Entry) → IsPrefix s h → IsMarked c s 0 ks → n ≡ h ++ e ∷ [] → js ≡ ks ++ place ∷ [] → place ≡ length h → e.caller ≡ c
-    → IsMarked c n 0 js × (at_places n js ≡ at_places s ks ++ e.update ∷ [])
+pub marked_after : (c : ℕ) (s h n : List Entry) (ks js : List ℕ) (place : ℕ) (e : Entry) → IsPrefix s h → AreOwnPlaces c s 0 ks → n ≡ h ++ e ∷ [] → js ≡ ks ++ place ∷ [] → place ≡ length h → e.caller ≡ c
+    → AreOwnPlaces c n 0 js × (at_places n js ≡ at_places s ks ++ e.update ∷ [])
 marked_after c s h n ks js place e p m is more at by =
     let here : js ≡ ks ++ length h ∷ [] = more ∙ ap (λ k. ks ++ k ∷ []) at in
-    let all : IsMarked c h 0 ks = marked_longer c s h 0 ks p m in
-    let P : List Entry × List ℕ → Type 0 = λ z. IsMarked c z.0 0 z.1 × (at_places z.0 z.1 ≡ at_places s ks ++ e.update ∷ []) in
+    let all : AreOwnPlaces c h 0 ks = marked_longer c s h 0 ks p m in
+    let P : List Entry × List ℕ → Type 0 = λ z. AreOwnPlaces c z.0 0 z.1 × (at_places z.0 z.1 ≡ at_places s ks ++ e.update ∷ []) in
     subst P (λ i. (sym is i, sym here i))
     (marked_snoc c h 0 ks e all (omega arith) by, places_snoc c h 0 ks e all ∙ ap (λ us. us ++ e.update ∷ []) (places_longer c s h 0 ks p m))
 
 -- a caller has no more places than there are entries
-pub marked_few : (c : ℕ) (h : List Entry) (low : ℕ) (ks : List ℕ) → IsMarked c h low ks → low ≤ length h → low + length ks ≤ length h
+pub marked_few : (c : ℕ) (h : List Entry) (low : ℕ) (ks : List ℕ) → AreOwnPlaces c h low ks → low ≤ length h → low + length ks ≤ length h
 marked_few c h low [] m le = omega arith
 marked_few c h low (k ∷ ks) m le =
     let in_it : k < length h = get_length h k m.1.0 m.1.1 in

@@ -1,4 +1,4 @@
--- The book of marks: its pages, its rule, and what its step tells.
+-- The book of marks: its pages, its rule, and what its step tells. Cited by private functions alone.
 use Rattle.std.specs.Prelude.{ℕ, ◌≡◌, ◌==◌, true, List, [], ◌∷◌, ◌++◌, length, fold, MatchBool, Option, Some, None}
 use Rattle.logbook.specs.Pages.{Cell, Step, View, Book, Named}
 use Rattle.map_fold.specs.declared.entry.Entry.{Entry}
@@ -15,16 +15,18 @@ told f None = []
 told f (Some x) = f x
 
 -- the first word is the number of entries. A book has two words, of which this one leaves the second at 0
-abbrev pub IsKept : List Cell → List Page → Type 0
-IsKept cells log = cells ≡ (length log, true) ∷ (0, true) ∷ []
+abbrev pub IsBookOf : List Cell → List Page → Type 0
+IsBookOf cells log = cells ≡ (length log, true) ∷ (0, true) ∷ []
 
-abbrev pub head_of : Book → Named
-head_of b = record { tracked = true; key = 0; book = b }
+-- the name of the book's first word
+abbrev pub book_name : Book → Named
+book_name b = record { tracked = true; key = 0; book = b }
 
 -- the page was added to all that had been seen; or there were more, and they were seen
 abbrev pub Adds : Step Page → View Page ℕ → ℕ → View Page ℕ → Type 0
 Adds s v found w = MatchBool (found == s.old) (w.0 ≡ v.0 ++ s.ask ∷ []) (length w.0 ≡ found)
 
+-- a page of no entries and no items; it stands for the last page where there is none
 abbrev pub blank : Page
 blank = record { history = []; items = [] }
 

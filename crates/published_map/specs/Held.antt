@@ -5,7 +5,7 @@ use Rattle.std.specs.declared.sync.ledger.Blank.{Blank}
 use Rattle.logbook.specs.Pages.{Book}
 use Rattle.map_fold.specs.declared.entry.Entry.{Entry}
 use Rattle.map_fold.specs.declared.item.Item.{Item}
-use Rattle.published_map.specs.Marks.{IsMarked}
+use Rattle.published_map.specs.Marks.{AreOwnPlaces}
 use Rattle.rebuild_core.specs.declared.plan.TheConstants.{MAX_UPDATES}
 
 -- A pass keeps the history of one version, and its reader knows that or more. The marks are the places of its caller's entries.
@@ -14,7 +14,7 @@ pub record IsPass (caller : ℕ) (kept known : List Entry) (marks : List ℕ) (p
   pub caller_from : 1 ≤ caller
   pub caller_to : caller ≤ 8
   pub reader : IsPrefix kept known
-  pub marked : IsMarked caller kept 0 marks
+  pub marked : AreOwnPlaces caller kept 0 marks
   pub few : length marks ≤ MAX_UPDATES
   pub part : parts ≡ 1
   pub counted : amount ≡ length marks

@@ -1,4 +1,4 @@
--- What detached subtrees held, as the lock keeps it.
+-- What detached subtrees held, as the lock keeps it. Cited by private functions alone.
 use Rattle.std.specs.Prelude.{ℕ, ◌≤◌, List, [], ◌∷◌, Option, ◌==◌, if◌then◌else◌}
 use Rattle.std.specs.List.{find}
 use Rattle.map_fold.specs.declared.item.Item.{Item}
@@ -16,6 +16,7 @@ pub record IsTrueOf (s : StateAt) (h : HoldAt) : Type 0 where
   pub given : h.ticket ≤ s.last
   pub items : AreItemsOf h.ticket h.items s.parts
 
+-- each of the holds is true of the state
 abbrev pub AreTrueOf : StateAt → List HoldAt → Type 0
 AreTrueOf s [] = Unit {0}
 AreTrueOf s (h ∷ hs) = IsTrueOf s h × AreTrueOf s hs

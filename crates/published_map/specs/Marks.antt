@@ -5,6 +5,7 @@ use Rattle.map_fold.specs.declared.entry.Entry.{Entry}
 use Rattle.map_fold.specs.declared.update.Update.{Update}
 use Rattle.rebuild_core.specs.History.{entry_by}
 
+-- the entry's update as a list, or an empty list where there is no entry
 abbrev pub update_in : Option Entry → List Update
 update_in (Some e) = e.update ∷ []
 update_in None = []
@@ -15,9 +16,9 @@ at_places h [] = []
 at_places h (k ∷ ks) = update_in (slice_get h k) ++ at_places h ks
 
 -- the places rise from low on, and at each stands an entry of the caller
-abbrev pub IsMarked : ℕ → List Entry → ℕ → List ℕ → Type 0
-IsMarked c h low [] = Unit {0}
-IsMarked c h low (k ∷ ks) = (low ≤ k) × ((e : Entry) × (slice_get h k ≡ Some e) × (e.caller ≡ c)) × IsMarked c h (k + 1) ks
+abbrev pub AreOwnPlaces : ℕ → List Entry → ℕ → List ℕ → Type 0
+AreOwnPlaces c h low [] = Unit {0}
+AreOwnPlaces c h low (k ∷ ks) = (low ≤ k) × ((e : Entry) × (slice_get h k ≡ Some e) × (e.caller ≡ c)) × AreOwnPlaces c h (k + 1) ks
 
 -- what contracts see of a pass: its caller, a beginning of the one history, and the updates that its caller has made by it
 pub record Seen : Type 0 where
@@ -39,34 +40,37 @@ Added p q u n =
 abbrev pub seen_by_new : ℕ → Seen
 seen_by_new c = record { caller = c; seen = []; mine = [] }
 
+-- the update before the others, or these alone where the test fails
 abbrev pub keep_if : Bool → Update → List Update → List Update
 keep_if true u us = u ∷ us
 keep_if false u us = us
 
 -- the updates of one caller, in order
-abbrev pub updates_of : ℕ → List Entry → List Update
-updates_of c [] = []
-updates_of c (e ∷ es) = keep_if (e.caller == c) e.update (updates_of c es)
+abbrev pub own_updates : ℕ → List Entry → List Update
+own_updates c [] = []
+own_updates c (e ∷ es) = keep_if (e.caller == c) e.update (own_updates c es)
 
+-- 1 where the test passes, and else 0
 abbrev pub one_if : Bool → ℕ
 one_if true = 1
 one_if false = 0
 
 -- how often x stands in the list
-abbrev pub times : ℕ → List ℕ → ℕ
-times x [] = 0
-times x (c ∷ cs) = one_if (x == c) + times x cs
+abbrev pub times_listed : ℕ → List ℕ → ℕ
+times_listed x [] = 0
+times_listed x (c ∷ cs) = one_if (x == c) + times_listed x cs
 
 -- no caller comes twice
 abbrev pub IsDistinct : List ℕ → Type 0
 IsDistinct [] = Unit {0}
-IsDistinct (c ∷ cs) = (times c cs ≡ 0) × IsDistinct cs
+IsDistinct (c ∷ cs) = (times_listed c cs ≡ 0) × IsDistinct cs
 
 -- every entry is of one of these callers
 abbrev pub AllOf : List ℕ → List Entry → Type 0
 AllOf cs [] = Unit {0}
-AllOf cs (e ∷ es) = (times e.caller cs ≡ 1) × AllOf cs es
+AllOf cs (e ∷ es) = (times_listed e.caller cs ≡ 1) × AllOf cs es
 
+-- the callers of the passes, in the order of these
 abbrev pub callers_of : List Seen → List ℕ
 callers_of [] = []
 callers_of (p ∷ ps) = p.caller ∷ callers_of ps
@@ -79,12 +83,13 @@ made_by (p ∷ ps) = length p.mine + made_by ps
 -- each pass has seen the whole history, and made exactly its caller's updates there
 abbrev pub AllMet : List Entry → List Seen → Type 0
 AllMet h [] = Unit {0}
-AllMet h (p ∷ ps) = (p.seen ≡ h) × (p.mine ≡ updates_of p.caller h) × AllMet h ps
+AllMet h (p ∷ ps) = (p.seen ≡ h) × (p.mine ≡ own_updates p.caller h) × AllMet h ps
 
 -- the pass has marks that show which updates it has made
 abbrev pub IsMade : List Entry → Seen → Type 0
-IsMade h p = (ks : List ℕ) × IsMarked p.caller h 0 ks × (p.mine ≡ at_places h ks)
+IsMade h p = (ks : List ℕ) × AreOwnPlaces p.caller h 0 ks × (p.mine ≡ at_places h ks)
 
+-- each pass has marks that show which updates it has made
 abbrev pub AllMade : List Entry → List Seen → Type 0
 AllMade h [] = Unit {0}
 AllMade h (p ∷ ps) = IsMade h p × AllMade h ps
@@ -113,7 +118,7 @@ AllMetNow ps qs = AllGrown ps qs × ((h : List Entry) × AllMet h qs × AllOf (c
 -- each pass made exactly its caller's updates
 abbrev pub AllOwn : List Entry → List Seen → Type 0
 AllOwn h [] = Unit {0}
-AllOwn h (p ∷ ps) = (p.mine ≡ updates_of p.caller h) × AllOwn h ps
+AllOwn h (p ∷ ps) = (p.mine ≡ own_updates p.caller h) × AllOwn h ps
 
 -- each pass had seen a beginning of the history, in which it made exactly its caller's updates, and there are no others
 abbrev pub AllEnded : List Entry → List Seen → Type 0

@@ -1,4 +1,4 @@
--- The rule, and what its steps tell. A seat's view is the list that it knows.
+-- The rule, and what its steps tell. A seat's view is the list that it knows. Cited by private functions alone.
 use Rattle.std.specs.Prelude.{◌≡◌, ℕ, List}
 use mathlib.Core.List.{IsPrefix}
 use mathlib.Core.Option.{some}
@@ -18,5 +18,5 @@ abbrev pub Entered : List Entry → List Entry → List Entry → List Entry →
 Entered v x y w = IsPrefix v x × (w ≡ x)
 
 -- the writer knows this history, and it is what is published
-abbrev pub IsAt : List Entry → List Entry → List Entry → Type 0
-IsAt v x h = (v ≡ h) × (x ≡ h)
+abbrev pub IsPublishedAs : List Entry → List Entry → List Entry → Type 0
+IsPublishedAs v x h = (v ≡ h) × (x ≡ h)

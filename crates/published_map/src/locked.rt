@@ -38,7 +38,7 @@ where
     // The version before the published one. The next step writes over the last other copy of it, the one on the side that readers
     // don't take, and would free it under the lock.
     pub(crate) former: Option<Arc<Version>>,
-    // Whether an update, which makes few nodes anew, came after the former version.
+    // Whether an update, which makes few nodes, came after the former version.
     pub(crate) by_update: bool,
     // The version that the last swap or settling took the place of, once an update came after it. It may be the last to hold what
     // was taken out of the tree, so a worker drops it, and not the caller that updates.

@@ -6,7 +6,7 @@ use crate::story::ShownHistory;
 use logbook::{Gain, Offer, Plain, Play, Rule, Seen, Start, Word};
 use std::marker::{Model, PhantomData};
 
-/// So many marks, and no more.
+/// The most versions that a map publishes: 2^62.
 const MOST_MARKS: u64 = 1 << 62;
 
 /// The word of a book is the number of its entries. An entry is a page: what a mark is of.
@@ -15,9 +15,9 @@ pub struct MarkRule;
 impl Rule<ShownHistory, u64> for MarkRule {
     ghost use Rattle.std.specs.Prelude.{[]};
     ghost use base.Fml.{ftrue};
-    ghost use Rattle.published_map.specs.Book.{IsKept};
+    ghost use Rattle.published_map.specs.Book.{IsBookOf};
 
-    ghost holds = { λ cells log. IsKept cells log };
+    ghost holds = { λ cells log. IsBookOf cells log };
 
     ghost first = { [] };
 
@@ -67,13 +67,13 @@ pub struct MarkList {
 impl Model for MarkList {
     ghost use Rattle.std.specs.Prelude.{◌≡◌, length};
     ghost use Rattle.logbook.specs.Pages.{Book};
-    ghost use Rattle.published_map.specs.Book.{head_of};
+    ghost use Rattle.published_map.specs.Book.{book_name};
 
     ghost Value = { Book };
 
     ghost view = { λ m. m.seen.book };
 
-    ghost invariant = { λ m. (m.word ≡ head_of m.seen.book) × (m.number ≡ length m.seen.log) };
+    ghost invariant = { λ m. (m.word ≡ book_name m.seen.book) × (m.number ≡ length m.seen.log) };
 }
 
 impl MarkList {

@@ -9,7 +9,7 @@ use crate::kinds::{MapReader, look};
 use crate::name::MapName;
 use crate::shown::Shown;
 use kd_search::{count_in, in_cuboid, nearest};
-use map_fold::{BoxReply, NearReply, NoMemory};
+use map_fold::{BoxReply, MAX_FOUND, NearReply, NoMemory};
 use point_geom::{Cuboid, Point};
 use rebuild_core::Version;
 use std::alloc::Global;
@@ -136,7 +136,7 @@ impl<L: MapName> Pass<L> {
     /// `kd_search::count_in` and `kd_search::in_cuboid` do. Where memory runs out, more may have been seen.
     pub fn in_cuboid(&mut self, alloc: Global, c: &Cuboid, most: u32) -> Result<BoxReply, NoMemory>
         requires most_from { 1 ≤ most }
-        requires most_to { most ≤ 256 }
+        requires most_to { most ≤ MAX_FOUND }
         ensures seen { Grown self.old self.new }
         ensures inside { IfOk result (λ r. r ≡ box_reply L.voxel self.new.seen c.now most) }
     {

@@ -4,7 +4,7 @@ ghost use mathlib.Core.List.{IsPrefix};
 ghost use Rattle.left_right.specs.Sides.{view};
 ghost use Rattle.rebuild_core.specs.Lawful.{IsLawful};
 ghost use Rattle.rebuild_core.specs.Steps.{entered};
-ghost use Rattle.published_map.specs.Rules.{IsAt};
+ghost use Rattle.published_map.specs.Rules.{IsPublishedAs};
 ghost use Rattle.published_map.specs.Turns.{history_after};
 
 use crate::kinds::{MapReader, MapWriter, look, show};
@@ -43,11 +43,11 @@ fn show_step<L: MapName, R: Wait>(
     planned: Planned,
     shown: Shown<L>,
 ) -> Result<u64, NoMemory>
-    requires at { IsAt (view writer.old.desk.place) writer.old.desk.shown.value state.old.state.history }
+    requires at { IsPublishedAs (view writer.old.desk.place) writer.old.desk.shown.value state.old.state.history }
     requires lawful { IsLawful (entered planned state.old.state) }
     requires room { is_some planned.entry ≡ true → 1 ≤ state.old.spare }
     requires shown { shown ≡ history_after planned state.old.state }
-    ensures at { IsAt (view writer.new.desk.place) writer.new.desk.shown.value state.new.state.history }
+    ensures at { IsPublishedAs (view writer.new.desk.place) writer.new.desk.shown.value state.new.state.history }
     ensures entered { OnOk result (state.new.state ≡ entered planned state.old.state) }
     ensures len { IfOk result (λ n. n ≡ length state.new.state.history) }
 
@@ -72,11 +72,11 @@ pub fn take_step<L: MapName, R: Wait>(
 ) -> Result<u64, NoMemory>
     requires marks { marks.old ≡ L.marks }
     requires voxel { state.old.state.settings.voxel ≡ L.voxel }
-    requires at { IsAt (view writer.old.desk.place) writer.old.desk.shown.value state.old.state.history }
+    requires at { IsPublishedAs (view writer.old.desk.place) writer.old.desk.shown.value state.old.state.history }
     requires lawful { IsLawful (entered planned state.old.state) }
     requires room { is_some planned.entry ≡ true → 1 ≤ state.old.spare }
     ensures marks { marks.new ≡ marks.old }
-    ensures at { IsAt (view writer.new.desk.place) writer.new.desk.shown.value state.new.state.history }
+    ensures at { IsPublishedAs (view writer.new.desk.place) writer.new.desk.shown.value state.new.state.history }
     ensures entered { OnOk result (state.new.state ≡ entered planned state.old.state) }
     ensures len { IfOk result (λ n. n ≡ length state.new.state.history) }
 

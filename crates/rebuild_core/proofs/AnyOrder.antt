@@ -14,11 +14,12 @@ use Rattle.map_fold.specs.Thinned.{rivals}
 use Rattle.map_fold.proofs.Centre.{items_alike, not_itself, one_best, order}
 use Rattle.map_fold.proofs.Numbered.{contents_rise, contents_within}
 use Rattle.map_fold.proofs.Thinning.{inside_is, is_live_in, rival_inside, rival_live, winner_first, winner_is, winner_rival}
+use Rattle.map_fold.proofs.Found.{one_number}
 use Rattle.kd_tree.proofs.Numbered.{same_rising}
 use Rattle.kd_update.specs.Scan.{live_from}
 use Rattle.rebuild_core.specs.Entrants.{AreEntrants, AreFirsts, IsBeaten, MayEnter, thin_each}
 use Rattle.rebuild_core.proofs.Voxels.{voxel_of}
-use Rattle.rebuild_core.proofs.Entering.{contents_each, contents_entered, contents_rises, entered_from, entered_in, entrants_after, live_inside, one_numbered}
+use Rattle.rebuild_core.proofs.Entering.{contents_each, contents_entered, contents_rises, entered_from, entered_in, entrants_after, live_inside}
 use Rattle.rebuild_core.proofs.Firsts.{firsts_enter, from_is, points_enter}
 
 -- the item enters or is held
@@ -224,7 +225,7 @@ left_firsts edge next ps fs m k from firsts left = record { held = held left.hel
         let f = beaten.by in
         let point = firsts.within f beaten.there in
         let behind = left.first k f there (inl point) (live_own edge k from (live k there)) (both_true (live f point) beaten.inside) in
-        subst (λ (x : Item). Member x fs) (sym (one_numbered next (live_from next ps) k f (points_rising next ps) there point (one_best (voxel edge k.point) k f beaten.behind behind))) beaten.there
+        subst (λ (x : Item). Member x fs) (sym (one_number next (live_from next ps) k f (points_rising next ps) there point (one_best (voxel edge k.point) k f beaten.behind behind))) beaten.there
 
     held : InPool (live_from next ps) m k → InPool fs m k
     held (inl there) = inl (own_first there (firsts.beaten k there))

@@ -2,6 +2,7 @@
 use Rattle.std.proofs.Common.{◌≡◌, ℕ, ◌+◌, ◌<◌, ◌≤◌, List, [], ◌∷◌, ◌++◌, length, map, refl, ap, sym, ◌∙◌, arith, subst, length-append, inl, inr}
 use Rattle.std.specs.Prelude.{All}
 use Rattle.std.proofs.lemmas.List.Elements.{All-append, All-weaker}
+use Rattle.std.proofs.lemmas.Option.{same_Some}
 use Rattle.map_fold.specs.declared.item.Item.{Item}
 use Rattle.map_fold.specs.declared.op.Op.{Op}
 use Rattle.map_fold.specs.Contents.{AreContents}
@@ -14,7 +15,6 @@ use Rattle.kd_tree.specs.Apart.{AreAllApart, IsClear}
 use Rattle.kd_tree.specs.declared.path.Side.{Side}
 use Rattle.kd_update.specs.Watch.{IsWatched}
 use Rattle.kd_update.specs.Several.{AreLargeAt, AreSameAt, AreWatched}
-use Rattle.kd_update.proofs.Large.{some_shape}
 use Rattle.rebuild_core.specs.Parts.{AreEachLawful, AreInSlots, AreLawfulParts, AreLeft, HaveLogRoom, HaveOwnTickets, IsLawfulPart, IsNewTicket, PartAt, paths}
 
 -- one part
@@ -27,7 +27,7 @@ contents_more low next more (i ∷ m) le k = (k.0, omega (arith, k.1), k.2, cont
 part_watched : (large next more last : ℕ) (t u : Shape) (p : PartAt) (ops : List Op) → IsLawfulPart large next last t p → IsWatched p.path t u ops
     → length (p.log ++ ops) ≤ 65536 → next ≤ more → All (λ n. n < more) (numbers_put ops) → IsLawfulPart large more last u (record p { log = p.log ++ ops })
 part_watched large next more last t u p ops k w room le below =
-    let same : k.there.node ≡ w.before = some_shape k.there.node w.before (sym k.there.there ∙ w.was) in
+    let same : k.there.node ≡ w.before = same_Some k.there.node w.before (sym k.there.there ∙ w.was) in
     let held : contents w.before ≡ replay p.items p.log = ap contents (sym same) ∙ k.replayed in
     record {
       there = record { node = w.after; there = w.is; size = omega (arith, k.there.size, w.size, ap nodes same) };

@@ -3,6 +3,7 @@ use Rattle.std.proofs.Common.{◌≡◌, ℕ, ◌+◌, ◌<◌, ◌≤◌, cond,
 use Rattle.std.specs.Prelude.{◌==◌}
 use Rattle.std.proofs.lemmas.Bool.{cond_both, eqb-false, eqb-true, ltb-false, ltb-true}
 use Rattle.std.proofs.lemmas.List.Elements.{All-nil}
+use Rattle.std.proofs.lemmas.Option.{same_Some}
 use Rattle.map_fold.specs.Contents.{AreContents}
 use Rattle.kd_tree.specs.Shape.{Shape, numbers}
 use Rattle.kd_tree.specs.Sound.{IsSound}
@@ -12,7 +13,6 @@ use Rattle.kd_tree.specs.Apart.{AreAllApart, AreApart, IsClear}
 use Rattle.kd_tree.specs.declared.path.Side.{Side}
 use Rattle.kd_tree.proofs.Held.{are_contents}
 use Rattle.kd_update.specs.Watch.{IsLargeAt}
-use Rattle.kd_update.proofs.Large.{some_shape}
 use Rattle.rebuild_core.specs.Detach.{IsDetachedAt, with_part}
 use Rattle.rebuild_core.specs.Lawful.{IsLawful, StateAt}
 use Rattle.rebuild_core.specs.Parts.{AreEachLawful, AreInSlots, HaveOwnTickets, IsLawfulPart, IsNewTicket, PartAt, part_in, paths}
@@ -23,19 +23,16 @@ use Rattle.rebuild_core.proofs.Working.{at_numbers}
 
 -- the part in a slot
 
-some_part : (a b : PartAt) → ◌≡◌ {A = Option PartAt} (Some a) (Some b) → a ≡ b
-some_part a b e = cc
-
 -- it is one of the parts
 in_lawful : (large next last : ℕ) (t : Shape) (slot : ℕ) (ps : List PartAt) (p : PartAt) → part_in slot ps ≡ Some p → AreEachLawful large next last t ps → IsLawfulPart large next last t p
 in_lawful large next last t slot [] p e k = absurd cc
 in_lawful large next last t slot (r ∷ ps) p e k =
-    cond_both (slot == r.slot) (Some r) (part_in slot ps) (λ o. o ≡ Some p → IsLawfulPart large next last t p) (λ _ f. subst (IsLawfulPart large next last t) (some_part r p f) k.0) (λ _ f. in_lawful large next last t slot ps p f k.1) e
+    cond_both (slot == r.slot) (Some r) (part_in slot ps) (λ o. o ≡ Some p → IsLawfulPart large next last t p) (λ _ f. subst (IsLawfulPart large next last t) (same_Some r p f) k.0) (λ _ f. in_lawful large next last t slot ps p f k.1) e
 
 in_clear : (path : List Side) (slot : ℕ) (ps : List PartAt) (p : PartAt) → part_in slot ps ≡ Some p → IsClear path (paths ps) → AreApart path p.path
 in_clear path slot [] p e k = absurd cc
 in_clear path slot (r ∷ ps) p e k =
-    cond_both (slot == r.slot) (Some r) (part_in slot ps) (λ o. o ≡ Some p → AreApart path p.path) (λ _ f. subst (λ (x : PartAt). AreApart path x.path) (some_part r p f) k.0) (λ _ f. in_clear path slot ps p f k.1) e
+    cond_both (slot == r.slot) (Some r) (part_in slot ps) (λ o. o ≡ Some p → AreApart path p.path) (λ _ f. subst (λ (x : PartAt). AreApart path x.path) (same_Some r p f) k.0) (λ _ f. in_clear path slot ps p f k.1) e
 
 -- whether a part of the slot's path fits beside the parts: it stands where the slot's part does, and is apart from the others
 abbrev FitsBeside : PartAt → List PartAt → Type 0
@@ -57,7 +54,7 @@ fits_old q from [] p e path s k = absurd cc
 fits_old q from (r ∷ ps) p e path s k =
     cond_both (q.slot == r.slot) (Some r) (part_in q.slot ps) (λ o. o ≡ Some p → FitsBeside q (r ∷ ps))
     (λ same f.
-    let here : q.path ≡ r.path = path ∙ ap (λ (x : PartAt). x.path) (sym (some_part r p f)) in
+    let here : q.path ≡ r.path = path ∙ ap (λ (x : PartAt). x.path) (sym (same_Some r p f)) in
     let slot = eqb-true q.slot r.slot same in (
       (λ _. here),
       (λ other. absurd (other slot)),
@@ -173,7 +170,7 @@ detached_lawful slot s path node from to k sound chosen there =
     let q = part_detached slot path node s in
     let large = detach_large slot s path k chosen in
     let fits = detach_fits slot s path node k chosen in
-    let same : large.node ≡ node = some_shape large.node node (sym large.there ∙ there) in
+    let same : large.node ≡ node = same_Some large.node node (sym large.there ∙ there) in
     let part : IsLawfulPart s.settings.large s.next (s.last + 1) s.tree q = record {
       there = large;
       few = omega arith;

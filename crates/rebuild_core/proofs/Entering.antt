@@ -13,7 +13,7 @@ use Rattle.map_fold.specs.Nearest.{Member}
 use Rattle.map_fold.specs.Ops.{IsUnheld}
 use Rattle.map_fold.specs.Thinned.{NoneBefore, rivals}
 use Rattle.map_fold.proofs.Centre.{items_alike, live_is, not_itself}
-use Rattle.map_fold.proofs.Found.{item_number, member-filter, member-filter_of}
+use Rattle.map_fold.proofs.Found.{item_number, member-filter, member-filter_of, one_number}
 use Rattle.map_fold.proofs.Numbered.{contents_mark, contents_rise}
 use Rattle.map_fold.proofs.Puts.{contents_put, unheld_cons, unheld_parts}
 use Rattle.map_fold.proofs.Thinning.{inside_by, inside_is, is_live_in, item_below, left_out, mark-thin, rival_live, winner_is, winner_rival}
@@ -33,18 +33,6 @@ pub unheld_of : (n : ℕ) (m : List Item) (k : Item) → IsUnheld n m → Member
 unheld_of n [] k h there = absurd there
 unheld_of n (i ∷ m) k h (inl same) = λ e. (unheld_parts n i m h).0 (sym (ap (λ (j : Item). j.number) same) ∙ e)
 unheld_of n (i ∷ m) k h (inr there) = unheld_of n m k (unheld_parts n i m h).1 there
-
--- of what a map holds, two of one number are the same
-pub one_numbered : (low : ℕ) (m : List Item) (i j : Item) → IsRising low m → Member i m → Member j m → i.number ≡ j.number → i ≡ j
-one_numbered low [] i j h one two e = absurd one
-one_numbered low (k ∷ m) i j h (inl one) (inl two) e = one ∙ sym two
-one_numbered low (k ∷ m) i j h (inl one) (inr two) e =
-    let above = item_number (k.number + 1) m j h.1 two in
-    let own : i.number ≡ k.number = ap (λ (x : Item). x.number) one in absurd (omega arith)
-one_numbered low (k ∷ m) i j h (inr one) (inl two) e =
-    let above = item_number (k.number + 1) m i h.1 one in
-    let own : j.number ≡ k.number = ap (λ (x : Item). x.number) two in absurd (omega arith)
-one_numbered low (k ∷ m) i j h (inr one) (inr two) e = one_numbered (k.number + 1) m i j h.1 one two e
 
 above_of : (n low : ℕ) (m : List Item) → n < low → IsRising low m → Above n m
 above_of n low [] below h = tt
@@ -104,7 +92,7 @@ winner_new edge high n m p h new = unheld_by w.number (mark m (in_box (voxel edg
     other k there e (inl same) = unheld_of n m k new there.0 (e ∙ ap (λ (i : Item). i.number) same)
     other k there e (inr held) =
         let is = inside_is (voxel edge p) m w held in
-        let one = one_numbered 0 m k w (contents_rise 0 high m h) there.0 is.0 e in
+        let one = one_number 0 m k w (contents_rise 0 high m h) there.0 is.0 e in
         let live : is_live_in (voxel edge p) w ≡ true = both_true is.1 is.2 in
         let out : is_live_in (voxel edge p) w ≡ false = sym (ap (is_live_in (voxel edge p)) one) ∙ there.1 in absurd (cc)
 

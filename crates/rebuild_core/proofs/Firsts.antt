@@ -13,7 +13,7 @@ use Rattle.map_fold.specs.Nearest.{Member}
 use Rattle.map_fold.proofs.Numbered.{unheld_above}
 use Rattle.kd_tree.proofs.Numbered.{member_of}
 use Rattle.kd_update.specs.Scan.{live_from}
-use Rattle.rebuild_core.specs.Entrants.{AreApart, AreEntrants, AreFirsts, MayEnter}
+use Rattle.rebuild_core.specs.Entrants.{HaveOwnVoxels, AreEntrants, AreFirsts, MayEnter}
 
 -- each of the points' items is live under one of the numbers
 pub from_is : (n : ℕ) (ps : List Place) (i : Item) → Member i (live_from n ps) → (i.label ≡ Live) × (n ≤ i.number) × (i.number < n + length ps)
@@ -74,7 +74,7 @@ apart_numbers edge next ps i j from one two out = λ same.
     let e : j ≡ i = from_once next ps j i two one same in
     let in_own : holds (voxel edge i.point) i.point ≡ false = sym (ap (λ (k : Item). holds (voxel edge i.point) k.point) e) ∙ out in absurd (cc)
 
-some_enter : (edge next : ℕ) (ps : List Place) (fs m : List Item) → 1 ≤ edge → AreContents 0 next m → AreApart edge fs → ((i : Item) → Member i fs → Member i (live_from next ps)) → AreEntrants (next + length ps) m fs
+some_enter : (edge next : ℕ) (ps : List Place) (fs m : List Item) → 1 ≤ edge → AreContents 0 next m → HaveOwnVoxels edge fs → ((i : Item) → Member i fs → Member i (live_from next ps)) → AreEntrants (next + length ps) m fs
 some_enter edge next ps [] m from h apart within = tt
 some_enter edge next ps (i ∷ fs) m from h apart within = (
   from_enters next ps m i h (within i (inl refl)),

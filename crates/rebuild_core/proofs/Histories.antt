@@ -5,7 +5,7 @@ use Rattle.map_fold.specs.Fold.{fold, no_points, step}
 use Rattle.map_fold.specs.declared.update.Update.{Update}
 use Rattle.map_fold.proofs.Folds.{fold_from-push}
 use Rattle.map_fold.specs.declared.entry.Entry.{Entry}
-use Rattle.rebuild_core.specs.History.{AreEntries, Follows, entries_of, entry_by, updates}
+use Rattle.rebuild_core.specs.History.{AreEntries, MayComeNext, entries_of, entry_by, updates}
 use Rattle.rebuild_core.specs.StateView.{IsNextOf}
 use Rattle.rebuild_core.specs.Steps.{listed}
 
@@ -13,20 +13,20 @@ use Rattle.rebuild_core.specs.Steps.{listed}
 pub fold-entry : (voxel : ℕ) (h : List Entry) (e : Entry) → fold voxel (updates (h ++ e ∷ [])) ≡ step voxel e.update (fold voxel (updates h))
 fold-entry voxel h e = ap (λ us. fold voxel us) (map-append (λ (x : Entry). x.update) h (e ∷ [])) ∙ fold_from-push voxel (updates h) e.update no_points
 
-entries_after : (before es : List Entry) (e : Entry) → AreEntries before es → Follows (before ++ es) e → AreEntries before (es ++ e ∷ [])
-entries_after before [] e k f = (subst (λ b. Follows b e) (append-nil before) f, tt)
-entries_after before (x ∷ es) e k f = (k.0, entries_after (before ++ x ∷ []) es e k.1 (subst (λ b. Follows b e) (sym (append_assoc before (x ∷ []) es)) f))
+entries_after : (before es : List Entry) (e : Entry) → AreEntries before es → MayComeNext (before ++ es) e → AreEntries before (es ++ e ∷ [])
+entries_after before [] e k f = (subst (λ b. MayComeNext b e) (append-nil before) f, tt)
+entries_after before (x ∷ es) e k f = (k.0, entries_after (before ++ x ∷ []) es e k.1 (subst (λ b. MayComeNext b e) (sym (append_assoc before (x ∷ []) es)) f))
 
 -- an entry that may follow the others
-pub entries-push : (h : List Entry) (e : Entry) → AreEntries [] h → Follows h e → AreEntries [] (h ++ e ∷ [])
+pub entries-push : (h : List Entry) (e : Entry) → AreEntries [] h → MayComeNext h e → AreEntries [] (h ++ e ∷ [])
 entries-push h e k f = entries_after [] h e k f
 
-follows_last : (before es : List Entry) (e : Entry) → AreEntries before (es ++ e ∷ []) → Follows (before ++ es) e
-follows_last before [] e k = subst (λ b. Follows b e) (sym (append-nil before)) k.0
-follows_last before (x ∷ es) e k = subst (λ b. Follows b e) (append_assoc before (x ∷ []) es) (follows_last (before ++ x ∷ []) es e k.1)
+follows_last : (before es : List Entry) (e : Entry) → AreEntries before (es ++ e ∷ []) → MayComeNext (before ++ es) e
+follows_last before [] e k = subst (λ b. MayComeNext b e) (sym (append-nil before)) k.0
+follows_last before (x ∷ es) e k = subst (λ b. MayComeNext b e) (append_assoc before (x ∷ []) es) (follows_last (before ++ x ∷ []) es e k.1)
 
 -- the last entry may follow the others
-pub entries-last : (h : List Entry) (e : Entry) → AreEntries [] (h ++ e ∷ []) → Follows h e
+pub entries-last : (h : List Entry) (e : Entry) → AreEntries [] (h ++ e ∷ []) → MayComeNext h e
 entries-last h e k = follows_last [] h e k
 
 -- where a history with one more entry is one, and short enough, the entry may follow

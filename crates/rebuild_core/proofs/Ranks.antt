@@ -28,9 +28,10 @@ use Rattle.map_fold.specs.Nearest.{Member}
 use Rattle.map_fold.proofs.Centre.{neither, not_itself, order}
 use Rattle.map_fold.proofs.Found.{member-map, member-map_of}
 use Rattle.map_fold.proofs.Order.{then_equal}
+use Rattle.kd_tree.proofs.Medians.{then_first}
 use Rattle.kd_update.specs.Scan.{live_from}
 use Rattle.rebuild_core.specs.declared.update.entrants.Entrant.{Entrant}
-use Rattle.rebuild_core.specs.Entrants.{AreApart, AreFirsts}
+use Rattle.rebuild_core.specs.Entrants.{HaveOwnVoxels, AreFirsts}
 use Rattle.rebuild_core.specs.Ranks.{HaveVoxels, Rank, entrant_of, items_in, rank_cmp, rank_of, spot_cmp}
 use Rattle.rebuild_core.proofs.Voxels.{corners_alike, voxel_of}
 
@@ -119,14 +120,9 @@ ahead_inside e f same =
     ∙ ap (λ (c : Bounds). is_lt (ordering_then (corner_cmp c.lo f.cube.lo) (ordering_then (nat_cmp (centre_dist2 c e.item.point) (centre_dist2 f.cube f.item.point)) (ordering_then (place_cmp e.item.point f.item.point) (nat_cmp e.item.number f.item.number))))) same
     ∙ ap (λ (o : Ordering). is_lt (ordering_then o (centre_cmp f.cube e.item f.item))) (tied_itself corner_cmp_total f.cube.lo)
 
-not_first : (o p : Ordering) → is_lt (ordering_then o p) ≡ false → is_lt o ≡ false
-not_first Less p e = e
-not_first Equal p e = refl
-not_first Greater p e = refl
-
 -- what isn't ahead isn't in a voxel that is
 voxel_behind : (e f : Entrant) → is_ahead e f ≡ false → is_lt (voxel_cmp e f) ≡ false
-voxel_behind e f h = not_first (voxel_cmp e f) (own_cmp e f) (sym (ap is_lt (parts e f)) ∙ h)
+voxel_behind e f h = then_first (voxel_cmp e f) (own_cmp e f) (sym (ap is_lt (parts e f)) ∙ h)
 
 -- voxels with the same lower corner are the same
 same_corner : (edge : ℕ) (e f : Entrant) → e.cube ≡ voxel edge e.item.point → f.cube ≡ voxel edge f.item.point → e.cube.lo ≡ f.cube.lo → e.cube ≡ f.cube
@@ -153,7 +149,7 @@ different : (x k : Entrant) → is_same_voxel x k ≡ false → x.cube ≡ k.cub
 different x k e same = let f = (bounds_Decides x.cube k.cube).1 same in absurd (cc)
 
 -- what is left has one entrant of a voxel
-pub left_apart : (edge : ℕ) (k : Entrant) (es : List Entrant) → 1 ≤ edge → HaveVoxels edge (k ∷ es) → Ascend (k ∷ es) → AreApart edge (items_in (dedup_from is_same_voxel k es))
+pub left_apart : (edge : ℕ) (k : Entrant) (es : List Entrant) → 1 ≤ edge → HaveVoxels edge (k ∷ es) → Ascend (k ∷ es) → HaveOwnVoxels edge (items_in (dedup_from is_same_voxel k es))
 left_apart edge k [] from own up = (All-nil (λ (j : Item). holds (voxel edge k.item.point) j.point ≡ false), tt)
 left_apart edge k (x ∷ xs) from own up =
     let P : Entrant → Type 0 = λ e. e.cube ≡ voxel edge e.item.point in

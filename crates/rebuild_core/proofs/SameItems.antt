@@ -22,11 +22,11 @@ use Rattle.kd_tree.specs.Contents.{contents}
 use Rattle.kd_tree.specs.Walk.{walk}
 use Rattle.kd_tree.proofs.Held.{are_distinct, contents_kept, contents_rise, rising_rises}
 use Rattle.kd_tree.proofs.Numbered.{Above, Rises, numbered_from, numbered_in, one_item}
-use Rattle.rebuild_core.specs.Holding.{AreIn}
+use Rattle.rebuild_core.specs.Holding.{AreAllFrom}
 
 -- parts of a list
 
-pub parts_in : (xs ys zs m : List Item) → AreIn xs m → AreIn ys m → AreIn zs m → AreIn (xs ++ (ys ++ zs)) m
+pub parts_in : (xs ys zs m : List Item) → AreAllFrom xs m → AreAllFrom ys m → AreAllFrom zs m → AreAllFrom (xs ++ (ys ++ zs)) m
 parts_in [] [] zs m f g h = h
 parts_in [] (y ∷ ys) zs m f g h =
     let rest = parts_in [] ys zs m f (λ w k. g w (inr k)) h in
@@ -45,7 +45,7 @@ second_in [] ys z is = is
 second_in (x ∷ xs) ys z is = inr (second_in xs ys z is)
 
 -- what is said of all three is said of each
-pub in_parts : (xs ys zs m : List Item) → AreIn (xs ++ (ys ++ zs)) m → AreIn xs m × AreIn ys m × AreIn zs m
+pub in_parts : (xs ys zs m : List Item) → AreAllFrom (xs ++ (ys ++ zs)) m → AreAllFrom xs m × AreAllFrom ys m × AreAllFrom zs m
 in_parts xs ys zs m k = (
   (λ z is. k z (first_in xs (ys ++ zs) z is)),
   (λ z is. k z (second_in xs (ys ++ zs) z (first_in ys zs z is))),
@@ -53,13 +53,13 @@ in_parts xs ys zs m k = (
 )
 
 -- an item that isn't dropped, by itself
-pub own_in : (i : Item) (m : List Item) → (i.label ≡ Dropped → ⊥) → (Member i m → AreIn (kept (i ∷ [])) m) × (AreIn (kept (i ∷ [])) m → Member i m)
+pub own_in : (i : Item) (m : List Item) → (i.label ≡ Dropped → ⊥) → (Member i m → AreAllFrom (kept (i ∷ [])) m) × (AreAllFrom (kept (i ∷ [])) m → Member i m)
 own_in i m n = own i.label n
   where
-    one : (j : Item) → (Member j m → AreIn (j ∷ []) m) × (AreIn (j ∷ []) m → Member j m)
+    one : (j : Item) → (Member j m → AreAllFrom (j ∷ []) m) × (AreAllFrom (j ∷ []) m → Member j m)
     one j = ((λ is z q. elim q [ inl e ↦ subst (λ w. Member w m) (sym e) is | inr none ↦ absurd none ]), (λ k. k j (inl refl)))
 
-    own : (x : Label) → (x ≡ Dropped → ⊥) → (Member (record i { label = x }) m → AreIn (kept (record i { label = x } ∷ [])) m) × (AreIn (kept (record i { label = x } ∷ [])) m → Member (record i { label = x }) m)
+    own : (x : Label) → (x ≡ Dropped → ⊥) → (Member (record i { label = x }) m → AreAllFrom (kept (record i { label = x } ∷ [])) m) × (AreAllFrom (kept (record i { label = x } ∷ [])) m → Member (record i { label = x }) m)
     own Live d = one (record i { label = Live })
     own Suspended d = one (record i { label = Suspended })
     own Dropped d = absurd (d refl)
@@ -123,18 +123,18 @@ above_in n z (y ∷ ys) k (inl e) = subst (λ (w : Item). n < w.number) (sym e) 
 above_in n z (y ∷ ys) k (inr m) = above_in n z ys k.1 m
 
 -- an item above the first is one of the rest
-rest_in : (n : ℕ) (xs : List Item) (y : Item) (ys : List Item) → y.number ≤ n → Above n xs → AreIn xs (y ∷ ys) → AreIn xs ys
+rest_in : (n : ℕ) (xs : List Item) (y : Item) (ys : List Item) → y.number ≤ n → Above n xs → AreAllFrom xs (y ∷ ys) → AreAllFrom xs ys
 rest_in n xs y ys le above k z m =
     elim (k z m) [ inl e ↦ let up = above_in n z xs above m in let same : z.number ≡ y.number = ap (λ (i : Item). i.number) e in absurd (omega (arith, up, le, same)) | inr is ↦ is ]
 
 -- where the first stands among the rest, so do all
-all_in_rest : (x : Item) (xs : List Item) (y : Item) (ys : List Item) → Rises (x ∷ xs) → Rises (y ∷ ys) → Member x ys → AreIn (x ∷ xs) (y ∷ ys) → AreIn (x ∷ xs) ys
+all_in_rest : (x : Item) (xs : List Item) (y : Item) (ys : List Item) → Rises (x ∷ xs) → Rises (y ∷ ys) → Member x ys → AreAllFrom (x ∷ xs) (y ∷ ys) → AreAllFrom (x ∷ xs) ys
 all_in_rest x xs y ys r s is k =
     let up : y.number < x.number = above_in y.number x ys s.0 is in
     let rest = rest_in x.number xs y ys (omega (arith, up)) r.0 (λ z m. k z (inr m)) in
     λ z m. elim m [ inl e ↦ subst (λ w. Member w ys) (sym e) is | inr later ↦ rest z later ]
 
-few_in : (xs ys : List Item) → Rises xs → Rises ys → AreIn xs ys → length xs ≤ length ys
+few_in : (xs ys : List Item) → Rises xs → Rises ys → AreAllFrom xs ys → length xs ≤ length ys
 few_in [] ys r s k = omega arith
 few_in (x ∷ xs) [] r s k = absurd (k x (inl refl))
 few_in (x ∷ xs) (y ∷ ys) r s k =
@@ -143,7 +143,7 @@ few_in (x ∷ xs) (y ∷ ys) r s k =
       | inr is ↦ omega (arith, few_in (x ∷ xs) ys r s.1 (all_in_rest x xs y ys r s is k))
     ]
 
-same_in : (xs ys : List Item) → Rises xs → Rises ys → AreIn xs ys → length xs ≡ length ys → xs ≡ ys
+same_in : (xs ys : List Item) → Rises xs → Rises ys → AreAllFrom xs ys → length xs ≡ length ys → xs ≡ ys
 same_in [] [] r s k e = refl
 same_in [] (y ∷ ys) r s k e = absurd (omega (arith, e))
 same_in (x ∷ xs) [] r s k e = absurd (k x (inl refl))
@@ -172,9 +172,9 @@ pub length-contents : (t : Shape) → live_count (contents t) + suspended_count 
 length-contents t = counted_kept (contents t) (recursion_from_All (λ (i : Item). is_dropped i.label ≡ false) (contents t) (contents_kept t))
 
 -- as many items as the list has, each of which is there, are the list
-pub held_same : (high : ℕ) (t : Shape) (m : List Item) → IsSound t → AreContents 0 high m → AreIn (walk keep_tag t) m → length (contents t) ≡ length m → contents t ≡ m
+pub held_same : (high : ℕ) (t : Shape) (m : List Item) → IsSound t → AreContents 0 high m → AreAllFrom (walk keep_tag t) m → length (contents t) ≡ length m → contents t ≡ m
 held_same high t m sound c k e = same_in (contents t) m (contents_rise t sound) (rising_rises 0 m (are_rising 0 high m c)) (λ z is. k z (numbered_from z (walk keep_tag t) is)) e
 
 -- and each item of the list is one of it
-pub same_held : (t : Shape) (m : List Item) → contents t ≡ m → AreIn (walk keep_tag t) m
+pub same_held : (t : Shape) (m : List Item) → contents t ≡ m → AreAllFrom (walk keep_tag t) m
 same_held t m e z is = subst (Member z) e (numbered_in z (walk keep_tag t) is)

@@ -5,13 +5,7 @@ use Rattle.std.proofs.lemmas.Int.{ints}
 use Rattle.point_geom.specs.Place.{Place}
 use Rattle.point_geom.specs.declared.cuboid.Corner.{Corner}
 use Rattle.point_geom.specs.Boxes.{is_between, holds, cube, voxel, IsMultiple}
-use Rattle.point_geom.proofs.Laws.{all_parts, voxel_held, voxel_on_grid}
-
-between_parts : (lo c hi : ℤ) → is_between lo c hi ≡ true → (lo ≤ℤ c) × (c <ℤ hi)
-between_parts lo c hi h =
-    let p = and_parts (int_le lo c) (int_lt c hi) h in
-    let low = p.0 in
-    let high = p.1 in (grind (arith, ints), grind (arith, ints))
+use Rattle.point_geom.proofs.Laws.{all_parts, voxel_held, voxel_on_grid, between_parts}
 
 -- a multiple below the next one of another is no greater than that one
 times_less : (a b n : ℕ) → a * n < suc b * n → a ≤ b

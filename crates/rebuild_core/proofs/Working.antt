@@ -4,6 +4,7 @@ use Rattle.std.specs.Prelude.{All, Contains}
 use Rattle.std.specs.List.{remove}
 use Rattle.std.proofs.lemmas.List.{length-map}
 use Rattle.std.proofs.lemmas.List.Elements.{All-contains, All-cons, All-nil, All-weaker, Contains-append_cases, Contains-append_left, Contains-append_right}
+use Rattle.std.proofs.lemmas.Option.{same_Some}
 use Rattle.point_geom.specs.Place.{Place}
 use Rattle.map_fold.specs.declared.choice.Choice.{Choice}
 use Rattle.node_labels.specs.Labels.{keep_tag}
@@ -24,7 +25,6 @@ use Rattle.kd_update.specs.Refresh.{AreAmong}
 use Rattle.kd_update.specs.Several.{AreLargeAt, AreSameAt, AreWatched, IsBalancedClear}
 use Rattle.kd_update.specs.Watch.{IsLargeAt, IsWatched, logged_mark, logged_put}
 use Rattle.kd_update.specs.Watches.{HaveRoom, paths_in, with_marks, with_puts}
-use Rattle.kd_update.proofs.Large.{some_shape}
 use Rattle.kd_update.proofs.Logged.{logged_mark_few, logged_put_few, mark_puts, put_puts}
 use Rattle.kd_update.proofs.Numbers.{left_few, unheld}
 use Rattle.kd_update.proofs.Several.{balanced_clear}
@@ -226,7 +226,7 @@ draft_without large next last ps w gone ws u d k same balanced among =
 -- a subtree in place of another
 
 pub at_numbers : (path : List Side) (t s : Shape) → at path t ≡ Some s → AreAmong (numbers s) (numbers t)
-at_numbers [] t s e n k = subst (λ (x : Shape). Contains (numbers x) n) (some_shape s t (sym e)) k
+at_numbers [] t s e n k = subst (λ (x : Shape). Contains (numbers x) n) (same_Some s t (sym e)) k
 at_numbers (side ∷ path) leaf s e n k = absurd cc
 at_numbers (Left ∷ path) (fork h l r) s e n k = Contains-append_right (h.item.number ∷ []) (numbers l ++ numbers r) n (Contains-append_left (numbers l) (numbers r) n (at_numbers path l s e n k))
 at_numbers (Right ∷ path) (fork h l r) s e n k = Contains-append_right (h.item.number ∷ []) (numbers l ++ numbers r) n (Contains-append_right (numbers l) (numbers r) n (at_numbers path r s e n k))
@@ -237,7 +237,7 @@ among_part new with node old f g h n k = elim (Contains-append_cases with old n 
 
 -- a subtree of no more levels adds none
 pub levels_kept : (path : List Side) (other t s : Shape) → at path t ≡ Some s → levels other ≤ levels s → levels (replaced_at path other t) ≤ levels t
-levels_kept [] other t s e k = omega (arith, k, ap levels (some_shape t s e))
+levels_kept [] other t s e k = omega (arith, k, ap levels (same_Some t s e))
 levels_kept (side ∷ path) other leaf s e k = omega arith
 levels_kept (Left ∷ path) other (fork h l r) s e k = omega (arith, levels_kept path other l s e k)
 levels_kept (Right ∷ path) other (fork h l r) s e k = omega (arith, levels_kept path other r s e k)

@@ -15,9 +15,9 @@ thin_each edge m [] = m
 thin_each edge m (i ∷ is) = thin_each edge (thin edge m i.number i.point) is
 
 -- no item lies in the voxel of one before it
-abbrev pub AreApart : ℕ → List Item → Type 0
-AreApart edge [] = Unit {0}
-AreApart edge (i ∷ is) = All (λ j. holds (voxel edge i.point) j.point ≡ false) is × AreApart edge is
+abbrev pub HaveOwnVoxels : ℕ → List Item → Type 0
+HaveOwnVoxels edge [] = Unit {0}
+HaveOwnVoxels edge (i ∷ is) = All (λ j. holds (voxel edge i.point) j.point ≡ false) is × HaveOwnVoxels edge is
 
 -- an item of the list lies in the voxel of i, and i doesn't come before it
 pub record IsBeaten (edge : ℕ) (fs : List Item) (i : Item) : Type 0 where
@@ -28,7 +28,7 @@ pub record IsBeaten (edge : ℕ) (fs : List Item) (i : Item) : Type 0 where
 
 -- Of the points, under the numbers from next on, these are the first ones of their voxels: one of each voxel that a point lies in.
 pub record AreFirsts (edge next : ℕ) (ps : List Place) (fs : List Item) : Type 0 where
-  pub apart : AreApart edge fs
+  pub apart : HaveOwnVoxels edge fs
   pub within : (i : Item) → Member i fs → Member i (live_from next ps)
   pub beaten : (i : Item) → Member i (live_from next ps) → IsBeaten edge fs i
 

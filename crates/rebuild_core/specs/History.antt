@@ -3,6 +3,7 @@ use Rattle.std.specs.Prelude.{◌≡◌, ℕ, ◌≤◌, List, [], ◌∷◌, �
 use Rattle.map_fold.specs.declared.update.Update.{Update}
 use Rattle.map_fold.specs.declared.entry.Entry.{Entry}
 
+-- the updates of the entries, in their order
 abbrev pub updates : List Entry → List Update
 updates history = map (λ e. e.update) history
 
@@ -11,7 +12,7 @@ abbrev pub entries_of : ℕ → List Entry → ℕ
 entries_of caller history = count_by (λ e. caller == e.caller) history
 
 -- the entry may follow these: its caller is one of eight, and made as many before as it says
-pub record Follows (before : List Entry) (e : Entry) : Type 0 where
+pub record MayComeNext (before : List Entry) (e : Entry) : Type 0 where
   pub caller_from : 1 ≤ e.caller
   pub caller_to : e.caller ≤ 8
   pub seq : e.seq ≡ entries_of e.caller before
@@ -19,7 +20,7 @@ pub record Follows (before : List Entry) (e : Entry) : Type 0 where
 -- each entry may follow those before it
 abbrev pub AreEntries : List Entry → List Entry → Type 0
 AreEntries before [] = Unit {0}
-AreEntries before (e ∷ es) = Follows before e × AreEntries (before ++ e ∷ []) es
+AreEntries before (e ∷ es) = MayComeNext before e × AreEntries (before ++ e ∷ []) es
 
 -- the caller's next entry
 abbrev pub entry_by : ℕ → Update → List Entry → Entry

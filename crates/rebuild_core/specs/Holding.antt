@@ -12,5 +12,5 @@ items_held (Unlisted tree) = contents tree.value
 items_held (Listed items) = items.value
 
 -- each of the items is one of the others
-abbrev pub AreIn : List Item → List Item → Type 0
-AreIn items others = (i : Item) → Member i items → Member i others
+abbrev pub AreAllFrom : List Item → List Item → Type 0
+AreAllFrom items others = (i : Item) → Member i items → Member i others

@@ -37,6 +37,7 @@ pub record Stored : Type 0 where
 abbrev pub map_of : Shape → ℕ → MapAt
 map_of t next = record { items = contents t; next = next }
 
+-- The state holds the fold of its history, within the limits; its tree is sound, and balanced outside its lawful parts, and its version shows this very tree.
 pub record IsLawful (s : StateAt) : Type 0 where
   pub sizes : AreSizes s.settings
   pub sound : IsSound s.tree

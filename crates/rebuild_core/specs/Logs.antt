@@ -8,6 +8,7 @@ pub record LogPlan : Type 0 where
   pub ticket : ℕ
   pub log : Option (List Op)
 
+-- the part with this log as a list, or an empty list where it is forgotten
 abbrev pub with_log : Option (List Op) → PartAt → List PartAt
 with_log None p = []
 with_log (Some log) p = record p { log = log } ∷ []

@@ -32,6 +32,7 @@ pub record IsLawfulPart (large next last : ℕ) (t : Shape) (p : PartAt) : Type 
   pub ticket_from : 1 ≤ p.ticket
   pub ticket_to : p.ticket ≤ last
 
+-- each of the parts is lawful in the tree
 abbrev pub AreEachLawful : ℕ → ℕ → ℕ → Shape → List PartAt → Type 0
 AreEachLawful large next last t [] = Unit {0}
 AreEachLawful large next last t (p ∷ ps) = IsLawfulPart large next last t p × AreEachLawful large next last t ps

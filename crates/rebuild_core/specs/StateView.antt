@@ -2,15 +2,17 @@
 use Rattle.std.specs.Prelude.{◌≡◌, ℕ, ◌+◌, ◌-◌, ◌<◌, List, length, slice_index_or, Option, Some, None}
 use Rattle.map_fold.specs.declared.entry.Entry.{Entry}
 use Rattle.rebuild_core.specs.declared.state.MapState.TheInside.{Inside}
-use Rattle.rebuild_core.specs.History.{Follows, entries_of}
+use Rattle.rebuild_core.specs.History.{MayComeNext, entries_of}
 use Rattle.rebuild_core.specs.Lawful.{StateAt}
 use Rattle.rebuild_core.specs.Parts.{PartAt}
 use Rattle.rebuild_core.specs.declared.part.PartInfo.{PartInfo}
 use Rattle.rebuild_core.specs.declared.plan.TheConstants.{MAX_UPDATES}
 
+-- the state as contracts see it, from the fields that keep it
 abbrev pub state_of : Inside → StateAt
 state_of s = record { settings = s.settings; tree = s.tree; next = s.next; history = s.history.items; parts = s.parts.items; last = s.last; version = s.version.value }
 
+-- for how many more entries the history has room as it stands
 abbrev pub spare_of : Inside → ℕ
 spare_of s = s.history.cap - length s.history.items
 
@@ -22,7 +24,7 @@ pub record AreMade (made : List ℕ) (history : List Entry) : Type 0 where
 -- the entry, if there is one, may follow these, of which there are few enough
 abbrev pub IsNextOf : List Entry → Option Entry → Type 0
 IsNextOf before None = Unit {0}
-IsNextOf before (Some e) = Follows before e × (length before < MAX_UPDATES)
+IsNextOf before (Some e) = MayComeNext before e × (length before < MAX_UPDATES)
 
 -- what is shown of a part
 abbrev pub info_of : Option PartAt → Option PartInfo

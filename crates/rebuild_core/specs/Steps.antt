@@ -31,6 +31,7 @@ pub record PlannedAt : Type 0 where
 abbrev pub plan_with : Shape → List LogPlan → StateAt → PlannedAt
 plan_with t logs s = record { tree = t; next = s.next; version = record { tree = t; next = s.next; len = length s.history }; entry = None; logs = logs }
 
+-- the entry as a list, or an empty list where there is none
 abbrev pub listed : Option Entry → List Entry
 listed None = []
 listed (Some e) = e ∷ []

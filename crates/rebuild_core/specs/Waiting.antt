@@ -21,8 +21,8 @@ pub record IsWaiting (large next : ℕ) (w : Waiting) : Type 0 where
   pub work : IsWork large next w.work
 
 -- nothing that waits is in the box
-abbrev pub IsClear : Bounds → Waiting → Type 0
-IsClear c w = All (λ i. in_box c i ≡ false) w.items.items
+abbrev pub NoneWaitsIn : Bounds → Waiting → Type 0
+NoneWaitsIn c w = All (λ i. in_box c i ≡ false) w.items.items
 
 -- what waits is the same, or one item of the box more
 abbrev pub IsJoined : Bounds → Waiting → Waiting → Type 0
@@ -30,4 +30,4 @@ IsJoined c before after = (after.items.items ≡ before.items.items) ⊎ ((i : I
 
 -- nothing that waits is in the voxel of one of the items
 abbrev pub AreClear : ℕ → Waiting → List Item → Type 0
-AreClear edge w is = All (λ i. IsClear (voxel edge i.point) w) is
+AreClear edge w is = All (λ i. NoneWaitsIn (voxel edge i.point) w) is

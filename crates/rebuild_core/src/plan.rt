@@ -30,8 +30,8 @@ struct Drafted {
 
 impl MapState {
     /// Makes one more update of this caller, and answers how many entries the history has then. A refusal drops the
-    /// update. The time is that of the update's operations on the tree, and of copying the logs of detached subtrees: nothing
-    /// walks the tree or the history.
+    /// update. The time is that of the update's operations on the tree, and of a copy of each detached subtree's log, which
+    /// shares all but its newest operations: nothing walks the tree or the history.
     ///
     /// What crosses a detached subtree is logged for it, and no node above it, at its top or in it is rebuilt. Before a
     /// point is put into a full tree, the whole tree is rebuilt and all detached subtrees are forgotten; otherwise, before
@@ -161,7 +161,7 @@ impl MapState {
         Ok(())
     }
 
-    /// Works that out. The state stays as it was.
+    /// Plans `settle`: builds the tree, and takes the memory for it. The state stays as it was.
     pub fn plan_settle(&mut self, alloc: Global) -> Result<Planned, NoMemory>
         ensures same { self.new.state ≡ self.old.state }
         ensures spare { self.new.spare ≡ self.old.spare }

@@ -4,7 +4,7 @@ ghost use Rattle.map_fold.specs.Contents.{AreContents, kept};
 ghost use Rattle.map_fold.specs.Nearest.{Member};
 ghost use Rattle.kd_tree.specs.Contents.{contents};
 ghost use Rattle.kd_tree.specs.Walk.{walk};
-ghost use Rattle.rebuild_core.specs.Holding.{AreIn};
+ghost use Rattle.rebuild_core.specs.Holding.{AreAllFrom};
 
 use kd_tree::Tree;
 use map_fold::{Item, Label, MAX_POINTS, Tag};
@@ -31,7 +31,7 @@ pub(crate) fn holds(tree: &Tree, items: &[Item]) -> bool
 // Whether each item that is left of the tree under this action is one of the items.
 fn are_among(tree: &Tree, owed: Tag, items: &[Item]) -> bool
     requires { AreContents 0 MAX_POINTS items.now }
-    ensures { result ≡ true ↔ AreIn (walk owed tree.now) items.now }
+    ensures { result ≡ true ↔ AreAllFrom (walk owed tree.now) items.now }
 {
     let Some(top) = tree.top() else {
         return true;
@@ -49,7 +49,7 @@ fn are_among(tree: &Tree, owed: Tag, items: &[Item]) -> bool
 // Whether the item is dropped or one of the items.
 fn is_among(item: &Item, items: &[Item]) -> bool
     requires { AreContents 0 MAX_POINTS items.now }
-    ensures { result ≡ true ↔ AreIn (kept (item.now ∷ [])) items.now }
+    ensures { result ≡ true ↔ AreAllFrom (kept (item.now ∷ [])) items.now }
 {
     if item.label == Label::Dropped {
         return true;

@@ -16,7 +16,7 @@ use map_fold::{NoMemory, Op, Ops};
 use std::alloc::Global;
 use std::sync::ledger::Ledger;
 
-// As many operations are done at most in a swap that isn't forced.
+// The most operations that an unforced swap replays.
 const MOST_LEFT: u32 = 64;
 
 /// A built value that wasn't swapped in, as it was.
@@ -62,7 +62,7 @@ impl MapState {
         }
     }
 
-    /// Works that out. The state stays as it was.
+    /// Plans `swap`, and takes the memory for it. The state stays as it was.
     pub fn plan_swap<L: Ledger>(
         &mut self,
         alloc: Global,
@@ -158,9 +158,12 @@ impl MapState {
         let others = others_of(alloc, parts, part.ticket)?;
         let tree = self.tree.copy(alloc, steps)?;
         let (path, others) = (&part.path, others.as_slice());
-        let Replaced { tree, anew } = replaced(alloc, tree, large, path, with, others, steps)?;
+        let Replaced {
+            tree,
+            whole_rebuilt,
+        } = replaced(alloc, tree, large, path, with, others, steps)?;
         let _size = tree.size();
-        let logs = forgotten_for(alloc, parts, part.ticket, anew)?;
+        let logs = forgotten_for(alloc, parts, part.ticket, whole_rebuilt)?;
         self.plan_with(alloc, tree, logs, steps)
     }
 }

@@ -6,7 +6,7 @@ ghost use Rattle.rebuild_worker.specs.declared.worker.Round.TheVariants.{Idle, O
 
 use crate::bell::Rest;
 use crate::gate::Gate;
-use map_fold::NoMemory;
+use map_fold::{MAX_LARGE, MIN_LARGE, NoMemory};
 use rebuild_core::{Built, Desk, Job, Late, SwapFault, SwapLeft};
 use std::alloc::Global;
 use std::sync::Wait;
@@ -40,8 +40,8 @@ pub fn work<D: Desk, G: Gate, R: Wait>(
     gate: &G,
     rest: &mut Rest,
 )
-    requires large_from { 16 ≤ large }
-    requires large_to { large ≤ 1000000 }
+    requires large_from { MIN_LARGE ≤ large }
+    requires large_to { large ≤ MAX_LARGE }
     requires worker_from { 1 ≤ worker }
     requires worker_to { worker ≤ 2 }
 {
@@ -75,7 +75,7 @@ enum Round {
 
 impl Round {
     fn and(self, other: Round) -> Round
-        ensures wanting { result ≡ OutOfMemory ↔ ((self ≡ OutOfMemory) ⊎ (other ≡ OutOfMemory)) }
+        ensures no_memory { result ≡ OutOfMemory ↔ ((self ≡ OutOfMemory) ⊎ (other ≡ OutOfMemory)) }
         ensures idle { result ≡ Idle ↔ ((self ≡ Idle) × (other ≡ Idle)) }
     {
         match (self, other) {

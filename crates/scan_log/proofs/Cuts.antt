@@ -6,7 +6,7 @@ use Rattle.std.proofs.lemmas.List.{take_rest}
 use Rattle.std.proofs.lemmas.List.Sums.{sum_by-cons}
 use Rattle.std.proofs.lemmas.List.Splits.{slice_split_first}
 use Rattle.scan_log.specs.Faults.{line_feeds}
-use Rattle.scan_log.specs.Lines.{lines_of, is_kept, kept_from, fields_of}
+use Rattle.scan_log.specs.Lines.{lines_of, is_kept_line, kept_from, fields_of}
 
 abbrev is_feed : ℕ → Bool
 is_feed b = nat_eq b 10
@@ -110,19 +110,19 @@ feeds_cut xs n e =
     rw (take_rest xs (n + 1), f.0) (feeds-first xs (rw f.0 at f.1))
 
 -- the first line is kept, or not
-kept_first : (number : ℕ) (line : List ℕ) (lines : List (List ℕ)) → is_kept line ≡ true
+kept_first : (number : ℕ) (line : List ℕ) (lines : List (List ℕ)) → is_kept_line line ≡ true
     → kept_from number (line ∷ lines) ≡ (number, line) ∷ kept_from (number + 1) lines
 kept_first number line lines h = rw h refl
 
-skipped_first : (number : ℕ) (line : List ℕ) (lines : List (List ℕ)) → is_kept line ≡ false
+skipped_first : (number : ℕ) (line : List ℕ) (lines : List (List ℕ)) → is_kept_line line ≡ false
     → kept_from number (line ∷ lines) ≡ kept_from (number + 1) lines
 skipped_first number line lines h = rw h refl
 
-pub kept_cut : (number : ℕ) (xs : List ℕ) (n : ℕ) → position is_feed xs ≡ Some n → is_kept (take n xs) ≡ true
+pub kept_cut : (number : ℕ) (xs : List ℕ) (n : ℕ) → position is_feed xs ≡ Some n → is_kept_line (take n xs) ≡ true
     → kept_from number (lines_of xs) ≡ (number, take n xs) ∷ kept_from (number + 1) (lines_of (take (length xs - (n + 1)) (drop (n + 1) xs)))
 kept_cut number xs n e h = ap (kept_from number) (line_cut xs n e) ∙ kept_first number (take n xs) (lines_of (take (length xs - (n + 1)) (drop (n + 1) xs))) h
 
-pub skipped_cut : (number : ℕ) (xs : List ℕ) (n : ℕ) → position is_feed xs ≡ Some n → is_kept (take n xs) ≡ false
+pub skipped_cut : (number : ℕ) (xs : List ℕ) (n : ℕ) → position is_feed xs ≡ Some n → is_kept_line (take n xs) ≡ false
     → kept_from number (lines_of xs) ≡ kept_from (number + 1) (lines_of (take (length xs - (n + 1)) (drop (n + 1) xs)))
 skipped_cut number xs n e h = ap (kept_from number) (line_cut xs n e) ∙ skipped_first number (take n xs) (lines_of (take (length xs - (n + 1)) (drop (n + 1) xs))) h
 
@@ -130,14 +130,14 @@ skipped_cut number xs n e h = ap (kept_from number) (line_cut xs n e) ∙ skippe
 past_end : (xs : List ℕ) → lines_of (take (length xs - length xs) (drop (length xs) xs)) ≡ []
 past_end xs = let z : length xs - length xs ≡ 0 = omega arith in rw z refl
 
-pub kept_end : (number : ℕ) (xs : List ℕ) → position is_feed xs ≡ None → is_kept xs ≡ true
+pub kept_end : (number : ℕ) (xs : List ℕ) → position is_feed xs ≡ None → is_kept_line xs ≡ true
     → kept_from number (lines_of xs) ≡ (number, xs) ∷ kept_from number (lines_of (take (length xs - length xs) (drop (length xs) xs)))
 kept_end number [] e h = cc h
 kept_end number (x ∷ xs) e h =
     ap (kept_from number) (lines-last (x ∷ xs) (omega arith) (not_found is_feed (x ∷ xs) e)) ∙ kept_first number (x ∷ xs) [] h
     ∙ ap (λ (ls : List (List ℕ)). (number, x ∷ xs) ∷ kept_from number ls) (sym (past_end (x ∷ xs)))
 
-pub skipped_end : (number : ℕ) (xs : List ℕ) → position is_feed xs ≡ None → is_kept xs ≡ false → kept_from number (lines_of xs) ≡ []
+pub skipped_end : (number : ℕ) (xs : List ℕ) → position is_feed xs ≡ None → is_kept_line xs ≡ false → kept_from number (lines_of xs) ≡ []
 skipped_end number [] e h = refl
 skipped_end number (x ∷ xs) e h =
     ap (kept_from number) (lines-last (x ∷ xs) (omega arith) (not_found is_feed (x ∷ xs) e)) ∙ skipped_first number (x ∷ xs) [] h

@@ -20,16 +20,16 @@ use Rattle.scan_log.specs.declared.fault.LogCause.{LogCause}
 use Rattle.scan_log.specs.declared.fault.LogCause.TheVariants.{NoHeader, BadNumber, OutOfRange, UnknownCommand, BadCaller, WrongCount, InvertedBox, TooManyPoints}
 use Rattle.scan_log.specs.Steps.{◌>>=◌, given}
 use Rattle.scan_log.specs.Numbers.{is_numeral, number_in, in_range, natural_in, coordinate, corner_number}
-use Rattle.scan_log.specs.Faults.{scanned_fault, named_format, ◌orelse◌, check, value, number_fault, coordinates_fault, corner_fault, boxes_fault, are_groups, expire_fault, points_fault, erase_fault, marks_fault, k_fault, near_fault, box_fault, nears_fault, distance_fault, ball_fault, reach_fault, pose_fault, basic_fault, word_fault, is_caller, called_fault, header_fault}
+use Rattle.scan_log.specs.Faults.{scanned_fault, named_format, ◌orelse◌, fault_unless, value, number_fault, coordinates_fault, corner_fault, boxes_fault, are_groups, expire_fault, points_fault, erase_fault, marks_fault, k_fault, near_fault, box_fault, nears_fault, distance_fault, ball_fault, reach_fault, pose_fault, basic_fault, word_fault, is_caller, called_fault, header_fault}
 use Rattle.scan_log.specs.Reading.{scanned_place_of, scanned_places_of, few_scanned_of, place_of, places_of, corner_of, is_upright, box_of, boxes_of, groups_of, few_places_of, few_boxes_of, units_of, expiry_of, update_of, near_of, inside_of, nears_of, ball_of, reach_of, pose_of, basic_of, called_of, digit_caller, caller_of, after_caller, command_of, header_of}
 use Rattle.scan_log.proofs.StepLemmas.{both, passed, bound, orelse-None, orelse_assoc, result_err-given, result_err-bind, result_err-last}
 
 result_err-number_in : (low high : ℤ) (f : List ℕ) → result_err (number_in low high f) ≡ number_fault low high f
 result_err-number_in low high f =
     result_err-given (is_numeral f) BadNumber (in_range low high (value f))
-    ∙ ap (λ (d : Option LogCause). check (is_numeral f) BadNumber orelse d) (last (int_le low (value f) && int_le (value f) high))
+    ∙ ap (λ (d : Option LogCause). fault_unless (is_numeral f) BadNumber orelse d) (last (int_le low (value f) && int_le (value f) high))
   where
-    last : (b : Bool) → result_err (given {A = ℤ} b OutOfRange (Ok (value f))) ≡ check b OutOfRange
+    last : (b : Bool) → result_err (given {A = ℤ} b OutOfRange (Ok (value f))) ≡ fault_unless b OutOfRange
     last true = refl
     last false = refl
 
@@ -110,7 +110,7 @@ result_err-corner_of format f g h =
     ∙ rw (result_err-number_in (lowest format) (box_highest format) f, result_err-number_in (lowest format) (box_highest format) g, result_err-number_in (lowest format) (box_highest format) h) refl
 
 abbrev box_check : List ℕ → List ℕ → List ℕ → List ℕ → List ℕ → List ℕ → Option LogCause
-box_check a b c d e f = check (int_le (value a) (value d) && int_le (value b) (value e) && int_le (value c) (value f)) InvertedBox
+box_check a b c d e f = fault_unless (int_le (value a) (value d) && int_le (value b) (value e) && int_le (value c) (value f)) InvertedBox
 
 -- six numbers, and no upper one below its lower one
 result_err-box_of : (format : Format) (a b c d e f : List ℕ) → result_err (box_of format a b c d e f)
@@ -121,11 +121,11 @@ result_err-box_of format a b c d e f =
     result_err-bind (corner_of format a b c) _ _ (λ lo from.
     result_err-bind (corner_of format d e f) _ (box_check a b c d e f) (λ hi to.
     result_err-given (is_upright lo hi) InvertedBox (Ok (record { lo = lo; hi = hi }))
-    ∙ orelse-None (check (is_upright lo hi) InvertedBox) ∙ upright a b c d e f lo hi (corner_is format a b c lo from) (corner_is format d e f hi to)))
+    ∙ orelse-None (fault_unless (is_upright lo hi) InvertedBox) ∙ upright a b c d e f lo hi (corner_is format a b c lo from) (corner_is format d e f hi to)))
     ∙ rw (result_err-corner_of format a b c, result_err-corner_of format d e f) refl
   where
     upright : (a b c d e f : List ℕ) (lo hi : Corner) → (value a ≡ lo.x) × (value b ≡ lo.y) × (value c ≡ lo.z)
-        → (value d ≡ hi.x) × (value e ≡ hi.y) × (value f ≡ hi.z) → check (is_upright lo hi) InvertedBox ≡ box_check a b c d e f
+        → (value d ≡ hi.x) × (value e ≡ hi.y) × (value f ≡ hi.z) → fault_unless (is_upright lo hi) InvertedBox ≡ box_check a b c d e f
     upright a b c d e f lo hi p q = rw (p.0, p.1, p.2, q.0, q.1, q.2) refl
 
 -- the same, as the checks stand
@@ -152,11 +152,11 @@ result_err-boxes_of format (a ∷ b ∷ c ∷ d ∷ e ∷ f ∷ rest) h =
     ∙ ap (λ (d : Option LogCause). d orelse boxes_fault format rest) (result_err-box_of format a b c d e f) ∙ sym (box_more format a b c d e f rest)
 
 result_err-groups_of : (size most : ℕ) (args : List (List ℕ)) → result_err (groups_of size most args)
-    ≡ check (are_groups size args) WrongCount orelse check (nat_le (length args / size) most) TooManyPoints
+    ≡ fault_unless (are_groups size args) WrongCount orelse fault_unless (nat_le (length args / size) most) TooManyPoints
 unfolding groups_of
 result_err-groups_of size most args =
     result_err-given (are_groups size args) WrongCount _
-    ∙ ap (λ (d : Option LogCause). check (are_groups size args) WrongCount orelse d)
+    ∙ ap (λ (d : Option LogCause). fault_unless (are_groups size args) WrongCount orelse d)
     (result_err-given (nat_le (length args / size) most) TooManyPoints (Ok (length args / size)) ∙ orelse-None _)
 
 -- the arguments stand in groups
@@ -167,7 +167,7 @@ in_groups size most args n e =
     let q = both _ (nat_eq (length args % size) 0) p.0 in grind (arith, nat_tests, q.1)
 
 result_err-few_places_of : (format : Format) (most : ℕ) (args : List (List ℕ)) → result_err (few_places_of format most args)
-    ≡ check (are_groups 3 args) WrongCount orelse check (nat_le (length args / 3) most) TooManyPoints orelse coordinates_fault format args
+    ≡ fault_unless (are_groups 3 args) WrongCount orelse fault_unless (nat_le (length args / 3) most) TooManyPoints orelse coordinates_fault format args
 unfolding few_places_of
 result_err-few_places_of format most args =
     result_err-bind (groups_of 3 most args) _ (coordinates_fault format args) (λ n is. result_err-places_of format args (in_groups 3 most args n is))
@@ -184,7 +184,7 @@ unfolding units_of
 result_err-units_of format args = result_err-last (few_places_of format 262144 args) (map unit_box) ∙ result_err-few_places_of format 262144 args
 
 result_err-few_scanned_of : (format : Format) (most : ℕ) (args : List (List ℕ)) → result_err (few_scanned_of format most args)
-    ≡ check (are_groups (width format) args) WrongCount orelse check (nat_le (length args / width format) most) TooManyPoints orelse scanned_fault format args
+    ≡ fault_unless (are_groups (width format) args) WrongCount orelse fault_unless (nat_le (length args / width format) most) TooManyPoints orelse scanned_fault format args
 unfolding few_scanned_of
 result_err-few_scanned_of format most args =
     result_err-bind (groups_of (width format) most args) _ (scanned_fault format args)
@@ -200,7 +200,7 @@ result_err-points : (format : Format) (before room : ℕ) (args : List (List ℕ
     → result_err (few_scanned_of format (min 262144 room) args) ≡ points_fault format before args
 result_err-points format before room args h =
     result_err-few_scanned_of format (min 262144 room) args
-    ∙ ap (λ (b : Bool). check (are_groups (width format) args) WrongCount orelse check b TooManyPoints orelse scanned_fault format args) (room_test (length args / width format) before room h)
+    ∙ ap (λ (b : Bool). fault_unless (are_groups (width format) args) WrongCount orelse fault_unless b TooManyPoints orelse scanned_fault format args) (room_test (length args / width format) before room h)
 
 result_err-expiry_of : (args : List (List ℕ)) → result_err (expiry_of args) ≡ expire_fault args
 unfolding expiry_of
@@ -253,13 +253,13 @@ result_err-near_within : (format : Format) (caller : ℕ) (k x y z word r : List
 unfolding near_of
 result_err-near_within format caller k x y z word r =
     result_err-given (bytes_eq word (codes "within")) WrongCount _
-    ∙ ap (λ (d : Option LogCause). check (bytes_eq word (codes "within")) WrongCount orelse d)
+    ∙ ap (λ (d : Option LogCause). fault_unless (bytes_eq word (codes "within")) WrongCount orelse d)
     (result_err-bind (natural_in 1 256 k) _ (coordinates_fault format (x ∷ y ∷ z ∷ []) orelse number_fault (pos 0) (pos (farthest format)) r) (λ n is.
     result_err-bind (place_of format x y z) _ (number_fault (pos 0) (pos (farthest format)) r) (λ p at.
     result_err-last (natural_in 0 (farthest format) r) _ ∙ result_err-natural_in 0 (farthest format) r)
     ∙ ap (λ (d : Option LogCause). d orelse number_fault (pos 0) (pos (farthest format)) r) (result_err-place_of format x y z))
     ∙ ap (λ (d : Option LogCause). d orelse (coordinates_fault format (x ∷ y ∷ z ∷ []) orelse number_fault (pos 0) (pos (farthest format)) r)) (result_err-natural_in 1 256 k))
-    ∙ sym (regroup (check (bytes_eq word (codes "within")) WrongCount) (k_fault k) (coordinates_fault format (x ∷ y ∷ z ∷ [])) (number_fault (pos 0) (pos (farthest format)) r))
+    ∙ sym (regroup (fault_unless (bytes_eq word (codes "within")) WrongCount) (k_fault k) (coordinates_fault format (x ∷ y ∷ z ∷ [])) (number_fault (pos 0) (pos (farthest format)) r))
   where
     regroup : (a b c d : Option LogCause) → a orelse b orelse c orelse d ≡ a orelse (b orelse (c orelse d))
     regroup a b c d = simp orelse_assoc
@@ -325,7 +325,7 @@ result_err-nears_of caller (k ∷ args) =
     result_err-last (places_of Two args) _ ∙ result_err-places_of Two args (in_groups 3 262144 args n is))
     ∙ ap (λ (d : Option LogCause). d orelse coordinates_fault Two args) (result_err-natural_in 1 256 k))
     ∙ ap (λ (d : Option LogCause). d orelse (k_fault k orelse coordinates_fault Two args)) (result_err-groups_of 3 262144 args)
-    ∙ sym (orelse_assoc (check (are_groups 3 args) WrongCount orelse check (nat_le (length args / 3) 262144) TooManyPoints) (k_fault k) (coordinates_fault Two args))
+    ∙ sym (orelse_assoc (fault_unless (are_groups 3 args) WrongCount orelse fault_unless (nat_le (length args / 3) 262144) TooManyPoints) (k_fault k) (coordinates_fault Two args))
 
 -- a count, a distance and a point
 result_err-ball_five : (caller : ℕ) (k r x y z : List ℕ) → result_err (ball_of caller (k ∷ r ∷ x ∷ y ∷ z ∷ [])) ≡ ball_fault (k ∷ r ∷ x ∷ y ∷ z ∷ [])
@@ -429,17 +429,17 @@ result_err-called_of Two before room caller word args h =
     (nears_of caller args) (ball_of caller args) (pose_of caller args) (basic_of Two room caller word args) (reach_of args)
     ∙ rw (result_err-nears_of caller args, result_err-ball_of caller args, result_err-reach_of args, result_err-pose_of caller args, result_err-basic_of Two before room caller word args h) refl
 
-result_err-digit_caller : (digits : List ℕ) → result_err (digit_caller digits) ≡ check (is_caller digits) BadCaller
+result_err-digit_caller : (digits : List ℕ) → result_err (digit_caller digits) ≡ fault_unless (is_caller digits) BadCaller
 result_err-digit_caller [] = refl
 result_err-digit_caller (c ∷ []) = result_err-given (nat_le 49 c && nat_le c 56) BadCaller (Ok (c - 48)) ∙ orelse-None _
 result_err-digit_caller (c ∷ d ∷ digits) = refl
 
 result_err-caller_of : (c : ℕ) (digits : List ℕ)
-    → result_err (caller_of (c ∷ digits)) ≡ check (nat_eq c 64) UnknownCommand orelse check (is_caller digits) BadCaller
+    → result_err (caller_of (c ∷ digits)) ≡ fault_unless (nat_eq c 64) UnknownCommand orelse fault_unless (is_caller digits) BadCaller
 unfolding caller_of
 result_err-caller_of c digits =
     result_err-given (nat_eq c 64) UnknownCommand (digit_caller digits)
-    ∙ ap (λ (d : Option LogCause). check (nat_eq c 64) UnknownCommand orelse d) (result_err-digit_caller digits)
+    ∙ ap (λ (d : Option LogCause). fault_unless (nat_eq c 64) UnknownCommand orelse d) (result_err-digit_caller digits)
 
 -- a command of a caller
 result_err-called : (format : Format) (before room : ℕ) (first : List ℕ) (fields : List (List ℕ)) → before + room ≡ 4194304
@@ -456,13 +456,13 @@ result_err-called format before room (c ∷ digits) (word ∷ args) h =
 -- the fault of a command's fields
 pub result_err-command_of : (format : Format) (before room : ℕ) (first : List ℕ) (fields : List (List ℕ)) → before + room ≡ 4194304
     → result_err (command_of format room (first ∷ fields))
-    ≡ (if bytes_eq first (codes "sync") then check (nat_eq (length fields) 0) WrongCount else called_fault format before first fields)
+    ≡ (if bytes_eq first (codes "sync") then fault_unless (nat_eq (length fields) 0) WrongCount else called_fault format before first fields)
 unfolding command_of
 result_err-command_of format before room first fields h = choice (bytes_eq first (codes "sync"))
   where
     choice : (b : Bool) → result_err (if b then given (nat_eq (length fields) 0) WrongCount (Ok Sync) else
         (caller_of first >>= λ caller. after_caller format room caller fields))
-        ≡ (if b then check (nat_eq (length fields) 0) WrongCount else called_fault format before first fields)
+        ≡ (if b then fault_unless (nat_eq (length fields) 0) WrongCount else called_fault format before first fields)
     choice true = result_err-given (nat_eq (length fields) 0) WrongCount (Ok Sync) ∙ orelse-None _
     choice false = result_err-called format before room first fields h
 
@@ -476,11 +476,11 @@ result_err-header_of (a ∷ b ∷ c ∷ voxel ∷ []) = refl
 result_err-header_of (a ∷ b ∷ c ∷ voxel ∷ d ∷ []) = refl
 result_err-header_of (a ∷ b ∷ c ∷ voxel ∷ d ∷ large ∷ []) =
     result_err-given test NoHeader _
-    ∙ ap (λ (x : Option LogCause). check test NoHeader orelse x)
+    ∙ ap (λ (x : Option LogCause). fault_unless test NoHeader orelse x)
     (result_err-bind (natural_in 1 1000000 voxel) _ (number_fault (pos 16) (pos 1000000) large) (λ v is.
     result_err-last (natural_in 16 1000000 large) _ ∙ result_err-natural_in 16 1000000 large)
     ∙ ap (λ (x : Option LogCause). x orelse number_fault (pos 16) (pos 1000000) large) (result_err-natural_in 1 1000000 voxel))
-    ∙ sym (orelse_assoc (check test NoHeader) (number_fault (pos 1) (pos 1000000) voxel) (number_fault (pos 16) (pos 1000000) large))
+    ∙ sym (orelse_assoc (fault_unless test NoHeader) (number_fault (pos 1) (pos 1000000) voxel) (number_fault (pos 16) (pos 1000000) large))
   where
     test : Bool
     test = bytes_eq a (codes "ikdmap") && is_version b && bytes_eq c (codes "voxel") && bytes_eq d (codes "large")

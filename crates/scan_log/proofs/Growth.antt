@@ -40,11 +40,11 @@ AllByRecursion-push : {X : Type 0} (P : X → Type 0) (xs : List X) (y : X) → 
 AllByRecursion-push P [] y each last = (last, tt)
 AllByRecursion-push P (x ∷ xs) y each last = (each.0, AllByRecursion-push P xs y each.1 last)
 
-points_of-push : (cs : List Command) (c : Command) → points_of (cs ++ c ∷ []) ≡ points_of cs + submitted c
+pub points_of-push : (cs : List Command) (c : Command) → points_of (cs ++ c ∷ []) ≡ points_of cs + submitted c
 points_of-push [] c = omega arith
 points_of-push (d ∷ cs) c = omega (arith, points_of-push cs c)
 
-hits_of-push : (cs : List Command) (c : Command) → hits_of (cs ++ c ∷ []) ≡ hits_of cs + asked c
+pub hits_of-push : (cs : List Command) (c : Command) → hits_of (cs ++ c ∷ []) ≡ hits_of cs + asked c
 hits_of-push [] c = omega arith
 hits_of-push (d ∷ cs) c = omega (arith, hits_of-push cs c)
 

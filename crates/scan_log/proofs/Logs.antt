@@ -11,8 +11,8 @@ use Rattle.scan_log.specs.declared.command.Command.{Command}
 use Rattle.scan_log.specs.declared.fault.LogCause.{LogCause}
 use Rattle.scan_log.specs.declared.fault.LogCause.TheVariants.{TooManyCommands, TooManyHits}
 use Rattle.scan_log.specs.Steps.{◌>>=◌, given}
-use Rattle.scan_log.specs.Lines.{lines_of, is_kept, kept_from, fields_of}
-use Rattle.scan_log.specs.Faults.{FaultAt, ◌orelse◌, check, command_fault, fields_points, fields_hits, at_line, commands_fault, named_format, lines_fault, line_feeds, first_fault}
+use Rattle.scan_log.specs.Lines.{lines_of, is_kept_line, kept_from, fields_of}
+use Rattle.scan_log.specs.Faults.{FaultAt, ◌orelse◌, fault_unless, command_fault, fields_points, fields_hits, at_line, commands_fault, named_format, lines_fault, line_feeds, first_fault}
 use Rattle.scan_log.specs.Reading.{command_of, header_of, on_line, few_hits, line_command, commands_of, body_of, script_of, log_of}
 use Rattle.scan_log.specs.Scripts.{ScriptAt, IsScript, IsCommand, asked, submitted, points_of, hits_of}
 use Rattle.scan_log.specs.Spelling.{LinesSpell, SpellsLines, Spells}
@@ -26,9 +26,9 @@ abbrev texts : List (ℕ × List ℕ) → List (List ℕ)
 texts lines = map (λ l. l.1) lines
 
 -- numbers are all that numbered lines have more
-texts-kept_from : (n : ℕ) (lines : List (List ℕ)) → texts (kept_from n lines) ≡ filter is_kept lines
+texts-kept_from : (n : ℕ) (lines : List (List ℕ)) → texts (kept_from n lines) ≡ filter is_kept_line lines
 texts-kept_from n [] = refl
-texts-kept_from n (line ∷ lines) = elim (is_kept line) as (λ b. texts (cond b ((n, line) ∷ kept_from (n + 1) lines) (kept_from (n + 1) lines)) ≡ cond b (line ∷ filter is_kept lines) (filter is_kept lines)) [
+texts-kept_from n (line ∷ lines) = elim (is_kept_line line) as (λ b. texts (cond b ((n, line) ∷ kept_from (n + 1) lines) (kept_from (n + 1) lines)) ≡ cond b (line ∷ filter is_kept_line lines) (filter is_kept_line lines)) [
   | true ↦ ap (λ (ls : List (List ℕ)). line ∷ ls) (texts-kept_from (n + 1) lines)
   | false ↦ texts-kept_from (n + 1) lines
 ]
@@ -113,23 +113,23 @@ hits_test : (n used hits : ℕ) → used + hits ≡ 16777216 → nat_le n hits �
 hits_test n used hits h = grind (arith, nat_tests)
 
 result_err-few_hits : (used hits : ℕ) (c : Command) → used + hits ≡ 16777216
-    → result_err (few_hits hits c) ≡ check (nat_le (used + asked c) 16777216) TooManyHits
+    → result_err (few_hits hits c) ≡ fault_unless (nat_le (used + asked c) 16777216) TooManyHits
 result_err-few_hits used hits c h =
     result_err-given (nat_le (asked c) hits) TooManyHits (Ok c) ∙ orelse-None _
-    ∙ ap (λ (b : Bool). check b TooManyHits) (hits_test (asked c) used hits h)
+    ∙ ap (λ (b : Bool). fault_unless b TooManyHits) (hits_test (asked c) used hits h)
 
 -- the fault of a command's line
 result_err-fields : (format : Format) (count before room used hits : ℕ) (fields : List (List ℕ)) → before + room ≡ 4194304 → used + hits ≡ 16777216 → 0 < length fields
     → result_err (given (nat_lt count 65536) TooManyCommands (command_of format room fields >>= few_hits hits)) ≡ command_fault format count before used fields
 result_err-fields format count before room used hits [] h k some = absurd (omega (arith, some))
 result_err-fields format count before room used hits (first ∷ fields) h k some =
-    let many = check (nat_lt count 65536) TooManyCommands in
-    let last = check (nat_le (used + fields_hits (first ∷ fields)) 16777216) TooManyHits in
+    let many = fault_unless (nat_lt count 65536) TooManyCommands in
+    let last = fault_unless (nat_le (used + fields_hits (first ∷ fields)) 16777216) TooManyHits in
     result_err-given (nat_lt count 65536) TooManyCommands (command_of format room (first ∷ fields) >>= few_hits hits)
     ∙ ap (λ (d : Option LogCause). many orelse d)
     (result_err-bind (command_of format room (first ∷ fields)) (few_hits hits) last (λ c is.
     result_err-few_hits used hits c k
-    ∙ ap (λ (n : ℕ). check (nat_le (used + n) 16777216) TooManyHits) (sym (command_takes format room (first ∷ fields) c is).listed))
+    ∙ ap (λ (n : ℕ). fault_unless (nat_le (used + n) 16777216) TooManyHits) (sym (command_takes format room (first ∷ fields) c is).listed))
     ∙ ap (λ (d : Option LogCause). d orelse last) (result_err-command_of format before room first fields h))
     ∙ sym (orelse_assoc many _ last)
 

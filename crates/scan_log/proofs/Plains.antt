@@ -58,7 +58,7 @@ plain_script_is s h = record {
 }
 
 -- a pose is answered as the change that it submits
-reply_plain : (format : Format) (regions : List (Option RegionAt)) (c : Command) (r : Reply) → reply_text format (Some (plain_command regions c)) r ≡ reply_text format (Some c) r
+pub reply_plain : (format : Format) (regions : List (Option RegionAt)) (c : Command) (r : Reply) → reply_text format (Some (plain_command regions c)) r ≡ reply_text format (Some c) r
 reply_plain format regions (Change caller u) r = refl
 reply_plain format regions (Near caller k p within) r = refl
 reply_plain format regions (Nears caller k ps) r = refl

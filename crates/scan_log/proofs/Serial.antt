@@ -13,7 +13,7 @@ use Rattle.scan_log.specs.Scripts.{ScriptAt}
 use Rattle.scan_log.specs.Poses.{plain_script}
 use Rattle.scan_log.specs.Spelling.{Spells}
 use Rattle.scan_log.specs.Transcript.{updates_in, mark_from, put_if, put_update, marked_updates, serial_marks_from, serial_marks, held_at, history, reply_on, replies_from, replies, mark_of, text}
-use Rattle.scan_log.specs.Legal.{counted, AllFollow, AreInOrder, IsLegal, AreLegalReplies, IsLegalTranscript}
+use Rattle.scan_log.specs.Legal.{numbers_from, AllFollow, AreInOrder, IsLegal, AreLegalReplies, IsLegalTranscript}
 use Rattle.scan_log.proofs.Whose.{may_follow}
 
 abbrev Above : ℕ → List (ℕ × Update) → Type 0
@@ -37,12 +37,12 @@ serial_above : (n : ℕ) (cs : List Command) → Above n (marked_updates cs (ser
 serial_above n [] = tt
 serial_above n (c ∷ cs) = above_put n (command_update c) _ (serial_above (mark_from n (command_update c)) cs)
 
-each_put : (n : ℕ) (made : Option Update) (hs : List (ℕ × Update)) (us : List Update) → Above (mark_from n made) hs → map (λ h. h.0) hs ≡ counted (mark_from n made + 1) (length us)
-    → map (λ h. h.0) (put_if (mark_from n made) made hs) ≡ counted (n + 1) (length (option_to_list made ++ us))
+each_put : (n : ℕ) (made : Option Update) (hs : List (ℕ × Update)) (us : List Update) → Above (mark_from n made) hs → map (λ h. h.0) hs ≡ numbers_from (mark_from n made + 1) (length us)
+    → map (λ h. h.0) (put_if (mark_from n made) made hs) ≡ numbers_from (n + 1) (length (option_to_list made ++ us))
 each_put n (Some u) hs us above e = rw (put_first (n + 1) u hs above) (ap (λ ms. (n + 1) ∷ ms) e)
 each_put n None hs us above e = e
 
-each_once : (n : ℕ) (cs : List Command) → map (λ h. h.0) (marked_updates cs (serial_marks_from n cs)) ≡ counted (n + 1) (updates_in cs)
+each_once : (n : ℕ) (cs : List Command) → map (λ h. h.0) (marked_updates cs (serial_marks_from n cs)) ≡ numbers_from (n + 1) (updates_in cs)
 each_once n [] = refl
 each_once n (c ∷ cs) = let m = mark_from n (command_update c) in each_put n (command_update c) _ (updates_made cs) (serial_above m cs) (each_once m cs)
 

@@ -4,7 +4,7 @@ use Rattle.std.specs.Prelude.{◌&&◌}
 use Rattle.std.specs.Result.{result_err}
 use Rattle.scan_log.specs.declared.fault.LogCause.{LogCause}
 use Rattle.scan_log.specs.Steps.{◌>>=◌, given}
-use Rattle.scan_log.specs.Faults.{◌orelse◌, check}
+use Rattle.scan_log.specs.Faults.{◌orelse◌, fault_unless}
 
 -- both tests pass
 pub both : (a b : Bool) → (a && b) ≡ true → (a ≡ true) × (b ≡ true)
@@ -22,7 +22,7 @@ pub bound : {A B E : Type 0} (r : Result A E) (f : A → Result B E) (y : B) →
 bound (Ok x) f y h = (x, refl, h)
 bound (Err e) f y h = cc
 
--- no check follows
+-- no fault_unless follows
 pub orelse-None : {X : Type 0} (c : Option X) → c orelse None ≡ c
 orelse-None None = refl
 orelse-None (Some c) = refl
@@ -33,7 +33,7 @@ orelse_assoc (Some a) b c = refl
 
 -- the fault is the test's, or that of the step behind it
 pub result_err-given : {A : Type 0} (b : Bool) (c : LogCause) (r : Result A LogCause)
-    → result_err (given b c r) ≡ check b c orelse result_err r
+    → result_err (given b c r) ≡ fault_unless b c orelse result_err r
 result_err-given true c r = refl
 result_err-given false c r = refl
 

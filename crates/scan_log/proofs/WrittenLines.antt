@@ -13,7 +13,7 @@ use Rattle.scan_log.specs.Lines.{lines_of, fields_of}
 use Rattle.scan_log.specs.Faults.{line_feeds}
 use Rattle.scan_log.specs.Spelling.{scanned_fields, point_fields, box_fields}
 use Rattle.scan_log.specs.Transcript.{spaced, all_spaced, point_text, scanned_text}
-use Rattle.scan_log.specs.Written.{joined, written_line, cuboid_text}
+use Rattle.scan_log.specs.Written.{joined_fields, written_line, cuboid_text}
 
 -- the fields of several, and the several fields
 all_spaced-flat_map : {X : Type 0} (f : X → List (List ℕ)) (xs : List X) → all_spaced (flat_map f xs) ≡ flat_map (λ x. all_spaced (f x)) xs
@@ -68,15 +68,15 @@ fields_of-last (b ∷ field) h =
     let q = and_parts (not (nat_eq b 32)) _ p.0 in
     rw (not_true (nat_eq b 32) q.0) (ap (onto_first b) (fields_of-last field p.1))
 
--- fields that are joined are the line's
+-- fields that are joined_fields are the line's
 pub fields_of-joined : (field : List ℕ) (fields : List (List ℕ)) → are_fields (field ∷ fields) ≡ true
-    → fields_of (joined (field ∷ fields)) ≡ field ∷ fields
+    → fields_of (joined_fields (field ∷ fields)) ≡ field ∷ fields
 fields_of-joined field [] h =
     let p = and_parts (list_all is_in_field field) _ h in
     rw (append-nil field) (fields_of-last field p.0)
 fields_of-joined field (next ∷ fields) h =
     let p = and_parts (list_all is_in_field field) _ h in
-    fields_of-field field (joined (next ∷ fields)) p.0 ∙ ap (λ fs. field ∷ fs) (fields_of-joined next fields p.1)
+    fields_of-field field (joined_fields (next ∷ fields)) p.0 ∙ ap (λ fs. field ∷ fs) (fields_of-joined next fields p.1)
 
 in_line : (field : List ℕ) → list_all is_in_field field ≡ true → list_all is_in_line field ≡ true
 in_line [] h = refl
@@ -91,8 +91,8 @@ all_in_line (field ∷ fields) h =
     let p = and_parts (list_all is_in_field field) _ h in
     list_all-append is_in_line field (all_spaced fields) ∙ and_from _ _ (in_line field p.0) (all_in_line fields p.1)
 
--- fields that are joined are one line
-joined_in_line : (fields : List (List ℕ)) → are_fields fields ≡ true → list_all is_in_line (joined fields) ≡ true
+-- fields that are joined_fields are one line
+joined_in_line : (fields : List (List ℕ)) → are_fields fields ≡ true → list_all is_in_line (joined_fields fields) ≡ true
 joined_in_line [] h = refl
 joined_in_line (field ∷ fields) h =
     let p = and_parts (list_all is_in_field field) _ h in
@@ -100,8 +100,8 @@ joined_in_line (field ∷ fields) h =
 
 -- a line's text is the first line
 pub lines_of-written_line : (fields : List (List ℕ)) (rest : List ℕ) → are_fields fields ≡ true
-    → lines_of (written_line fields ++ rest) ≡ joined fields ∷ lines_of rest
-lines_of-written_line fields rest h = rw append_assoc (lines_of-line (joined fields) rest (joined_in_line fields h))
+    → lines_of (written_line fields ++ rest) ≡ joined_fields fields ∷ lines_of rest
+lines_of-written_line fields rest h = rw append_assoc (lines_of-line (joined_fields fields) rest (joined_in_line fields h))
 
 no_feeds : (line : List ℕ) → list_all is_in_line line ≡ true → line_feeds line ≡ 0
 no_feeds [] h = refl
@@ -120,4 +120,4 @@ line_feeds-line line rest h =
 -- a line's text has one line feed
 pub line_feeds-written_line : (fields : List (List ℕ)) (rest : List ℕ) → are_fields fields ≡ true
     → line_feeds (written_line fields ++ rest) ≡ line_feeds rest + 1
-line_feeds-written_line fields rest h = rw append_assoc (line_feeds-line (joined fields) rest (joined_in_line fields h))
+line_feeds-written_line fields rest h = rw append_assoc (line_feeds-line (joined_fields fields) rest (joined_in_line fields h))

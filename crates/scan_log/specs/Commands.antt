@@ -58,5 +58,6 @@ is_for x c = is_own_or_none x (command_caller c)
 abbrev pub IsBy : Command → ℕ → Type 0
 IsBy c x = IsSomeAnd (command_caller c) (λ caller. caller ≡ x)
 
+-- it is this caller's or a barrier, as a fact
 abbrev pub Concerns : ℕ → Command → Type 0
 Concerns x c = IfSome (command_caller c) (λ caller. caller ≡ x)

@@ -20,6 +20,7 @@ pub record FaultAt : Type 0 where
   pub line : ℕ
   pub cause : LogCause
 
+-- the words for each cause, as bytes
 abbrev pub cause_text : LogCause → List ℕ
 cause_text NoHeader = codes "no header"
 cause_text UnknownCommand = codes "unknown command"
@@ -52,9 +53,9 @@ None orelse d = d
 (Some c) orelse d = Some c
 
 -- the cause, unless the test passes
-abbrev pub check : Bool → LogCause → Option LogCause
-check true c = None
-check false c = Some c
+abbrev pub fault_unless : Bool → LogCause → Option LogCause
+fault_unless true c = None
+fault_unless false c = Some c
 
 -- the number that a numeral spells
 abbrev pub value : List ℕ → ℤ
@@ -62,7 +63,7 @@ value f = signed_digits_value 10 f
 
 -- a number is to be from low to high
 abbrev pub number_fault : ℤ → ℤ → List ℕ → Option LogCause
-number_fault low high f = check (is_numeral f) BadNumber orelse check (int_le low (value f) && int_le (value f) high) OutOfRange
+number_fault low high f = fault_unless (is_numeral f) BadNumber orelse fault_unless (int_le low (value f) && int_le (value f) high) OutOfRange
 
 -- each is to be a coordinate of a point
 abbrev pub coordinates_fault : Format → List (List ℕ) → Option LogCause
@@ -84,7 +85,7 @@ corner_fault format f = number_fault (lowest format) (box_highest format) f
 abbrev pub boxes_fault : Format → List (List ℕ) → Option LogCause
 boxes_fault format (a ∷ b ∷ c ∷ d ∷ e ∷ f ∷ rest) =
     corner_fault format a orelse corner_fault format b orelse corner_fault format c orelse corner_fault format d orelse corner_fault format e orelse corner_fault format f
-    orelse check (int_le (value a) (value d) && int_le (value b) (value e) && int_le (value c) (value f)) InvertedBox
+    orelse fault_unless (int_le (value a) (value d) && int_le (value b) (value e) && int_le (value c) (value f)) InvertedBox
     orelse boxes_fault format rest
 boxes_fault format fields = None
 
@@ -95,31 +96,35 @@ are_groups n args = not (length args == 0) && (length args % n == 0)
 -- the points of add and thin, where so many were submitted before
 abbrev pub points_fault : Format → ℕ → List (List ℕ) → Option LogCause
 points_fault format before args =
-    check (are_groups (width format) args) WrongCount
-    orelse check (nat_le (length args / width format) 262144 && nat_le (before + length args / width format) MAX_POINTS) TooManyPoints
+    fault_unless (are_groups (width format) args) WrongCount
+    orelse fault_unless (nat_le (length args / width format) 262144 && nat_le (before + length args / width format) MAX_POINTS) TooManyPoints
     orelse scanned_fault format args
 
+-- the points of erase, of which there are from 1 to 262,144
 abbrev pub erase_fault : Format → List (List ℕ) → Option LogCause
-erase_fault format args = check (are_groups 3 args) WrongCount orelse check (nat_le (length args / 3) 262144) TooManyPoints orelse coordinates_fault format args
+erase_fault format args = fault_unless (are_groups 3 args) WrongCount orelse fault_unless (nat_le (length args / 3) 262144) TooManyPoints orelse coordinates_fault format args
 
 -- the boxes of delete, suspend and restore
 abbrev pub marks_fault : Format → List (List ℕ) → Option LogCause
-marks_fault format args = check (are_groups 6 args) WrongCount orelse check (nat_le (length args / 6) 262144) TooManyPoints orelse boxes_fault format args
+marks_fault format args = fault_unless (are_groups 6 args) WrongCount orelse fault_unless (nat_le (length args / 6) 262144) TooManyPoints orelse boxes_fault format args
 
 -- the number of an expiry
 abbrev pub expire_fault : List (List ℕ) → Option LogCause
 expire_fault (n ∷ []) = number_fault (pos 0) (pos MAX_POINTS) n
 expire_fault args = Some WrongCount
 
+-- the count that is asked for is to be from 1 to 256
 abbrev pub k_fault : List ℕ → Option LogCause
 k_fault f = number_fault (pos 1) (pos 256) f
 
+-- what near is asked with: a count, a point, and a greatest distance where one is given
 abbrev pub near_fault : Format → List (List ℕ) → Option LogCause
 near_fault format (k ∷ x ∷ y ∷ z ∷ []) = k_fault k orelse coordinates_fault format (x ∷ y ∷ z ∷ [])
 near_fault format (k ∷ x ∷ y ∷ z ∷ word ∷ r ∷ []) =
-    check (bytes_eq word (codes "within")) WrongCount orelse k_fault k orelse coordinates_fault format (x ∷ y ∷ z ∷ []) orelse number_fault (pos 0) (pos (farthest format)) r
+    fault_unless (bytes_eq word (codes "within")) WrongCount orelse k_fault k orelse coordinates_fault format (x ∷ y ∷ z ∷ []) orelse number_fault (pos 0) (pos (farthest format)) r
 near_fault format args = Some WrongCount
 
+-- what box is asked with: a count and a box
 abbrev pub box_fault : Format → List (List ℕ) → Option LogCause
 box_fault format (k ∷ a ∷ b ∷ c ∷ d ∷ e ∷ f ∷ []) = k_fault k orelse boxes_fault format (a ∷ b ∷ c ∷ d ∷ e ∷ f ∷ [])
 box_fault format args = Some WrongCount
@@ -127,13 +132,14 @@ box_fault format args = Some WrongCount
 -- a count, and the points that are searched round
 abbrev pub nears_fault : List (List ℕ) → Option LogCause
 nears_fault (k ∷ args) =
-    check (are_groups 3 args) WrongCount orelse check (nat_le (length args / 3) 262144) TooManyPoints orelse k_fault k orelse coordinates_fault Two args
+    fault_unless (are_groups 3 args) WrongCount orelse fault_unless (nat_le (length args / 3) 262144) TooManyPoints orelse k_fault k orelse coordinates_fault Two args
 nears_fault [] = Some WrongCount
 
 -- a distance, in version 2
 abbrev pub distance_fault : List ℕ → Option LogCause
 distance_fault f = number_fault (pos 0) (pos (farthest Two)) f
 
+-- what ball is asked with, in version 2: a count, a distance and a point
 abbrev pub ball_fault : List (List ℕ) → Option LogCause
 ball_fault (k ∷ r ∷ x ∷ y ∷ z ∷ []) = k_fault k orelse distance_fault r orelse coordinates_fault Two (x ∷ y ∷ z ∷ [])
 ball_fault args = Some WrongCount
@@ -176,8 +182,8 @@ is_caller digits = false
 
 -- a command of a caller
 abbrev pub called_fault : Format → ℕ → List ℕ → List (List ℕ) → Option LogCause
-called_fault format before (c ∷ digits) (word ∷ args) = check (c == 64) UnknownCommand orelse check (is_caller digits) BadCaller orelse word_fault format before word args
-called_fault format before (c ∷ digits) [] = check (c == 64) UnknownCommand orelse check (is_caller digits) BadCaller orelse Some UnknownCommand
+called_fault format before (c ∷ digits) (word ∷ args) = fault_unless (c == 64) UnknownCommand orelse fault_unless (is_caller digits) BadCaller orelse word_fault format before word args
+called_fault format before (c ∷ digits) [] = fault_unless (c == 64) UnknownCommand orelse fault_unless (is_caller digits) BadCaller orelse Some UnknownCommand
 called_fault format before [] fields = Some UnknownCommand
 
 -- how many hits a list has room for whose count the first argument spells
@@ -195,9 +201,9 @@ fields_hits fields = 0
 -- the fault of a command's fields, where so many commands, points and hits stand before it
 abbrev pub command_fault : Format → ℕ → ℕ → ℕ → List (List ℕ) → Option LogCause
 command_fault format commands points hits (first ∷ fields) =
-    check (nat_lt commands MAX_COMMANDS) TooManyCommands
-    orelse (if bytes_eq first (codes "sync") then check (length fields == 0) WrongCount else called_fault format points first fields)
-    orelse check (nat_le (hits + fields_hits (first ∷ fields)) 16777216) TooManyHits
+    fault_unless (nat_lt commands MAX_COMMANDS) TooManyCommands
+    orelse (if bytes_eq first (codes "sync") then fault_unless (length fields == 0) WrongCount else called_fault format points first fields)
+    orelse fault_unless (nat_le (hits + fields_hits (first ∷ fields)) 16777216) TooManyHits
 command_fault format commands points hits [] = Some UnknownCommand
 
 -- how many points the fields of a good command submit
@@ -208,7 +214,7 @@ fields_points format fields = 0
 -- the fault of the header's fields
 abbrev pub header_fault : List (List ℕ) → Option LogCause
 header_fault (a ∷ b ∷ c ∷ edge ∷ d ∷ large ∷ []) =
-    check (bytes_eq a (codes "ikdmap") && is_version b && bytes_eq c (codes "voxel") && bytes_eq d (codes "large")) NoHeader
+    fault_unless (bytes_eq a (codes "ikdmap") && is_version b && bytes_eq c (codes "voxel") && bytes_eq d (codes "large")) NoHeader
     orelse number_fault (pos 1) (pos 1000000) edge orelse number_fault (pos 16) (pos 1000000) large
 header_fault fields = Some NoHeader
 
@@ -234,6 +240,7 @@ abbrev pub lines_fault : ℕ → List (ℕ × List ℕ) → Option FaultAt
 lines_fault feeds [] = Some (record { line = feeds + 1; cause = NoHeader })
 lines_fault feeds ((n, header) ∷ lines) = at_line n (header_fault (fields_of header)) orelse commands_fault (named_format (fields_of header)) 0 0 0 lines
 
+-- how many line feeds there are
 abbrev pub line_feeds : List ℕ → ℕ
 line_feeds bytes = count_by (λ b. b == 10) bytes
 

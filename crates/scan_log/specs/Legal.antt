@@ -10,9 +10,9 @@ use Rattle.scan_log.specs.Spelling.{Spells}
 use Rattle.scan_log.specs.Transcript.{updates_in, marked_updates, replies, mark_of, lines_text}
 
 -- so many numbers from n on
-abbrev pub counted : ℕ → ℕ → List ℕ
-counted n zero = []
-counted n (suc k) = n ∷ counted (n + 1) k
+abbrev pub numbers_from : ℕ → ℕ → List ℕ
+numbers_from n zero = []
+numbers_from n (suc k) = n ∷ numbers_from (n + 1) k
 
 -- a later mark isn't below, and that of an update is above
 abbrev pub IsLater : ℕ → Command → ℕ → Type 0
@@ -34,11 +34,12 @@ AreInOrder (c ∷ cs) (m ∷ marks) = AllFollow c m cs marks × AreInOrder cs ma
 AreInOrder [] marks = Unit {0}
 AreInOrder (c ∷ cs) [] = Unit {0}
 
+-- the marks may be those of the replies to the commands, in the log's order, and of the line at the end
 pub record IsLegal (cs : List Command) (marks : List ℕ) : Type 0 where
   -- one for each command and one for the end
   pub many : length marks ≡ length cs + 1
   -- those of the updates are the numbers from 1 on, each once
-  pub each_once : map (λ h. h.0) (marked_updates cs marks) ≡ counted 1 (updates_in cs)
+  pub each_once : map (λ h. h.0) (marked_updates cs marks) ≡ numbers_from 1 (updates_in cs)
   -- a caller's never fall, and none passes a barrier
   pub in_order : AreInOrder cs marks
   -- none is above the number of all updates, which is the end's

@@ -1,4 +1,4 @@
--- What was returned, beside what reading gives.
+-- What was returned, beside what reading gives. Cited by private functions alone.
 use Rattle.std.specs.Prelude.{◌≡◌, ℕ}
 use Rattle.std.specs.declared.result.Result.{Result}
 use Rattle.std.specs.declared.result.Result.TheVariants.{Ok, Err}

@@ -15,6 +15,7 @@ IsPlain (Change caller u) = IsCaller caller
 IsPlain (Pose caller rules p) = ⊥
 IsPlain c = IsCommand Two c
 
+-- each command can be run, the settings are in their limits, and there are few enough commands and points
 pub record IsPlainScript (s : ScriptAt) : Type 0 where
   pub sizes : AreSizes s.sizes
   pub each : AllByRecursion IsPlain s.commands

@@ -15,6 +15,7 @@ use Rattle.scan_log.specs.declared.format.Format.TheVariants.{One, Two}
 use Rattle.scan_log.specs.Formats.{farthest, format_of, greatest_intensity, has_expiry, is_version, width}
 use Rattle.scan_log.specs.declared.command.Command.{Command}
 use Rattle.scan_log.specs.declared.command.Command.TheVariants.{Change, Near, Nears, Inside, Ball, Lonely, Clusters, Pose, Sync}
+use Rattle.scan_log.specs.declared.commands.TheConstants.{MAX_COMMANDS}
 use Rattle.scan_log.specs.declared.fault.LogCause.{LogCause}
 use Rattle.scan_log.specs.declared.fault.LogCause.TheVariants.{NoHeader, UnknownCommand, BadCaller, WrongCount, InvertedBox, TooManyPoints, TooManyCommands, TooManyHits}
 use Rattle.scan_log.specs.Steps.{◌>>=◌, given}
@@ -273,7 +274,7 @@ few_hits hits c = given (nat_le (asked c) hits) TooManyHits (Ok c)
 
 -- the command of a line, where so many commands stand before it, and the log has room for so many points and hits
 abbrev pub line_command : Format → ℕ → ℕ → ℕ → List ℕ → Result Command LogCause
-line_command format before room hits line = given (nat_lt before 65536) TooManyCommands (command_of format room (fields_of line) >>= few_hits hits)
+line_command format before room hits line = given (nat_lt before MAX_COMMANDS) TooManyCommands (command_of format room (fields_of line) >>= few_hits hits)
 
 -- the commands of the lines, where so many commands stand before them, and the log has room for so many points and hits
 abbrev pub commands_of : Format → ℕ → ℕ → ℕ → List (ℕ × List ℕ) → Result (List Command) FaultAt

@@ -56,6 +56,7 @@ AreScanned format ps = (0 < length ps) × (length ps ≤ 262144) × AllByRecursi
 abbrev pub IsBoxNumber : Format → ℤ → Type 0
 IsBoxNumber format c = (lowest format ≤ℤ c) × (c ≤ℤ box_highest format)
 
+-- each number of a box's corner is in the limits of the log's version
 abbrev pub IsBoxCorner : Format → Corner → Type 0
 IsBoxCorner format p = IsBoxNumber format p.x × IsBoxNumber format p.y × IsBoxNumber format p.z
 

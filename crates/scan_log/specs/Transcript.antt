@@ -37,6 +37,7 @@ abbrev pub put_update : ℕ → Update → List (ℕ × Update) → List (ℕ ×
 put_update m u [] = (m, u) ∷ []
 put_update m u (h ∷ hs) = if nat_lt h.0 m then h ∷ put_update m u hs else (m, u) ∷ h ∷ hs
 
+-- the same of a command that makes an update; nothing is new where it makes none
 abbrev pub put_if : ℕ → Option Update → List (ℕ × Update) → List (ℕ × Update)
 put_if m (Some u) hs = put_update m u hs
 put_if m None hs = hs

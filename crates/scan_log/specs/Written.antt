@@ -10,13 +10,13 @@ use Rattle.scan_log.specs.Spelling.{header_fields, corner_fields, box_fields, co
 use Rattle.scan_log.specs.Transcript.{all_spaced}
 
 -- fields with one space between them
-abbrev pub joined : List (List ℕ) → List ℕ
-joined [] = []
-joined (field ∷ fields) = field ++ all_spaced fields
+abbrev pub joined_fields : List (List ℕ) → List ℕ
+joined_fields [] = []
+joined_fields (field ∷ fields) = field ++ all_spaced fields
 
 -- a line of these fields, with its line feed
 abbrev pub written_line : List (List ℕ) → List ℕ
-written_line fields = joined fields ++ 10 ∷ []
+written_line fields = joined_fields fields ++ 10 ∷ []
 
 -- the numbers of a corner, each after a space
 abbrev pub corner_text : Corner → List ℕ

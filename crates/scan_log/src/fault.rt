@@ -8,15 +8,25 @@ use std::fmt::{Display, Error, Formatter, Write};
 /// What is wrong with a line of a log.
 #[derive(Clone, Copy, Debug, PartialEq, Eq)]
 pub enum LogCause {
+    /// The first line that is kept is no header.
     NoHeader,
+    /// The line's word is no command of the log's version, or there is none.
     UnknownCommand,
+    /// The caller isn't one of 1 to 8.
     BadCaller,
+    /// A field isn't a number in the log's spelling.
     BadNumber,
+    /// A number is beyond its limits.
     OutOfRange,
+    /// There are more or fewer fields than the command may have.
     WrongCount,
+    /// A box's upper number is below its lower one on an axis.
     InvertedBox,
+    /// The log has more points than a map takes.
     TooManyPoints,
+    /// The log has more commands than are run.
     TooManyCommands,
+    /// The replies would have room for more hits than are kept.
     TooManyHits,
 }
 

@@ -2,7 +2,7 @@
 ghost use Rattle.std.specs.Prelude.{◌≡◌, ◌+◌, ◌≤◌, List, ℕ, [], ◌∷◌};
 ghost use Rattle.std.specs.Option.{MatchOption};
 ghost use Rattle.scan_log.specs.Faults.{line_feeds};
-ghost use Rattle.scan_log.specs.Lines.{is_kept, kept_from, lines_of};
+ghost use Rattle.scan_log.specs.Lines.{is_kept_line, kept_from, lines_of};
 
 use crate::piece::place_of;
 use std::marker::Model;
@@ -57,7 +57,7 @@ impl<'a> Lines<'a> {
 }
 
 fn is_kept(line: &[u8]) -> bool
-    ensures { result ≡ is_kept line.now }
+    ensures { result ≡ is_kept_line line.now }
 {
     match line {
         [] => false,

@@ -5,7 +5,7 @@ ghost use Rattle.scan_log.specs.Formats.{version_field};
 ghost use Rattle.scan_log.specs.Faults.{line_feeds};
 ghost use Rattle.scan_log.specs.Spelling.{Spells, box_fields, caller_field, header_fields, point_fields, update_fields, within_fields};
 ghost use Rattle.scan_log.specs.Transcript.{all_spaced, spaced};
-ghost use Rattle.scan_log.specs.Written.{corner_text, cuboid_text, joined, written_line, script_text};
+ghost use Rattle.scan_log.specs.Written.{corner_text, cuboid_text, joined_fields, written_line, script_text};
 
 use crate::putting::{
     Listed, put, put_all, put_caller, put_head, put_named, put_point, put_spaced, put_word,
@@ -98,7 +98,7 @@ fn put_near(
     point: &Point,
     within: Option<u64>,
 ) -> Result<(), NoMemory>
-    ensures { OnOk result (out.new.items ≡ out.old.items ++ joined (caller_field caller ∷ codes "near" ∷ decimal k ∷ (point_fields point.now ++ within_fields within))) }
+    ensures { OnOk result (out.new.items ≡ out.old.items ++ joined_fields (caller_field caller ∷ codes "near" ∷ decimal k ∷ (point_fields point.now ++ within_fields within))) }
 {
     put_head(out, caller, b"near", k)?;
     put_point(out, point)?;
@@ -107,21 +107,21 @@ fn put_near(
 
 // A place is written as a point of version 1, which has no intensity.
 fn put_nears(out: &mut Vec<u8>, caller: u8, k: u32, points: &[Point]) -> Result<(), NoMemory>
-    ensures { OnOk result (out.new.items ≡ out.old.items ++ joined (caller_field caller ∷ codes "nears" ∷ decimal k ∷ flat_map point_fields points.now)) }
+    ensures { OnOk result (out.new.items ≡ out.old.items ++ joined_fields (caller_field caller ∷ codes "nears" ∷ decimal k ∷ flat_map point_fields points.now)) }
 {
     put_head(out, caller, b"nears", k)?;
     put_all(out, Format::One, points)
 }
 
 fn put_inside(out: &mut Vec<u8>, caller: u8, k: u32, cuboid: &Cuboid) -> Result<(), NoMemory>
-    ensures { OnOk result (out.new.items ≡ out.old.items ++ joined (caller_field caller ∷ codes "box" ∷ decimal k ∷ box_fields cuboid.now)) }
+    ensures { OnOk result (out.new.items ≡ out.old.items ++ joined_fields (caller_field caller ∷ codes "box" ∷ decimal k ∷ box_fields cuboid.now)) }
 {
     put_head(out, caller, b"box", k)?;
     put_cuboid(out, cuboid)
 }
 
 fn put_ball(out: &mut Vec<u8>, caller: u8, k: u32, r: u64, point: &Point) -> Result<(), NoMemory>
-    ensures { OnOk result (out.new.items ≡ out.old.items ++ joined (caller_field caller ∷ codes "ball" ∷ decimal k ∷ decimal r ∷ point_fields point.now)) }
+    ensures { OnOk result (out.new.items ≡ out.old.items ++ joined_fields (caller_field caller ∷ codes "ball" ∷ decimal k ∷ decimal r ∷ point_fields point.now)) }
 {
     put_reach(out, caller, b"ball", k, r)?;
     put_point(out, point)
@@ -129,7 +129,7 @@ fn put_ball(out: &mut Vec<u8>, caller: u8, k: u32, r: u64, point: &Point) -> Res
 
 // A count and a distance.
 fn put_reach(out: &mut Vec<u8>, caller: u8, word: &[u8], k: u32, r: u64) -> Result<(), NoMemory>
-    ensures { OnOk result (out.new.items ≡ out.old.items ++ joined (caller_field caller ∷ word.now ∷ decimal k ∷ decimal r ∷ [])) }
+    ensures { OnOk result (out.new.items ≡ out.old.items ++ joined_fields (caller_field caller ∷ word.now ∷ decimal k ∷ decimal r ∷ [])) }
 {
     put_head(out, caller, word, k)?;
     put_spaced(out, r)
@@ -141,7 +141,7 @@ fn put_pose(
     rules: &RegionRules,
     point: &Point,
 ) -> Result<(), NoMemory>
-    ensures { OnOk result (out.new.items ≡ out.old.items ++ joined (caller_field caller ∷ codes "pose" ∷ decimal rules.now.side ∷ decimal rules.now.ball ∷ decimal rules.now.step ∷ point_fields point.now)) }
+    ensures { OnOk result (out.new.items ≡ out.old.items ++ joined_fields (caller_field caller ∷ codes "pose" ∷ decimal rules.now.side ∷ decimal rules.now.ball ∷ decimal rules.now.step ∷ point_fields point.now)) }
 {
     put_head(out, caller, b"pose", rules.side())?;
     put_spaced(out, rules.ball())?;

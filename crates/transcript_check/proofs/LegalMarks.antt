@@ -6,7 +6,7 @@ use Rattle.std.proofs.lemmas.Option.{slice_get-get_or}
 use Rattle.map_fold.specs.declared.update.Update.{Update}
 use Rattle.scan_log.specs.Commands.{command_update, updates_made}
 use Rattle.scan_log.specs.declared.command.Command.{Command}
-use Rattle.scan_log.specs.Legal.{IsLegal, counted}
+use Rattle.scan_log.specs.Legal.{IsLegal, numbers_from}
 use Rattle.scan_log.specs.Transcript.{marked_updates, put_if, put_update, updates_in}
 use Rattle.transcript_check.specs.Told.{updates_of}
 use Rattle.transcript_check.specs.declared.order.Marked.{Marked}
@@ -41,14 +41,14 @@ updates_long cs marks us is many =
 
 -- what the marks of the updates are
 pub marks_counted : (cs : List Command) (marks : List ℕ) (us : List Marked) → updates_of us ≡ marked_updates cs marks → length marks ≡ length cs + 1
-    → (map (λ (u : Marked). u.mark) us ≡ counted 1 (length us)) → map (λ h. h.0) (marked_updates cs marks) ≡ counted 1 (updates_in cs)
+    → (map (λ (u : Marked). u.mark) us ≡ numbers_from 1 (length us)) → map (λ h. h.0) (marked_updates cs marks) ≡ numbers_from 1 (updates_in cs)
 marks_counted cs marks us is many e =
-    ap (λ (hs : List (ℕ × Update)). map (λ h. h.0) hs) (sym is) ∙ first_of_pairs us ∙ e ∙ ap (counted 1) (updates_long cs marks us is many)
+    ap (λ (hs : List (ℕ × Update)). map (λ h. h.0) hs) (sym is) ∙ first_of_pairs us ∙ e ∙ ap (numbers_from 1) (updates_long cs marks us is many)
 
 pub counted_marks : (cs : List Command) (marks : List ℕ) (us : List Marked) → updates_of us ≡ marked_updates cs marks → IsLegal cs marks
-    → map (λ (u : Marked). u.mark) us ≡ counted 1 (length us)
+    → map (λ (u : Marked). u.mark) us ≡ numbers_from 1 (length us)
 counted_marks cs marks us is legal =
-    sym (first_of_pairs us) ∙ ap (λ (hs : List (ℕ × Update)). map (λ h. h.0) hs) is ∙ legal.each_once ∙ ap (counted 1) (sym (updates_long cs marks us is legal.many))
+    sym (first_of_pairs us) ∙ ap (λ (hs : List (ℕ × Update)). map (λ h. h.0) hs) is ∙ legal.each_once ∙ ap (numbers_from 1) (sym (updates_long cs marks us is legal.many))
 
 -- the last mark
 pub last_mark : (cs : List Command) (marks : List ℕ) (n : ℕ) → length marks ≡ length cs + 1 → get_or marks (length cs) 0 ≡ n → slice_get marks (length cs) ≡ Some n

@@ -15,11 +15,11 @@ use Rattle.scan_log.specs.Transcript.{history, replies, updates_in, mark_of, tex
 use Rattle.scan_log.proofs.Plains.{length-plain_from}
 use Rattle.scan_log.proofs.Serial.{replies_legal}
 use Rattle.transcript_check.specs.Heads.{heads, IsNoFeed, IsMarked, SpellMarks}
-use Rattle.transcript_check.specs.Verdicts.{joined, reply_lines, script_lines, Stops, IsUnspelled, IsSpelled, IsFirstOther, IsVerdict}
+use Rattle.transcript_check.specs.Verdicts.{joined_lines, reply_lines, script_lines, Stops, IsUnspelled, IsSpelled, IsFirstOther, IsVerdict}
 use Rattle.transcript_check.specs.declared.verdict.Verdict.{Verdict}
 use Rattle.transcript_check.specs.declared.verdict.Verdict.TheVariants.{Legal, Unspelled, Marks, Differs}
 use Rattle.transcript_check.proofs.ReadLines.{length-heads, spell_long}
-use Rattle.transcript_check.specs.Told.{lines_of, lines_under, marks_of}
+use Rattle.transcript_check.specs.Told.{lines_told, lines_under, marks_of}
 use Rattle.transcript_check.specs.declared.lines.Told.{Told}
 use Rattle.scan_log.proofs.Whose.{updates_few}
 use Rattle.transcript_check.proofs.Replays.{length-reply_lines}
@@ -67,7 +67,7 @@ pub record AreSame (xs ys : List (List ℕ)) (ms ns : List ℕ) : Type 0 where
   pub lines : xs ≡ ys
   pub marks : ms ≡ ns
 
-same_spelled : (cs : List (List ℕ)) (xs ys : List (List ℕ)) (ms ns : List ℕ) → SpellMarks cs xs ms → SpellMarks cs ys ns → joined xs ≡ joined ys → AreSame xs ys ms ns
+same_spelled : (cs : List (List ℕ)) (xs ys : List (List ℕ)) (ms ns : List ℕ) → SpellMarks cs xs ms → SpellMarks cs ys ns → joined_lines xs ≡ joined_lines ys → AreSame xs ys ms ns
 same_spelled [] [] [] [] [] p q e = record { lines = refl; marks = refl }
 same_spelled [] [] [] [] (n ∷ ns) p q e = absurd q
 same_spelled [] [] (y ∷ ys) [] ns p q e = absurd q
@@ -78,7 +78,7 @@ same_spelled (c ∷ cs) (x ∷ xs) ys [] ns p q e = absurd p
 same_spelled (c ∷ cs) (x ∷ xs) [] (m ∷ ms) ns p q e = absurd q
 same_spelled (c ∷ cs) (x ∷ xs) (y ∷ ys) (m ∷ ms) [] p q e = absurd q
 same_spelled (c ∷ cs) (x ∷ xs) (y ∷ ys) (m ∷ ms) (n ∷ ns) p q e =
-    let s = same_line c x y (joined xs) (joined ys) m n p.0 q.0 e in
+    let s = same_line c x y (joined_lines xs) (joined_lines ys) m n p.0 q.0 e in
     let r = same_spelled cs xs ys ms ns p.1 q.1 s.rests in
     record {
       lines = ap (λ (z : List ℕ). z ∷ xs) s.lines ∙ ap (λ (zs : List (List ℕ)). y ∷ zs) r.lines;
@@ -87,25 +87,25 @@ same_spelled (c ∷ cs) (x ∷ xs) (y ∷ ys) (m ∷ ms) (n ∷ ns) p q e =
 
 -- what is spelled to the end stops nowhere before
 stops_never : (cs : List (List ℕ)) (lines whole : List (List ℕ)) (marks all rest : List ℕ) → SpellMarks (take (length lines) cs) lines marks → SpellMarks cs whole all
-    → joined lines ++ rest ≡ joined whole → Stops (drop (length lines) cs) rest → ⊥
+    → joined_lines lines ++ rest ≡ joined_lines whole → Stops (drop (length lines) cs) rest → ⊥
 stops_never [] [] [] marks [] rest p q e s = omega (arith, ap length e, s)
 stops_never [] [] [] marks (n ∷ all) rest p q e s = q
 stops_never [] [] (y ∷ whole) marks all rest p q e s = q
 stops_never (c ∷ cs) [] [] marks all rest p q e s = q
 stops_never (c ∷ cs) [] (y ∷ whole) marks [] rest p q e s = q
-stops_never (c ∷ cs) [] (y ∷ whole) marks (n ∷ all) rest p q e s = s y (joined whole) n e q.0
+stops_never (c ∷ cs) [] (y ∷ whole) marks (n ∷ all) rest p q e s = s y (joined_lines whole) n e q.0
 stops_never [] (x ∷ lines) whole marks all rest p q e s = p
 stops_never (c ∷ cs) (x ∷ lines) whole [] all rest p q e s = p
 stops_never (c ∷ cs) (x ∷ lines) [] (m ∷ marks) all rest p q e s = q
 stops_never (c ∷ cs) (x ∷ lines) (y ∷ whole) (m ∷ marks) [] rest p q e s = q
 stops_never (c ∷ cs) (x ∷ lines) (y ∷ whole) (m ∷ marks) (n ∷ all) rest p q e s =
-    let same = same_line c x y (joined lines ++ rest) (joined whole) m n p.0 q.0 (sym (append_assoc x (joined lines) rest) ∙ e) in
+    let same = same_line c x y (joined_lines lines ++ rest) (joined_lines whole) m n p.0 q.0 (sym (append_assoc x (joined_lines lines) rest) ∙ e) in
     stops_never cs lines whole marks all rest p.1 q.1 same.rests s
 
 -- What a legal transcript is made of.
 pub record IsMade (s : ScriptAt) (out marks : List ℕ) : Type 0 where
   pub legal : IsLegal (plain s.commands) marks
-  pub cut : out ≡ joined (script_lines s marks)
+  pub cut : out ≡ joined_lines (script_lines s marks)
   pub spelled : SpellMarks (heads s.commands) (script_lines s marks) marks
 
 few_marks : (n : ℕ) (marks : List ℕ) → n ≤ 65536 → AllByRecursion (λ m. m ≤ n) marks → AllByRecursion (λ m. m ≤ 65536) marks
@@ -120,7 +120,7 @@ plain_long s = length-plain_from no_regions s.commands
 pub plain_lines : (s : ScriptAt) (marks : List ℕ) → lines_under (plain_script s) marks ≡ script_lines s marks
 plain_lines s marks = reply_lines-plain_from s.format no_regions s.commands (replies (plain_script s) marks)
 
-made_of : (s : ScriptAt) (out marks : List ℕ) → IsScript s → IsLegal (plain s.commands) marks → out ≡ joined (script_lines s marks) → IsMade s out marks
+made_of : (s : ScriptAt) (out marks : List ℕ) → IsScript s → IsLegal (plain s.commands) marks → out ≡ joined_lines (script_lines s marks) → IsMade s out marks
 made_of s out marks script legal cut =
     let spelled = spell_replies s.format s.sizes.voxel (history (plain s.commands) marks) (plain s.commands) marks legal.many
     (few_marks (updates_in (plain s.commands)) marks (omega (arith, updates_few (plain s.commands), plain_long s, script.few)) legal.none_above) in
@@ -129,10 +129,10 @@ made_of s out marks script legal cut =
 legal_made : (s : ScriptAt) (out : List ℕ) → IsScript s → (l : AreLegalLines s out) → IsMade s out (map mark_of l.told)
 legal_made s out script l =
     let marks = map mark_of l.told in
-    made_of s out marks script l.legal.legal (l.text ∙ sym (joined_replies s.format s.commands l.told) ∙ ap (λ (rs : List Reply). joined (reply_lines s.format s.commands rs)) l.legal.replies)
+    made_of s out marks script l.legal.legal (l.text ∙ sym (joined_replies s.format s.commands l.told) ∙ ap (λ (rs : List Reply). joined_lines (reply_lines s.format s.commands rs)) l.legal.replies)
 
 -- its lines and marks are those of its replies
-legal_same : (s : ScriptAt) (out : List ℕ) (lines : List (List ℕ)) (marks : List ℕ) → IsScript s → (l : AreLegalLines s out) → out ≡ joined lines → SpellMarks (heads s.commands) lines marks
+legal_same : (s : ScriptAt) (out : List ℕ) (lines : List (List ℕ)) (marks : List ℕ) → IsScript s → (l : AreLegalLines s out) → out ≡ joined_lines lines → SpellMarks (heads s.commands) lines marks
     → IsLegal (plain s.commands) marks × (lines ≡ script_lines s marks)
 legal_same s out lines marks script l cut spelled =
     let made = legal_made s out script l in
@@ -141,8 +141,8 @@ legal_same s out lines marks script l cut spelled =
     (subst (IsLegal (plain s.commands)) (sym same.marks) made.legal, same.lines ∙ ap (λ (ms : List ℕ). script_lines s ms) (sym same.marks))
 
 -- lines of replies under legal marks are a legal transcript
-same_text : (s : ScriptAt) (out : List ℕ) (lines : List (List ℕ)) (marks : List ℕ) → out ≡ joined lines → lines ≡ script_lines s marks → out ≡ text s marks
-same_text s out lines marks cut same = cut ∙ ap joined same ∙ joined_replies s.format s.commands (replies (plain_script s) marks)
+same_text : (s : ScriptAt) (out : List ℕ) (lines : List (List ℕ)) (marks : List ℕ) → out ≡ joined_lines lines → lines ≡ script_lines s marks → out ≡ text s marks
+same_text s out lines marks cut same = cut ∙ ap joined_lines same ∙ joined_replies s.format s.commands (replies (plain_script s) marks)
 
 same_legal : (s : ScriptAt) (out : List ℕ) (marks : List ℕ) → IsLegal (plain s.commands) marks → out ≡ text s marks → AreLegalLines s out
 same_legal s out marks legal is = record { told = replies (plain_script s) marks; legal = replies_legal (plain_script s) marks legal; text = is }
@@ -153,9 +153,9 @@ unspelled_place cs out j u =
     let long = spell_long (take (length u.lines) (heads cs)) u.lines u.marks u.before in
     omega (arith, long.0, u.place, length-take (length u.lines) (heads cs), length-heads cs)
 
-pub told_long : (cs : List Command) (told : List Told) → SpellMarks (heads cs) (lines_of told) (marks_of told) → length told ≡ length cs + 1
+pub told_long : (cs : List Command) (told : List Told) → SpellMarks (heads cs) (lines_told told) (marks_of told) → length told ≡ length cs + 1
 told_long cs told spelled =
-    sym (length-map told (λ (t : Told). t.line.now)) ∙ (spell_long (heads cs) (lines_of told) (marks_of told) spelled).0 ∙ length-heads cs
+    sym (length-map told (λ (t : Told). t.line.now)) ∙ (spell_long (heads cs) (lines_told told) (marks_of told) spelled).0 ∙ length-heads cs
 
 -- the line that is another isn't past the end
 other_within : (right lines : List (List ℕ)) (j : ℕ) → length right ≡ length lines → IsFirstOther right lines j → j ≤ length lines
@@ -168,15 +168,15 @@ other_within right lines j long o = elim (cases_order o.before (length lines)) [
     past h = o.other (slice_get_past lines o.before h ∙ sym (slice_get_past right o.before (omega arith)))
 
 pub other_few : (s : ScriptAt) (told : List Told) (j : ℕ) → IsPlainScript s → length told ≡ length s.commands + 1
-    → IsFirstOther (lines_under s (marks_of told)) (lines_of told) j → j ≤ 65537
+    → IsFirstOther (lines_under s (marks_of told)) (lines_told told) j → j ≤ 65537
 other_few s told j script many o =
     let lines = length-map told (λ (t : Told). t.line.now) in
     let marks = length-map told (λ (t : Told). t.mark) in
     let right = length-reply_lines s.format s.sizes.voxel (history s.commands (marks_of told)) s.commands (marks_of told) (marks ∙ many) in
-    omega (arith, other_within (lines_under s (marks_of told)) (lines_of told) j (right ∙ sym (lines ∙ many)) o, lines, many, script.few)
+    omega (arith, other_within (lines_under s (marks_of told)) (lines_told told) j (right ∙ sym (lines ∙ many)) o, lines, many, script.few)
 
 -- a transcript with a line that isn't its reply's isn't legal
-legal_no_other : (s : ScriptAt) (out : List ℕ) (lines : List (List ℕ)) (marks : List ℕ) (j : ℕ) → IsScript s → AreLegalLines s out → out ≡ joined lines → SpellMarks (heads s.commands) lines marks
+legal_no_other : (s : ScriptAt) (out : List ℕ) (lines : List (List ℕ)) (marks : List ℕ) (j : ℕ) → IsScript s → AreLegalLines s out → out ≡ joined_lines lines → SpellMarks (heads s.commands) lines marks
     → IsFirstOther (script_lines s marks) lines j → ⊥
 legal_no_other s out lines marks j script l cut spelled o =
     let same = legal_same s out lines marks script l cut spelled in
@@ -184,18 +184,18 @@ legal_no_other s out lines marks j script l cut spelled o =
 
 -- two readings stop at the same line
 stops_once : (cs : List (List ℕ)) (lines whole : List (List ℕ)) (marks all rest left : List ℕ) → SpellMarks (take (length lines) cs) lines marks
-    → SpellMarks (take (length whole) cs) whole all → joined lines ++ rest ≡ joined whole ++ left → Stops (drop (length lines) cs) rest → Stops (drop (length whole) cs) left
+    → SpellMarks (take (length whole) cs) whole all → joined_lines lines ++ rest ≡ joined_lines whole ++ left → Stops (drop (length lines) cs) rest → Stops (drop (length whole) cs) left
     → length lines ≡ length whole
 stops_once cs [] [] marks all rest left p q e s t = refl
 stops_once [] [] (y ∷ whole) marks all rest left p q e s t = absurd q
 stops_once (c ∷ cs) [] (y ∷ whole) marks [] rest left p q e s t = absurd q
-stops_once (c ∷ cs) [] (y ∷ whole) marks (n ∷ all) rest left p q e s t = absurd (s y (joined whole ++ left) n (e ∙ append_assoc y (joined whole) left) q.0)
+stops_once (c ∷ cs) [] (y ∷ whole) marks (n ∷ all) rest left p q e s t = absurd (s y (joined_lines whole ++ left) n (e ∙ append_assoc y (joined_lines whole) left) q.0)
 stops_once [] (x ∷ lines) whole marks all rest left p q e s t = absurd p
 stops_once (c ∷ cs) (x ∷ lines) whole [] all rest left p q e s t = absurd p
-stops_once (c ∷ cs) (x ∷ lines) [] (m ∷ marks) all rest left p q e s t = absurd (t x (joined lines ++ rest) m (sym e ∙ append_assoc x (joined lines) rest) p.0)
+stops_once (c ∷ cs) (x ∷ lines) [] (m ∷ marks) all rest left p q e s t = absurd (t x (joined_lines lines ++ rest) m (sym e ∙ append_assoc x (joined_lines lines) rest) p.0)
 stops_once (c ∷ cs) (x ∷ lines) (y ∷ whole) (m ∷ marks) [] rest left p q e s t = absurd q
 stops_once (c ∷ cs) (x ∷ lines) (y ∷ whole) (m ∷ marks) (n ∷ all) rest left p q e s t =
-    let same = same_line c x y (joined lines ++ rest) (joined whole ++ left) m n p.0 q.0 (sym (append_assoc x (joined lines) rest) ∙ e ∙ append_assoc y (joined whole) left) in
+    let same = same_line c x y (joined_lines lines ++ rest) (joined_lines whole ++ left) m n p.0 q.0 (sym (append_assoc x (joined_lines lines) rest) ∙ e ∙ append_assoc y (joined_lines whole) left) in
     ap suc (stops_once cs lines whole marks all rest left p.1 q.1 same.rests s t)
 
 -- only one line is the first that is another
@@ -269,25 +269,25 @@ legal_verdict s out v script is = (
 )
 
 -- the verdicts on all lines, by what was found of the script without its poses
-pub illegal_verdict : (s : ScriptAt) (told : List Told) → SpellMarks (heads s.commands) (lines_of told) (marks_of told) → (IsLegal (plain s.commands) (marks_of told) → ⊥)
-    → IsVerdict s (joined (lines_of told)) Marks
-illegal_verdict s told spelled never = record { lines = lines_of told; marks = marks_of told; cut = refl; spelled = spelled; holds = never }
+pub illegal_verdict : (s : ScriptAt) (told : List Told) → SpellMarks (heads s.commands) (lines_told told) (marks_of told) → (IsLegal (plain s.commands) (marks_of told) → ⊥)
+    → IsVerdict s (joined_lines (lines_told told)) Marks
+illegal_verdict s told spelled never = record { lines = lines_told told; marks = marks_of told; cut = refl; spelled = spelled; holds = never }
 
-pub other_verdict : (s : ScriptAt) (told : List Told) (j : ℕ) → SpellMarks (heads s.commands) (lines_of told) (marks_of told) → IsLegal (plain s.commands) (marks_of told)
-    → IsFirstOther (lines_under (plain_script s) (marks_of told)) (lines_of told) j → IsVerdict s (joined (lines_of told)) (Differs j)
+pub other_verdict : (s : ScriptAt) (told : List Told) (j : ℕ) → SpellMarks (heads s.commands) (lines_told told) (marks_of told) → IsLegal (plain s.commands) (marks_of told)
+    → IsFirstOther (lines_under (plain_script s) (marks_of told)) (lines_told told) j → IsVerdict s (joined_lines (lines_told told)) (Differs j)
 other_verdict s told j spelled legal other =
-    record { lines = lines_of told; marks = marks_of told; cut = refl; spelled = spelled; holds = (legal, rw (plain_lines s (marks_of told)) at other) }
+    record { lines = lines_told told; marks = marks_of told; cut = refl; spelled = spelled; holds = (legal, rw (plain_lines s (marks_of told)) at other) }
 
-pub whole_verdict : (s : ScriptAt) (told : List Told) → SpellMarks (heads s.commands) (lines_of told) (marks_of told) → IsLegal (plain s.commands) (marks_of told)
-    → lines_of told ≡ lines_under (plain_script s) (marks_of told) → IsVerdict s (joined (lines_of told)) Legal
+pub whole_verdict : (s : ScriptAt) (told : List Told) → SpellMarks (heads s.commands) (lines_told told) (marks_of told) → IsLegal (plain s.commands) (marks_of told)
+    → lines_told told ≡ lines_under (plain_script s) (marks_of told) → IsVerdict s (joined_lines (lines_told told)) Legal
 whole_verdict s told spelled legal same = record {
-  lines = lines_of told;
+  lines = lines_told told;
   marks = marks_of told;
   cut = refl;
   spelled = spelled;
-  holds = (legal, same_text s (joined (lines_of told)) (lines_of told) (marks_of told) refl (same ∙ plain_lines s (marks_of told)));
+  holds = (legal, same_text s (joined_lines (lines_told told)) (lines_told told) (marks_of told) refl (same ∙ plain_lines s (marks_of told)));
 }
 
 -- there is a line for each command without poses, and one for the end
-pub told_plain : (s : ScriptAt) (told : List Told) → SpellMarks (heads s.commands) (lines_of told) (marks_of told) → length told ≡ length (plain s.commands) + 1
+pub told_plain : (s : ScriptAt) (told : List Told) → SpellMarks (heads s.commands) (lines_told told) (marks_of told) → length told ≡ length (plain s.commands) + 1
 told_plain s told spelled = told_long s.commands told spelled ∙ omega (arith, plain_long s)

@@ -4,8 +4,8 @@ use Rattle.std.proofs.lemmas.List.{append-nil, append_assoc, length-map, map_pus
 use Rattle.std.proofs.lemmas.List.Concat.{flat_map-append}
 use Rattle.scan_log.specs.declared.command.Command.{Command}
 use Rattle.transcript_check.specs.Heads.{head, heads, IsMarked, SpellMarks}
-use Rattle.transcript_check.specs.Verdicts.{joined, IsUnspelled}
-use Rattle.transcript_check.specs.Told.{lines_of, marks_of}
+use Rattle.transcript_check.specs.Verdicts.{joined_lines, IsUnspelled}
+use Rattle.transcript_check.specs.Told.{lines_told, marks_of}
 use Rattle.transcript_check.specs.declared.lines.Told.{Told}
 
 pub length-heads : (cs : List Command) → length (heads cs) ≡ length cs + 1
@@ -55,16 +55,16 @@ spell_long (d ∷ cs) (l ∷ lines) (n ∷ marks) s = let r = spell_long cs line
 pub record AreRead (cs : List Command) (out : List ℕ) (k : ℕ) (told : List Told) (rest : List ℕ) : Type 0 where
   pub within : k ≤ length cs + 1
   pub long : length told ≡ k
-  pub cut : out ≡ joined (lines_of told) ++ rest
-  pub before : SpellMarks (take k (heads cs)) (lines_of told) (marks_of told)
+  pub cut : out ≡ joined_lines (lines_told told) ++ rest
+  pub before : SpellMarks (take k (heads cs)) (lines_told told) (marks_of told)
 
 -- the next line isn't there or spells no mark
 pub unspelled_at : (cs : List Command) (out : List ℕ) (k : ℕ) (told : List Told) (rest : List ℕ) → AreRead cs out k told rest → k ≤ length cs
     → ((line behind : List ℕ) (m : ℕ) → rest ≡ line ++ behind → IsMarked (head (slice_get cs k)) line m → ⊥) → IsUnspelled (heads cs) out (k + 1)
 unspelled_at cs out k told rest read low never =
-    let long : length (lines_of told) ≡ k = length-map told (λ (t : Told). t.line.now) ∙ read.long in
+    let long : length (lines_told told) ≡ k = length-map told (λ (t : Told). t.line.now) ∙ read.long in
     record {
-      lines = lines_of told;
+      lines = lines_told told;
       marks = marks_of told;
       rest = rest;
       place = ap (λ n. n + 1) (sym long);
@@ -77,10 +77,10 @@ unspelled_at cs out k told rest read low never =
 pub unspelled_past : (cs : List Command) (out : List ℕ) (k : ℕ) (told : List Told) (rest : List ℕ) → AreRead cs out k told rest → length cs + 1 ≤ k
     → 0 < length rest → IsUnspelled (heads cs) out (k + 1)
 unspelled_past cs out k told rest read high some =
-    let long : length (lines_of told) ≡ k = length-map told (λ (t : Told). t.line.now) ∙ read.long in
+    let long : length (lines_told told) ≡ k = length-map told (λ (t : Told). t.line.now) ∙ read.long in
     let none : drop k (heads cs) ≡ [] = drop_all k (heads cs) (omega (arith, length-heads cs)) in
     record {
-      lines = lines_of told;
+      lines = lines_told told;
       marks = marks_of told;
       rest = rest;
       place = ap (λ n. n + 1) (sym long);
@@ -91,24 +91,24 @@ unspelled_past cs out k told rest read high some =
 
 -- all lines were read
 pub all_read : (cs : List Command) (out : List ℕ) (k : ℕ) (told : List Told) (rest : List ℕ) → AreRead cs out k told rest → length cs + 1 ≤ k → length rest ≡ 0
-    → (out ≡ joined (lines_of told)) × SpellMarks (heads cs) (lines_of told) (marks_of told)
+    → (out ≡ joined_lines (lines_told told)) × SpellMarks (heads cs) (lines_told told) (marks_of told)
 all_read cs out k told [] read high none =
     let all : take k (heads cs) ≡ heads cs = take_all k (heads cs) (omega (arith, length-heads cs)) in
-    (read.cut ∙ append-nil (joined (lines_of told)), rw all at read.before)
+    (read.cut ∙ append-nil (joined_lines (lines_told told)), rw all at read.before)
 all_read cs out k told (b ∷ rest) read high none = absurd (omega arith)
 
 -- one more line was read
 pub read_more : (cs : List Command) (out : List ℕ) (k : ℕ) (told all : List Told) (next : Told) (rest left : List ℕ) → AreRead cs out k told rest → k ≤ length cs
     → all ≡ told ++ next ∷ [] → rest ≡ next.line.now ++ left → IsMarked (head (slice_get cs k)) next.line.now next.mark → AreRead cs out (k + 1) all left
 read_more cs out k told all next rest left read low grown front is =
-    let lines : lines_of all ≡ lines_of told ++ next.line.now ∷ [] = ap lines_of grown ∙ map_push (λ (t : Told). t.line.now) told next in
+    let lines : lines_told all ≡ lines_told told ++ next.line.now ∷ [] = ap lines_told grown ∙ map_push (λ (t : Told). t.line.now) told next in
     let marks : marks_of all ≡ marks_of told ++ next.mark ∷ [] = ap marks_of grown ∙ map_push (λ (t : Told). t.mark) told next in
-    let joins : joined (lines_of told ++ next.line.now ∷ []) ≡ joined (lines_of told) ++ next.line.now =
-    flat_map-append (λ (l : List ℕ). l) (lines_of told) (next.line.now ∷ []) ∙ ap (λ ys. joined (lines_of told) ++ ys) (append-nil next.line.now) in
+    let joins : joined_lines (lines_told told ++ next.line.now ∷ []) ≡ joined_lines (lines_told told) ++ next.line.now =
+    flat_map-append (λ (l : List ℕ). l) (lines_told told) (next.line.now ∷ []) ∙ ap (λ ys. joined_lines (lines_told told) ++ ys) (append-nil next.line.now) in
     record {
       within = omega arith;
       long = ap length grown ∙ omega (arith, length-append told (next ∷ []), read.long);
-      cut = read.cut ∙ ap (λ ys. joined (lines_of told) ++ ys) front ∙ sym (append_assoc (joined (lines_of told)) next.line.now left)
-          ∙ ap (λ ys. ys ++ left) (sym joins) ∙ ap (λ (ls : List (List ℕ)). joined ls ++ left) (sym lines);
-      before = rw (heads_take cs k low, lines, marks) (spell_more (take k (heads cs)) (lines_of told) (marks_of told) (head (slice_get cs k)) next.line.now next.mark read.before is);
+      cut = read.cut ∙ ap (λ ys. joined_lines (lines_told told) ++ ys) front ∙ sym (append_assoc (joined_lines (lines_told told)) next.line.now left)
+          ∙ ap (λ ys. ys ++ left) (sym joins) ∙ ap (λ (ls : List (List ℕ)). joined_lines ls ++ left) (sym lines);
+      before = rw (heads_take cs k low, lines, marks) (spell_more (take k (heads cs)) (lines_told told) (marks_of told) (head (slice_get cs k)) next.line.now next.mark read.before is);
     }

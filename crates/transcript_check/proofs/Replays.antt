@@ -20,7 +20,7 @@ use Rattle.scan_log.specs.declared.format.Format.{Format}
 use Rattle.scan_log.specs.Plain.{IsPlain, IsPlainScript}
 use Rattle.scan_log.specs.Scripts.{ScriptAt}
 use Rattle.scan_log.specs.Transcript.{held_at, history, replies_from, reply_text, marked_updates, updates_in}
-use Rattle.transcript_check.specs.Told.{changes_of, lines_of, lines_under, marks_of, points_in_all, reply_at, updates_of, IsPlaced}
+use Rattle.transcript_check.specs.Told.{changes_of, lines_told, lines_under, marks_of, points_in_all, reply_at, updates_of, IsPlaced}
 use Rattle.transcript_check.specs.Verdicts.{reply_lines, IsFirstOther}
 use Rattle.transcript_check.specs.declared.lines.Told.{Told}
 use Rattle.transcript_check.specs.declared.order.Marked.{Marked}
@@ -53,7 +53,7 @@ length-reply_lines format voxel h (c ∷ cs) (k ∷ marks) many = let r = length
 
 -- a line is that of its reply
 abbrev pub SameAt : ScriptAt → List Told → ℕ → Type 0
-SameAt s told i = slice_get (lines_of told) i ≡ slice_get (lines_under s (marks_of told)) i
+SameAt s told i = slice_get (lines_told told) i ≡ slice_get (lines_under s (marks_of told)) i
 
 -- What is given: legal marks, and the updates by them.
 pub record IsGiven (s : ScriptAt) (told : List Told) (us : List Marked) (places : List Placed) : Type 0 where
@@ -142,7 +142,7 @@ good_at (c ∷ cs) (suc i) good x e = good_at cs i good.1 x e
 -- a line is the same as its reply's where the text on the map at its mark is
 pub same_as : (s : ScriptAt) (told : List Told) (us : List Marked) (places : List Placed) (new : MapAt) (i m : ℕ) (d : Told) → IsGiven s told us places
     → new ≡ fold s.sizes.voxel (take m (changes_of us)) → i < length told → slice_get (marks_of told) i ≡ Some m
-    → (right : List ℕ) × (slice_get (lines_of told) i ≡ Some (get_or told i d).line.now) × (slice_get (lines_under s (marks_of told)) i ≡ Some right)
+    → (right : List ℕ) × (slice_get (lines_told told) i ≡ Some (get_or told i d).line.now) × (slice_get (lines_under s (marks_of told)) i ≡ Some right)
     × (right ≡ reply_text s.format (slice_get s.commands i) (reply_at new.items (slice_get s.commands i) m))
 same_as s told us places new i m d given is below placed =
     let marks = marks_of told in
@@ -257,16 +257,16 @@ same_lists_by_get (x ∷ xs) (y ∷ ys) long h =
 
 -- all lines are those of their replies
 pub all_same : (s : ScriptAt) (told : List Told) (us : List Marked) (places : List Placed) (k : ℕ) (held : MapAt) (level first : ℕ) → IsGiven s told us places
-    → SoFar s told us places k held level first → length places ≤ k → length told ≤ first → lines_of told ≡ lines_under s (marks_of told)
+    → SoFar s told us places k held level first → length places ≤ k → length told ≤ first → lines_told told ≡ lines_under s (marks_of told)
 all_same s told us places k held level first given so all past =
     let long = length-map told (λ (t : Told). t.line.now) in
     let right = length-reply_lines s.format s.sizes.voxel (history s.commands (marks_of told)) s.commands (marks_of told) given.legal.many in
-    same_lists_by_get (lines_of told) (lines_under s (marks_of told)) (long ∙ given.many ∙ sym right)
+    same_lists_by_get (lines_told told) (lines_under s (marks_of told)) (long ∙ given.many ∙ sym right)
     (λ i low. same_before s told us places k held level first given so all i (omega arith))
 
 -- the line named is the first that is another
 pub first_is : (s : ScriptAt) (told : List Told) (us : List Marked) (places : List Placed) (k : ℕ) (held : MapAt) (level first : ℕ) → IsGiven s told us places
-    → SoFar s told us places k held level first → length places ≤ k → first < length told → IsFirstOther (lines_under s (marks_of told)) (lines_of told) (first + 1)
+    → SoFar s told us places k held level first → length places ≤ k → first < length told → IsFirstOther (lines_under s (marks_of told)) (lines_told told) (first + 1)
 first_is s told us places k held level first given so all below = record {
   before = first;
   place = refl;

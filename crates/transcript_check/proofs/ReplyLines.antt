@@ -19,8 +19,8 @@ use Rattle.scan_log.specs.Spelling.{caller_field}
 use Rattle.scan_log.specs.Transcript.{counts_text, hit_text, list_text, item_text, items_text, group_text, spaced, held_at, reply_text, replies_from, lines_text}
 use Rattle.transcript_check.specs.Heads.{head, heads, IsMarked, SpellMarks}
 use Rattle.transcript_check.specs.Told.{reply_at}
-use Rattle.transcript_check.specs.Verdicts.{joined, reply_lines}
-use Rattle.scan_log.proofs.Plains.{lines_plain}
+use Rattle.transcript_check.specs.Verdicts.{joined_lines, reply_lines}
+use Rattle.scan_log.proofs.Plains.{lines_plain, reply_plain}
 use Rattle.transcript_check.proofs.Plain.{ArePlain, IsCutOff, plain_test, plain-append, plain_decimal, plain_spaced, plain_hits, plain_lists, plain_items, plain_groups, plain_caller, field_decimal}
 
 -- a line of a head, a mark, and what is behind it
@@ -123,8 +123,8 @@ spell_replies format voxel h (c ∷ cs) (m ∷ marks) many few = (
   spell_replies format voxel h cs marks (omega arith) few.1,
 )
 
--- joined they are the text
-pub joined_replies : (format : Format) (cs : List Command) (rs : List Reply) → joined (reply_lines format cs rs) ≡ lines_text format cs rs
+-- joined_lines they are the text
+pub joined_replies : (format : Format) (cs : List Command) (rs : List Reply) → joined_lines (reply_lines format cs rs) ≡ lines_text format cs rs
 joined_replies format [] [] = refl
 joined_replies format [] (r ∷ rs) = append-nil (reply_text format None r)
 joined_replies format (c ∷ cs) [] = refl
@@ -141,10 +141,6 @@ head_plain regions (Lonely caller k r) = refl
 head_plain regions (Clusters caller k r) = refl
 head_plain regions (Pose caller rules p) = refl
 head_plain regions Sync = refl
-
-reply_plain : (format : Format) (regions : List (Option RegionAt)) (c : Command) (r : Reply) → reply_text format (Some (plain_command regions c)) r ≡ reply_text format (Some c) r
-reply_plain format regions c r =
-    sym (append-nil (reply_text format (Some (plain_command regions c)) r)) ∙ lines_plain format regions (c ∷ []) (r ∷ []) ∙ append-nil (reply_text format (Some c) r)
 
 pub heads-plain_from : (regions : List (Option RegionAt)) (cs : List Command) → heads (plain_from regions cs) ≡ heads cs
 heads-plain_from regions [] = refl

@@ -5,6 +5,7 @@ use Rattle.std.specs.declared.option.Option.{Option}
 use Rattle.std.specs.declared.option.Option.TheVariants.{None, Some}
 use Rattle.scan_log.specs.declared.command.Command.{Command}
 use Rattle.scan_log.specs.declared.command.Command.TheVariants.{Change, Near, Nears, Inside, Ball, Lonely, Clusters, Pose, Sync}
+use Rattle.scan_log.specs.declared.commands.TheConstants.{MAX_COMMANDS}
 use Rattle.scan_log.specs.Numbers.{first_field}
 use Rattle.scan_log.specs.Spelling.{caller_field}
 
@@ -31,8 +32,9 @@ pub record SpellsMark (head line : List ℕ) (m : ℕ) : Type 0 where
   pub behind : List ℕ
   pub begun : line ≡ head ++ behind
   pub number : first_field behind ≡ decimal m
-  pub few : m ≤ 65536
+  pub few : m ≤ MAX_COMMANDS
 
+-- the byte is no line feed
 abbrev pub IsNoFeed : ℕ → Type 0
 IsNoFeed b = b ≡ 10 → ⊥
 

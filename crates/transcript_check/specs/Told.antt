@@ -1,4 +1,4 @@
--- Lines with their marks, as they are read, ordered and replayed.
+-- Lines with their marks, as they are read, ordered and replayed. Cited by private functions alone.
 use Rattle.std.specs.Prelude.{◌≡◌, ℕ, ◌+◌, Bool, true, nat_lt, nat_le, List, [], ◌∷◌, map, slice_get, if◌then◌else◌, is_some}
 use Rattle.std.specs.declared.option.Option.{Option}
 use Rattle.std.specs.declared.option.Option.TheVariants.{None, Some}
@@ -18,15 +18,19 @@ use Rattle.transcript_check.specs.declared.order.Placed.{Placed}
 use Rattle.transcript_check.specs.Heads.{heads}
 use Rattle.transcript_check.specs.Verdicts.{IsUnspelled, reply_lines}
 
+-- the marks of the lines, in the lines' order
 abbrev pub marks_of : List Told → List ℕ
 marks_of told = map (λ t. t.mark) told
 
-abbrev pub lines_of : List Told → List (List ℕ)
-lines_of told = map (λ t. t.line.now) told
+-- the lines' own bytes, each with its line feed
+abbrev pub lines_told : List Told → List (List ℕ)
+lines_told told = map (λ t. t.line.now) told
 
+-- the updates with their marks, in their order
 abbrev pub updates_of : List Marked → List (ℕ × Update)
 updates_of updates = map (λ u. (u.mark, u.update.now)) updates
 
+-- the same without the marks
 abbrev pub changes_of : List Marked → List Update
 changes_of updates = map (λ u. u.update.now) updates
 
@@ -51,6 +55,7 @@ InOrderBehind x low (c ∷ cs) [] = Unit {0}
 InOrderBehind x low (c ∷ cs) (m ∷ marks) =
     (is_for x c ≡ true → is_late low c m ≡ true) × InOrderBehind x (if is_for x c then Some m else low) cs marks
 
+-- the marks of this caller's commands and of the barriers are in order, from the first on
 abbrev pub AreCallersInOrder : ℕ → List Command → List ℕ → Type 0
 AreCallersInOrder x cs marks = InOrderBehind x None cs marks
 

@@ -14,8 +14,8 @@ use Rattle.transcript_check.specs.declared.verdict.Verdict.{Verdict}
 use Rattle.transcript_check.specs.declared.verdict.Verdict.TheVariants.{Legal, Unspelled, Marks, Differs}
 
 -- lines one after another
-abbrev pub joined : List (List ℕ) → List ℕ
-joined lines = flat_map (λ line. line) lines
+abbrev pub joined_lines : List (List ℕ) → List ℕ
+joined_lines lines = flat_map (λ line. line) lines
 
 -- the first line is not there or spells no mark, or no line is asked for and bytes are left
 abbrev pub Stops : List (List ℕ) → List ℕ → Type 0
@@ -28,7 +28,7 @@ pub record IsUnspelled (heads : List (List ℕ)) (out : List ℕ) (j : ℕ) : Ty
   pub marks : List ℕ
   pub rest : List ℕ
   pub place : j ≡ length lines + 1
-  pub cut : out ≡ joined lines ++ rest
+  pub cut : out ≡ joined_lines lines ++ rest
   pub before : SpellMarks (take (length lines) heads) lines marks
   pub stops : Stops (drop (length lines) heads) rest
 
@@ -36,7 +36,7 @@ pub record IsUnspelled (heads : List (List ℕ)) (out : List ℕ) (j : ℕ) : Ty
 pub record IsSpelled (heads : List (List ℕ)) (out : List ℕ) (P : List (List ℕ) → List ℕ → Type 0) : Type 0 where
   pub lines : List (List ℕ)
   pub marks : List ℕ
-  pub cut : out ≡ joined lines
+  pub cut : out ≡ joined_lines lines
   pub spelled : SpellMarks heads lines marks
   pub holds : P lines marks
 

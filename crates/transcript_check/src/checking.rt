@@ -3,8 +3,8 @@ ghost use Rattle.std.specs.Prelude.{◌≡◌, ◌+◌, ◌≤◌, ◌↔◌, If
 ghost use Rattle.scan_log.specs.Legal.{AreLegalLines};
 ghost use Rattle.transcript_check.specs.declared.verdict.Verdict.{Verdict};
 ghost use Rattle.transcript_check.specs.Heads.{SpellMarks, heads};
-ghost use Rattle.transcript_check.specs.Told.{lines_of, marks_of};
-ghost use Rattle.transcript_check.specs.Verdicts.{IsVerdict, joined};
+ghost use Rattle.transcript_check.specs.Told.{lines_told, marks_of};
+ghost use Rattle.transcript_check.specs.Verdicts.{IsVerdict, joined_lines};
 
 use crate::legality::are_legal;
 use crate::lines::{Stop, Told, told_lines};
@@ -38,8 +38,8 @@ pub fn check(alloc: Global, script: &Script, transcript: &[u8]) -> Result<Verdic
 
 // What is found of lines that spell marks.
 fn verdict_on(alloc: Global, script: &Script, told: &[Told]) -> Result<Verdict, NoMemory>
-    requires { SpellMarks (heads script.now.commands) (lines_of told.now) (marks_of told.now) }
-    ensures { IfOk result (IsVerdict script.now (joined (lines_of told.now))) }
+    requires { SpellMarks (heads script.now.commands) (lines_told told.now) (marks_of told.now) }
+    ensures { IfOk result (IsVerdict script.now (joined_lines (lines_told told.now))) }
 {
     let plain = PlainScript::copied(alloc, script)?;
     let commands = plain.commands();

@@ -3,7 +3,7 @@ ghost use Rattle.std.specs.Prelude.{◌≡◌, ◌+◌, ◌≤◌, length, map};
 ghost use Rattle.std.specs.Bool.{Decides};
 ghost use Rattle.std.specs.List.{AllByRecursion};
 ghost use Rattle.scan_log.specs.Commands.{is_for};
-ghost use Rattle.scan_log.specs.Legal.{AreInOrder, IsLegal, counted};
+ghost use Rattle.scan_log.specs.Legal.{AreInOrder, IsLegal, numbers_from};
 ghost use Rattle.scan_log.specs.Plain.{IsPlain};
 ghost use Rattle.scan_log.specs.Transcript.{marked_updates};
 ghost use Rattle.transcript_check.specs.Told.{AreCallersInOrder, is_late, marks_of, updates_of};
@@ -45,7 +45,7 @@ fn none_above(told: &[Told], last: usize) -> bool
 
 // Whether the marks are 1, 2 and so on.
 fn are_counted(updates: &[Marked]) -> bool
-    ensures { Decides result (map (λ u. u.mark) updates.now ≡ counted 1 (length updates.now)) }
+    ensures { Decides result (map (λ u. u.mark) updates.now ≡ numbers_from 1 (length updates.now)) }
 {
     for (place, update) in updates.iter().enumerate() {
         if update.mark as usize != place + 1 {

@@ -2,8 +2,8 @@
 ghost use Rattle.std.specs.Prelude.{◌≡◌, ◌≤◌, ℕ, List, ◌++◌, drop, length, slice_get, IfOk, IfErr, IfSome, IfNone};
 ghost use Rattle.std.specs.Option.{option_copied};
 ghost use Rattle.transcript_check.specs.Heads.{head, heads, SpellMarks, IsMarked};
-ghost use Rattle.transcript_check.specs.Verdicts.{joined};
-ghost use Rattle.transcript_check.specs.Told.{lines_of, marks_of, WasUnspelled};
+ghost use Rattle.transcript_check.specs.Verdicts.{joined_lines};
+ghost use Rattle.transcript_check.specs.Told.{lines_told, marks_of, WasUnspelled};
 ghost use Rattle.transcript_check.specs.declared.lines.Stop.TheVariants as stop;
 
 use crate::heads::mark_in;
@@ -23,7 +23,7 @@ pub struct Told<'a> {
 /// Why not all lines were read.
 #[derive(Clone, Copy, Debug, PartialEq, Eq)]
 pub enum Stop {
-    /// A line is wanting or spells no mark, or there is one line too many.
+    /// A line is missing or spells no mark, or there is one line too many.
     Unspelled {
         /// How many lines stand before it.
         before: usize,
@@ -45,8 +45,8 @@ pub fn told_lines<'a>(
     commands: &[Command],
     transcript: &'a [u8],
 ) -> Result<Vec<Told<'a>>, Stop>
-    ensures all { IfOk result (λ told. transcript.now ≡ joined (lines_of told.items)) }
-    ensures marks { IfOk result (λ told. SpellMarks (heads commands.now) (lines_of told.items) (marks_of told.items)) }
+    ensures all { IfOk result (λ told. transcript.now ≡ joined_lines (lines_told told.items)) }
+    ensures marks { IfOk result (λ told. SpellMarks (heads commands.now) (lines_told told.items) (marks_of told.items)) }
     ensures stopped { IfErr result (WasUnspelled commands.now transcript.now) }
 {
     let mut told = Vec::new(alloc);

@@ -9,7 +9,9 @@ ghost use Rattle.kd_tree.specs.Counter.{IsBlankOf};
 ghost use Rattle.scan_log.specs.Transcript.{found_reply};
 
 use kd_tree::{Steps, Tree};
-use map_fold::{BoxReply, Item, Items, Label, MAX_POINTS, NoMemory, PlainMap};
+use map_fold::{
+    BoxReply, Item, Items, Label, MAX_FOUND, MAX_POINTS, MAX_WITHIN, NoMemory, PlainMap,
+};
 use point_geom::{Point, dist2};
 use std::alloc::Global;
 use std::marker::Brand;
@@ -24,8 +26,8 @@ pub fn ball_reply(
     r: u64,
     point: &Point,
 ) -> Result<BoxReply, NoMemory>
-    requires r_to { r ≤ 4398046511104 }
-    requires k_to { k ≤ 256 }
+    requires r_to { r ≤ MAX_WITHIN }
+    requires k_to { k ≤ MAX_FOUND }
     ensures { IfOk result (λ found. found ≡ found_reply mark (ball map.now.items point.now r) k) }
 {
     let next = map.next();

@@ -6,7 +6,7 @@ ghost use Rattle.map_fold.specs.Fold.{fold_from};
 ghost use Rattle.scan_log.specs.Legal.{IsLegal};
 ghost use Rattle.scan_log.specs.Plain.{IsPlain};
 ghost use Rattle.scan_log.specs.Transcript.{reply_text, marked_updates};
-ghost use Rattle.transcript_check.specs.Told.{changes_of, lines_of, lines_under, marks_of, points_in_all, reply_at, updates_of};
+ghost use Rattle.transcript_check.specs.Told.{changes_of, lines_told, lines_under, marks_of, points_in_all, reply_at, updates_of};
 ghost use Rattle.transcript_check.specs.Verdicts.{IsFirstOther};
 
 use crate::answers::reply_to;
@@ -26,8 +26,8 @@ pub fn first_other(
     requires legal { IsLegal script.now.commands (marks_of told.now) }
     requires many { length told.now ≡ length script.now.commands + 1 }
     requires updates { updates_of updates.now ≡ marked_updates script.now.commands (marks_of told.now) }
-    ensures { IfOk result (λ r. MatchOption r (lines_of told.now ≡ lines_under script.now (marks_of told.now))
-        (λ place. IsFirstOther (lines_under script.now (marks_of told.now)) (lines_of told.now) (place + 1))) }
+    ensures { IfOk result (λ r. MatchOption r (lines_told told.now ≡ lines_under script.now (marks_of told.now))
+        (λ place. IsFirstOther (lines_under script.now (marks_of told.now)) (lines_told told.now) (place + 1))) }
 {
     let commands = script.commands();
     let settings = script.settings();

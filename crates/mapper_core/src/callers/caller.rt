@@ -7,7 +7,6 @@ ghost use Rattle.scan_log.specs.Plain.{IsPlain};
 ghost use Rattle.mapper_core.specs.Mine.{Tried, Turned};
 
 use super::alarm::{Bells, Signals};
-use super::naming::is_own;
 use super::queue::Queue;
 use crate::tree_reply::tree_reply;
 use batch_near::nearest_each;
@@ -91,8 +90,8 @@ fn answer<L: MapName, R: Threads + Wait + Sync>(
     }
 }
 
-/// Runs the commands of the pass's caller among these, in order, and tells the gate of each reply. Where a limit of the map refuses an update, the caller ends before it: that no limit is passed shows only
-/// when all callers have met.
+/// Runs the commands of the pass's caller among these, in order, and tells the gate of each reply. Where a limit of the map
+/// refuses an update, the caller ends before it: that no limit is passed shows only when all callers have met.
 pub fn run_own<L: MapName, G: Gate, R: Threads + Wait + Sync>(
     rt: &R,
     alloc: Global,
@@ -119,4 +118,14 @@ pub fn run_own<L: MapName, G: Gate, R: Threads + Wait + Sync>(
         index += 1;
     }
     Ok((pass, replies))
+}
+
+// Whether it is this caller's command.
+fn is_own(command: &Command, caller: u8) -> bool
+    ensures { result ≡ is_by caller command.now }
+{
+    match command.caller() {
+        Some(own) => own == caller,
+        None => false,
+    }
 }

@@ -1,8 +1,8 @@
 //! Replies of all callers, put in the log's order.
 ghost use Rattle.std.specs.Prelude.{◌≡◌, ℕ, [], OnOk};
+ghost use Rattle.scan_log.specs.Commands.{IsBy};
 ghost use Rattle.mapper_core.specs.Meetings.{AreReplies, HasReply, Takes, MergedTo};
 
-use super::naming::caller_of;
 use super::queue::Queue;
 use crate::replying::Replies;
 use map_fold::NoMemory;
@@ -34,4 +34,15 @@ pub fn merge(
         replies.push(reply)?;
     }
     Ok(())
+}
+
+// Whose command it is. A barrier is nobody's, so it isn't asked for.
+fn caller_of(command: &Command) -> u8
+    requires { (x : ℕ) × IsBy command.now x }
+    ensures { IsBy command.now result }
+{
+    match command.caller() {
+        Some(caller) => caller,
+        None => unreachable!(),
+    }
 }

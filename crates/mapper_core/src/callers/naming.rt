@@ -1,39 +1,10 @@
-//! Whose commands there are.
-ghost use Rattle.std.specs.Prelude.{◌≡◌, ◌≤◌, ℕ};
+//! How many callers there are.
+ghost use Rattle.std.specs.Prelude.{◌≤◌};
 ghost use Rattle.std.specs.List.{AllByRecursion};
-ghost use Rattle.scan_log.specs.Commands.{IsBy, is_by};
 ghost use Rattle.scan_log.specs.Plain.{IsPlain};
-ghost use Rattle.mapper_core.specs.Meetings.{HasCaller, is_barrier as is_sync};
+ghost use Rattle.mapper_core.specs.Meetings.{HasCaller};
 
 use scan_log::Command;
-
-/// Whether it is this caller's command.
-pub fn is_own(command: &Command, caller: u8) -> bool
-    ensures { result ≡ is_by caller command.now }
-{
-    match command.caller() {
-        Some(own) => own == caller,
-        None => false,
-    }
-}
-
-/// Whether it is a barrier.
-pub fn is_barrier(command: &Command) -> bool
-    ensures { result ≡ is_sync command.now }
-{
-    command.caller().is_none()
-}
-
-/// Whose command it is. A barrier is nobody's, so it isn't asked for.
-pub fn caller_of(command: &Command) -> u8
-    requires { (x : ℕ) × IsBy command.now x }
-    ensures { IsBy command.now result }
-{
-    match command.caller() {
-        Some(caller) => caller,
-        None => unreachable!(),
-    }
-}
 
 // The caller that it names, or the first one where it names none.
 fn named(command: &Command) -> u8

@@ -3,9 +3,8 @@ ghost use Rattle.std.specs.Prelude.{◌≡◌, ◌<◌, ◌≤◌, length, IfOk}
 ghost use Rattle.std.specs.List.{AllByRecursion};
 ghost use Rattle.scan_log.specs.Plain.{IsPlain};
 ghost use Rattle.scan_log.specs.Scripts.{points_of};
-ghost use Rattle.mapper_core.specs.Meetings.{AreNewcomers, HasCaller, StandingAtEnd};
+ghost use Rattle.mapper_core.specs.Meetings.{AreNewcomers, HasCaller, StandingAtEnd, is_barrier as is_sync};
 
-use super::naming::is_barrier;
 use super::phase::{barrier, held, phase};
 use super::stage::Stage;
 use crate::replying::Replies;
@@ -47,4 +46,11 @@ pub fn run_commands<L: MapName + Send + Sync, G: Gate + Sync, R: Threads + Wait 
     let passes = phase(rt, stage, commands, from, at, passes, &mut replies)?;
     replies.push(held(passes.as_slice()))?;
     Ok((passes, replies))
+}
+
+// Whether it is a barrier.
+fn is_barrier(command: &Command) -> bool
+    ensures { result ≡ is_sync command.now }
+{
+    command.caller().is_none()
 }

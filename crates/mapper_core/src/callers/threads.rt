@@ -13,7 +13,7 @@ use super::naming::callers_in;
 use super::script::run_commands;
 use super::stage::Stage;
 use crate::replying::Replies;
-use map_fold::NoMemory;
+use map_fold::{MAX_LARGE, MIN_LARGE, NoMemory};
 use published_map::{MapName, Opened, Pass, Shared};
 use rebuild_worker::{Gate, pair, work};
 use scan_log::{PlainScript, Script};
@@ -35,8 +35,8 @@ fn beside_second<L: MapName + Send + Sync, G: Gate + Sync, R: Threads + Wait + S
     passes: Vec<Pass<L>>,
 ) -> Run<L>
     requires good { IsPlainScript script.now }
-    requires large_from { 16 ≤ post.large }
-    requires large_to { post.large ≤ 1000000 }
+    requires large_from { MIN_LARGE ≤ post.large }
+    requires large_to { post.large ≤ MAX_LARGE }
     requires ready { CanRun L.callers L.parts L.voxel script.now passes.items }
     ensures { IfOk result (λ r. StandingAtEnd L.voxel L.callers script.now.commands r.0.items r.1) }
 {
@@ -46,7 +46,7 @@ fn beside_second<L: MapName + Send + Sync, G: Gate + Sync, R: Threads + Wait + S
     let (_, all) = join(
         rt,
         move ||
-            requires { (16 ≤ post.large) × (post.large ≤ 1000000) }
+            requires { (MIN_LARGE ≤ post.large) × (post.large ≤ MAX_LARGE) }
         {
             let mut post = post;
             work(rt, alloc, post.large, 2, shared, gate, &mut post.rest)
@@ -117,13 +117,13 @@ fn run_plain<L: MapName + Send + Sync, G: Gate + Sync, R: Threads + Wait + Sync>
     let (_, all) = join(
         rt,
         move ||
-            requires { (16 ≤ post.large) × (post.large ≤ 1000000) }
+            requires { (MIN_LARGE ≤ post.large) × (post.large ≤ MAX_LARGE) }
         {
             let mut post = post;
             work(rt, alloc, post.large, 1, shared, gate, &mut post.rest)
         },
         || -> Run<L>
-            requires { IsPlainScript script.now × (16 ≤ other.large) × (other.large ≤ 1000000) × CanRun L.callers L.parts L.voxel script.now passes.items }
+            requires { IsPlainScript script.now × (MIN_LARGE ≤ other.large) × (other.large ≤ MAX_LARGE) × CanRun L.callers L.parts L.voxel script.now passes.items }
             ensures { IfOk result (λ r. StandingAtEnd L.voxel L.callers script.entry.now.commands r.0.items r.1) }
         { beside_second(rt, &stage, other, script, passes) },
     );

@@ -7,7 +7,7 @@ ghost use Rattle.rebuild_core.specs.Entrants.{AreFirsts};
 ghost use Rattle.rebuild_core.specs.Ranks.{HaveVoxels, entrant_of, items_in, rank_of};
 
 use map_fold::{Item, MAX_POINTS, NoMemory, Settings};
-use point_geom::{Cuboid, Point, centre_dist2, voxel};
+use point_geom::{Cuboid, MAX_EDGE, Point, centre_dist2, voxel};
 use std::alloc::Global;
 
 // A point under its number, and its voxel.
@@ -40,7 +40,7 @@ pub(crate) fn firsts(
 // All of the points, on a grid of this edge.
 fn entrants(alloc: Global, edge: u32, next: u32, points: &[Point]) -> Result<Vec<Entrant>, NoMemory>
     requires positive { 1 ≤ edge }
-    requires short { edge ≤ 1000000 }
+    requires short { edge ≤ MAX_EDGE }
     requires few { next + length points.now ≤ MAX_POINTS }
     ensures { IfOk result (λ v. v.items ≡ map (entrant_of edge) (live_from next points.now)) }
 {

@@ -13,7 +13,7 @@ ghost use Rattle.kd_search.specs.Best.{IsBest};
 ghost use Rattle.rebuild_core.specs.Draft.{IsDraft, IsDraftLeft, IsWork, IsWorked, KeepsDraft, KeepsWatched};
 ghost use Rattle.rebuild_core.specs.Lawful.{map_of};
 ghost use Rattle.rebuild_core.specs.Parts.{PartAt};
-ghost use Rattle.rebuild_core.specs.Waiting.{IsClear, IsJoined, IsWaiting, held_by};
+ghost use Rattle.rebuild_core.specs.Waiting.{NoneWaitsIn, IsJoined, IsWaiting, held_by};
 
 use crate::update::entrants::{Entrant, firsts};
 use crate::update::work::{Work, Worked};
@@ -109,7 +109,7 @@ impl Waiting {
         requires live { entrant.now.item.label ≡ Live }
         requires below { entrant.now.item.number < high }
         requires new { IsUnheld entrant.now.item.number (held_by self) }
-        requires clear { IsClear entrant.now.cube self }
+        requires clear { NoneWaitsIn entrant.now.cube self }
         ensures held { IfOk result (λ w. held_by w ≡ thin settings.now.voxel (held_by self) entrant.now.item.number entrant.now.item.point) }
         ensures waiting { IfOk result (λ w. IsWaiting settings.now.large high w) }
         ensures joined { IfOk result (IsJoined entrant.now.cube self) }
@@ -136,7 +136,7 @@ impl Waiting {
 
     // What is live in the cuboid.
     fn rivals(&self, cuboid: &Cuboid) -> Rivals
-        requires clear { IsClear cuboid.now self.now }
+        requires clear { NoneWaitsIn cuboid.now self.now }
         requires distinct { AreDistinct (contents self.now.work.tree ++ self.now.items.items) }
         ensures none { IsNone result.best ↔ (inside_all (held_by self.now) cuboid.now ≡ []) }
         ensures best { IfSome result.best (IsBest (held_by self.now) cuboid.now) }
@@ -155,7 +155,7 @@ impl Waiting {
         steps: &mut Steps<L>,
     ) -> Result<Waiting, NoMemory>
         requires waiting { IsWaiting large high self }
-        requires clear { IsClear cuboid.now self }
+        requires clear { NoneWaitsIn cuboid.now self }
         ensures held { IfOk result (λ w. held_by w ≡ mark (held_by self) (in_box cuboid.now) thin_tag) }
         ensures waiting { IfOk result (λ w. IsWaiting large high w) }
         ensures same { IfOk result (λ w. w.items.items ≡ self.items.items) }

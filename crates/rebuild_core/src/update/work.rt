@@ -146,8 +146,11 @@ impl Work {
         let with = rebuilt(alloc, node, steps)?;
         let others = paths_of(alloc, watches.as_slice())?;
         let (path, others) = (&path, others.as_slice());
-        let Replaced { tree, anew } = replaced(alloc, tree, large, path, with, others, steps)?;
-        if anew {
+        let Replaced {
+            tree,
+            whole_rebuilt,
+        } = replaced(alloc, tree, large, path, with, others, steps)?;
+        if whole_rebuilt {
             return Ok(Work {
                 tree,
                 watches: Watches::new(alloc),

@@ -1,4 +1,4 @@
-//! An update that is refused for lack of memory. No memory runs out in a plain run: it is made to be wanting from outside.
+//! An update that is refused for lack of memory. No memory runs out in a plain run: allocations are refused from outside.
 use crate::tests::assertions::same;
 use crate::tests::trial::{Site, Trial, row, tried};
 use published_map::{Ended, MapName, Pass};

@@ -1,7 +1,7 @@
 //! Shared maps, tried by their callers and by workers.
 ghost use Rattle.std.specs.Prelude.{◌≡◌, ◌≤◌, true, length, None};
 ghost use Rattle.kd_search.specs.Query.{IsQuery};
-ghost use Rattle.published_map.specs.Marks.{callers_of, times, IsDistinct};
+ghost use Rattle.published_map.specs.Marks.{callers_of, times_listed, IsDistinct};
 ghost use Rattle.published_map.specs.Held.{IsOpenedAs};
 
 use map_fold::{BoxReply, Cuboids, NearReply, Points, Settings, Update};
@@ -85,7 +85,7 @@ pub fn are_distinct<L: MapName>(passes: &[Pass<L>]) -> bool
 }
 
 fn is_absent<L: MapName>(caller: u8, passes: &[Pass<L>]) -> bool
-    ensures { result ≡ true → times caller (callers_of passes.now) ≡ 0 }
+    ensures { result ≡ true → times_listed caller (callers_of passes.now) ≡ 0 }
 {
     let Some((first, rest)) = passes.split_first() else {
         return true;

@@ -61,14 +61,19 @@ fn chain(rt: &impl Abort, alloc: Global, points: i64, dropped: i64) -> Result<Tr
 #[test]
 fn a_subtree_that_is_too_deep_has_the_whole_tree_built_anew(rt: HostRuntime) -> Result<(), Fail> {
     let alloc = rt.alloc();
-    for (start, anew) in [(100, false), (112, false), (113, true), (200, true)] {
-        is_replaced(&rt, alloc, start, anew)?;
+    for (start, whole_rebuilt) in [(100, false), (112, false), (113, true), (200, true)] {
+        is_replaced(&rt, alloc, start, whole_rebuilt)?;
     }
     Ok(())
 }
 
 // The subtree that starts there is replaced by a deeper one, in a tree rebuilt or in the old one.
-fn is_replaced(rt: &impl Abort, alloc: Global, start: i64, anew: bool) -> Result<(), Fail> {
+fn is_replaced(
+    rt: &impl Abort,
+    alloc: Global,
+    start: i64,
+    whole_rebuilt: bool,
+) -> Result<(), Fail> {
     let tree = chain(rt, alloc, 400, 0)?;
     let with = chain(rt, alloc, 400, start)?;
     let held = tree.flatten(alloc)?;
@@ -78,9 +83,13 @@ fn is_replaced(rt: &impl Abort, alloc: Global, start: i64, anew: bool) -> Result
         nodes: 0,
     };
     let done = put_in::<Brand>(alloc, tree, &path, with, none, Blank::new(1))?;
-    same(rt, "rebuilt", done.anew, anew);
+    same(rt, "rebuilt", done.whole_rebuilt, whole_rebuilt);
     holds_all(rt, alloc, &done.tree, held.as_slice())?;
-    let levels = if anew { 9 } else { start.saturating_add(400) };
+    let levels = if whole_rebuilt {
+        9
+    } else {
+        start.saturating_add(400)
+    };
     same(rt, "levels", i64::from(done.tree.levels()), levels);
     Ok(())
 }
@@ -106,7 +115,7 @@ fn what_stands_at_another_path_stays(rt: HostRuntime) -> Result<(), Fail> {
     let right = Path::root().down(Side::Right);
     let held = held_at(alloc, &tree, &right)?;
     let done = put_left(alloc, tree, with)?;
-    holds(&rt, "not rebuilt", !done.anew);
+    holds(&rt, "not rebuilt", !done.whole_rebuilt);
     is_line(&rt, &done.tree, &left, 33)?;
     is_line(&rt, &done.tree, &right, 32)?;
     let still_held = held_at(alloc, &done.tree, &right)?;

@@ -1,4 +1,4 @@
-//! Transcripts that are legal, and no longer where a byte is another or is wanting.
+//! Transcripts that are legal, and no longer where a byte is another or is missing.
 use super::{ONE, ONE_OUT, is_found};
 use crate::tests::reading::read;
 use scan_log::Script;
@@ -63,7 +63,7 @@ fn is_not_legal(rt: &impl Abort, alloc: Global, script: &Script, text: &[u8]) ->
 }
 
 #[test]
-fn no_byte_may_be_wanting(rt: HostRuntime) -> Result<(), Fail> {
+fn no_byte_may_be_missing(rt: HostRuntime) -> Result<(), Fail> {
     let alloc = rt.alloc();
     for (log, transcript) in LEGAL {
         let script = read(alloc, log.as_bytes())?;

@@ -5,7 +5,7 @@ use std::process::Abort;
 use std::test::Fail;
 use transcript_check::Verdict::{Differs, Legal, Marks, Unspelled};
 
-// Transcripts of the log `ONE`, and the first of their lines that is wanting or spells no mark.
+// Transcripts of the log `ONE`, and the first of their lines that is missing or spells no mark.
 const UNSPELLED: [(&'static str, u32); 24] = [
     ("", 1),
     ("\n", 1),
@@ -40,7 +40,7 @@ const UNSPELLED: [(&'static str, u32); 24] = [
 ];
 
 #[test]
-fn a_line_is_wanting_or_spells_no_mark(rt: HostRuntime) -> Result<(), Fail> {
+fn a_line_is_missing_or_spells_no_mark(rt: HostRuntime) -> Result<(), Fail> {
     for (transcript, line) in UNSPELLED {
         is_found(&rt, rt.alloc(), ONE, transcript, Unspelled { line })?;
     }

@@ -3,7 +3,7 @@ use Rattle.map_fold.specs.declared.item.Item.{Item}
 use Rattle.map_fold.specs.Contents.{kept}
 use Rattle.kd_tree.specs.Walk.{walk}
 use Rattle.kd_search.proofs.Tops.{walk_top}
-use Rattle.rebuild_core.specs.Holding.{AreIn}
+use Rattle.rebuild_core.specs.Holding.{AreAllFrom}
 use Rattle.rebuild_core.proofs.SameItems.{in_parts, parts_in}
 use Rattle.rebuild_core.proofs.same_items.+are_among.Goals as goal
 
@@ -17,7 +17,7 @@ returns-then-not-is_among t c =
     let no = c.if-not-is_among.true in (
       (λ e. absurd cc),
       λ k.
-          let parts = in_parts (kept (i ∷ [])) (walk below top.left.now) (walk below top.right.now) m (subst (λ (xs : List Item). AreIn xs m) whole k) in
+          let parts = in_parts (kept (i ∷ [])) (walk below top.left.now) (walk below top.right.now) m (subst (λ (xs : List Item). AreAllFrom xs m) whole k) in
           let yes = c.is_among.ensures.1 parts.0 in
           absurd cc,
     )
@@ -32,7 +32,7 @@ returns-then-not-are_among t c =
     let no = c.if-not-are_among.true in (
       (λ e. absurd cc),
       λ k.
-          let parts = in_parts (kept (i ∷ [])) (walk below top.left.now) (walk below top.right.now) m (subst (λ (xs : List Item). AreIn xs m) whole k) in
+          let parts = in_parts (kept (i ∷ [])) (walk below top.left.now) (walk below top.right.now) m (subst (λ (xs : List Item). AreAllFrom xs m) whole k) in
           let yes = c.are_among.ensures.1 parts.1 in
           absurd cc,
     )
@@ -48,6 +48,6 @@ returns t c =
     let whole = walk_top c.args.tree.now c.args.owed top i below c.in-Some.ensures.some c.relabelled.ensures c.then-below.ensures.value in
     let own = c.is_among.ensures.0 c.if-not-is_among.false in
     let near = c.are_among.ensures.0 c.if-not-are_among.false in (
-      (λ e. subst (λ (xs : List Item). AreIn xs m) (sym whole) (parts_in (kept (i ∷ [])) left right m own near (c.are_among-2.ensures.0 e))),
-      λ k. c.are_among-2.ensures.1 (in_parts (kept (i ∷ [])) left right m (subst (λ (xs : List Item). AreIn xs m) whole k)).2,
+      (λ e. subst (λ (xs : List Item). AreAllFrom xs m) (sym whole) (parts_in (kept (i ∷ [])) left right m own near (c.are_among-2.ensures.0 e))),
+      λ k. c.are_among-2.ensures.1 (in_parts (kept (i ∷ [])) left right m (subst (λ (xs : List Item). AreAllFrom xs m) whole k)).2,
     )

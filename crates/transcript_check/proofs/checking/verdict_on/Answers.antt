@@ -1,7 +1,7 @@
 use Rattle.std.proofs.Common.{◌≡◌, ℕ, ◌+◌, length, subst, sym, refl, arith}
 use Rattle.scan_log.specs.Poses.{plain_script}
-use Rattle.transcript_check.specs.Told.{lines_of}
-use Rattle.transcript_check.specs.Verdicts.{IsVerdict, joined}
+use Rattle.transcript_check.specs.Told.{lines_told}
+use Rattle.transcript_check.specs.Verdicts.{IsVerdict, joined_lines}
 use Rattle.transcript_check.specs.declared.verdict.Verdict.TheVariants.{Differs}
 use Rattle.transcript_check.proofs.OneVerdict.{other_few, other_verdict, told_plain, whole_verdict}
 use Rattle.transcript_check.proofs.checking.verdict_on.Goals as goal
@@ -30,7 +30,7 @@ returns-in-Some c =
     let is : c.in_ok-plain.plain ≡ plain_script s = c.in_ok-plain.ensures in
     let test = rw (c.commands-commands.ensures.all, is) at c.if-not-are_legal.ensures in
     let other = rw (c.in-Some.is, is) at c.in_ok-place.ensures in
-    subst (λ (n : ℕ). IsVerdict s (joined (lines_of told)) (Differs n)) (sym c.number_of.ensures) (other_verdict s told (c.in-Some.place + 1) c.requires (test.0 refl) other)
+    subst (λ (n : ℕ). IsVerdict s (joined_lines (lines_told told)) (Differs n)) (sym c.number_of.ensures) (other_verdict s told (c.in-Some.place + 1) c.requires (test.0 refl) other)
 
 pub returns : goal.returns
 returns c =

@@ -1,7 +1,7 @@
 use Rattle.std.proofs.Common.{◌≡◌, ℕ, List, refl, sym, ◌∙◌, ap, subst}
 use Rattle.map_fold.specs.declared.entry.Entry.{Entry}
 use Rattle.rebuild_core.specs.Lawful.{Stored}
-use Rattle.published_map.specs.Marks.{at_places, IsMarked}
+use Rattle.published_map.specs.Marks.{at_places, AreOwnPlaces}
 use Rattle.published_map.proofs.Marking.{marked_longer, pass_longer, places_longer}
 use Rattle.published_map.proofs.Hearing.{caught, begins}
 use Rattle.published_map.proofs.locked.Locked.give.Goals as goal
@@ -38,5 +38,5 @@ returns-clause-made g c =
     let longer = caught _ _ _ _ i.reader e.begins (sym got) in
     let ks : List ℕ = c.pass.inside.marks.items in
     let whole = got ∙ (shown ∙ ap (λ (s : Stored). s.state.history) c.self.view_is) in
-    let m = subst (λ (z : List Entry). IsMarked c.pass.inside.caller z 0 ks × (at_places c.catch_up.result ks ≡ at_places z ks)) whole (marked_longer _ _ _ 0 _ longer i.marked, refl) in
+    let m = subst (λ (z : List Entry). AreOwnPlaces c.pass.inside.caller z 0 ks × (at_places c.catch_up.result ks ≡ at_places z ks)) whole (marked_longer _ _ _ 0 _ longer i.marked, refl) in
     (ks, m.0, m.1)

@@ -2,7 +2,7 @@ use Rattle.std.proofs.Common.{◌≡◌, ℕ, List, [], length, refl, sym, ◌�
 use mathlib.Core.List.{IsPrefix}
 use Rattle.map_fold.specs.declared.entry.Entry.{Entry}
 use Rattle.left_right.specs.Sides.{view}
-use Rattle.published_map.specs.Marks.{IsMarked}
+use Rattle.published_map.specs.Marks.{AreOwnPlaces}
 use Rattle.published_map.proofs.pass.Pass.new.Goals as goal
 
 pub invariant_of-result : goal.invariant_of-result
@@ -13,7 +13,7 @@ invariant_of-result g c =
       caller_from = r.caller_from;
       caller_to = r.caller_to;
       reader = subst (λ (s : List Entry). IsPrefix s (view c.args.reader.place)) (sym r.empty) (view c.args.reader.place, refl);
-      marked = subst (λ (ks : List ℕ). IsMarked c.args.caller c.args.kept 0 ks) (sym none) tt;
+      marked = subst (λ (ks : List ℕ). AreOwnPlaces c.args.caller c.args.kept 0 ks) (sym none) tt;
       few = rw none (omega arith);
       part = r.part;
       counted = r.amount ∙ ap length (sym none);

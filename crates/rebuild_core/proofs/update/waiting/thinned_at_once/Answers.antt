@@ -16,10 +16,10 @@ use Rattle.rebuild_core.specs.declared.update.entrants.Entrant.{Entrant}
 use Rattle.rebuild_core.specs.declared.update.waiting.Waiting.{Waiting}
 use Rattle.rebuild_core.specs.declared.update.work.Work.{Work}
 use Rattle.rebuild_core.specs.Draft.{IsDraft, IsDraftLeft, IsWorked}
-use Rattle.rebuild_core.specs.Entrants.{AreApart, AreEntrants, AreFirsts, thin_each}
+use Rattle.rebuild_core.specs.Entrants.{HaveOwnVoxels, AreEntrants, AreFirsts, thin_each}
 use Rattle.rebuild_core.specs.Lawful.{map_of}
 use Rattle.rebuild_core.specs.Ranks.{HaveVoxels, items_in}
-use Rattle.rebuild_core.specs.Waiting.{AreClear, IsClear, IsJoined, held_by}
+use Rattle.rebuild_core.specs.Waiting.{AreClear, NoneWaitsIn, IsJoined, held_by}
 use Rattle.rebuild_core.proofs.AnyOrder.{thin_firsts}
 use Rattle.rebuild_core.proofs.Entering.{entrants_after}
 use Rattle.rebuild_core.proofs.Entrances.{none_clear, still_clear}
@@ -77,7 +77,7 @@ thinned-requires-clause-clear g c =
     let voxels : HaveVoxels edge es = subst (HaveVoxels edge) (sym c.as_slice-entrant-items.ensures.value) c.in_ok-entrants.ensures.cubes in
     let left = items_in (drop (k + 1) es) in
     let clear : AreClear edge v (e.item ∷ left) = subst (λ (xs : List Entrant). AreClear edge v (items_in xs)) (cut es k e c.loop-entrant-test.true c.entrant-item.is) c.loop-entrant.invariant.clear in
-    subst (λ (b : Bounds). IsClear b v) (sym (own edge es k e voxels c.loop-entrant-test.true c.entrant-item.is)) (All-head (λ (i : Item). IsClear (voxel edge i.point) v) e.item left clear)
+    subst (λ (b : Bounds). NoneWaitsIn b v) (sym (own edge es k e voxels c.loop-entrant-test.true c.entrant-item.is)) (All-head (λ (i : Item). NoneWaitsIn (voxel edge i.point) v) e.item left clear)
 
 pub loop-entrant-preserved : goal.loop-entrant-preserved
 loop-entrant-preserved g c =
@@ -93,7 +93,7 @@ loop-entrant-preserved g c =
     let voxels : HaveVoxels edge es = subst (HaveVoxels edge) (sym c.as_slice-entrant-items.ensures.value) c.in_ok-entrants.ensures.cubes in
     let cube = own edge es k e voxels c.loop-entrant-test.true c.entrant-item.is in
     let ready : AreEntrants high (held_by v) (e.item ∷ left) = subst (λ (xs : List Entrant). AreEntrants high (held_by v) (items_in xs)) parts c.loop-entrant.invariant.ready in
-    let apart : AreApart edge (e.item ∷ left) = subst (λ (xs : List Entrant). AreApart edge (items_in xs)) parts c.loop-entrant.invariant.apart in
+    let apart : HaveOwnVoxels edge (e.item ∷ left) = subst (λ (xs : List Entrant). HaveOwnVoxels edge (items_in xs)) parts c.loop-entrant.invariant.apart in
     let clear : AreClear edge v (e.item ∷ left) = subst (λ (xs : List Entrant). AreClear edge v (items_in xs)) parts c.loop-entrant.invariant.clear in
     let joined : IsJoined (voxel edge e.item.point) v w = subst (λ (b : Bounds). IsJoined b v w) cube c.in_ok-waiting.ensures.joined in
     record {
@@ -104,7 +104,7 @@ loop-entrant-preserved g c =
           ∙ c.loop-entrant.invariant.rest;
       ready = subst (λ (xs : List Item). AreEntrants high xs left) (sym c.in_ok-waiting.ensures.held) (entrants_after edge high (held_by v) e.item left c.loop-entrant.invariant.waiting.held ready);
       apart = apart.1;
-      clear = still_clear edge e.item left v w c.large-large.ensures.sizes.voxel_from apart.0 (All-tail (λ (i : Item). IsClear (voxel edge i.point) v) e.item left clear) joined;
+      clear = still_clear edge e.item left v w c.large-large.ensures.sizes.voxel_from apart.0 (All-tail (λ (i : Item). NoneWaitsIn (voxel edge i.point) v) e.item left clear) joined;
       draft = λ last ps d. let j = c.loop-entrant.invariant.draft last ps d in draft_on c.args.settings.now.large high last ps j.0 w.work j.1 (c.in_ok-waiting.ensures.draft last j.0 j.2);
       worked = worked_then 0 k 0 1 0 (k + 1) c.args.work v.work w.work (omega arith) (omega arith) c.loop-entrant.invariant.worked c.in_ok-waiting.ensures.worked;
       few = omega (arith, c.loop-entrant.invariant.few, joined_few (voxel edge e.item.point) v w joined);

@@ -1,7 +1,7 @@
 use Rattle.std.proofs.Common.{◌≡◌, ◌≤◌, ℕ, List, drop, length}
 use Rattle.kd_tree.specs.Contents.{contents}
 use Rattle.rebuild_core.specs.Draft.{IsDraft, IsDraftLeft, IsWorked}
-use Rattle.rebuild_core.specs.Entrants.{AreApart, AreEntrants, thin_each}
+use Rattle.rebuild_core.specs.Entrants.{HaveOwnVoxels, AreEntrants, thin_each}
 use Rattle.rebuild_core.specs.Parts.{PartAt}
 use Rattle.rebuild_core.specs.Ranks.{items_in}
 use Rattle.rebuild_core.specs.Waiting.{AreClear, IsWaiting, held_by}
@@ -12,7 +12,7 @@ invariant-loop-entrant g l = let edge = l.settings.voxel in let left = items_in 
   waiting : IsWaiting l.settings.large l.high l.waiting;
   rest : thin_each edge (held_by l.waiting) left ≡ thin_each edge (contents l.fn.work.tree) (items_in l.entrant-items);
   ready : AreEntrants l.high (held_by l.waiting) left;
-  apart : AreApart edge left;
+  apart : HaveOwnVoxels edge left;
   clear : AreClear edge l.waiting left;
   draft : (last : ℕ) (ps : List PartAt) → IsDraft l.settings.large l.fn.next last ps l.fn.work → IsDraftLeft l.settings.large l.high last ps l.waiting.work;
   worked : IsWorked 0 l.entrant-index l.fn.work l.waiting.work;
