@@ -6,7 +6,7 @@ ghost use Rattle.kd_update.specs.Watch.{handed, is_met, logged_mark};
 ghost use Rattle.kd_update.specs.Watches.{AreExtended, AreFewMore, HaveRoom, with_marks};
 
 use crate::reach::{covers, meets, reach_of};
-use crate::watch::{is_keep, note};
+use crate::watch::note;
 use crate::{Watch, Watches};
 use kd_tree::{Side, Tree};
 use map_fold::{Choice, NoMemory, Op, Tag};
@@ -97,7 +97,7 @@ pub(crate) fn note_owed(owed: Tag, rest: &[Side], log: &mut OpLog) -> Result<(),
     ensures begins { Extends log.old log.new }
     ensures few { length log.new ≤ length log.old + length (handed rest.now owed) }
 {
-    if !rest.is_empty() || is_keep(owed) {
+    if !rest.is_empty() || owed == Tag::KEEP {
         return Ok(());
     }
     let choice = Choice::ALL;

@@ -1,10 +1,9 @@
 //! What is watched of a tree while updates cross it: the subtree at a path, and the operations that it has met.
 ghost use Rattle.std.specs.Prelude.{◌≡◌, ◌+◌, ◌<◌, ◌≤◌, [], ◌∷◌, ◌++◌, length, OnOk};
 ghost use Rattle.map_fold.specs.Ops.{Extends};
-ghost use Rattle.kd_update.specs.Watch.{is_keep};
 
 use kd_tree::Path;
-use map_fold::{NoMemory, Op, Tag};
+use map_fold::{NoMemory, Op};
 use op_logger::{MAX_LOGGED, OpLog};
 
 /// A subtree that is watched: its path, and the operations on its own items that were met since the log was empty.
@@ -25,11 +24,4 @@ pub(crate) fn note(log: &mut OpLog, op: Op) -> Result<(), NoMemory>
         Ok(()) => Ok(()),
         Err(_) => Err(NoMemory),
     }
-}
-
-// Whether the action changes no label.
-pub(crate) fn is_keep(tag: Tag) -> bool
-    ensures { result ≡ is_keep tag }
-{
-    tag == Tag::KEEP
 }

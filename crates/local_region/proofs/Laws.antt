@@ -1,6 +1,6 @@
 -- Laws of regions, and of what they leave.
 use Rattle.std.proofs.Common.{◌≡◌, ℕ, w64, to_z, of_z, ◌+◌, ◌≤◌, ℤ, pos, ◌≤ℤ◌, ◌+ℤ◌, ◌-ℤ◌, Bool, true, false, ◌&&◌, ◌||◌, not, cond, List, [], ◌∷◌, ◌++◌, length, refl, sym, ap, ◌∙◌, arith, length-append}
-use Rattle.std.specs.Prelude.{◌<ℤ◌, ◌↔◌, Ok, int_le, int_lt, sum_by, if◌then◌else◌}
+use Rattle.std.specs.Prelude.{◌<ℤ◌, ◌↔◌, Ok, int_le, sum_by, if◌then◌else◌}
 use Rattle.std.specs.List.{list_any, AllByRecursion}
 use Rattle.std.proofs.lemmas.Bool.{and_parts, not-true, false_from_ne_true}
 use Rattle.std.proofs.lemmas.Int.{ints, clamps}

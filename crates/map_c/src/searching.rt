@@ -134,7 +134,7 @@ fn is_search(k: u32, within: i64) -> bool
     ensures yes { result ≡ true → IsSearch k within }
     ensures no { result ≡ false → IsSearch k within → ⊥ }
 {
-    1 <= k && k <= MAX_FOUND && within <= 4_398_046_511_104
+    1 <= k && k <= MAX_FOUND && within <= MAX_WITHIN as i64
 }
 
 // The greatest distance, if there is one.

@@ -10,7 +10,7 @@ use Rattle.scan_log.specs.declared.command.Command.TheVariants.{Sync}
 use Rattle.scan_log.specs.Commands.{command_update, updates_made}
 use Rattle.scan_log.specs.Transcript.{updates_in, put_if, put_update, marked_updates}
 use Rattle.scan_log.proofs.Whose.{anyone, anyone_concerned, follows_later}
-use Rattle.scan_log.specs.Legal.{numbers_from, MayFollow, IsLater, AllFollow, AreInOrder, IsLegal}
+use Rattle.scan_log.specs.Legal.{numbers_from, MayFollow, AllFollow, AreInOrder, IsLegal}
 
 -- 1 where the mark isn't above top
 abbrev one : ℕ → ℕ → ℕ

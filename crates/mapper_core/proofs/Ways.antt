@@ -8,10 +8,8 @@ use Rattle.scan_log.specs.Faults.{FaultAt, first_fault, is_limit}
 use Rattle.scan_log.specs.declared.fault.LogCause.{LogCause}
 use Rattle.scan_log.specs.Refusal.{IsFirstFault}
 use Rattle.scan_log.specs.Legal.{AreLegalLines, IsLegalTranscript}
-use Rattle.scan_log.specs.Poses.{plain_script}
-use Rattle.scan_log.specs.Transcript.{text, serial_marks}
+use Rattle.scan_log.specs.Transcript.{text}
 use Rattle.scan_log.specs.Written.{script_text}
-use Rattle.transcript_check.specs.declared.verdict.Verdict.{Verdict}
 use Rattle.mapper_core.specs.declared.ending.Ending.{Ending}
 use Rattle.mapper_core.specs.declared.ending.Ending.TheVariants.{Done, Usage, ReadFault, TooLong, Bad, WriteFault, NoMemory}
 use Rattle.mapper_core.specs.declared.status.Status.TheVariants as status
@@ -26,7 +24,7 @@ use Rattle.mapper_core.specs.Inputs.{IsOverLimit}
 use Rattle.mapper_core.specs.Outside.{NoFault, HasRead, AppendsFront}
 use Rattle.mapper_core.specs.Seen.{RunSeen, LogSeen}
 use Rattle.mapper_core.specs.Summary.{summary_of}
-use Rattle.mapper_core.specs.Verdicts.{IsFound, verdict_line}
+use Rattle.mapper_core.specs.Verdicts.{IsFound}
 use Rattle.mapper_core.proofs.OneAsk.{same_ask}
 
 -- a fault's status isn't the one of all done

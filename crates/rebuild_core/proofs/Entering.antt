@@ -13,7 +13,7 @@ use Rattle.map_fold.specs.Nearest.{Member}
 use Rattle.map_fold.specs.Ops.{IsUnheld}
 use Rattle.map_fold.specs.Thinned.{NoneBefore, rivals}
 use Rattle.map_fold.proofs.Centre.{items_alike, live_is, not_itself}
-use Rattle.map_fold.proofs.Found.{item_number, member-filter, member-filter_of, one_number}
+use Rattle.map_fold.proofs.Found.{member-filter, member-filter_of, one_number}
 use Rattle.map_fold.proofs.Numbered.{contents_mark, contents_rise}
 use Rattle.map_fold.proofs.Puts.{contents_put, unheld_cons, unheld_parts}
 use Rattle.map_fold.proofs.Thinning.{inside_by, inside_is, is_live_in, item_below, left_out, mark-thin, rival_live, winner_is, winner_rival}

@@ -1,6 +1,5 @@
 -- Points of one voxel have the same voxel.
-use Rattle.std.proofs.Common.{◌≡◌, ℕ, ◌+◌, ◌*◌, ◌<◌, ◌≤◌, ℤ, pos, negsuc, ◌+ℤ◌, ◌*ℤ◌, ◌≤ℤ◌, ◌<ℤ◌, suc, true, ap, ◌∙◌, sym, arith, lt_of_mul-lt-mul_right, int_le, int_lt}
-use Rattle.std.proofs.lemmas.Bool.{and_parts}
+use Rattle.std.proofs.Common.{◌≡◌, ℕ, ◌+◌, ◌*◌, ◌<◌, ◌≤◌, ℤ, pos, negsuc, ◌+ℤ◌, ◌*ℤ◌, ◌≤ℤ◌, ◌<ℤ◌, suc, true, ap, ◌∙◌, sym, arith, lt_of_mul-lt-mul_right}
 use Rattle.std.proofs.lemmas.Int.{ints}
 use Rattle.point_geom.specs.Place.{Place}
 use Rattle.point_geom.specs.declared.cuboid.Corner.{Corner}

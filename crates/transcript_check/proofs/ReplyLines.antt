@@ -20,7 +20,7 @@ use Rattle.scan_log.specs.Transcript.{counts_text, hit_text, list_text, item_tex
 use Rattle.transcript_check.specs.Heads.{head, heads, IsMarked, SpellMarks}
 use Rattle.transcript_check.specs.Told.{reply_at}
 use Rattle.transcript_check.specs.Verdicts.{joined_lines, reply_lines}
-use Rattle.scan_log.proofs.Plains.{lines_plain, reply_plain}
+use Rattle.scan_log.proofs.Plains.{reply_plain}
 use Rattle.transcript_check.proofs.Plain.{ArePlain, IsCutOff, plain_test, plain-append, plain_decimal, plain_spaced, plain_hits, plain_lists, plain_items, plain_groups, plain_caller, field_decimal}
 
 -- a line of a head, a mark, and what is behind it
