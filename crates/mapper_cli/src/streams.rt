@@ -80,32 +80,3 @@ impl<W: Write> Sink for Output<W> {
         }
     }
 }
-
-#[cfg(test)]
-mod tests {
-    use super::*;
-
-    #[test]
-    fn each_failure_of_a_stream_is_counted(rt: HostRuntime) {
-        let mut input = Input::new(b"abc".as_slice());
-        let mut buf = [0; 2];
-        for want in [Ok(2), Ok(1), Ok(0)] {
-            assert!(rt; !input.ended);
-            assert_eq!(rt; input.read(&mut buf), want);
-        }
-        assert!(rt; input.ended);
-        assert_eq!(rt; input.faults, 0);
-
-        // A full buffer takes nothing.
-        let mut room = [0; 2];
-        let mut output = Output::new(room.as_mut_slice());
-        for (want, faults) in [
-            (Ok(2), 0),
-            (Err(SinkFault::Failed), 1),
-            (Err(SinkFault::Failed), 2),
-        ] {
-            assert_eq!(rt; output.write(b"abc"), want);
-            assert_eq!(rt; output.faults, faults);
-        }
-    }
-}
