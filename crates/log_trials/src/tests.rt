@@ -1,7 +1,5 @@
 mod assertions;
-mod limits;
 mod messages;
-mod numbers;
 mod poses;
 mod reading;
 mod searches;

@@ -1,87 +1,12 @@
 //! The searches that version 2 alone has, by hand.
 use crate::tests::assertions::{are_bytes, same};
-use crate::tests::reading::{WIDE_HEADER, assert_faults, assert_faults_behind, assert_reads, read};
+use crate::tests::reading::{WIDE_HEADER, read};
 use crate::tests::written::{found, is_told};
 use map_fold::{ClusterReply, Group, Groups, Hit, HitLists, Hits, NearsReply};
 use point_geom::Point;
-use scan_log::{LogCause, Reply, write_script};
+use scan_log::{Reply, write_script};
 use std::alloc::Global;
 use std::test::Fail;
-
-#[test]
-fn version_1_has_no_such_words(rt: HostRuntime) -> Result<(), Fail> {
-    let lines = b"@1 nears 1 0 0 0\n\
-                  @1 ball 1 1 0 0 0\n\
-                  @1 lonely 1 1\n\
-                  @1 clusters 1 1\n";
-    assert_faults(&rt, rt.alloc(), LogCause::UnknownCommand, lines)
-}
-
-#[test]
-fn each_search_has_its_fields(rt: HostRuntime) -> Result<(), Fail> {
-    let lines = b"@1 nears\n\
-                  @1 nears 5\n\
-                  @1 nears x 1 2\n\
-                  @1 nears 0 1 2 3 4\n\
-                  @1 nears 5 1 2 3 \n\
-                  @1 ball\n\
-                  @1 ball 5 3\n\
-                  @1 ball x 3 0 0\n\
-                  @1 ball 0 3 0 0 0 0\n\
-                  @1 lonely\n\
-                  @1 lonely x\n\
-                  @1 lonely 0 3 1\n\
-                  @1 clusters 5\n\
-                  @1 clusters 5 3 \n";
-    assert_faults_behind(&rt, rt.alloc(), WIDE_HEADER, LogCause::WrongCount, lines)
-}
-
-#[test]
-fn each_number_of_a_search_is_one(rt: HostRuntime) -> Result<(), Fail> {
-    let lines = b"@1 nears x 1 2 1099511627777\n\
-                  @1 nears 5 1 2 x\n\
-                  @1 nears 5 1 2 3 04 5 6\n\
-                  @1 ball 05 4398046511105 0 0 0\n\
-                  @1 ball 5 -0 1099511627777 0 0\n\
-                  @1 ball 5 3 0 0 +1\n\
-                  @1 lonely x -1\n\
-                  @1 lonely 5 x\n\
-                  @1 clusters  3\n\
-                  @1 clusters 5 3\r\n";
-    assert_faults_behind(&rt, rt.alloc(), WIDE_HEADER, LogCause::BadNumber, lines)
-}
-
-#[test]
-fn each_number_of_a_search_has_its_limits(rt: HostRuntime) -> Result<(), Fail> {
-    let lines = b"@1 nears 0 x 2 3\n\
-                  @1 nears 257 1 2 3\n\
-                  @1 nears 5 1099511627777 x 0\n\
-                  @1 nears 5 0 0 0 0 0 -1099511627777\n\
-                  @1 ball 0 x 0 0 0\n\
-                  @1 ball 257 3 0 0 0\n\
-                  @1 ball 5 -1 x 0 0\n\
-                  @1 ball 5 4398046511105 0 0 0\n\
-                  @1 ball 5 3 0 1099511627777 x\n\
-                  @1 lonely 0 x\n\
-                  @1 lonely 257 3\n\
-                  @1 lonely 5 4398046511105\n\
-                  @1 clusters 257 x\n\
-                  @1 clusters 5 -1\n";
-    assert_faults_behind(&rt, rt.alloc(), WIDE_HEADER, LogCause::OutOfRange, lines)
-}
-
-#[test]
-fn each_search_is_read(rt: HostRuntime) -> Result<(), Fail> {
-    let lines = b"@1 nears 1 0 0 0\n\
-                  @2 nears 256 1099511627776 0 -1099511627776 1 2 3\n\
-                  @3 ball 1 0 1099511627776 0 -1099511627776\n\
-                  @4 ball 256 4398046511104 0 0 0\n\
-                  @5 lonely 1 0\n\
-                  @6 lonely 256 4398046511104\n\
-                  @7 clusters 1 0\n\
-                  @8 clusters 256 4398046511104\n";
-    assert_reads(&rt, rt.alloc(), WIDE_HEADER, lines)
-}
 
 #[test]
 fn each_search_is_written_as_it_was_read(rt: HostRuntime) -> Result<(), Fail> {
