@@ -1,10 +1,5 @@
 mod assertions;
 mod boxes;
-mod cloud;
-mod crowds;
 mod each;
 mod grown;
-mod near;
-mod scans;
-mod set_scans;
-mod sets;
+mod swap;

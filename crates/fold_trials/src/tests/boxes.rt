@@ -1,5 +1,5 @@
 //! Boxes, voxels and extents, worked out by hand.
-use crate::tests::assertions::{holds, same};
+use crate::tests::assertions::same;
 use crate::tests::places::{Place, at, corner, cuboid};
 use point_geom::{Axis, Cuboid, CuboidError, Extent, centre_dist2, voxel};
 use std::process::Abort;
@@ -36,17 +36,6 @@ fn a_refused_box_names_its_first_fault(rt: HostRuntime) {
 fn is_refused(rt: &impl Abort, lo: Place, hi: Place, fault: CuboidError) {
     let refused = Cuboid::new(corner(lo), corner(hi));
     same(rt, "the refusal", refused, Err(fault));
-}
-
-#[test]
-fn the_largest_box_holds_the_last_coordinate(rt: HostRuntime) -> Result<(), Fail> {
-    let all = cuboid(
-        (-1_099_511_627_776, -1_099_511_627_776, -1_099_511_627_776),
-        (1_099_511_627_777, 1_099_511_627_777, 1_099_511_627_777),
-    )?;
-    let last = at((1_099_511_627_776, -1_099_511_627_776, 1_099_511_627_776))?;
-    holds(&rt, "it is held", all.holds(&last));
-    Ok(())
 }
 
 #[test]
@@ -89,13 +78,6 @@ fn sees(
 
 fn extent(one: Place, other: Place) -> Result<Extent, Fail> {
     Ok(Extent::of(&at(one)?).join(&Extent::of(&at(other)?)))
-}
-
-#[test]
-fn a_unit_box_holds_its_point_alone(rt: HostRuntime) -> Result<(), Fail> {
-    let unit = Cuboid::unit(&at((1, -2, 3))?);
-    has_corners(&rt, &unit, (1, -2, 3), (2, -1, 4));
-    Ok(())
 }
 
 fn has_corners(rt: &impl Abort, cuboid: &Cuboid, lo: Place, hi: Place) {

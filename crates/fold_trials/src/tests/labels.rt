@@ -1,24 +1,7 @@
-//! The table of actions, by hand.
+//! Counts of labels, by hand.
 use crate::tests::assertions::same;
 use Label::{Dropped, Live, Suspended};
 use node_labels::{Counts, Label, Tag};
-
-const NAMED: [(Tag, Label, Label); 5] = [
-    (Tag::KEEP, Live, Suspended),
-    (Tag::DELETE, Dropped, Dropped),
-    (Tag::SUSPEND, Suspended, Suspended),
-    (Tag::RESTORE, Live, Live),
-    (Tag::THIN, Dropped, Suspended),
-];
-
-#[test]
-fn the_named_actions_do_what_their_names_say(rt: HostRuntime) {
-    for (tag, live, suspended) in NAMED {
-        same(&rt, "what was live", tag.apply(Live), live);
-        same(&rt, "what was suspended", tag.apply(Suspended), suspended);
-        same(&rt, "what was dropped", tag.apply(Dropped), Dropped);
-    }
-}
 
 #[test]
 fn each_of_the_nine_actions_moves_the_counts(rt: HostRuntime) {
@@ -50,17 +33,6 @@ fn moved(tag: Tag) -> Counts {
 
 fn numbers(counts: Counts) -> (u32, u32, u32) {
     (counts.live, counts.suspended, counts.dropped)
-}
-
-#[test]
-fn a_restoration_after_a_deletion_brings_nothing_back(rt: HostRuntime) {
-    for (first, second, both) in [
-        (Tag::DELETE, Tag::RESTORE, Tag::DELETE),
-        (Tag::SUSPEND, Tag::RESTORE, Tag::RESTORE),
-        (Tag::RESTORE, Tag::THIN, Tag::DELETE),
-    ] {
-        same(&rt, "both", first.then(second), both);
-    }
 }
 
 #[test]

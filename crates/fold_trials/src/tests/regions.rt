@@ -1,6 +1,6 @@
 //! Moves worked out by hand.
 use crate::tests::assertions::same;
-use crate::tests::places::{Place, at, corner, cuboid};
+use crate::tests::places::{Place, at, cuboid};
 use local_region::{Moved, Region, RegionRules, RulesFault};
 use std::alloc::Global;
 use std::process::Abort;
@@ -43,57 +43,9 @@ fn has_numbers(rt: &impl Abort, rules: &RegionRules, want: Numbers) {
     same(rt, "the numbers", numbers, want);
 }
 
-#[test]
-fn a_region_begins_round_its_point(rt: HostRuntime) -> Result<(), Fail> {
-    // The side, the point, and where the region starts.
-    for (side, point, lo) in [
-        (100, (0, 0, 0), (-50, -50, -50)),
-        (101, (0, -7, -1_000), (-50, -57, -1_050)),
-        (2, (-1, 0, 1), (-2, -1, 0)),
-        (
-            2_199_023_255_552,
-            (-1_099_511_627_776, 0, 1_099_511_627_776),
-            (-2_199_023_255_552, -1_099_511_627_776, 0),
-        ),
-    ] {
-        begins_at(&rt, side, point, lo)?;
-    }
-    Ok(())
-}
-
-fn begins_at(rt: &impl Abort, side: u64, point: Place, lo: Place) -> Result<(), Fail> {
-    let region = Region::begin(rules((side, 0, 1))?, &at(point)?);
-    same(rt, "where it starts", region.lo(), corner(lo));
-    same(rt, "the side", region.rules().side(), side);
-    Ok(())
-}
-
 fn moved(alloc: Global, numbers: Numbers, from: Place, to: Place) -> Result<Moved, Fail> {
     let region = Region::begin(rules(numbers)?, &at(from)?);
     Ok(region.moved(alloc, &at(to)?)?)
-}
-
-#[test]
-fn a_move_keeps_the_ball_off_the_faces(rt: HostRuntime) -> Result<(), Fail> {
-    // Where the region, which began round 0, starts after a move to this point.
-    for (numbers, to, lo) in [
-        ((100, 20, 30), (30, 0, 0), (-20, -50, -50)),
-        ((100, 20, 30), (29, -29, 0), (-50, -50, -50)),
-        ((100, 20, 30), (30, -30, 1_000), (-20, -80, -20)),
-        // The ball reaches from one face nearly to the other, and touches neither.
-        ((101, 49, 30), (0, 0, 0), (-50, -50, -50)),
-        ((101, 50, 30), (0, 1, 0), (-80, -20, -80)),
-        // However far the point is, the region moves by one step.
-        (
-            (10, 2, 10),
-            (1_099_511_627_776, -1_099_511_627_776, 0),
-            (5, -15, -5),
-        ),
-    ] {
-        let moved = moved(rt.alloc(), numbers, (0, 0, 0), to)?;
-        same(&rt, "where it starts", moved.region.lo(), corner(lo));
-    }
-    Ok(())
 }
 
 #[test]
@@ -125,32 +77,4 @@ fn leaves(rt: &impl Abort, moved: &Moved, want: &[(Place, Place)]) -> Result<(),
         same(rt, "a box", *left, cuboid(*lo, *hi)?);
     }
     Ok(())
-}
-
-// The last coordinate of a point.
-const END: i64 = 1_099_511_627_776;
-
-#[test]
-fn boxes_end_at_the_limits(rt: HostRuntime) -> Result<(), Fail> {
-    let alloc = rt.alloc();
-    // Where on the axis x the point is before and after the move, and where the box that is left begins and ends.
-    for (from, to, lo, hi) in [
-        (END - 10, END - 50, END - 20, END + 1),
-        (10 - END, 50 - END, -END, 20 - END),
-    ] {
-        let moved = moved(alloc, (100, 20, 60), (from, 0, 0), (to, 0, 0))?;
-        leaves(&rt, &moved, &[((lo, -50, -50), (hi, 50, 50))])?;
-    }
-    let outside = moved(alloc, (100, 20, 30), (END, 0, 0), (END - 40, 0, 0))?;
-    leaves(&rt, &outside, &[])?;
-    longest_leaves(&rt, alloc)
-}
-
-// The longest side: the region that starts farthest out, and what it leaves.
-fn longest_leaves(rt: &impl Abort, alloc: Global) -> Result<(), Fail> {
-    let longest = (2_199_023_255_552, 1_099_511_627_775, 2_199_023_255_552);
-    let huge = moved(alloc, longest, (1 - END, 0, END), (-END, 0, END))?;
-    let lo = corner((-4_398_046_511_103, -END, 0));
-    same(rt, "where it starts", huge.region.lo(), lo);
-    leaves(rt, &huge, &[((-END, -END, 0), (1, END, END + 1))])
 }

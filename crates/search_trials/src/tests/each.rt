@@ -1,4 +1,4 @@
-//! Many searches at once beside single ones.
+//! Many searches at once beside single ones: with a greatest distance, and none at all.
 ghost use Rattle.std.specs.Prelude.{◌≤◌};
 ghost use Rattle.std.specs.Option.{ForSome};
 
@@ -39,12 +39,7 @@ fn each_list_is_what_a_single_search_finds(rt: HostRuntime) -> Result<(), Fail> 
     let alloc = rt.alloc();
     let tree = restored(alloc, &cloud(alloc, 2_000, 1)?)?;
     // How many queries, how many hits for each, and how far these may be.
-    for (count, k, within) in [
-        (4_097, 5, None),
-        (300, 17, Some(300)),
-        (1, 256, None),
-        (0, 1, None),
-    ] {
+    for (count, k, within) in [(300, 17, Some(300)), (0, 1, None)] {
         let queries = Points::from(cloud(alloc, count, 7)?);
         are_as_single(&rt, alloc, &tree, &queries, k, within)?;
     }
@@ -68,21 +63,6 @@ fn are_as_single<R: Threads + Sync + Abort>(
     for (list, query) in lists.as_slice().iter().zip(queries.as_slice()) {
         let want = nearest(alloc, tree, k, query, within)?;
         assert_eq!(rt; list.as_slice(), want.as_slice());
-    }
-    Ok(())
-}
-
-#[test]
-fn a_query_far_from_all_has_an_empty_list(rt: HostRuntime) -> Result<(), Fail> {
-    let alloc = rt.alloc();
-    let tree = restored(alloc, &cloud(alloc, 300, 1)?)?;
-    let mut queries = Points::new(alloc);
-    queries.push(Point::new(-1, 0, 0)?)?;
-    queries.push(Point::new(0, 0, 1_600)?)?;
-    let lists = nearest_each(&rt, alloc, &tree, 256, &queries, Some(0))?;
-    same(&rt, "lists", lists.len(), 2);
-    for list in lists.as_slice() {
-        same(&rt, "hits", list.len(), 0);
     }
     Ok(())
 }

@@ -4,7 +4,7 @@ ghost use Rattle.node_labels.specs.Labels.{is_dropped};
 ghost use Rattle.kd_tree.specs.Contents.{AreDistinct, AreKept};
 ghost use Rattle.kd_tree.specs.Counter.{IsBlankOf};
 
-use kd_tree::{Fork, MAX_NODES, Steps, Tree};
+use kd_tree::{MAX_NODES, Steps, Tree};
 use map_fold::{Item, Label, NoMemory, Tag};
 use point_geom::Point;
 use std::alloc::Global;
@@ -21,12 +21,6 @@ pub fn grown(alloc: Global, points: &[Point], tag: Tag) -> Result<Tree, Fail> {
 // All of them live.
 pub fn restored(alloc: Global, points: &[Point]) -> Result<Tree, Fail> {
     grown(alloc, points, Tag::RESTORE)
-}
-
-// Every third suspended, and all dropped that is left of the top.
-pub fn halved(alloc: Global, points: &[Point]) -> Result<Tree, Fail> {
-    let items = items_at(alloc, points)?;
-    Ok(half_built::<Brand>(alloc, &items, Blank::new(1))?)
 }
 
 fn items_at(alloc: Global, points: &[Point]) -> Result<Vec<Item>, Fail>
@@ -68,21 +62,4 @@ fn built<L: Ledger>(alloc: Global, items: &[Item], tag: Tag, blank: Blank) -> Re
 {
     let mut steps: Steps<L> = Steps::new(blank);
     Tree::build(alloc, items, &mut steps)?.tagged(alloc, tag, &mut steps)
-}
-
-// The nodes that are dropped stay.
-fn half_built<L: Ledger>(alloc: Global, items: &[Item], blank: Blank) -> Result<Tree, NoMemory>
-    requires blank { IsBlankOf L.name L.parts blank }
-    requires kept { AreKept items.now }
-    requires distinct { AreDistinct items.now }
-    requires few { length items.now ≤ MAX_NODES }
-{
-    let mut steps: Steps<L> = Steps::new(blank);
-    let tree = Tree::build(alloc, items, &mut steps)?;
-    let Some(parts) = tree.push_down(alloc, &mut steps)? else {
-        return Ok(Tree::empty());
-    };
-    let left = parts.left.tagged(alloc, Tag::DELETE, &mut steps)?;
-    let parts = Fork { left, ..parts };
-    Tree::pull_up(alloc, parts, &mut steps)
 }
