@@ -3,7 +3,6 @@ mod beside;
 mod drawn;
 mod draws;
 mod held;
-mod histories;
 mod looks;
 mod parts;
 mod refusals;

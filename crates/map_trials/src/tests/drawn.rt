@@ -3,11 +3,9 @@
 ghost use Rattle.std.specs.Prelude.{◌≤◌};
 
 use crate::tests::assertions::{holds, same};
-use crate::tests::beside::{compare, compare_inside, updated_plainly};
+use crate::tests::beside::{compare, updated_plainly};
 use crate::tests::draws::Draws;
-use crate::tests::looks::cuboid;
 use crate::tests::steps::{settled, swapped, updated};
-use kd_search::count_in;
 use map_fold::{PlainMap, Points, Settings, Update};
 use rebuild_core::{Built, BuiltLeft, Job, LogAsk, MapState, SwapFault, SwapLeft};
 use std::alloc::Global;
@@ -68,7 +66,10 @@ impl Schedule {
             6..=13 => self.build(alloc),
             14..=21 => self.catch_up(alloc),
             22..=27 => self.swap(rt, alloc),
-            28 => self.settle(alloc),
+            28 => {
+                settled(alloc, &mut self.state)?;
+                Ok(Turn::Settled)
+            }
             _ => self.update(rt, alloc),
         }
     }
@@ -103,11 +104,6 @@ impl Schedule {
         }
         let extra = self.draws.below(u64::from(more)) as u32;
         self.draws.scan(alloc, least.saturating_add(extra))
-    }
-
-    fn settle(&mut self, alloc: Global) -> Result<Turn, Fail> {
-        settled(alloc, &mut self.state)?;
-        Ok(Turn::Settled)
     }
 
     fn detach(&mut self, alloc: Global) -> Result<Turn, Fail> {
@@ -183,17 +179,6 @@ impl Schedule {
         }
         Ok(Turn::Stale)
     }
-
-    fn compare(&mut self, rt: &impl Abort, alloc: Global) -> Result<(), Fail> {
-        let version = self.state.version();
-        compare(rt, alloc, version, &self.plain, &mut self.draws)?;
-        // The box round all that is drawn.
-        let all = cuboid((-99, -99, -99), (99, 99, 99))?;
-        compare_inside(rt, alloc, version, &self.plain, &all, 256)?;
-        let count = count_in(version.tree(), &all);
-        same(rt, "live points", count, self.plain.counts().live);
-        Ok(())
-    }
 }
 
 // One of them, taken out, if there is one: the last as often as any.
@@ -225,62 +210,38 @@ const LEAST: [(Turn, usize); 9] = [
 fn a_drawn_schedule_answers_as_the_plain_map_does(rt: HostRuntime) -> Result<(), Fail> {
     let alloc = rt.alloc();
     let mut schedule = Schedule::new(alloc, 16, (80, 0))?;
-    let turns = compared(&rt, alloc, &mut schedule, 3_000)?;
-    are_frequent(&rt, turns.as_slice(), &LEAST);
+    compared(&rt, alloc, &mut schedule, 3_000, &LEAST)?;
+    // Whole scans, of which those beside subtrees of 100 nodes and more are put in pieces at once, and others one by one.
+    for large in [16, 100] {
+        let mut schedule = Schedule::new(alloc, large, (200, 1_800))?;
+        compared(&rt, alloc, &mut schedule, 100, &[(Turn::Swapped, 0)])?;
+    }
     Ok(())
 }
 
-// So many turns, after each of which the map is beside the plain one.
+// So many turns, after each of which the map is beside the plain one. More than so many of them come to each of these.
 fn compared(
     rt: &impl Abort,
     alloc: Global,
     schedule: &mut Schedule,
     count: u32,
-) -> Result<Vec<Turn>, Fail> {
+    leasts: &[(Turn, usize)],
+) -> Result<(), Fail> {
     let mut turns = Vec::new(alloc);
     for _ in 0..count {
         let turn = schedule.turn(rt, alloc)?;
         turns.push(turn)?;
-        schedule.compare(rt, alloc)?;
+        let version = schedule.state.version();
+        compare(rt, alloc, version, &schedule.plain, &mut schedule.draws)?;
     }
-    Ok(turns)
-}
-
-fn are_frequent(rt: &impl Abort, turns: &[Turn], leasts: &[(Turn, usize)]) {
     for (turn, least) in leasts {
-        is_frequent(rt, turns, *turn, *least);
-    }
-}
-
-// More than so many of the turns came to this.
-fn is_frequent(rt: &impl Abort, turns: &[Turn], turn: Turn, least: usize) {
-    let count = count_of(turns, turn);
-    assert!(rt; count > least, "{turn:?}: {count}");
-}
-
-fn count_of(turns: &[Turn], turn: Turn) -> usize {
-    turns.iter().filter(|t| **t == turn).count()
-}
-
-// Whole scans, of which those beside subtrees of 100 nodes and more are put in pieces at once, and others one by one.
-#[test]
-fn whole_scans_beside_detached_subtrees_answer_as_the_plain_map_does(
-    rt: HostRuntime,
-) -> Result<(), Fail> {
-    let alloc = rt.alloc();
-    for large in [16, 100] {
-        let swapped = swaps_of_a_hundred(&rt, alloc, large)?;
-        assert!(rt; swapped > 0, "large {large}: {swapped}");
+        is_frequent(rt, turns.as_slice(), *turn, *least);
     }
     Ok(())
 }
 
-// How many of a hundred turns swapped a value in.
-fn swaps_of_a_hundred(rt: &impl Abort, alloc: Global, large: u32) -> Result<usize, Fail>
-    requires large_from { 16 ≤ large }
-    requires large_to { large ≤ 1000000 }
-{
-    let mut schedule = Schedule::new(alloc, large, (200, 1_800))?;
-    let turns = compared(rt, alloc, &mut schedule, 100)?;
-    Ok(count_of(turns.as_slice(), Turn::Swapped))
+// More than so many of the turns came to this.
+fn is_frequent(rt: &impl Abort, turns: &[Turn], turn: Turn, least: usize) {
+    let count = turns.iter().filter(|t| **t == turn).count();
+    assert!(rt; count > least, "{turn:?}: {count}");
 }

@@ -16,25 +16,11 @@ struct Held {
     items: Items,
 }
 
-impl Held {
-    fn of(alloc: Global, version: &Arc<Version>) -> Result<Held, Fail> {
-        Ok(Held {
-            version: Arc::try_clone(version)?,
-            items: version.tree().flatten(alloc)?,
-        })
-    }
-
-    fn assert_same(&self, rt: &impl Abort, alloc: Global) -> Result<(), Fail> {
-        let items = self.version.tree().flatten(alloc)?;
-        let are_same = items.as_slice() == self.items.as_slice();
-        holds(rt, "what the version held", are_same);
-        Ok(())
-    }
-}
-
 fn assert_all_same(rt: &impl Abort, alloc: Global, held: &[Held]) -> Result<(), Fail> {
     for one in held {
-        one.assert_same(rt, alloc)?;
+        let items = one.version.tree().flatten(alloc)?;
+        let are_same = items.as_slice() == one.items.as_slice();
+        holds(rt, "what the version held", are_same);
     }
     Ok(())
 }
@@ -60,7 +46,9 @@ fn a_held_version_stays_while_others_nodes_are_reused(rt: HostRuntime) -> Result
     let mut held = Vec::new(alloc);
     for _ in 0..6 {
         three_scans(alloc, &mut state, &mut draws)?;
-        held.push(Held::of(alloc, state.version())?)?;
+        let version = Arc::try_clone(state.version())?;
+        let items = version.tree().flatten(alloc)?;
+        held.push(Held { version, items })?;
         assert_all_same(&rt, alloc, held.as_slice())?;
     }
     holds(&rt, "many are live", live(&state) > 200);

@@ -1,12 +1,8 @@
 //! What a state holds, as tests ask for it.
 ghost use Rattle.std.specs.Prelude.{◌≤◌};
 
-use crate::tests::assertions::same;
-use map_fold::Items;
 use point_geom::{Corner, Cuboid};
 use rebuild_core::MapState;
-use std::alloc::Global;
-use std::process::Abort;
 use std::test::Fail;
 
 pub type Place = (i64, i64, i64);
@@ -30,25 +26,6 @@ pub fn is_breached(state: &MapState, large: u32) -> bool
     requires { 10 ≤ large }
 {
     state.version().tree().first_breach(large).is_some()
-}
-
-pub fn items(alloc: Global, state: &MapState) -> Result<Items, Fail> {
-    Ok(state.version().tree().flatten(alloc)?)
-}
-
-// So many items are held, and the first has this number.
-pub fn holds_from(
-    rt: &impl Abort,
-    alloc: Global,
-    state: &MapState,
-    count: usize,
-    first: u32,
-) -> Result<(), Fail> {
-    let items = items(alloc, state)?;
-    same(rt, "items", items.len(), count);
-    let number = items.as_slice().first().map(|item| item.number);
-    same(rt, "the first number", number, Some(first));
-    Ok(())
 }
 
 pub fn cuboid(lo: Place, hi: Place) -> Result<Cuboid, Fail> {

@@ -1,42 +1,14 @@
 //! Detached subtrees.
 use crate::tests::assertions::{holds, same};
 use crate::tests::draws::Draws;
-use crate::tests::looks::{cuboid, holds_from, is_breached, live, logged, suspended};
-use crate::tests::steps::{
-    built, detached, is_balanced, row, settled, swap_ends, swapped, updated,
-};
-use map_fold::{Cuboids, Points, Settings, Update};
+use crate::tests::looks::{live, logged};
+use crate::tests::steps::{add, built, detached, is_balanced, row, swap_ends, swapped, updated};
+use map_fold::{Points, Settings, Update};
 use point_geom::Point;
-use rebuild_core::{Built, Job, LogAsk, MapState, SwapFault};
+use rebuild_core::{Built, MapState, SwapFault};
 use std::alloc::Global;
 use std::process::Abort;
 use std::test::Fail;
-
-// The box that holds the points (x, 0, 0), from the first on and before the last.
-fn across(alloc: Global, first: i64, last: i64) -> Result<Cuboids, Fail> {
-    let mut boxes = Cuboids::new(alloc);
-    boxes.push(cuboid((first, 0, 0), (last, 1, 1))?)?;
-    Ok(boxes)
-}
-
-// Adds those points.
-fn add(alloc: Global, state: &mut MapState, first: i64, last: i64) -> Result<(), Fail> {
-    let points = row(alloc, first, last)?;
-    updated(alloc, state, 1, Update::Add(points))?;
-    Ok(())
-}
-
-fn suspend(alloc: Global, state: &mut MapState, first: i64, last: i64) -> Result<(), Fail> {
-    let boxes = across(alloc, first, last)?;
-    updated(alloc, state, 1, Update::Suspend(boxes))?;
-    Ok(())
-}
-
-fn restore(alloc: Global, state: &mut MapState, first: i64, last: i64) -> Result<(), Fail> {
-    let boxes = across(alloc, first, last)?;
-    updated(alloc, state, 1, Update::Restore(boxes))?;
-    Ok(())
-}
 
 fn with_row(alloc: Global, last: i64) -> Result<MapState, Fail> {
     let mut state = MapState::new(alloc, Settings::new(200, 16))?;
@@ -53,57 +25,15 @@ fn what_expires_in_a_detached_subtree_is_logged(rt: HostRuntime) -> Result<(), F
     same(&rt, "operations", logged(&state, 1), Some(1));
     let built = built(alloc, job)?;
     swap_ends(&rt, alloc, &mut state, built, false, None);
-    holds_from(&rt, alloc, &state, 20, 20)
-}
-
-#[test]
-fn what_expires_is_gone_and_later_points_are_not(rt: HostRuntime) -> Result<(), Fail> {
-    let alloc = rt.alloc();
-    let mut state = with_row(alloc, 4)?;
-    suspend(alloc, &mut state, 1, 2)?;
-    updated(alloc, &mut state, 1, Update::Expire(2))?;
-    restore(alloc, &mut state, 0, 9)?;
-    holds_from(&rt, alloc, &state, 1, 2)?;
-    updated(alloc, &mut state, 1, Update::Expire(4_194_304))?;
-    same(&rt, "live points", live(&state), 0);
-    add(alloc, &mut state, 4, 5)?;
-    holds_from(&rt, alloc, &state, 1, 3)?;
-    same(&rt, "live points", live(&state), 1);
-    Ok(())
-}
-
-// A settled row with points more at its end, and its right son, which leans to the right.
-fn leaning(rt: &impl Abort, alloc: Global) -> Result<(MapState, Job), Fail> {
-    let mut state = with_row(alloc, 41)?;
-    settled(alloc, &mut state)?;
-    // The right son has 9 nodes on its left and 14 on its right now.
-    add(alloc, &mut state, 41, 45)?;
-    let job = detached(alloc, &mut state, 1)?;
-    same(rt, "the ticket", job.ticket(), 1);
-    same(rt, "items", job.items().len(), 24);
-    Ok((state, job))
-}
-
-#[test]
-fn an_action_that_is_pushed_into_a_detached_subtree_is_logged(rt: HostRuntime) -> Result<(), Fail> {
-    let alloc = rt.alloc();
-    let (mut state, job) = leaning(&rt, alloc)?;
-    suspend(alloc, &mut state, 0, 100)?;
-    same(&rt, "operations", logged(&state, 1), Some(0));
-    restore(alloc, &mut state, 30, 33)?;
-    same(&rt, "operations", logged(&state, 1), Some(2));
-    let built = built(alloc, job)?;
-    holds(&rt, "a breach", is_breached(&state, 16));
-    swap_ends(&rt, alloc, &mut state, built, true, None);
-    holds(&rt, "no breach", !is_breached(&state, 16));
-    same(&rt, "live points", live(&state), 3);
-    same(&rt, "suspended points", suspended(&state), 41);
-    holds(&rt, "nothing to detach", is_balanced(alloc, &mut state, 1)?);
+    let items = state.version().tree().flatten(alloc)?;
+    same(&rt, "items", items.len(), 20);
+    let first = items.as_slice().first().map(|item| item.number);
+    same(&rt, "the first number", first, Some(20));
     Ok(())
 }
 
 #[test]
-fn a_value_behind_catches_up_and_a_stale_one_is_refused(rt: HostRuntime) -> Result<(), Fail> {
+fn a_value_behind_catches_up(rt: HostRuntime) -> Result<(), Fail> {
     let alloc = rt.alloc();
     let mut state = MapState::new(alloc, Settings::new(200, 16))?;
     holds(&rt, "nothing to detach", is_balanced(alloc, &mut state, 1)?);
@@ -116,7 +46,7 @@ fn a_value_behind_catches_up_and_a_stale_one_is_refused(rt: HostRuntime) -> Resu
     let first = caught_up(&rt, alloc, &mut state, first)?;
     swap_ends(&rt, alloc, &mut state, first, false, None);
     same(&rt, "live points", live(&state), 105);
-    refuses_the_second_of_three(&rt, alloc, &mut state)
+    Ok(())
 }
 
 // The value, which is 65 operations behind.
@@ -152,76 +82,47 @@ fn caught_up(
     }
 }
 
-// A part that is detached afresh has a new ticket and an empty log.
-fn refuses_the_second_of_three(
-    rt: &impl Abort,
-    alloc: Global,
-    state: &mut MapState,
-) -> Result<(), Fail> {
-    add(alloc, state, 106, 160)?;
-    let second = detached(alloc, state, 1)?;
-    same(rt, "the second ticket", second.ticket(), 2);
-    let third = detached(alloc, state, 1)?;
-    same(rt, "the third ticket", third.ticket(), 3);
-    same(rt, "operations", logged(state, 1), Some(0));
-    let second = built(alloc, second)?;
-    let asked = state.log_after(alloc, &second).err();
-    same(rt, "the answer", asked, Some(LogAsk::Stale { ticket: 2 }));
-    let stale = SwapFault::Stale { ticket: 2 };
-    swap_ends(rt, alloc, state, second, true, Some(stale));
-    Ok(())
-}
-
-// Points are added that leave the detached subtree forgotten, and its value stale.
+// Points beside a row leave its detached tree forgotten, and its value stale. So many are live then.
 fn forgets_what_is_detached(
     rt: &impl Abort,
     alloc: Global,
-    state: &mut MapState,
     points: Points,
+    all: u32,
 ) -> Result<(), Fail> {
-    let job = detached(alloc, state, 1)?;
+    let mut state = with_row(alloc, 41)?;
+    let job = detached(alloc, &mut state, 1)?;
     same(rt, "the ticket", job.ticket(), 1);
-    updated(alloc, state, 1, Update::Add(points))?;
-    same(rt, "operations", logged(state, 1), None);
+    updated(alloc, &mut state, 1, Update::Add(points))?;
+    same(rt, "operations", logged(&state, 1), None);
     let built = built(alloc, job)?;
     let stale = SwapFault::Stale { ticket: 1 };
-    swap_ends(rt, alloc, state, built, true, Some(stale));
+    swap_ends(rt, alloc, &mut state, built, true, Some(stale));
+    same(rt, "live points", live(&state), all);
     Ok(())
 }
 
 #[test]
-fn a_deep_tree_is_rebuilt_and_its_detached_part_forgotten(rt: HostRuntime) -> Result<(), Fail> {
+fn a_part_of_a_deep_tree_and_one_whose_log_is_full_are_forgotten(
+    rt: HostRuntime,
+) -> Result<(), Fail> {
     let alloc = rt.alloc();
-    let mut state = with_row(alloc, 41)?;
+    // The tree grows too deep, and is rebuilt.
     let points = row(alloc, 41, 641)?;
-    forgets_what_is_detached(&rt, alloc, &mut state, points)?;
-    same(&rt, "live points", live(&state), 640);
-    Ok(())
+    forgets_what_is_detached(&rt, alloc, points, 640)?;
+    // The log is full, and the subtree is built anew.
+    let points = hall(alloc)?;
+    forgets_what_is_detached(&rt, alloc, points, 70_040)
 }
 
 // Points of a wide hall, seen from its middle.
-fn hall(alloc: Global, count: u32) -> Result<Points, Fail> {
+fn hall(alloc: Global) -> Result<Points, Fail> {
     let mut draws = Draws::from(1);
     let mut points = Points::new(alloc);
-    for _ in 0..count {
-        points.push(in_hall(&mut draws)?)?;
+    for _ in 0..70_000u32 {
+        let x = draws.below(60_001) as i64 - 30_000;
+        let y = draws.below(60_001) as i64 - 30_000;
+        let z = draws.below(6_001) as i64 - 3_000;
+        points.push(Point::new(x, y, z)?)?;
     }
     Ok(points)
-}
-
-fn in_hall(draws: &mut Draws) -> Result<Point, Fail> {
-    let x = draws.below(60_001) as i64 - 30_000;
-    let y = draws.below(60_001) as i64 - 30_000;
-    let z = draws.below(6_001) as i64 - 3_000;
-    Ok(Point::new(x, y, z)?)
-}
-
-#[test]
-fn a_subtree_whose_log_is_full_is_built_anew_and_forgotten(rt: HostRuntime) -> Result<(), Fail> {
-    let alloc = rt.alloc();
-    let mut state = with_row(alloc, 41)?;
-    let points = hall(alloc, 70_000)?;
-    forgets_what_is_detached(&rt, alloc, &mut state, points)?;
-    same(&rt, "live points", live(&state), 70_040);
-    Ok(())
 }

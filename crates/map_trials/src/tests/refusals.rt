@@ -1,8 +1,6 @@
 //! Where a state refuses an update, and stays as it was.
-ghost use Rattle.std.specs.Prelude.{◌≤◌};
-
 use crate::tests::assertions::same;
-use crate::tests::steps::{Updated, updated};
+use crate::tests::steps::updated;
 use map_fold::{Cuboids, Points, Settings, Update};
 use point_geom::Point;
 use rebuild_core::{LogAsk, MapState, StateFault, SwapFault};
@@ -17,8 +15,8 @@ fn a_new_state_refuses_more_points_than_there_may_be(rt: HostRuntime) -> Result<
     let mut state = MapState::new(alloc, Settings::new(200, 5_000))?;
     let points = too_many(alloc)?;
     let answer = updated(alloc, &mut state, 1, Update::Add(points));
-    let StateFault::TooManyPoints { next, asked } = fault(answer)? else {
-        return Err(Fail::new("another fault"));
+    let Err(StateFault::TooManyPoints { next, asked }) = answer else {
+        return Err(Fail::new("another answer"));
     };
     same(&rt, "the next number of the fault", next, 0);
     same(&rt, "the points of the fault", asked, 4_194_305);
@@ -47,29 +45,16 @@ fn a_full_history_refuses_the_next_update(rt: HostRuntime) -> Result<(), Fail> {
     let alloc = rt.alloc();
     let mut state = MapState::new(alloc, Settings::new(200, 5_000))?;
     for _ in 0..1_048_576u32 {
-        deleted_nothing(alloc, &mut state, 1)?;
+        let nothing = Update::Delete(Cuboids::new(alloc));
+        updated(alloc, &mut state, 1, nothing)?;
     }
-    let answer = deleted_nothing(alloc, &mut state, 2);
-    let StateFault::TooManyUpdates { len } = fault(answer)? else {
-        return Err(Fail::new("another fault"));
+    let nothing = Update::Delete(Cuboids::new(alloc));
+    let Err(StateFault::TooManyUpdates { len }) = updated(alloc, &mut state, 2, nothing) else {
+        return Err(Fail::new("another answer"));
     };
     same(&rt, "the updates of the fault", len, 1_048_576);
     same(&rt, "updates", state.history().len(), 1_048_576);
     Ok(())
-}
-
-fn deleted_nothing(alloc: Global, state: &mut MapState, caller: u8) -> Updated
-    requires caller_from { 1 ≤ caller }
-    requires caller_to { caller ≤ 8 }
-{
-    updated(alloc, state, caller, Update::Delete(Cuboids::new(alloc)))
-}
-
-fn fault(answer: Result<u64, StateFault>) -> Result<StateFault, Fail> {
-    match answer {
-        Ok(_) => Err(Fail::new("it was not refused")),
-        Err(fault) => Ok(fault),
-    }
 }
 
 #[test]

@@ -1,7 +1,9 @@
 //! A detached subtree beside hostile schedules: what its map meets between the detaching and the swap.
 use crate::tests::assertions::{holds, same};
-use crate::tests::looks::{cuboid, live, logged, suspended};
-use crate::tests::steps::{add_row, built, detached, is_balanced, settled, swap_ends, updated};
+use crate::tests::looks::{cuboid, is_breached, live, logged, suspended};
+use crate::tests::steps::{
+    add, add_row, built, detached, is_balanced, row, settled, swap_ends, updated,
+};
 use kd_search::nearest;
 use map_fold::{Cuboids, Points, Settings, Update};
 use point_geom::Point;
@@ -9,14 +11,6 @@ use rebuild_core::{Built, Job, LogAsk, MapState, SwapFault};
 use std::alloc::Global;
 use std::process::Abort;
 use std::test::Fail;
-
-fn counting(alloc: Global, first: i64, last: i64) -> Result<Vec<i64>, Fail> {
-    let mut xs = Vec::new(alloc);
-    for x in first..last {
-        xs.push(x)?;
-    }
-    Ok(xs)
-}
 
 // The boxes from (first, 0, 0) to (last, 1, 1), so many times.
 fn boxes(alloc: Global, first: i64, last: i64, times: u32) -> Result<Cuboids, Fail> {
@@ -28,23 +22,14 @@ fn boxes(alloc: Global, first: i64, last: i64, times: u32) -> Result<Cuboids, Fa
     Ok(boxes)
 }
 
-// A map of 40 points in a row, with its whole tree detached.
-fn begun(alloc: Global) -> Result<(MapState, Job), Fail> {
-    begun_with(alloc, 40)
-}
-
-// The same, with the last of the 40 at this place.
-fn begun_with(alloc: Global, last: i64) -> Result<(MapState, Job), Fail> {
+// A map of 40 points in a row, the last of them at this place, with its whole tree detached.
+fn begun(alloc: Global, last: i64) -> Result<(MapState, Job), Fail> {
     let mut state = MapState::new(alloc, Settings::new(200, 16))?;
-    let mut xs = counting(alloc, 1, 40)?;
-    xs.push(last)?;
-    add_row(alloc, &mut state, xs.as_slice())?;
+    let mut points = row(alloc, 1, 40)?;
+    points.push(Point::new(last, 0, 0)?)?;
+    updated(alloc, &mut state, 1, Update::Add(points))?;
     let job = detached(alloc, &mut state, 1)?;
     Ok((state, job))
-}
-
-fn is_swapped(rt: &impl Abort, alloc: Global, state: &mut MapState, built: Built, force: bool) {
-    swap_ends(rt, alloc, state, built, force, None);
 }
 
 // The job is built and swapped in, and so many points are live then.
@@ -57,7 +42,7 @@ fn swaps(
     points: u32,
 ) -> Result<(), Fail> {
     let built = built(alloc, job)?;
-    is_swapped(rt, alloc, state, built, force);
+    swap_ends(rt, alloc, state, built, force, None);
     same(rt, "live points", live(state), points);
     Ok(())
 }
@@ -70,7 +55,7 @@ fn is_stale(rt: &impl Abort, alloc: Global, state: &mut MapState, built: Built, 
 #[test]
 fn a_value_is_stale_once_its_map_was_settled(rt: HostRuntime) -> Result<(), Fail> {
     let alloc = rt.alloc();
-    let (mut state, job) = begun(alloc)?;
+    let (mut state, job) = begun(alloc, 40)?;
     same(&rt, "the ticket", job.ticket(), 1);
     same(&rt, "items", job.items().len(), 40);
     let built = built(alloc, job)?;
@@ -84,18 +69,15 @@ fn a_value_is_stale_once_its_map_was_settled(rt: HostRuntime) -> Result<(), Fail
 }
 
 #[test]
-fn a_value_fits_another_map_that_detached_the_same(rt: HostRuntime) -> Result<(), Fail> {
+fn a_value_fits_another_map_and_is_stale_where_it_holds_another_point(
+    rt: HostRuntime,
+) -> Result<(), Fail> {
     let alloc = rt.alloc();
-    let (_state, job) = begun(alloc)?;
-    let (mut other, _job) = begun(alloc)?;
-    swaps(&rt, alloc, &mut other, job, false, 40)
-}
-
-#[test]
-fn a_value_is_stale_where_another_map_holds_another_point(rt: HostRuntime) -> Result<(), Fail> {
-    let alloc = rt.alloc();
-    let (_state, job) = begun(alloc)?;
-    let (mut other, _job) = begun_with(alloc, 41)?;
+    let (_state, job) = begun(alloc, 40)?;
+    let (mut other, _job) = begun(alloc, 40)?;
+    swaps(&rt, alloc, &mut other, job, false, 40)?;
+    let (_state, job) = begun(alloc, 40)?;
+    let (mut other, _job) = begun(alloc, 41)?;
     let built = built(alloc, job)?;
     is_stale(&rt, alloc, &mut other, built, false);
     Ok(())
@@ -104,16 +86,15 @@ fn a_value_is_stale_where_another_map_holds_another_point(rt: HostRuntime) -> Re
 #[test]
 fn a_forced_swap_does_all_that_is_left(rt: HostRuntime) -> Result<(), Fail> {
     let alloc = rt.alloc();
-    let (mut state, job) = begun(alloc)?;
-    let more = counting(alloc, 41, 141)?;
-    add_row(alloc, &mut state, more.as_slice())?;
+    let (mut state, job) = begun(alloc, 40)?;
+    add(alloc, &mut state, 41, 141)?;
     swaps(&rt, alloc, &mut state, job, true, 140)
 }
 
 #[test]
 fn what_was_deleted_meanwhile_stays_so(rt: HostRuntime) -> Result<(), Fail> {
     let alloc = rt.alloc();
-    let (mut state, job) = begun(alloc)?;
+    let (mut state, job) = begun(alloc, 40)?;
     let all = boxes(alloc, 0, 100, 1)?;
     updated(alloc, &mut state, 1, Update::Delete(all))?;
     swaps(&rt, alloc, &mut state, job, false, 0)?;
@@ -136,33 +117,30 @@ fn holds_only(rt: &impl Abort, alloc: Global, state: &MapState, number: u32) -> 
     Ok(())
 }
 
-// The point at (50, 100, 100).
-fn far_off(alloc: Global) -> Result<Points, Fail> {
-    let mut points = Points::new(alloc);
-    points.push(Point::new(50, 100, 100)?)?;
-    Ok(points)
-}
-
 #[test]
 fn a_voxel_that_was_thinned_meanwhile_keeps_its_winner(rt: HostRuntime) -> Result<(), Fail> {
     let alloc = rt.alloc();
-    let (mut state, job) = begun(alloc)?;
-    let points = far_off(alloc)?;
+    let (mut state, job) = begun(alloc, 40)?;
+    let mut points = Points::new(alloc);
+    points.push(Point::new(50, 100, 100)?)?;
     updated(alloc, &mut state, 1, Update::Thin(points))?;
     let built = built(alloc, job)?;
     // That its voxel's points are dropped, and the winner.
     same(&rt, "operations", logged(&state, 1), Some(2));
-    is_swapped(&rt, alloc, &mut state, built, false);
+    swap_ends(&rt, alloc, &mut state, built, false, None);
     holds_only(&rt, alloc, &state, 40)
 }
 
 #[test]
 fn a_part_that_is_detached_afresh_takes_only_its_new_value(rt: HostRuntime) -> Result<(), Fail> {
     let alloc = rt.alloc();
-    let (mut state, job) = begun(alloc)?;
+    let (mut state, job) = begun(alloc, 40)?;
     let old = built(alloc, job)?;
     let job = detached(alloc, &mut state, 1)?;
     same(&rt, "the ticket", job.ticket(), 2);
+    same(&rt, "operations", logged(&state, 1), Some(0));
+    let asked = state.log_after(alloc, &old).err();
+    same(&rt, "the answer", asked, Some(LogAsk::Stale { ticket: 1 }));
     is_stale(&rt, alloc, &mut state, old, true);
     swaps(&rt, alloc, &mut state, job, false, 40)
 }
@@ -173,7 +151,7 @@ const NEARLY_FULL: u32 = 65_535;
 #[test]
 fn a_part_whose_log_is_full_is_forgotten(rt: HostRuntime) -> Result<(), Fail> {
     let alloc = rt.alloc();
-    let (mut state, job) = begun(alloc)?;
+    let (mut state, job) = begun(alloc, 40)?;
     let many = boxes(alloc, 1, 2, NEARLY_FULL)?;
     updated(alloc, &mut state, 1, Update::Restore(many))?;
     same(&rt, "operations", logged(&state, 1), Some(NEARLY_FULL));
@@ -193,29 +171,21 @@ const OUTER: [i64; 9] = [41, 42, 43, 44, 0, -1, -2, -3, -4];
 // A map whose two sons are out of balance.
 fn uneven(alloc: Global) -> Result<MapState, Fail> {
     let mut state = MapState::new(alloc, Settings::new(200, 16))?;
-    let xs = counting(alloc, 1, 41)?;
-    add_row(alloc, &mut state, xs.as_slice())?;
+    add(alloc, &mut state, 1, 41)?;
     settled(alloc, &mut state)?;
     add_row(alloc, &mut state, &OUTER)?;
     Ok(state)
 }
 
-// The same with both detached.
+// The same with both detached at once.
 fn with_two_parts(rt: &impl Abort, alloc: Global) -> Result<(MapState, Job, Job), Fail> {
     let mut state = uneven(alloc)?;
     let left = detached(alloc, &mut state, 1)?;
     let right = detached(alloc, &mut state, 2)?;
     holds(rt, "nothing to detach", is_balanced(alloc, &mut state, 3)?);
+    begins_at(rt, &left, 1, -4);
+    begins_at(rt, &right, 2, 21);
     Ok((state, left, right))
-}
-
-#[test]
-fn two_subtrees_are_detached_at_once(rt: HostRuntime) -> Result<(), Fail> {
-    let alloc = rt.alloc();
-    let (_state, left, right) = with_two_parts(&rt, alloc)?;
-    begins_at(&rt, &left, 1, -4);
-    begins_at(&rt, &right, 2, 21);
-    Ok(())
 }
 
 // The job has this ticket, and its items begin at this x.
@@ -244,8 +214,10 @@ fn what_two_detached_subtrees_met_is_done_on_both(rt: HostRuntime) -> Result<(),
     are_logged(&rt, &state, 1, 2);
     let left = built(alloc, left)?;
     let right = built(alloc, right)?;
-    is_swapped(&rt, alloc, &mut state, right, true);
-    is_swapped(&rt, alloc, &mut state, left, true);
+    holds(&rt, "a breach", is_breached(&state, 16));
+    swap_ends(&rt, alloc, &mut state, right, true, None);
+    swap_ends(&rt, alloc, &mut state, left, true, None);
+    holds(&rt, "no breach", !is_breached(&state, 16));
     holds_three(&rt, alloc, &state)
 }
 

@@ -3,21 +3,17 @@ ghost use Rattle.std.specs.Prelude.{◌≡◌, IfOk};
 
 use crate::tests::assertions::{holds, same};
 use crate::tests::looks::live;
-use crate::tests::steps::{built, swap_ends, updated};
-use map_fold::{Points, Settings, Update};
+use crate::tests::steps::{built, row, swap_ends, updated};
+use map_fold::{Settings, Update};
 use point_geom::Point;
 use rebuild_core::{Built, Job, MapState, Snapshot, SwapFault};
 use std::alloc::Global;
-use std::process::Abort;
 use std::test::Fail;
 
 // A map of points in a row, and one more at this place.
 fn with_row(alloc: Global, count: i64, last: i64) -> Result<MapState, Fail> {
     let mut state = MapState::new(alloc, Settings::new(200, 16))?;
-    let mut points = Points::new(alloc);
-    for x in 0..count {
-        points.push(Point::new(x, 0, 0)?)?;
-    }
+    let mut points = row(alloc, 0, count)?;
     points.push(Point::new(last, 0, 0)?)?;
     updated(alloc, &mut state, 1, Update::Add(points))?;
     Ok(state)
@@ -71,22 +67,17 @@ fn a_value_fits_a_subtree_that_nobody_has_listed(rt: HostRuntime) -> Result<(), 
 #[test]
 fn another_value_is_stale_where_nobody_has_listed(rt: HostRuntime) -> Result<(), Fail> {
     let alloc = rt.alloc();
+    // The values of these rows, in a map of another row.
     for (count, last) in [(40, 41), (39, 40), (41, 41)] {
-        is_stale_beside(&rt, alloc, count, last)?;
+        let mut other = with_row(alloc, count, last)?;
+        let snapshot = detached(alloc, &mut other)?;
+        let job = listed(alloc, snapshot)?;
+        let mut state = with_row(alloc, 40, 40)?;
+        let _snapshot = detached(alloc, &mut state)?;
+        let built = built(alloc, job)?;
+        let stale = SwapFault::Stale { ticket: 1 };
+        swap_ends(&rt, alloc, &mut state, built, false, Some(stale));
     }
-    Ok(())
-}
-
-// The value of this row is stale in a map of another row.
-fn is_stale_beside(rt: &impl Abort, alloc: Global, count: i64, last: i64) -> Result<(), Fail> {
-    let mut other = with_row(alloc, count, last)?;
-    let snapshot = detached(alloc, &mut other)?;
-    let job = listed(alloc, snapshot)?;
-    let mut state = with_row(alloc, 40, 40)?;
-    let _snapshot = detached(alloc, &mut state)?;
-    let built = built(alloc, job)?;
-    let stale = SwapFault::Stale { ticket: 1 };
-    swap_ends(rt, alloc, &mut state, built, false, Some(stale));
     Ok(())
 }
 

@@ -111,6 +111,13 @@ pub fn row(alloc: Global, first: i64, last: i64) -> Result<Points, Fail> {
     Ok(points)
 }
 
+// Adds those points.
+pub fn add(alloc: Global, state: &mut MapState, first: i64, last: i64) -> Result<(), Fail> {
+    let points = row(alloc, first, last)?;
+    updated(alloc, state, 1, Update::Add(points))?;
+    Ok(())
+}
+
 pub fn add_row(alloc: Global, state: &mut MapState, xs: &[i64]) -> Result<(), Fail> {
     let mut points = Points::new(alloc);
     for x in xs {

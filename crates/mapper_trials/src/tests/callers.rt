@@ -2,12 +2,9 @@
 use crate::tests::runs::ran;
 use mapper_core::Status;
 use rebuild_worker::{Gate, HoldGate, MeetGate};
-use std::alloc::Global;
-use std::process::Abort;
-use std::sync::Wait;
 use std::sync::atomic::{AtomicBool, AtomicU64, Ordering};
 use std::test::Fail;
-use std::thread::{Threads, yield_now};
+use std::thread::yield_now;
 
 // How long a gate waits.
 const TURNS: u64 = 20_000_000;
@@ -23,14 +20,6 @@ struct TwoBuilds {
 }
 
 impl TwoBuilds {
-    fn new(held: u64) -> TwoBuilds {
-        TwoBuilds {
-            held,
-            begun: AtomicU64::new(0),
-            missed: AtomicBool::new(false),
-        }
-    }
-
     fn wait(&self, ticket: u64) {
         for _ in 0..TURNS {
             if ticket <= self.begun.load(Ordering::SeqCst) {
@@ -60,21 +49,17 @@ impl Gate for TwoBuilds {
     }
 }
 
-// A log that adds forty points in a row, and has these lines then.
-fn with_forty(alloc: Global, rest: &str) -> Result<String, Fail> {
-    let mut log = String::from_str(alloc, "ikdmap 1 voxel 200 large 16\n@1 add")?;
-    for x in 1..=40 {
-        log.push_str(format!(in alloc; " {x} 0 0")?.as_str())?;
-    }
-    log.push_str(rest)?;
-    Ok(log)
-}
+// The front of a log: forty points in a row, which leave the tree in breach.
+const FORTY: &str = "ikdmap 1 voxel 200 large 16
+@1 add 1 0 0 2 0 0 3 0 0 4 0 0 5 0 0 6 0 0 7 0 0 8 0 0 9 0 0 10 0 0 11 0 0 12 0 0 13 0 0 14 0 0 15 0 0 16 0 0 17 0 0 18 0 0 19 0 0 20 0 0 21 0 0 22 0 0 23 0 0 24 0 0 25 0 0 26 0 0 27 0 0 28 0 0 29 0 0 30 0 0 31 0 0 32 0 0 33 0 0 34 0 0 35 0 0 36 0 0 37 0 0 38 0 0 39 0 0 40 0 0
+";
 
-// The first update leaves the tree in breach, so a build begins, which is held until both later commands are replied to.
+// A build of the forty points begins, and is held until both later commands are replied to.
 #[test]
 fn callers_go_on_while_a_build_is_held(rt: HostRuntime) -> Result<(), Fail> {
     let alloc = rt.alloc();
-    let log = with_forty(alloc, "\n@1 add 100 0 0\n@1 near 1 0 0 0\n")?;
+    let mut log = String::from_str(alloc, FORTY)?;
+    log.push_str("@1 add 100 0 0\n@1 near 1 0 0 0\n")?;
     let gate = HoldGate::new(0, 2, TURNS);
     let (status, out) = ran(&rt, alloc, log.as_bytes(), &gate)?;
     assert_eq!(rt; status, Status::Done);
@@ -102,40 +87,42 @@ fn callers_run_beside_each_other(rt: HostRuntime) -> Result<(), Fail> {
     Ok(())
 }
 
-// After forty points and a barrier these lines come. The build before the last is held up until the last begins, and each command
-// that waits for a build sees it begin.
-fn builds<R: Threads + Wait + Abort + Sync>(
-    rt: &R,
-    alloc: Global,
-    rest: &str,
-    last: u64,
-    want: &str,
-) -> Result<(), Fail> {
-    let log = with_forty(alloc, rest)?;
-    let gate = TwoBuilds::new(last.saturating_sub(1));
-    let (status, out) = ran(rt, alloc, log.as_bytes(), &gate)?;
-    assert_eq!(rt; status, Status::Done);
-    assert!(rt; !gate.missed.load(Ordering::SeqCst));
-    assert_eq!(rt; gate.begun.load(Ordering::SeqCst), last);
-    assert_eq!(rt; out.bytes(), want.as_bytes());
+// After forty points and a barrier, where the tree is balanced, one build is held up until the last begins, and each command that
+// waits for a build sees it begin.
+#[test]
+fn neither_a_build_nor_a_barrier_waits_for_a_build(rt: HostRuntime) -> Result<(), Fail> {
+    let alloc = rt.alloc();
+    for (rest, held, last, want) in [
+        // Two workers build beside each other: each of these updates leaves one of the top's sons in breach.
+        (
+            "sync\n\
+             @1 add 41 0 0 42 0 0 43 0 0 44 0 0\n\
+             @1 add 0 0 0 -1 0 0 -2 0 0 -3 0 0 -4 0 0\n",
+            2,
+            3,
+            "@1 ok 1\nsync 1 live 40 suspended 0\n@1 ok 2\n@1 ok 3\nend 3 live 49 suspended 0\n",
+        ),
+        // The first build, of the whole tree, is held until the second begins. Nothing beside the whole tree can be built, so the
+        // barrier has rebuilt it itself.
+        (
+            "sync\n@1 add 41 0 0 42 0 0 43 0 0 44 0 0\n",
+            1,
+            2,
+            "@1 ok 1\nsync 1 live 40 suspended 0\n@1 ok 2\nend 2 live 44 suspended 0\n",
+        ),
+    ] {
+        let mut log = String::from_str(alloc, FORTY)?;
+        log.push_str(rest)?;
+        let gate = TwoBuilds {
+            held,
+            begun: AtomicU64::new(0),
+            missed: AtomicBool::new(false),
+        };
+        let (status, out) = ran(&rt, alloc, log.as_bytes(), &gate)?;
+        assert_eq!(rt; status, Status::Done);
+        assert!(rt; !gate.missed.load(Ordering::SeqCst));
+        assert_eq!(rt; gate.begun.load(Ordering::SeqCst), last);
+        assert_eq!(rt; out.bytes(), want.as_bytes());
+    }
     Ok(())
-}
-
-// After the barrier the tree is balanced, and each of the next updates leaves one of the top's sons in breach.
-#[test]
-fn two_workers_build_beside_each_other(rt: HostRuntime) -> Result<(), Fail> {
-    let rest = "\nsync\n\
-                @1 add 41 0 0 42 0 0 43 0 0 44 0 0\n\
-                @1 add 0 0 0 -1 0 0 -2 0 0 -3 0 0 -4 0 0\n";
-    let want = "@1 ok 1\nsync 1 live 40 suspended 0\n@1 ok 2\n@1 ok 3\nend 3 live 49 suspended 0\n";
-    builds(&rt, rt.alloc(), rest, 3, want)
-}
-
-// The first build, of the whole tree, is held until the second begins. Nothing beside the whole tree can be built, so the barrier
-// has rebuilt it itself.
-#[test]
-fn a_barrier_does_not_wait_for_a_build(rt: HostRuntime) -> Result<(), Fail> {
-    let rest = "\nsync\n@1 add 41 0 0 42 0 0 43 0 0 44 0 0\n";
-    let want = "@1 ok 1\nsync 1 live 40 suspended 0\n@1 ok 2\nend 2 live 44 suspended 0\n";
-    builds(&rt, rt.alloc(), rest, 2, want)
 }

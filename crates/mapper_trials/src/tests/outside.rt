@@ -1,6 +1,7 @@
 //! What the outside may do.
 use crate::tests::runs::{SMALLEST, SMALLEST_OUT, ended};
 use mapper_core::{MemSink, MemSource, Sink, Source, Status, SureSink, SureSource};
+use rebuild_worker::FreeGate;
 use std::test::Fail;
 
 #[test]
@@ -31,7 +32,7 @@ fn a_failing_call_of_the_outside_ends_the_run(rt: HostRuntime) -> Result<(), Fai
         );
         let mut out = MemSink::new(alloc, write_piece, [failing_write].to_vec(alloc)?);
         let mut notes = SureSink::new(alloc);
-        let status = ended(&rt, alloc, "run", &mut log, &mut out, &mut notes)?;
+        let status = ended(&rt, alloc, "run", &mut log, &mut out, &mut notes, &FreeGate)?;
         assert_eq!(rt; status, want);
         assert_eq!(rt; Some(out.bytes()), SMALLEST_OUT.get(..written));
         assert_eq!(rt; notes.bytes(), note.as_bytes());
@@ -54,7 +55,7 @@ fn a_failing_call_of_the_outside_ends_a_check(rt: HostRuntime) -> Result<(), Fai
         let mut out = MemSink::new(alloc, 3, vec![in alloc; failing_write]?);
         let mut notes = SureSink::new(alloc);
         let line = "check 59";
-        let status = ended(&rt, alloc, line, &mut source, &mut out, &mut notes)?;
+        let status = ended(&rt, alloc, line, &mut source, &mut out, &mut notes, &FreeGate)?;
         assert_eq!(rt; status, want);
         assert_eq!(rt; out.bytes(), told.as_bytes());
         assert_eq!(rt; notes.bytes(), note.as_bytes());
@@ -75,7 +76,7 @@ fn a_fault_of_notes_does_not_change_the_status(rt: HostRuntime) -> Result<(), Fa
         let mut log = SureSource::new(log.to_vec(alloc)?);
         let mut out = SureSink::new(alloc);
         let mut notes = MemSink::new(alloc, piece, [failing].to_vec(alloc)?);
-        let status = ended(&rt, alloc, line, &mut log, &mut out, &mut notes)?;
+        let status = ended(&rt, alloc, line, &mut log, &mut out, &mut notes, &FreeGate)?;
         assert_eq!(rt; status, want);
         assert_eq!(rt; out.bytes(), b"".as_slice());
         assert_eq!(rt; notes.bytes(), note.as_bytes());

@@ -2,23 +2,7 @@
 use crate::tests::runs::{ended, ran};
 use mapper_core::{MemSink, MemSource, Status, SureSink};
 use rebuild_worker::FreeGate;
-use std::alloc::Global;
-use std::sync::Wait;
 use std::test::Fail;
-use std::thread::Threads;
-
-// A run whose calls move a byte each.
-fn ran_by_bytes<R: Threads + Wait + Sync>(
-    rt: &R,
-    alloc: Global,
-    log: &[u8],
-) -> Result<(Status, MemSink), Fail> {
-    let mut source = MemSource::new(log.to_vec(alloc)?, 1, Vec::new(alloc));
-    let mut out = MemSink::new(alloc, 1, Vec::new(alloc));
-    let mut notes = SureSink::new(alloc);
-    let status = ended(rt, alloc, "run", &mut source, &mut out, &mut notes)?;
-    Ok((status, out))
-}
 
 // What these logs give stands in runs/, and is compared there.
 #[test]
@@ -61,7 +45,10 @@ fn a_byte_at_a_time_gives_the_same(rt: HostRuntime) -> Result<(), Fail> {
     ] {
         let log = format!(in alloc; "ikdmap 1 voxel 200 large {large}\n{commands}")?;
         let (_, whole) = ran(&rt, alloc, log.as_bytes(), &FreeGate)?;
-        let (status, out) = ran_by_bytes(&rt, alloc, log.as_bytes())?;
+        let mut source = MemSource::new(log.as_bytes().to_vec(alloc)?, 1, Vec::new(alloc));
+        let mut out = MemSink::new(alloc, 1, Vec::new(alloc));
+        let mut notes = SureSink::new(alloc);
+        let status = ended(&rt, alloc, "run", &mut source, &mut out, &mut notes, &FreeGate)?;
         assert_eq!(rt; status, Status::Done, "{commands}");
         assert_eq!(rt; out.bytes(), whole.bytes(), "{commands}");
     }
