@@ -1,14 +1,35 @@
 //! Detached subtrees.
 use crate::tests::assertions::{holds, same};
 use crate::tests::draws::Draws;
-use crate::tests::looks::{live, logged};
-use crate::tests::steps::{add, built, detached, is_balanced, row, swap_ends, swapped, updated};
-use map_fold::{Points, Settings, Update};
+use crate::tests::looks::{cuboid, is_breached, live, logged, suspended};
+use crate::tests::steps::{
+    add, built, detached, is_balanced, row, settled, swap_ends, swapped, updated,
+};
+use map_fold::{Cuboids, Points, Settings, Update};
 use point_geom::Point;
-use rebuild_core::{Built, MapState, SwapFault};
+use rebuild_core::{Built, Job, LogAsk, MapState, SwapFault};
 use std::alloc::Global;
 use std::process::Abort;
 use std::test::Fail;
+
+// The box that holds the points (x, 0, 0), from the first on and before the last.
+fn across(alloc: Global, first: i64, last: i64) -> Result<Cuboids, Fail> {
+    let mut boxes = Cuboids::new(alloc);
+    boxes.push(cuboid((first, 0, 0), (last, 1, 1))?)?;
+    Ok(boxes)
+}
+
+fn suspend(alloc: Global, state: &mut MapState, first: i64, last: i64) -> Result<(), Fail> {
+    let boxes = across(alloc, first, last)?;
+    updated(alloc, state, 1, Update::Suspend(boxes))?;
+    Ok(())
+}
+
+fn restore(alloc: Global, state: &mut MapState, first: i64, last: i64) -> Result<(), Fail> {
+    let boxes = across(alloc, first, last)?;
+    updated(alloc, state, 1, Update::Restore(boxes))?;
+    Ok(())
+}
 
 fn with_row(alloc: Global, last: i64) -> Result<MapState, Fail> {
     let mut state = MapState::new(alloc, Settings::new(200, 16))?;
@@ -32,8 +53,38 @@ fn what_expires_in_a_detached_subtree_is_logged(rt: HostRuntime) -> Result<(), F
     Ok(())
 }
 
+// A settled row with points more at its end, and its right son, which leans to the right.
+fn leaning(rt: &impl Abort, alloc: Global) -> Result<(MapState, Job), Fail> {
+    let mut state = with_row(alloc, 41)?;
+    settled(alloc, &mut state)?;
+    // The right son has 9 nodes on its left and 14 on its right now.
+    add(alloc, &mut state, 41, 45)?;
+    let job = detached(alloc, &mut state, 1)?;
+    same(rt, "the ticket", job.ticket(), 1);
+    same(rt, "items", job.items().len(), 24);
+    Ok((state, job))
+}
+
 #[test]
-fn a_value_behind_catches_up(rt: HostRuntime) -> Result<(), Fail> {
+fn an_action_that_is_pushed_into_a_detached_subtree_is_logged(rt: HostRuntime) -> Result<(), Fail> {
+    let alloc = rt.alloc();
+    let (mut state, job) = leaning(&rt, alloc)?;
+    suspend(alloc, &mut state, 0, 100)?;
+    same(&rt, "operations", logged(&state, 1), Some(0));
+    restore(alloc, &mut state, 30, 33)?;
+    same(&rt, "operations", logged(&state, 1), Some(2));
+    let built = built(alloc, job)?;
+    holds(&rt, "a breach", is_breached(&state, 16));
+    swap_ends(&rt, alloc, &mut state, built, true, None);
+    holds(&rt, "no breach", !is_breached(&state, 16));
+    same(&rt, "live points", live(&state), 3);
+    same(&rt, "suspended points", suspended(&state), 41);
+    holds(&rt, "nothing to detach", is_balanced(alloc, &mut state, 1)?);
+    Ok(())
+}
+
+#[test]
+fn a_value_behind_catches_up_and_a_stale_one_is_refused(rt: HostRuntime) -> Result<(), Fail> {
     let alloc = rt.alloc();
     let mut state = MapState::new(alloc, Settings::new(200, 16))?;
     holds(&rt, "nothing to detach", is_balanced(alloc, &mut state, 1)?);
@@ -46,7 +97,7 @@ fn a_value_behind_catches_up(rt: HostRuntime) -> Result<(), Fail> {
     let first = caught_up(&rt, alloc, &mut state, first)?;
     swap_ends(&rt, alloc, &mut state, first, false, None);
     same(&rt, "live points", live(&state), 105);
-    Ok(())
+    refuses_the_second_of_three(&rt, alloc, &mut state)
 }
 
 // The value, which is 65 operations behind.
@@ -80,6 +131,26 @@ fn caught_up(
         Ok(built) => Ok(built),
         Err(_) => Err(Fail::new("nothing was replayed")),
     }
+}
+
+// A part that is detached afresh has a new ticket and an empty log.
+fn refuses_the_second_of_three(
+    rt: &impl Abort,
+    alloc: Global,
+    state: &mut MapState,
+) -> Result<(), Fail> {
+    add(alloc, state, 106, 160)?;
+    let second = detached(alloc, state, 1)?;
+    same(rt, "the second ticket", second.ticket(), 2);
+    let third = detached(alloc, state, 1)?;
+    same(rt, "the third ticket", third.ticket(), 3);
+    same(rt, "operations", logged(state, 1), Some(0));
+    let second = built(alloc, second)?;
+    let asked = state.log_after(alloc, &second).err();
+    same(rt, "the answer", asked, Some(LogAsk::Stale { ticket: 2 }));
+    let stale = SwapFault::Stale { ticket: 2 };
+    swap_ends(rt, alloc, state, second, true, Some(stale));
+    Ok(())
 }
 
 // Points beside a row leave its detached tree forgotten, and its value stale. So many are live then.

@@ -1,8 +1,13 @@
-//! Points in a row.
-use crate::tests::assertions::same;
-use crate::tests::steps::add_row;
-use map_fold::Settings;
+//! Points in a row, and points at one place.
+use crate::tests::assertions::{holds, same};
+use crate::tests::looks::{is_breached, live};
+use crate::tests::steps::{add_row, row, settled, updated};
+use kd_search::nearest;
+use map_fold::{Hit, Points, Settings, Update};
+use point_geom::Point;
 use rebuild_core::MapState;
+use std::alloc::Global;
+use std::process::Abort;
 use std::test::Fail;
 
 // That it is found whole is seen by a stored run.
@@ -17,5 +22,67 @@ fn a_rising_row_fills_all_levels(rt: HostRuntime) -> Result<(), Fail> {
     }
     // No tree is higher, so this one was rebuilt on the way.
     same(&rt, "the most levels", most_levels, 512);
+    Ok(())
+}
+
+#[test]
+fn equal_points_are_settled_and_found_by_number(rt: HostRuntime) -> Result<(), Fail> {
+    let alloc = rt.alloc();
+    let mut state = MapState::new(alloc, Settings::new(200, 1_500))?;
+    let place = Point::new(3, 3, 3)?;
+    let points = so_many_at(alloc, place)?;
+    updated(alloc, &mut state, 1, Update::Add(points))?;
+    settled(alloc, &mut state)?;
+    holds(&rt, "no breach", !is_breached(&state, 10));
+    same(&rt, "live points", live(&state), 5_000);
+    let found = nearest(alloc, state.version().tree(), 200, &place, None)?;
+    are_numbered(&rt, found.as_slice());
+    Ok(())
+}
+
+fn so_many_at(alloc: Global, place: Point) -> Result<Points, Fail> {
+    let mut points = Points::new(alloc);
+    for _ in 0..5_000 {
+        points.push(place)?;
+    }
+    Ok(points)
+}
+
+// The points of the numbers from 0 on, found where they lie.
+fn are_numbered(rt: &impl Abort, found: &[Hit]) {
+    same(rt, "hits", found.len(), 200);
+    for (hit, number) in found.iter().zip(0..200u32) {
+        same(rt, "the number", hit.number, number);
+        same(rt, "the squared distance", hit.dist2, 0);
+    }
+}
+
+#[test]
+fn a_row_that_is_settled_takes_one_more_point(rt: HostRuntime) -> Result<(), Fail> {
+    let alloc = rt.alloc();
+    let mut state = MapState::new(alloc, Settings::new(200, 16))?;
+    let points = row(alloc, 1, 41)?;
+    let mark = updated(alloc, &mut state, 1, Update::Add(points))?;
+    same(&rt, "the first mark", mark, 1);
+    holds(&rt, "a breach", is_breached(&state, 10));
+    settled(alloc, &mut state)?;
+    holds(&rt, "no breach", !is_breached(&state, 10));
+
+    let points = row(alloc, 0, 1)?;
+    let mark = updated(alloc, &mut state, 8, Update::Add(points))?;
+    same(&rt, "the second mark", mark, 2);
+    same(&rt, "live points", live(&state), 41);
+    finds_the_last(&rt, alloc, &state)
+}
+
+// The point of number 40, at 5 from the query.
+fn finds_the_last(rt: &impl Abort, alloc: Global, state: &MapState) -> Result<(), Fail> {
+    let query = Point::new(-5, 0, 0)?;
+    let found = nearest(alloc, state.version().tree(), 1, &query, None)?;
+    for hit in found.as_slice() {
+        same(rt, "the number", hit.number, 40);
+        same(rt, "the squared distance", hit.dist2, 25);
+    }
+    same(rt, "hits", found.len(), 1);
     Ok(())
 }

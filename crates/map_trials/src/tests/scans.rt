@@ -22,7 +22,13 @@ impl Twins {
     fn both(&mut self, rt: &impl Abort, alloc: Global, update: Update) -> Result<(), Fail> {
         updated_plainly(rt, alloc, &self.settings, &mut self.plain, &update)?;
         updated(alloc, &mut self.at_once, 1, update)?;
-        compare(rt, alloc, self.at_once.version(), &self.plain, &mut self.draws)
+        compare(
+            rt,
+            alloc,
+            self.at_once.version(),
+            &self.plain,
+            &mut self.draws,
+        )
     }
 
     fn drawn_box(&mut self, alloc: Global) -> Result<Cuboids, Fail> {

@@ -1,6 +1,6 @@
 //! A detached subtree beside hostile schedules: what its map meets between the detaching and the swap.
 use crate::tests::assertions::{holds, same};
-use crate::tests::looks::{cuboid, is_breached, live, logged, suspended};
+use crate::tests::looks::{cuboid, live, logged, suspended};
 use crate::tests::steps::{
     add, add_row, built, detached, is_balanced, row, settled, swap_ends, updated,
 };
@@ -214,10 +214,8 @@ fn what_two_detached_subtrees_met_is_done_on_both(rt: HostRuntime) -> Result<(),
     are_logged(&rt, &state, 1, 2);
     let left = built(alloc, left)?;
     let right = built(alloc, right)?;
-    holds(&rt, "a breach", is_breached(&state, 16));
     swap_ends(&rt, alloc, &mut state, right, true, None);
     swap_ends(&rt, alloc, &mut state, left, true, None);
-    holds(&rt, "no breach", !is_breached(&state, 16));
     holds_three(&rt, alloc, &state)
 }
 

@@ -55,7 +55,15 @@ fn a_failing_call_of_the_outside_ends_a_check(rt: HostRuntime) -> Result<(), Fai
         let mut out = MemSink::new(alloc, 3, vec![in alloc; failing_write]?);
         let mut notes = SureSink::new(alloc);
         let line = "check 59";
-        let status = ended(&rt, alloc, line, &mut source, &mut out, &mut notes, &FreeGate)?;
+        let status = ended(
+            &rt,
+            alloc,
+            line,
+            &mut source,
+            &mut out,
+            &mut notes,
+            &FreeGate,
+        )?;
         assert_eq!(rt; status, want);
         assert_eq!(rt; out.bytes(), told.as_bytes());
         assert_eq!(rt; notes.bytes(), note.as_bytes());

@@ -48,7 +48,15 @@ fn a_byte_at_a_time_gives_the_same(rt: HostRuntime) -> Result<(), Fail> {
         let mut source = MemSource::new(log.as_bytes().to_vec(alloc)?, 1, Vec::new(alloc));
         let mut out = MemSink::new(alloc, 1, Vec::new(alloc));
         let mut notes = SureSink::new(alloc);
-        let status = ended(&rt, alloc, "run", &mut source, &mut out, &mut notes, &FreeGate)?;
+        let status = ended(
+            &rt,
+            alloc,
+            "run",
+            &mut source,
+            &mut out,
+            &mut notes,
+            &FreeGate,
+        )?;
         assert_eq!(rt; status, Status::Done, "{commands}");
         assert_eq!(rt; out.bytes(), whole.bytes(), "{commands}");
     }
