@@ -3,66 +3,17 @@ ghost use Rattle.std.specs.Prelude.{◌≤◌};
 
 use crate::tests::assertions::{holds, same};
 use crate::tests::trial::{Site, Trial, row, tried, updated};
-use map_fold::{NearReply, Points, Update};
-use point_geom::Point;
 use published_map::{Ended, MapName, Pass};
 use rebuild_core::{MapState, Version};
-use std::alloc::Global;
 use std::process::Abort;
 use std::sync::Wait;
 use std::test::Fail;
-
-fn at_one_place(alloc: Global) -> Result<Points, Fail> {
-    let mut points = Points::new(alloc);
-    for _ in 0..5_000u32 {
-        points.push(Point::new(3, 3, 3)?)?;
-    }
-    Ok(points)
-}
 
 // Whether a subtree from this size on is out of balance.
 fn is_breached(version: &Version, large: u32) -> bool
     requires { 10 ≤ large }
 {
     version.tree().first_breach(large).is_some()
-}
-
-// The points of numbers 0 and 1, found where they lie.
-fn are_first(rt: &impl Abort, reply: &NearReply) {
-    same(rt, "the mark of the reply", reply.mark, 1);
-    same(rt, "hits", reply.hits.len(), 2);
-    for (place, hit) in reply.hits.as_slice().iter().enumerate() {
-        same(rt, "the number in its place", hit.number as usize, place);
-        same(rt, "the squared distance", hit.dist2, 0);
-    }
-}
-
-// All points are the same.
-struct EqualPoints;
-
-impl<R: Wait + Abort> Trial<R> for EqualPoints {
-    fn run<L: MapName>(&self, at: &Site<'_, L, R>, passes: &mut [Pass<L>]) -> Result<(), Fail> {
-        let points = at_one_place(at.alloc)?;
-        let mark = updated(at, passes, 0, Update::Add(points))?;
-        same(at.rt, "the mark", mark, 1);
-        at.shared.settle(at.rt, at.alloc)?;
-        let Some(pass) = passes.get_mut(0) else {
-            return Err(Fail::new("no such pass"));
-        };
-        pass.renew();
-        holds(at.rt, "no breach", !is_breached(pass.version(), 10));
-        let query = Point::new(3, 3, 3)?;
-        let reply = pass.nearest(at.alloc, 2, &query, None)?;
-        are_first(at.rt, &reply);
-        Ok(())
-    }
-
-    fn end(&self, rt: &R, state: &MapState, ended: &[Ended]) {
-        same(rt, "live points", state.version().counts().live, 5_000);
-        holds(rt, "no breach", !is_breached(state.version(), 10));
-        same(rt, "updates", state.history().len(), 1);
-        same(rt, "callers", ended.len(), 1);
-    }
 }
 
 // Forty points in a row, which leave a breach.
@@ -89,6 +40,5 @@ impl<R: Wait + Abort> Trial<R> for PointsInARow {
 
 #[test]
 fn settling_leaves_no_breach_behind_the_lock(rt: HostRuntime) -> Result<(), Fail> {
-    tried(&rt, rt.alloc(), 1, &EqualPoints)?;
     tried(&rt, rt.alloc(), 1, &PointsInARow)
 }
