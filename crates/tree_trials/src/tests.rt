@@ -8,7 +8,6 @@ mod lists;
 mod numbered;
 mod replacing;
 mod replaying;
-mod scans;
 mod scratches;
 mod script;
 mod watch;

@@ -3,9 +3,8 @@ ghost use Rattle.std.specs.Prelude.{◌<◌, Contains, ℕ};
 ghost use Rattle.kd_tree.specs.Shape.{numbers};
 ghost use Rattle.kd_tree.specs.Counter.{IsBlankOf};
 
-use crate::tests::draw::Action;
 use kd_tree::{Steps, Tree};
-use kd_update::{marked, put, roomy, settled};
+use kd_update::{put, roomy, settled};
 use map_fold::{MAX_POINTS, NoMemory};
 use point_geom::{Corner, Cuboid, Point};
 use std::alloc::Global;
@@ -38,10 +37,6 @@ impl Numbered {
     pub fn put(self, rt: &impl Abort, alloc: Global, point: Point) -> Changed {
         assert!(rt; self.next < 4_194_304);
         put_next::<Brand>(alloc, self, point, Blank::new(1))
-    }
-
-    pub fn marked(self, alloc: Global, action: &Action) -> Changed {
-        mark_all::<Brand>(alloc, self, action, Blank::new(1))
     }
 
     pub fn settled(self, alloc: Global) -> Changed {
@@ -83,23 +78,6 @@ fn put_next<L: Ledger>(alloc: Global, map: Numbered, point: Point, blank: Blank)
         next: map.next + 1,
         large: map.large,
     })
-}
-
-fn mark_all<L: Ledger>(alloc: Global, map: Numbered, action: &Action, blank: Blank) -> Changed
-    requires blank { IsBlankOf L.name L.parts blank }
-{
-    let mut steps: Steps<L> = Steps::new(blank);
-    let Action { choice, tag } = action;
-    let tree = marked(alloc, map.tree, map.large, choice, *tag, &mut steps)?;
-    Ok(Numbered {
-        tree,
-        next: map.next,
-        large: map.large,
-    })
-}
-
-pub fn row(rt: &impl Abort, alloc: Global, large: u32, points: i64) -> Result<Numbered, Fail> {
-    Numbered::new(large).risen(rt, alloc, 0, points)
 }
 
 pub fn between(lo: (i64, i64, i64), hi: (i64, i64, i64)) -> Result<Cuboid, Fail> {

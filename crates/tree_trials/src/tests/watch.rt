@@ -1,7 +1,7 @@
 //! Watched subtrees beside plain lists.
 use crate::tests::assertions::{holds, same};
 use crate::tests::draw::{Action, Draw, mark_plainly};
-use crate::tests::numbered::{Numbered, between, row};
+use crate::tests::numbered::{Numbered, between};
 use crate::tests::watching::{Watching, is_large};
 use kd_tree::{Path, Side, Tree};
 use kd_update::{Watch, Watches};
@@ -180,7 +180,7 @@ fn what_was_logged_makes_a_watched_subtree_of_what_it_was(rt: HostRuntime) -> Re
 
 // A settled map of drawn points.
 pub fn drawn_map(rt: &impl Abort, alloc: Global, draw: &mut Draw) -> Result<Numbered, Fail> {
-    let mut map = row(rt, alloc, 16, 16)?;
+    let mut map = Numbered::new(16).risen(rt, alloc, 0, 16)?;
     for _ in 0..200 {
         let point = draw.point()?;
         map = map.put(rt, alloc, point)?;
