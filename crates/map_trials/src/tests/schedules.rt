@@ -152,16 +152,21 @@ const NEARLY_FULL: u32 = 65_535;
 fn a_part_whose_log_is_full_is_forgotten(rt: HostRuntime) -> Result<(), Fail> {
     let alloc = rt.alloc();
     let (mut state, job) = begun(alloc, 40)?;
-    let many = boxes(alloc, 1, 2, NEARLY_FULL)?;
-    updated(alloc, &mut state, 1, Update::Restore(many))?;
-    same(&rt, "operations", logged(&state, 1), Some(NEARLY_FULL));
-    let one = boxes(alloc, 1, 2, 1)?;
-    updated(alloc, &mut state, 1, Update::Delete(one))?;
-    same(&rt, "operations", logged(&state, 1), None);
+    fill_its_log(&rt, alloc, &mut state)?;
     let built = built(alloc, job)?;
     is_stale(&rt, alloc, &mut state, built, true);
     // The box held the point of number 0.
     same(&rt, "live points", live(&state), 39);
+    Ok(())
+}
+
+fn fill_its_log(rt: &impl Abort, alloc: Global, state: &mut MapState) -> Result<(), Fail> {
+    let many = boxes(alloc, 1, 2, NEARLY_FULL)?;
+    updated(alloc, state, 1, Update::Restore(many))?;
+    same(rt, "operations", logged(state, 1), Some(NEARLY_FULL));
+    let one = boxes(alloc, 1, 2, 1)?;
+    updated(alloc, state, 1, Update::Delete(one))?;
+    same(rt, "operations", logged(state, 1), None);
     Ok(())
 }
 
@@ -206,17 +211,23 @@ fn are_logged(rt: &impl Abort, state: &MapState, left: u32, right: u32) {
 fn what_two_detached_subtrees_met_is_done_on_both(rt: HostRuntime) -> Result<(), Fail> {
     let alloc = rt.alloc();
     let (mut state, left, right) = with_two_parts(&rt, alloc)?;
-    let all = boxes(alloc, -100, 100, 1)?;
-    updated(alloc, &mut state, 1, Update::Suspend(all))?;
-    are_logged(&rt, &state, 0, 0);
-    let three = boxes(alloc, 30, 33, 1)?;
-    updated(alloc, &mut state, 1, Update::Restore(three))?;
-    are_logged(&rt, &state, 1, 2);
+    meets_both(&rt, alloc, &mut state)?;
     let left = built(alloc, left)?;
     let right = built(alloc, right)?;
     swap_ends(&rt, alloc, &mut state, right, true, None);
     swap_ends(&rt, alloc, &mut state, left, true, None);
     holds_three(&rt, alloc, &state)
+}
+
+// An action that is done above both isn't logged at either, until it is handed down.
+fn meets_both(rt: &impl Abort, alloc: Global, state: &mut MapState) -> Result<(), Fail> {
+    let all = boxes(alloc, -100, 100, 1)?;
+    updated(alloc, state, 1, Update::Suspend(all))?;
+    are_logged(rt, state, 0, 0);
+    let three = boxes(alloc, 30, 33, 1)?;
+    updated(alloc, state, 1, Update::Restore(three))?;
+    are_logged(rt, state, 1, 2);
+    Ok(())
 }
 
 // The points at 29, 30 and 31 are live, and 46 are suspended.
