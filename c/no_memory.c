@@ -6,7 +6,7 @@
 #include <stdio.h>
 #include <stdlib.h>
 
-enum { ROW = 900, MOST = 256 };
+enum { ROW = 300, MOST = 256 };
 
 static int faults = 0;
 /* How many allocations are left until one is refused; below 0 none is. */
