@@ -1,7 +1,7 @@
 -- The exit status of the program.
 use Rattle.std.specs.Prelude.{ℕ}
-use Rattle.mapper_core.specs.declared.status.Status.{Status}
-use Rattle.mapper_core.specs.declared.status.Status.TheVariants.{Done, BadLog, Usage, ReadFault, WriteFault, NoMemory, OverLimit}
+use Rattle.mapper_base.specs.declared.status.Status.{Status}
+use Rattle.mapper_base.specs.declared.status.Status.TheVariants.{Done, BadLog, Usage, ReadFault, WriteFault, NoMemory, OverLimit}
 
 -- the number with which the program exits, for each status of a run
 abbrev pub code_of : Status → ℕ

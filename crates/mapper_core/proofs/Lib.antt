@@ -1,14 +1,3 @@
-pub mod FewWords
-pub mod InOrder
-pub mod Pieces
-pub mod Printed
-pub mod Placed
-pub mod Scans
-pub mod Digits
-pub mod Taken
-pub mod Turns
-pub mod OneAsk
-pub mod Ways
 pub mod Beginnings
 pub mod Whose
 pub mod LegalMarks

@@ -1,17 +1,3 @@
-pub mod Outside
-pub mod Memory
-pub mod Seen
-pub mod Asks
-pub mod CommandLine
-pub mod Generated
-pub mod Summary
-pub mod Endings
-pub mod Verdicts
-pub mod Prints
-pub mod Inputs
-pub mod Done
-pub mod Causes
-pub mod Turns
 pub mod Told
 pub mod Mine
 pub mod Meetings

@@ -1,29 +1,22 @@
 //! The top call.
 ghost use Rattle.std.specs.Prelude.{◌≡◌, ℕ, Some, IfOk, IfErr};
 ghost use Rattle.scan_log.specs.Legal.{AreLegalLines};
-ghost use Rattle.mapper_core.specs.Asks.{Asks, AskForLog, AskForRun, AskForScans, AskNothing, CanBeDone, IsOfLog};
-ghost use Rattle.mapper_core.specs.Causes.{Ended, Ends, HasNoText, IsTextOf, ReadsInLimit};
-ghost use Rattle.mapper_core.specs.Done.{IsChecked, IsDriven, IsScriptMade, IsTranscribed, IsTranscribedInOrder};
-ghost use Rattle.mapper_core.specs.Endings.{IsOrNoMemory};
-ghost use Rattle.mapper_core.specs.Inputs.{IfBad, IfOverLimit, IfSpelled};
-ghost use Rattle.mapper_core.specs.Outside.{NoFault};
-ghost use Rattle.mapper_core.specs.Prints.{AreSerialLines, IsVerdictLine};
-ghost use Rattle.mapper_core.specs.Seen.{log_seen, out_seen, run_seen, texts};
-ghost use Rattle.mapper_core.specs.Summary.{summary_of};
+ghost use Rattle.mapper_base.specs.Asks.{Asks, AskForLog, AskForRun, AskForScans, AskNothing, CanBeDone, IsOfLog};
+ghost use Rattle.mapper_base.specs.Causes.{Ended, Ends, HasNoText, IsTextOf, ReadsInLimit};
+ghost use Rattle.mapper_base.specs.Done.{IsChecked, IsDriven, IsScriptMade, IsTranscribed, IsTranscribedInOrder};
+ghost use Rattle.mapper_base.specs.Endings.{IsOrNoMemory};
+ghost use Rattle.mapper_base.specs.Inputs.{IfBad, IfOverLimit, IfSpelled};
+ghost use Rattle.mapper_base.specs.Outside.{NoFault};
+ghost use Rattle.mapper_base.specs.Prints.{AreSerialLines, IsVerdictLine};
+ghost use Rattle.mapper_base.specs.Seen.{log_seen, out_seen, run_seen, texts};
+ghost use Rattle.mapper_base.specs.Summary.{summary_of};
 
 use crate::callers::threaded_plain;
-use crate::ending::Ending;
-use crate::generated::made;
-use crate::input::{Input, behind, read_input, read_script};
-use crate::notes::tell;
-use crate::outside::{Sink, SinkFault, Source};
-use crate::replying::{in_order, transcript};
-use crate::status::Status;
-use crate::summing::summary;
-use crate::verdicts::verdict_line;
-use crate::words::{Ask, asked};
-use crate::writing::write_all;
 use map_fold::NoMemory;
+use mapper_base::{
+    Ask, Ending, Input, Sink, SinkFault, Source, Status, asked, behind, in_order, made, read_input,
+    read_script, summary, tell, transcript, verdict_line, write_all,
+};
 use rebuild_worker::Gate;
 use scan_log::{PlainScript, Script, write_script};
 use std::alloc::{AllocError, Global};

@@ -8,9 +8,9 @@ ghost use Rattle.mapper_core.specs.Mine.{Tried, Turned};
 
 use super::alarm::{Bells, Signals};
 use super::queue::Queue;
-use crate::tree_reply::tree_reply;
 use batch_near::nearest_each;
 use map_fold::{NearsReply, NoMemory, Update};
+use mapper_base::tree_reply;
 use published_map::{MapName, Pass, Shared};
 use rebuild_core::StateFault;
 use rebuild_worker::Gate;

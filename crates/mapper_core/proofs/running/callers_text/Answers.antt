@@ -1,5 +1,5 @@
 use Rattle.std.proofs.lemmas.Result.{IfOk-weaker}
-use Rattle.mapper_core.proofs.Printed.{legal_print}
+use Rattle.mapper_base.proofs.Printed.{legal_print}
 use Rattle.mapper_core.proofs.running.callers_text.Goals as goal
 
 pub returns : goal.returns

@@ -1,6 +1,6 @@
 use Rattle.std.proofs.Common.{◌∙◌}
 use Rattle.std.proofs.lemmas.Result.{IfOk-weaker}
-use Rattle.mapper_core.proofs.Printed.{drive_print}
+use Rattle.mapper_base.proofs.Printed.{drive_print}
 use Rattle.mapper_core.proofs.running.drive_text.Goals as goal
 
 pub returns : goal.returns

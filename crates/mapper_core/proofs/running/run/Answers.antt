@@ -1,5 +1,5 @@
 use Rattle.std.proofs.Common.{sym, ◌∙◌}
-use Rattle.mapper_core.proofs.Ways.{done_legal, done_serial, done_checked, done_made, done_driven, bad_way, nothing_way, over_way, scans_way, spelled_way}
+use Rattle.mapper_base.proofs.Ways.{done_legal, done_serial, done_checked, done_made, done_driven, bad_way, nothing_way, over_way, scans_way, spelled_way}
 use Rattle.mapper_core.proofs.running.run.Goals as goal
 
 pub returns-clause-done : goal.returns-clause-done

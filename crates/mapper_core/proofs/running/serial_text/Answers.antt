@@ -1,5 +1,5 @@
 use Rattle.std.proofs.lemmas.Result.{IfOk-weaker}
-use Rattle.mapper_core.proofs.Printed.{serial_print}
+use Rattle.mapper_base.proofs.Printed.{serial_print}
 use Rattle.mapper_core.proofs.running.serial_text.Goals as goal
 
 pub returns : goal.returns

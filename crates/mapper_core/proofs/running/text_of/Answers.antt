@@ -2,11 +2,11 @@ use Rattle.std.proofs.Common.{◌≡◌, ℕ, List, drop, Option, None, Some, If
 use Rattle.scan_log.specs.Scripts.{ScriptAt}
 use Rattle.transcript_check.specs.declared.verdict.Verdict.{Verdict}
 use Rattle.transcript_check.specs.Verdicts.{IsVerdict}
-use Rattle.mapper_core.specs.declared.words.Ask.{Ask}
-use Rattle.mapper_core.specs.declared.words.Ask.TheVariants.{Check}
-use Rattle.mapper_core.specs.Causes.{Says, IsTextOf}
-use Rattle.mapper_core.specs.Prints.{IsVerdictLine}
-use Rattle.mapper_core.specs.Seen.{LogSeen}
+use Rattle.mapper_base.specs.declared.words.Ask.{Ask}
+use Rattle.mapper_base.specs.declared.words.Ask.TheVariants.{Check}
+use Rattle.mapper_base.specs.Causes.{Says, IsTextOf}
+use Rattle.mapper_base.specs.Prints.{IsVerdictLine}
+use Rattle.mapper_base.specs.Seen.{LogSeen}
 use Rattle.mapper_core.proofs.running.text_of.Goals as goal
 
 -- the verdict on what was read is the one on what there was

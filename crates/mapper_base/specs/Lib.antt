@@ -1,0 +1,14 @@
+pub mod Outside
+pub mod Memory
+pub mod Seen
+pub mod Asks
+pub mod CommandLine
+pub mod Generated
+pub mod Summary
+pub mod Endings
+pub mod Verdicts
+pub mod Prints
+pub mod Inputs
+pub mod Done
+pub mod Causes
+pub mod Turns

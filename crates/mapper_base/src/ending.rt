@@ -1,0 +1,58 @@
+//! The ways in which a run ends.
+ghost use Rattle.std.specs.Prelude.{◌≡◌};
+ghost use Rattle.mapper_base.specs.Endings.{status_of};
+ghost use Rattle.mapper_base.specs.declared.ending.Ending.TheVariants as ending;
+
+use crate::status::Status;
+use map_fold::NoMemory;
+use scan_log::LogCause;
+
+/// How a run ended, with what is told of it.
+#[derive(Clone, Copy, Debug, PartialEq, Eq)]
+pub enum Ending {
+    /// All was written.
+    Done,
+    /// The words ask for nothing that can be done.
+    Usage,
+    /// The log failed while it was read.
+    ReadFault,
+    /// The log, or what stands behind it, has more bytes than it may have.
+    TooLong,
+    /// The log has a fault.
+    Bad {
+        /// The first faulty line, counted from 1.
+        line: u32,
+        /// The first fault in it.
+        cause: LogCause,
+    },
+    /// Out failed while it was written to.
+    WriteFault,
+    /// There was no memory.
+    NoMemory,
+}
+
+impl Ending {
+    /// The status that it is answered by.
+    pub fn status(self) -> Status
+        ensures { result ≡ status_of self }
+    {
+        match self {
+            Ending::Done => Status::Done,
+            Ending::Usage => Status::Usage,
+            Ending::ReadFault => Status::ReadFault,
+            Ending::TooLong => Status::OverLimit,
+            Ending::Bad { cause, .. } if cause.is_limit() => Status::OverLimit,
+            Ending::Bad { .. } => Status::BadLog,
+            Ending::WriteFault => Status::WriteFault,
+            Ending::NoMemory => Status::NoMemory,
+        }
+    }
+}
+
+impl From<NoMemory> for Ending {
+    ghost from_gives = { λ _ e. e ≡ ending.NoMemory };
+
+    fn from(_want: NoMemory) -> Ending {
+        Ending::NoMemory
+    }
+}

@@ -1,6 +1,0 @@
-use Rattle.std.proofs.Common.{drop}
-use Rattle.mapper_core.proofs.InOrder.{Ran}
-use Rattle.mapper_core.proofs.replying.in_order.Given as goal
-
-abbrev pub invariant-loop-command : goal.invariant-loop-command
-invariant-loop-command l = Ran l.script (drop l.command-index l.script.commands) l.state.state l.replies
