@@ -1,8 +1,8 @@
 //! Reading the header.
 ghost use Rattle.std.specs.Prelude.{◌≡◌};
-ghost use Rattle.scan_log.specs.Formats.{format_of};
+ghost use Rattle.scan_log.specs.Formats.{format_of, is_version};
 ghost use Rattle.scan_log.specs.Lines.{fields_of};
-ghost use Rattle.scan_log.specs.Reading.{header_of};
+ghost use Rattle.scan_log.specs.Reading.{are_header_words, header_of};
 
 use crate::fields::Fields;
 use crate::number::natural_in;
@@ -20,18 +20,28 @@ pub fn settings(header: &[u8]) -> Result<(Format, Settings), LogCause>
     if fields.next().is_some() {
         return Err(LogCause::NoHeader);
     }
-    if program != b"ikdmap".as_slice() {
-        return Err(LogCause::NoHeader);
-    }
-    if version != b"1".as_slice() && version != b"2".as_slice() {
-        return Err(LogCause::NoHeader);
-    }
-    if voxel_word != b"voxel".as_slice() || large_word != b"large".as_slice() {
+    if !are_words(program, version, voxel_word, large_word) {
         return Err(LogCause::NoHeader);
     }
     let voxel = natural_in(1, 1_000_000, voxel)?;
     let large = natural_in(16, 1_000_000, large)?;
     Ok((format_of(version), Settings::new(voxel, large)))
+}
+
+// What a header has beside its two numbers.
+fn are_words(program: &[u8], version: &[u8], voxel: &[u8], large: &[u8]) -> bool
+    ensures { result ≡ are_header_words program.now version.now voxel.now large.now }
+{
+    program == b"ikdmap".as_slice()
+        && is_version(version)
+        && voxel == b"voxel".as_slice()
+        && large == b"large".as_slice()
+}
+
+fn is_version(version: &[u8]) -> bool
+    ensures { result ≡ is_version version.now }
+{
+    version == b"1".as_slice() || version == b"2".as_slice()
 }
 
 fn format_of(version: &[u8]) -> Format

@@ -1,7 +1,8 @@
 //! Reading what is asked.
 ghost use Rattle.std.specs.Prelude.{◌≡◌};
+ghost use Rattle.std.specs.Option.{option_copied};
 ghost use Rattle.scan_log.specs.Outcomes.{Gives};
-ghost use Rattle.scan_log.specs.Reading.{ball_of, inside_of, near_of, nears_of, reach_of};
+ghost use Rattle.scan_log.specs.Reading.{ball_of, inside_of, near_of, nearest_of, nears_of, reach_of};
 
 use crate::boxes::cuboid;
 use crate::fields::Fields;
@@ -22,25 +23,39 @@ pub fn near(format: Format, caller: u8, fields: Fields) -> Result<Command, LogCa
     let k = fields.next().ok_or(LogCause::WrongCount)?;
     let (x, y, z) = fields.three().ok_or(LogCause::WrongCount)?;
     let Some(word) = fields.next() else {
-        return Ok(Command::Near {
-            caller,
-            k: natural_in(1, 256, k)?,
-            point: point(format, x, y, z)?,
-            within: None,
-        });
+        return nearest(format, caller, k, x, y, z, None);
     };
     let distance = fields.next().ok_or(LogCause::WrongCount)?;
     if fields.next().is_some() || word != b"within".as_slice() {
         return Err(LogCause::WrongCount);
     }
+    nearest(format, caller, k, x, y, z, Some(distance))
+}
+
+// The search for so many points that are nearest to a place, up to a distance if one is given.
+#[tactic(auto, unfolding(crate::specs::Reading::near_of))]
+fn nearest(
+    format: Format,
+    caller: u8,
+    k: &[u8],
+    x: &[u8],
+    y: &[u8],
+    z: &[u8],
+    distance: Option<&[u8]>,
+) -> Result<Command, LogCause>
+    ensures { result ≡ nearest_of format caller k.now x.now y.now z.now (option_copied distance.entry) }
+{
     let k = natural_in(1, 256, k)?;
     let point = point(format, x, y, z)?;
-    let within = distance_in(format, distance)?;
+    let within = match distance {
+        Some(distance) => Some(distance_in(format, distance)?),
+        None => None,
+    };
     Ok(Command::Near {
         caller,
         k,
         point,
-        within: Some(within),
+        within,
     })
 }
 

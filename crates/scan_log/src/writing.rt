@@ -8,7 +8,7 @@ ghost use Rattle.scan_log.specs.Transcript.{all_spaced, spaced};
 ghost use Rattle.scan_log.specs.Written.{corner_text, cuboid_text, joined_fields, written_line, script_text};
 
 use crate::putting::{
-    Listed, put, put_all, put_caller, put_head, put_named, put_point, put_spaced, put_word,
+    Listed, put, put_all, put_caller, put_head, put_named, put_point, put_spaced, put_three, put_word,
 };
 use crate::{Command, Format, Script};
 use local_region::RegionRules;
@@ -210,9 +210,7 @@ fn put_cuboid(out: &mut Vec<u8>, cuboid: &Cuboid) -> Result<(), NoMemory>
 fn put_corner(out: &mut Vec<u8>, corner: Corner) -> Result<(), NoMemory>
     ensures { OnOk result (out.new.items ≡ out.old.items ++ corner_text corner) }
 {
-    put_spaced(out, corner.x)?;
-    put_spaced(out, corner.y)?;
-    put_spaced(out, corner.z)
+    put_three(out, corner.x, corner.y, corner.z)
 }
 
 fn put_within(out: &mut Vec<u8>, within: Option<u64>) -> Result<(), NoMemory>
