@@ -54,7 +54,9 @@ fn command(room: Room, fields: Fields) -> Result<Command, LineFault>
     ensures { Gives result (command_of room.format room.points fields.entry) }
 {
     let mut fields = fields;
-    let first = fields.next().ok_or(LogCause::UnknownCommand)?;
+    let Some(first) = fields.next() else {
+        return Err(LineFault::Bad(LogCause::UnknownCommand));
+    };
     if first == b"sync".as_slice() {
         if fields.next().is_some() {
             return Err(LineFault::Bad(LogCause::WrongCount));
@@ -62,7 +64,9 @@ fn command(room: Room, fields: Fields) -> Result<Command, LineFault>
         return Ok(Command::Sync);
     }
     let caller = caller(first)?;
-    let word = fields.next().ok_or(LogCause::UnknownCommand)?;
+    let Some(word) = fields.next() else {
+        return Err(LineFault::Bad(LogCause::UnknownCommand));
+    };
     called(room, caller, word, fields)
 }
 
@@ -165,7 +169,9 @@ fn expiry(fields: Fields) -> Result<Update, LogCause>
     ensures { result ≡ expiry_of fields.entry }
 {
     let mut fields = fields;
-    let number = fields.next().ok_or(LogCause::WrongCount)?;
+    let Some(number) = fields.next() else {
+        return Err(LogCause::WrongCount);
+    };
     if fields.next().is_some() {
         return Err(LogCause::WrongCount);
     }

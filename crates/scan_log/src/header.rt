@@ -15,8 +15,12 @@ pub fn settings(header: &[u8]) -> Result<(Format, Settings), LogCause>
     ensures { result ≡ header_of (fields_of header.now) }
 {
     let mut fields = Fields::new(header);
-    let (program, version, voxel_word) = fields.three().ok_or(LogCause::NoHeader)?;
-    let (voxel, large_word, large) = fields.three().ok_or(LogCause::NoHeader)?;
+    let Some((program, version, voxel_word)) = fields.three() else {
+        return Err(LogCause::NoHeader);
+    };
+    let Some((voxel, large_word, large)) = fields.three() else {
+        return Err(LogCause::NoHeader);
+    };
     if fields.next().is_some() {
         return Err(LogCause::NoHeader);
     }

@@ -20,12 +20,18 @@ pub fn near(format: Format, caller: u8, fields: Fields) -> Result<Command, LogCa
     ensures { result ≡ near_of format caller fields.entry }
 {
     let mut fields = fields;
-    let k = fields.next().ok_or(LogCause::WrongCount)?;
-    let (x, y, z) = fields.three().ok_or(LogCause::WrongCount)?;
+    let Some(k) = fields.next() else {
+        return Err(LogCause::WrongCount);
+    };
+    let Some((x, y, z)) = fields.three() else {
+        return Err(LogCause::WrongCount);
+    };
     let Some(word) = fields.next() else {
         return nearest(format, caller, k, x, y, z, None);
     };
-    let distance = fields.next().ok_or(LogCause::WrongCount)?;
+    let Some(distance) = fields.next() else {
+        return Err(LogCause::WrongCount);
+    };
     if fields.next().is_some() || word != b"within".as_slice() {
         return Err(LogCause::WrongCount);
     }
@@ -65,9 +71,15 @@ pub fn inside(format: Format, caller: u8, fields: Fields) -> Result<Command, Log
     ensures { result ≡ inside_of format caller fields.entry }
 {
     let mut fields = fields;
-    let k = fields.next().ok_or(LogCause::WrongCount)?;
-    let (x, y, z) = fields.three().ok_or(LogCause::WrongCount)?;
-    let (far_x, far_y, far_z) = fields.three().ok_or(LogCause::WrongCount)?;
+    let Some(k) = fields.next() else {
+        return Err(LogCause::WrongCount);
+    };
+    let Some((x, y, z)) = fields.three() else {
+        return Err(LogCause::WrongCount);
+    };
+    let Some((far_x, far_y, far_z)) = fields.three() else {
+        return Err(LogCause::WrongCount);
+    };
     if fields.next().is_some() {
         return Err(LogCause::WrongCount);
     }
@@ -82,7 +94,9 @@ pub fn nears(alloc: Global, caller: u8, fields: Fields) -> Result<Command, LineF
     ensures { Gives result (nears_of caller fields.entry) }
 {
     let mut fields = fields;
-    let k = fields.next().ok_or(LogCause::WrongCount)?;
+    let Some(k) = fields.next() else {
+        return Err(LineFault::Bad(LogCause::WrongCount));
+    };
     let count = groups(&fields, 3, MAX_PLACES_OF_COMMAND)?;
     let k = natural_in(1, 256, k)?;
     let points = all_points(alloc, Format::Two, count, fields)?;
@@ -95,9 +109,15 @@ pub fn ball(caller: u8, fields: Fields) -> Result<Command, LogCause>
     ensures { result ≡ ball_of caller fields.entry }
 {
     let mut fields = fields;
-    let k = fields.next().ok_or(LogCause::WrongCount)?;
-    let r = fields.next().ok_or(LogCause::WrongCount)?;
-    let (x, y, z) = fields.three().ok_or(LogCause::WrongCount)?;
+    let Some(k) = fields.next() else {
+        return Err(LogCause::WrongCount);
+    };
+    let Some(r) = fields.next() else {
+        return Err(LogCause::WrongCount);
+    };
+    let Some((x, y, z)) = fields.three() else {
+        return Err(LogCause::WrongCount);
+    };
     if fields.next().is_some() {
         return Err(LogCause::WrongCount);
     }
@@ -118,8 +138,12 @@ pub fn reach(fields: Fields) -> Result<(u32, u64), LogCause>
     ensures { result ≡ reach_of fields.entry }
 {
     let mut fields = fields;
-    let k = fields.next().ok_or(LogCause::WrongCount)?;
-    let r = fields.next().ok_or(LogCause::WrongCount)?;
+    let Some(k) = fields.next() else {
+        return Err(LogCause::WrongCount);
+    };
+    let Some(r) = fields.next() else {
+        return Err(LogCause::WrongCount);
+    };
     if fields.next().is_some() {
         return Err(LogCause::WrongCount);
     }

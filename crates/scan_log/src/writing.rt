@@ -8,7 +8,8 @@ ghost use Rattle.scan_log.specs.Transcript.{all_spaced, spaced};
 ghost use Rattle.scan_log.specs.Written.{corner_text, cuboid_text, joined_fields, written_line, script_text};
 
 use crate::putting::{
-    Listed, put, put_all, put_caller, put_head, put_named, put_point, put_spaced, put_three, put_word,
+    Listed, put, put_all, put_caller, put_head, put_named, put_point, put_spaced, put_three,
+    put_word,
 };
 use crate::{Command, Format, Script};
 use local_region::RegionRules;
