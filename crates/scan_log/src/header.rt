@@ -6,6 +6,7 @@ ghost use Rattle.scan_log.specs.Reading.{are_header_words, header_of};
 
 use crate::fields::Fields;
 use crate::number::natural_in;
+use crate::piece::is_word;
 use crate::{Format, LogCause};
 use map_fold::Settings;
 
@@ -36,22 +37,22 @@ pub fn settings(header: &[u8]) -> Result<(Format, Settings), LogCause>
 fn are_words(program: &[u8], version: &[u8], voxel: &[u8], large: &[u8]) -> bool
     ensures { result ≡ are_header_words program.now version.now voxel.now large.now }
 {
-    program == b"ikdmap".as_slice()
+    is_word(program, b"ikdmap")
         && is_version(version)
-        && voxel == b"voxel".as_slice()
-        && large == b"large".as_slice()
+        && is_word(voxel, b"voxel")
+        && is_word(large, b"large")
 }
 
 fn is_version(version: &[u8]) -> bool
     ensures { result ≡ is_version version.now }
 {
-    version == b"1".as_slice() || version == b"2".as_slice()
+    is_word(version, b"1") || is_word(version, b"2")
 }
 
 fn format_of(version: &[u8]) -> Format
     ensures { result ≡ format_of version.now }
 {
-    if version == b"2".as_slice() {
+    if is_word(version, b"2") {
         Format::Two
     } else {
         Format::One

@@ -8,6 +8,7 @@ use crate::boxes::cuboid;
 use crate::fields::Fields;
 use crate::line_fault::LineFault;
 use crate::number::{distance as distance_in, natural_in};
+use crate::piece::is_word;
 use crate::points::{all_points, groups, point};
 use crate::{Command, Format, LogCause};
 use std::alloc::Global;
@@ -32,7 +33,7 @@ pub fn near(format: Format, caller: u8, fields: Fields) -> Result<Command, LogCa
     let Some(distance) = fields.next() else {
         return Err(LogCause::WrongCount);
     };
-    if fields.next().is_some() || word != b"within".as_slice() {
+    if fields.next().is_some() || !is_word(word, b"within") {
         return Err(LogCause::WrongCount);
     }
     nearest(format, caller, k, x, y, z, Some(distance))
