@@ -6,8 +6,11 @@ ghost use Rattle.kd_search.specs.Query.{IsQuery};
 ghost use Rattle.scan_log.specs.Plain.{IsPlain};
 ghost use Rattle.transcript_check.specs.Told.{reply_at};
 
-use crate::neighbours::{ball_reply, clusters_reply, lonely_reply};
-use map_fold::{BoxReply, HitLists, MAX_POINTS, NearReply, NearsReply, NoMemory, PlainMap};
+use crate::neighbours::{ball_reply, tree_of};
+use map_fold::{
+    BoxReply, ClusterReply, HitLists, MAX_POINTS, NearReply, NearsReply, NoMemory, PlainMap,
+};
+use neighbour_sets::{Found, Grouped, clusters, lonely};
 use point_geom::Point;
 use scan_log::{Command, Reply};
 use std::alloc::Global;
@@ -34,8 +37,8 @@ fn answer_to(alloc: Global, map: &PlainMap, command: &Command, mark: u64) -> Res
     requires points { map.now.next ≤ MAX_POINTS }
     ensures { IfOk result (λ r. r ≡ reply_at map.now.items (Some command.now) mark) }
 {
-    match command {
-        Command::Change { .. } | Command::Pose { .. } => Ok(Reply::Done { mark }),
+    Ok(match command {
+        Command::Change { .. } | Command::Pose { .. } => Reply::Done { mark },
         Command::Near {
             k,
             point,
@@ -43,28 +46,34 @@ fn answer_to(alloc: Global, map: &PlainMap, command: &Command, mark: u64) -> Res
             ..
         } => {
             let hits = map.nearest(alloc, *k, point, *within)?;
-            Ok(Reply::Near(NearReply { mark, hits }))
+            Reply::Near(NearReply { mark, hits })
         }
         Command::Nears { k, points, .. } => {
             let lists = nearest_in_turn(alloc, map, *k, points.as_slice())?;
-            Ok(Reply::Nears(NearsReply { mark, lists }))
+            Reply::Nears(NearsReply { mark, lists })
         }
         Command::Inside { k, cuboid, .. } => {
             let count = map.count_in(cuboid);
             let items = map.in_cuboid(alloc, cuboid, *k)?;
-            Ok(Reply::Inside(BoxReply { mark, count, items }))
+            Reply::Inside(BoxReply { mark, count, items })
         }
         Command::Ball { k, r, point, .. } => {
-            Ok(Reply::Ball(ball_reply(alloc, map, mark, *k, *r, point)?))
+            Reply::Ball(ball_reply(alloc, map, mark, *k, *r, point)?)
         }
         Command::Lonely { k, r, .. } => {
-            Ok(Reply::Lonely(lonely_reply(alloc, map, mark, *k, *r)?))
+            let Found { count, items } = lonely(alloc, &tree_of(alloc, map)?, *r, *k)?;
+            Reply::Lonely(BoxReply { mark, count, items })
         }
         Command::Clusters { k, r, .. } => {
-            Ok(Reply::Clusters(clusters_reply(alloc, map, mark, *k, *r)?))
+            let Grouped { count, groups } = clusters(alloc, &tree_of(alloc, map)?, *r, *k)?;
+            Reply::Clusters(ClusterReply {
+                mark,
+                count,
+                groups,
+            })
         }
-        Command::Sync => Ok(totals(map, mark)),
-    }
+        Command::Sync => totals(map, mark),
+    })
 }
 
 // One search after another.

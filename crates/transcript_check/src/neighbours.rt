@@ -1,21 +1,17 @@
 //! What queries for neighbours are answered with. A ball is a walk over all items. For lonely points and clusters that would be
 //! one for each item, so the items are put into a tree first.
-ghost use Rattle.std.specs.Prelude.{◌≡◌, ◌≤◌, ◌&&◌, filter, length, take, IfOk, Some};
+ghost use Rattle.std.specs.Prelude.{◌≡◌, ◌≤◌, ◌&&◌, filter, length, take, IfOk};
 ghost use Rattle.node_labels.specs.Labels.{is_live};
-ghost use Rattle.map_fold.specs.Clusters.{clusters};
 ghost use Rattle.map_fold.specs.Contents.{AreContents};
-ghost use Rattle.map_fold.specs.Neighbours.{ball, is_near, lonely};
-ghost use Rattle.kd_search.specs.Query.{IsQuery};
+ghost use Rattle.map_fold.specs.Neighbours.{ball, is_near};
 ghost use Rattle.kd_tree.specs.Contents.{contents};
 ghost use Rattle.kd_tree.specs.Counter.{IsBlankOf};
-ghost use Rattle.scan_log.specs.Transcript.{clusters_reply, found_reply};
+ghost use Rattle.scan_log.specs.Transcript.{found_reply};
 
 use kd_tree::{Steps, Tree};
 use map_fold::{
-    BoxReply, ClusterReply, Item, Items, Label, MAX_FOUND, MAX_POINTS, MAX_WITHIN, NoMemory,
-    PlainMap,
+    BoxReply, Item, Items, Label, MAX_FOUND, MAX_POINTS, MAX_WITHIN, NoMemory, PlainMap,
 };
-use neighbour_sets::{Found, Grouped, clusters, lonely};
 use point_geom::{Point, dist2};
 use std::alloc::Global;
 use std::marker::Brand;
@@ -42,46 +38,8 @@ pub fn ball_reply(
     Ok(BoxReply { mark, count, items })
 }
 
-/// The points that have no other near them.
-pub fn lonely_reply(
-    alloc: Global,
-    map: &PlainMap,
-    mark: u64,
-    k: u32,
-    r: u64,
-) -> Result<BoxReply, NoMemory>
-    requires query { IsQuery k (Some r) }
-    requires points { map.now.next ≤ MAX_POINTS }
-    ensures { IfOk result (λ found. found ≡ found_reply mark (lonely map.now.items r) k) }
-{
-    let tree = tree_of(alloc, map)?;
-    let Found { count, items } = lonely(alloc, &tree, r, k)?;
-    Ok(BoxReply { mark, count, items })
-}
-
-/// The clusters.
-pub fn clusters_reply(
-    alloc: Global,
-    map: &PlainMap,
-    mark: u64,
-    k: u32,
-    r: u64,
-) -> Result<ClusterReply, NoMemory>
-    requires query { IsQuery k (Some r) }
-    requires points { map.now.next ≤ MAX_POINTS }
-    ensures { IfOk result (λ found. found ≡ clusters_reply mark (clusters map.now.items r) k) }
-{
-    let tree = tree_of(alloc, map)?;
-    let Grouped { count, groups } = clusters(alloc, &tree, r, k)?;
-    Ok(ClusterReply {
-        mark,
-        count,
-        groups,
-    })
-}
-
-// A tree of the items.
-fn tree_of(alloc: Global, map: &PlainMap) -> Result<Tree, NoMemory>
+/// A tree of the items.
+pub fn tree_of(alloc: Global, map: &PlainMap) -> Result<Tree, NoMemory>
     requires { map.now.next ≤ MAX_POINTS }
     ensures { IfOk result (λ t. contents t ≡ map.now.items) }
 {

@@ -13,7 +13,7 @@ use crate::answers::reply_to;
 use crate::lines::{Told, command_at};
 use crate::order::{Marked, places_by_mark};
 use map_fold::{MAX_POINTS, NoMemory, PlainMap, Settings};
-use scan_log::{Command, Format, PlainScript, Reply, reply_line};
+use scan_log::{Command, Format, PlainScript, reply_line};
 use std::alloc::Global;
 
 /// The place of the first line that isn't its reply's, from 0.
@@ -79,20 +79,7 @@ fn is_told(
     ensures { IfOk result (λ same. Decides same (told.now.line.now ≡ reply_text format (option_copied command.entry) (reply_at map.now.items (option_copied command.entry) told.now.mark))) }
 {
     let reply = reply_to(alloc, map, command, told.mark as u64)?;
-    is_line_of(alloc, format, command, &reply, told.line)
-}
-
-// Whether the line is the one that the reply has.
-fn is_line_of(
-    alloc: Global,
-    format: Format,
-    command: Option<&Command>,
-    reply: &Reply,
-    told: &[u8],
-) -> Result<bool, NoMemory>
-    ensures { IfOk result (λ same. Decides same (told.now ≡ reply_text format (option_copied command.entry) reply.now)) }
-{
     let mut line = Vec::new(alloc);
-    reply_line(&mut line, format, command, reply)?;
-    Ok(told == line.as_slice())
+    reply_line(&mut line, format, command, &reply)?;
+    Ok(told.line == line.as_slice())
 }
