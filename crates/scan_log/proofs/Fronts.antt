@@ -43,6 +43,24 @@ pub first_place_read : (format : Format) (first second third : List (List ℕ)) 
 first_place_read format first second third x y z h read behind next farther last =
     first_place_is format first h ∙ rw (← behind, ← farther, ← read, ← next, ← last) refl
 
+-- the first that is no coordinate is the fault
+pub first_bad : (format : Format) (first : List (List ℕ)) (e : LogCause) → 3 ≤ length first → Err e ≡ first_coordinate format first → Err e ≡ first_place format first
+first_bad format first e many bad = sym (first_place_is format first many ∙ rw (← bad) refl)
+
+pub second_bad : (format : Format) (first second : List (List ℕ)) (x : ℤ) (e : LogCause) → 3 ≤ length first → Ok x ≡ first_coordinate format first → second ≡ drop 1 first
+    → Err e ≡ first_coordinate format second → Err e ≡ first_place format first
+second_bad format first second x e many read behind bad = sym (first_place_is format first many ∙ rw (← behind, ← read, ← bad) refl)
+
+pub third_bad : (format : Format) (first second third : List (List ℕ)) (x y : ℤ) (e : LogCause) → 3 ≤ length first → Ok x ≡ first_coordinate format first → second ≡ drop 1 first
+    → Ok y ≡ first_coordinate format second → third ≡ drop 1 second → Err e ≡ first_coordinate format third → Err e ≡ first_place format first
+third_bad format first second third x y e many read behind next farther bad = sym (first_place_is format first many ∙ rw (← behind, ← farther, ← read, ← next, ← bad) refl)
+
+pub drop_three : (fields : List (List ℕ)) → drop 1 (drop 1 (drop 1 fields)) ≡ drop 3 fields
+drop_three [] = refl
+drop_three (f ∷ []) = refl
+drop_three (f ∷ g ∷ []) = refl
+drop_three (f ∷ g ∷ h ∷ rest) = refl
+
 -- the groups are all fields
 record Whole (size n : ℕ) (fields : List (List ℕ)) : Type 0 where
   none_left : length fields % size ≡ 0
