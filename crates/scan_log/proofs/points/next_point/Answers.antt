@@ -1,13 +1,8 @@
-use Rattle.std.proofs.Common.{◌≡◌, Result, Ok, Err, drop, ap, sym, ◌∙◌, w64}
-use Rattle.std.specs.Result.{IsErrAnd}
+use Rattle.std.proofs.Common.{drop, ap, sym, ◌∙◌, w64}
 use Rattle.std.proofs.lemmas.Int.{to_z-of_z}
 use Rattle.scan_log.proofs.Fronts.{coordinate_fits, drop_three, first_bad, first_place_read, second_bad, third_bad}
+use Rattle.scan_log.proofs.StepLemmas.{passed_on}
 use Rattle.scan_log.proofs.points.next_point.Goals as goal
-
--- the fault that a step has is passed on
-passed_on : {A E : Type 0} (r : Result A E) (e : E) → IsErrAnd r (λ y. y ≡ e) → r ≡ Err e
-passed_on (Ok x) e h = absurd h
-passed_on (Err y) e h = ap Err h
 
 pub returns-in_err-x-clause-value : goal.returns-in_err-x-clause-value
 returns-in_err-x-clause-value c =
