@@ -1,15 +1,17 @@
 -- Lists that grow by what is read.
-use Rattle.std.proofs.Common.{◌≡◌, ℕ, ◌≤◌, List, [], ◌∷◌, ◌++◌, length, drop, Result, Ok, Err, refl, sym, ap, ◌∙◌, append_assoc, arith, ◌*◌, ◌/◌, ◌%◌, nat_eq, not, ℤ}
+use Rattle.std.proofs.Common.{◌≡◌, ℕ, ◌≤◌, List, [], ◌∷◌, ◌++◌, length, drop, Result, Ok, Err, refl, sym, ap, ◌∙◌, append_assoc, arith, ◌*◌, ◌/◌, ◌%◌, nat_eq, not, ℤ, FitsSigned, w64}
 use Rattle.std.specs.Prelude.{nat_le}
+use Rattle.std.proofs.lemmas.Int.{ints}
 use Rattle.std.proofs.lemmas.Bool.Decides.{nat_tests}
 use Rattle.scan_log.specs.declared.format.Format.{Format}
-use Rattle.scan_log.specs.declared.format.Format.TheVariants.{Two}
+use Rattle.scan_log.specs.declared.format.Format.TheVariants.{One, Two}
 use Rattle.scan_log.specs.Steps.{◌>>=◌}
 use Rattle.point_geom.specs.Place.{Place, Bounds}
 use Rattle.scan_log.specs.declared.fault.LogCause.{LogCause}
 use Rattle.scan_log.specs.Faults.{are_groups}
+use Rattle.scan_log.specs.Scripts.{IsLogCoordinate}
 use Rattle.scan_log.proofs.StepLemmas.{both, passed}
-use Rattle.scan_log.specs.Reading.{scanned_place_of, scanned_places_of, first_coordinate, first_intensity, first_place, first_scanned, groups_of, place_of, places_of, box_of, boxes_of}
+use Rattle.scan_log.specs.Reading.{scanned_place_of, scanned_places_of, first_coordinate, first_intensity, first_place, first_scanned, groups_of, place_of, places_of, boxes_of, with_boxes}
 
 -- the list before what is read
 abbrev pub with_front : {A E : Type 0} → List A → Result (List A) E → Result (List A) E
@@ -31,10 +33,33 @@ first_place_is format (f ∷ []) h = absurd (omega arith)
 first_place_is format (f ∷ g ∷ []) h = absurd (omega arith)
 first_place_is format (f ∷ g ∷ h ∷ rest) _ = refl
 
+-- a coordinate of either version fits
+pub coordinate_fits : (format : Format) (c : ℤ) → IsLogCoordinate format c → FitsSigned w64 c
+coordinate_fits One c h = grind (arith, ints, h.0, h.1)
+coordinate_fits Two c h = grind (arith, ints, h.0, h.1)
+
 pub first_place_read : (format : Format) (first second third : List (List ℕ)) (x y z : ℤ) → 3 ≤ length first → Ok x ≡ first_coordinate format first → second ≡ drop 1 first
     → Ok y ≡ first_coordinate format second → third ≡ drop 1 second → Ok z ≡ first_coordinate format third → first_place format first ≡ Ok (record { x = x; y = y; z = z; intensity = 0 })
 first_place_read format first second third x y z h read behind next farther last =
     first_place_is format first h ∙ rw (← behind, ← farther, ← read, ← next, ← last) refl
+
+-- the first that is no coordinate is the fault
+pub first_bad : (format : Format) (first : List (List ℕ)) (e : LogCause) → 3 ≤ length first → Err e ≡ first_coordinate format first → Err e ≡ first_place format first
+first_bad format first e many bad = sym (first_place_is format first many ∙ rw (← bad) refl)
+
+pub second_bad : (format : Format) (first second : List (List ℕ)) (x : ℤ) (e : LogCause) → 3 ≤ length first → Ok x ≡ first_coordinate format first → second ≡ drop 1 first
+    → Err e ≡ first_coordinate format second → Err e ≡ first_place format first
+second_bad format first second x e many read behind bad = sym (first_place_is format first many ∙ rw (← behind, ← read, ← bad) refl)
+
+pub third_bad : (format : Format) (first second third : List (List ℕ)) (x y : ℤ) (e : LogCause) → 3 ≤ length first → Ok x ≡ first_coordinate format first → second ≡ drop 1 first
+    → Ok y ≡ first_coordinate format second → third ≡ drop 1 second → Err e ≡ first_coordinate format third → Err e ≡ first_place format first
+third_bad format first second third x y e many read behind next farther bad = sym (first_place_is format first many ∙ rw (← behind, ← farther, ← read, ← next, ← bad) refl)
+
+pub drop_three : (fields : List (List ℕ)) → drop 1 (drop 1 (drop 1 fields)) ≡ drop 3 fields
+drop_three [] = refl
+drop_three (f ∷ []) = refl
+drop_three (f ∷ g ∷ []) = refl
+drop_three (f ∷ g ∷ h ∷ rest) = refl
 
 -- the groups are all fields
 record Whole (size n : ℕ) (fields : List (List ℕ)) : Type 0 where
@@ -77,9 +102,9 @@ points_next format front (f ∷ g ∷ []) p h is = absurd (omega arith)
 points_next format front (f ∷ g ∷ h ∷ rest) p _ is = points_more format front p f g h rest (sym is)
 
 -- one more box was read
-pub boxes_more : (format : Format) (front : List Bounds) (box : Bounds) (a b c d e f : List ℕ) (rest : List (List ℕ)) → Ok box ≡ box_of format a b c d e f
-    → with_front front (boxes_of format (a ∷ b ∷ c ∷ d ∷ e ∷ f ∷ rest)) ≡ with_front (front ++ box ∷ []) (boxes_of format rest)
-boxes_more format front box a b c d e f rest is = rw (← is) (with_front-more front box (boxes_of format rest))
+pub boxes_more : (format : Format) (front : List Bounds) (box : Bounds) (fields rest : List (List ℕ)) → boxes_of format fields ≡ with_boxes format (Ok box) rest
+    → with_front front (boxes_of format fields) ≡ with_front (front ++ box ∷ []) (boxes_of format rest)
+boxes_more format front box fields rest is = rw is (with_front-more front box (boxes_of format rest))
 
 -- the same of a point that is scanned, and its intensity
 pub first_scanned_is : (fields : List (List ℕ)) → 4 ≤ length fields → first_scanned fields

@@ -1,10 +1,15 @@
 -- Steps that were passed, and the fault of those that were not.
-use Rattle.std.proofs.Common.{◌≡◌, Bool, true, false, refl, Option, None, Some, Result, Ok, Err}
+use Rattle.std.proofs.Common.{◌≡◌, Bool, true, false, refl, Option, None, Some, Result, Ok, Err, ap}
 use Rattle.std.specs.Prelude.{◌&&◌}
-use Rattle.std.specs.Result.{result_err}
+use Rattle.std.specs.Result.{IsErrAnd, result_err}
 use Rattle.scan_log.specs.declared.fault.LogCause.{LogCause}
 use Rattle.scan_log.specs.Steps.{◌>>=◌, given}
 use Rattle.scan_log.specs.Faults.{◌orelse◌, fault_unless}
+
+-- the fault that a step has is passed on
+pub passed_on : {A E : Type 0} (r : Result A E) (e : E) → IsErrAnd r (λ y. y ≡ e) → r ≡ Err e
+passed_on (Ok x) e h = absurd h
+passed_on (Err y) e h = ap Err h
 
 -- both tests pass
 pub both : (a b : Bool) → (a && b) ≡ true → (a ≡ true) × (b ≡ true)

@@ -1,6 +1,7 @@
 -- Reading a log line by line, and a line field by field. Cited by private functions alone.
 use Rattle.std.specs.Prelude.{◌≡◌, ◌⊎◌, ℕ, ℤ, ◌+◌, ◌-◌, ◌/◌, Bool, ◌&&◌, ◌==◌, List, [], ◌∷◌, length, map, codes, min, nat_le, nat_lt, int_le, if◌then◌else◌}
 use Rattle.std.specs.Str.{bytes_eq}
+use Rattle.std.specs.declared.option.Option.{Option}
 use Rattle.std.specs.declared.option.Option.TheVariants.{None, Some}
 use Rattle.std.specs.declared.result.Result.{Result}
 use Rattle.std.specs.declared.result.Result.TheVariants.{Ok, Err}
@@ -119,6 +120,13 @@ boxes_of format (a ∷ b ∷ c ∷ d ∷ e ∷ f ∷ rest) = do
   Ok (box ∷ boxes)
 boxes_of format fields = Err WrongCount
 
+-- a box that was read, and then those of the fields behind it
+abbrev pub with_boxes : Format → Result Bounds LogCause → List (List ℕ) → Result (List Bounds) LogCause
+with_boxes format read rest = do
+  box ← read
+  boxes ← boxes_of format rest
+  Ok (box ∷ boxes)
+
 -- how many groups of so many fields there are: one or more, and no more than allowed
 unfoldable pub groups_of : ℕ → ℕ → List (List ℕ) → Result ℕ LogCause
 groups_of size most args =
@@ -171,6 +179,11 @@ near_of format caller (count ∷ x ∷ y ∷ z ∷ word ∷ distance ∷ []) =
       r ← natural_in 0 (farthest format) distance
       Ok (Near caller k p (Some r)))
 near_of format caller args = Err WrongCount
+
+-- near, with a greatest distance or without one
+abbrev pub nearest_of : Format → ℕ → List ℕ → List ℕ → List ℕ → List ℕ → Option (List ℕ) → Result Command LogCause
+nearest_of format caller count x y z None = near_of format caller (count ∷ x ∷ y ∷ z ∷ [])
+nearest_of format caller count x y z (Some distance) = near_of format caller (count ∷ x ∷ y ∷ z ∷ codes "within" ∷ distance ∷ [])
 
 -- box, and its seven arguments
 unfoldable pub inside_of : Format → ℕ → List (List ℕ) → Result Command LogCause
@@ -253,6 +266,10 @@ command_of format room (first ∷ fields) =
     if bytes_eq first (codes "sync") then given (length fields == 0) WrongCount (Ok Sync) else
     (caller_of first >>= λ caller. after_caller format room caller fields)
 command_of format room [] = Err UnknownCommand
+
+-- the words of a header
+abbrev pub are_header_words : List ℕ → List ℕ → List ℕ → List ℕ → Bool
+are_header_words a b c d = bytes_eq a (codes "ikdmap") && is_version b && bytes_eq c (codes "voxel") && bytes_eq d (codes "large")
 
 -- the version and the settings of the header's fields
 unfoldable pub header_of : List (List ℕ) → Result (Format × Sizes) LogCause

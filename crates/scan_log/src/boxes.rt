@@ -1,8 +1,8 @@
 //! Reading boxes.
-ghost use Rattle.std.specs.Prelude.{◌≡◌, map, IfOk, Ok};
+ghost use Rattle.std.specs.Prelude.{◌≡◌, ◌<◌, ◌∷◌, length, map, IfOk, OnOk, Ok};
 ghost use Rattle.point_geom.specs.Boxes.{unit_box};
 ghost use Rattle.scan_log.specs.Outcomes.{Gives};
-ghost use Rattle.scan_log.specs.Reading.{box_of, boxes_of, corner_of, few_boxes_of, units_of};
+ghost use Rattle.scan_log.specs.Reading.{box_of, boxes_of, corner_of, few_boxes_of, units_of, with_boxes};
 ghost use Rattle.scan_log.specs.Scripts.{IsBoxCorner};
 
 use crate::fields::Fields;
@@ -38,15 +38,27 @@ fn all_boxes(
     let mut fields = fields;
     let mut boxes = Vec::with_capacity(alloc, count)?;
     while let Some(x) = fields.next() {
-        let y = fields.next().ok_or(LogCause::WrongCount)?;
-        let z = fields.next().ok_or(LogCause::WrongCount)?;
-        let far_x = fields.next().ok_or(LogCause::WrongCount)?;
-        let far_y = fields.next().ok_or(LogCause::WrongCount)?;
-        let far_z = fields.next().ok_or(LogCause::WrongCount)?;
-        let cuboid = cuboid(format, x, y, z, far_x, far_y, far_z)?;
+        let cuboid = box_from(format, x, &mut fields)?;
         boxes.push(cuboid)?;
     }
     Ok(Cuboids::from(boxes))
+}
+
+// The box whose first field was read, and whose others come next.
+fn box_from(format: Format, x: &[u8], fields: &mut Fields) -> Result<Cuboid, LogCause>
+    ensures value { boxes_of format (x.now ∷ fields.old) ≡ with_boxes format result fields.new }
+    ensures fewer { OnOk result (length fields.new < length fields.old) }
+{
+    let Some(y) = fields.next() else {
+        return Err(LogCause::WrongCount);
+    };
+    let Some(z) = fields.next() else {
+        return Err(LogCause::WrongCount);
+    };
+    let Some((far_x, far_y, far_z)) = fields.three() else {
+        return Err(LogCause::WrongCount);
+    };
+    cuboid(format, x, y, z, far_x, far_y, far_z)
 }
 
 /// The box of each point that the fields spell, which holds that point alone.

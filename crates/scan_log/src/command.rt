@@ -8,7 +8,7 @@ use point_geom::{Cuboid, Point};
 use std::alloc::Global;
 
 /// A command of a log.
-#[derive(Debug, Drop)]
+#[derive(Drop)]
 pub enum Command {
     /// A change of the map.
     Change {

@@ -8,6 +8,7 @@ use crate::boxes::{boxes, units};
 use crate::fields::Fields;
 use crate::line_fault::LineFault;
 use crate::number::natural_in;
+use crate::piece::is_word;
 use crate::points::scanned_points;
 use crate::poses::pose;
 use crate::queries::{ball, inside, near, nears, reach};
@@ -54,15 +55,19 @@ fn command(room: Room, fields: Fields) -> Result<Command, LineFault>
     ensures { Gives result (command_of room.format room.points fields.entry) }
 {
     let mut fields = fields;
-    let first = fields.next().ok_or(LogCause::UnknownCommand)?;
-    if first == b"sync".as_slice() {
+    let Some(first) = fields.next() else {
+        return Err(LineFault::Bad(LogCause::UnknownCommand));
+    };
+    if is_word(first, b"sync") {
         if fields.next().is_some() {
             return Err(LineFault::Bad(LogCause::WrongCount));
         }
         return Ok(Command::Sync);
     }
     let caller = caller(first)?;
-    let word = fields.next().ok_or(LogCause::UnknownCommand)?;
+    let Some(word) = fields.next() else {
+        return Err(LineFault::Bad(LogCause::UnknownCommand));
+    };
     called(room, caller, word, fields)
 }
 
@@ -95,21 +100,21 @@ fn called(room: Room, caller: u8, word: &[u8], fields: Fields) -> Result<Command
 fn wide(room: Room, caller: u8, word: &[u8], fields: Fields) -> Result<Command, LineFault>
     ensures { Gives result (called_of Two room.points caller word.now fields.entry) }
 {
-    if word == b"nears".as_slice() {
+    if is_word(word, b"nears") {
         return nears(room.alloc, caller, fields);
     }
-    if word == b"ball".as_slice() {
+    if is_word(word, b"ball") {
         return Ok(ball(caller, fields)?);
     }
-    if word == b"lonely".as_slice() {
+    if is_word(word, b"lonely") {
         let (k, r) = reach(fields)?;
         return Ok(Command::Lonely { caller, k, r });
     }
-    if word == b"clusters".as_slice() {
+    if is_word(word, b"clusters") {
         let (k, r) = reach(fields)?;
         return Ok(Command::Clusters { caller, k, r });
     }
-    if word == b"pose".as_slice() {
+    if is_word(word, b"pose") {
         return Ok(pose(caller, fields)?);
     }
     let format = Format::Two;
@@ -120,10 +125,10 @@ fn wide(room: Room, caller: u8, word: &[u8], fields: Fields) -> Result<Command, 
 fn basic(room: Room, caller: u8, word: &[u8], fields: Fields) -> Result<Command, LineFault>
     ensures { Gives result (basic_of room.format room.points caller word.now fields.entry) }
 {
-    if word == b"near".as_slice() {
+    if is_word(word, b"near") {
         return Ok(near(room.format, caller, fields)?);
     }
-    if word == b"box".as_slice() {
+    if is_word(word, b"box") {
         return Ok(inside(room.format, caller, fields)?);
     }
     let update = update(room, word, fields)?;
@@ -136,25 +141,25 @@ fn update(room: Room, word: &[u8], fields: Fields) -> Result<Update, LineFault>
 {
     let points = room.points.min(MAX_POINTS_OF_COMMAND);
     let room = Room { points, ..room };
-    if word == b"add".as_slice() {
+    if is_word(word, b"add") {
         return Ok(Update::Add(scanned_points(room, fields)?));
     }
-    if word == b"thin".as_slice() {
+    if is_word(word, b"thin") {
         return Ok(Update::Thin(scanned_points(room, fields)?));
     }
-    if word == b"erase".as_slice() {
+    if is_word(word, b"erase") {
         return Ok(Update::Delete(units(room.alloc, room.format, fields)?));
     }
-    if word == b"delete".as_slice() {
+    if is_word(word, b"delete") {
         return Ok(Update::Delete(boxes(room.alloc, room.format, fields)?));
     }
-    if word == b"suspend".as_slice() {
+    if is_word(word, b"suspend") {
         return Ok(Update::Suspend(boxes(room.alloc, room.format, fields)?));
     }
-    if word == b"restore".as_slice() {
+    if is_word(word, b"restore") {
         return Ok(Update::Restore(boxes(room.alloc, room.format, fields)?));
     }
-    if room.format.has_expiry() && word == b"expire".as_slice() {
+    if room.format.has_expiry() && is_word(word, b"expire") {
         return Ok(expiry(fields)?);
     }
     Err(LineFault::Bad(LogCause::UnknownCommand))
@@ -165,7 +170,9 @@ fn expiry(fields: Fields) -> Result<Update, LogCause>
     ensures { result ≡ expiry_of fields.entry }
 {
     let mut fields = fields;
-    let number = fields.next().ok_or(LogCause::WrongCount)?;
+    let Some(number) = fields.next() else {
+        return Err(LogCause::WrongCount);
+    };
     if fields.next().is_some() {
         return Err(LogCause::WrongCount);
     }

@@ -1,11 +1,12 @@
 //! Reading the header.
 ghost use Rattle.std.specs.Prelude.{◌≡◌};
-ghost use Rattle.scan_log.specs.Formats.{format_of};
+ghost use Rattle.scan_log.specs.Formats.{format_of, is_version};
 ghost use Rattle.scan_log.specs.Lines.{fields_of};
-ghost use Rattle.scan_log.specs.Reading.{header_of};
+ghost use Rattle.scan_log.specs.Reading.{are_header_words, header_of};
 
 use crate::fields::Fields;
 use crate::number::natural_in;
+use crate::piece::is_word;
 use crate::{Format, LogCause};
 use map_fold::Settings;
 
@@ -15,18 +16,16 @@ pub fn settings(header: &[u8]) -> Result<(Format, Settings), LogCause>
     ensures { result ≡ header_of (fields_of header.now) }
 {
     let mut fields = Fields::new(header);
-    let (program, version, voxel_word) = fields.three().ok_or(LogCause::NoHeader)?;
-    let (voxel, large_word, large) = fields.three().ok_or(LogCause::NoHeader)?;
+    let Some((program, version, voxel_word)) = fields.three() else {
+        return Err(LogCause::NoHeader);
+    };
+    let Some((voxel, large_word, large)) = fields.three() else {
+        return Err(LogCause::NoHeader);
+    };
     if fields.next().is_some() {
         return Err(LogCause::NoHeader);
     }
-    if program != b"ikdmap".as_slice() {
-        return Err(LogCause::NoHeader);
-    }
-    if version != b"1".as_slice() && version != b"2".as_slice() {
-        return Err(LogCause::NoHeader);
-    }
-    if voxel_word != b"voxel".as_slice() || large_word != b"large".as_slice() {
+    if !are_words(program, version, voxel_word, large_word) {
         return Err(LogCause::NoHeader);
     }
     let voxel = natural_in(1, 1_000_000, voxel)?;
@@ -34,10 +33,26 @@ pub fn settings(header: &[u8]) -> Result<(Format, Settings), LogCause>
     Ok((format_of(version), Settings::new(voxel, large)))
 }
 
+// What a header has beside its two numbers.
+fn are_words(program: &[u8], version: &[u8], voxel: &[u8], large: &[u8]) -> bool
+    ensures { result ≡ are_header_words program.now version.now voxel.now large.now }
+{
+    is_word(program, b"ikdmap")
+        && is_version(version)
+        && is_word(voxel, b"voxel")
+        && is_word(large, b"large")
+}
+
+fn is_version(version: &[u8]) -> bool
+    ensures { result ≡ is_version version.now }
+{
+    is_word(version, b"1") || is_word(version, b"2")
+}
+
 fn format_of(version: &[u8]) -> Format
     ensures { result ≡ format_of version.now }
 {
-    if version == b"2".as_slice() {
+    if is_word(version, b"2") {
         Format::Two
     } else {
         Format::One

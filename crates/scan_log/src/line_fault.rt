@@ -6,7 +6,7 @@ use crate::{LogCause, ParseFault};
 use std::alloc::{AllocError, AllocFailed};
 
 /// Why the command of a line was not read.
-#[derive(Clone, Copy, Debug, PartialEq, Eq)]
+#[derive(Clone, Copy)]
 pub enum LineFault {
     Bad(LogCause),
     NoMemory,

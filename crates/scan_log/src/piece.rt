@@ -1,10 +1,18 @@
-//! Where a line or a field ends.
+//! Pieces of lines: where a line or a field ends, and which word a field is.
 ghost use Rattle.std.specs.Prelude.{◌≡◌, ◌<◌, ◌≤◌, ◌==◌, count_by, length, position, IfSome};
+ghost use Rattle.std.specs.Str.{bytes_eq};
 
 use memchr::memchr;
 
 // A count of so few bytes fits into one, so that many are compared at a time.
 const FEW: usize = 255;
+
+/// Whether the field is this word.
+pub fn is_word(field: &[u8], word: &[u8]) -> bool
+    ensures { result ≡ bytes_eq field.now word.now }
+{
+    field == word
+}
 
 /// Where the byte stands first.
 pub fn place_of(byte: u8, bytes: &[u8]) -> Option<usize>

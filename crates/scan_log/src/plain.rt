@@ -14,7 +14,7 @@ use std::alloc::Global;
 use std::marker::Model;
 
 /// A script in which each pose stands as the change that it submits: the deletion of what its caller's region leaves.
-#[derive(Debug, Drop)]
+#[derive(Drop)]
 pub struct PlainScript {
     format: Format,
     settings: Settings,

@@ -103,7 +103,6 @@ pub fn all_points(
     Ok(Points::from(points))
 }
 
-#[tactic(auto, using(crate::proofs::Fronts::first_place_is))]
 fn next_point(format: Format, fields: &mut Fields) -> Result<Point, LogCause>
     requires { 3 ≤ length fields.old }
     ensures value { result ≡ first_place format fields.old }

@@ -16,8 +16,12 @@ pub fn pose(caller: u8, fields: Fields) -> Result<Command, LogCause>
     ensures { result ≡ pose_of caller fields.entry }
 {
     let mut fields = fields;
-    let (side, ball, step) = fields.three().ok_or(LogCause::WrongCount)?;
-    let (x, y, z) = fields.three().ok_or(LogCause::WrongCount)?;
+    let Some((side, ball, step)) = fields.three() else {
+        return Err(LogCause::WrongCount);
+    };
+    let Some((x, y, z)) = fields.three() else {
+        return Err(LogCause::WrongCount);
+    };
     if fields.next().is_some() {
         return Err(LogCause::WrongCount);
     }

@@ -1,10 +1,11 @@
 //! Putting what lines are made of, those of a transcript and those of a log. What these put where memory runs out isn't said:
 //! the line or the log is dropped.
-ghost use Rattle.std.specs.Prelude.{◌≡◌, ◌++◌, List, ℕ, OnOk, OnErr};
+ghost use Rattle.std.specs.Prelude.{◌≡◌, [], ◌∷◌, ◌++◌, List, ℕ, OnOk, OnErr};
+ghost use Rattle.std.specs.Fmt.{signed_decimal};
 ghost use Rattle.std.specs.List.{flat_map};
 ghost use Rattle.scan_log.specs.declared.format.Format.{Format};
 ghost use Rattle.scan_log.specs.Spelling.{caller_field};
-ghost use Rattle.scan_log.specs.Transcript.{point_text, spaced};
+ghost use Rattle.scan_log.specs.Transcript.{all_spaced, point_text, spaced};
 
 use crate::Format;
 use itoa::{Buffer, Integer};
@@ -70,9 +71,16 @@ pub(crate) fn put_named<I: Integer>(
 pub(crate) fn put_point(out: &mut Vec<u8>, point: &Point) -> Result<(), NoMemory>
     ensures { OnOk result (out.new.items ≡ out.old.items ++ point_text point.now) }
 {
-    put_spaced(out, point.x())?;
-    put_spaced(out, point.y())?;
-    put_spaced(out, point.z())
+    put_three(out, point.x(), point.y(), point.z())
+}
+
+/// The numbers on three axes.
+pub(crate) fn put_three(out: &mut Vec<u8>, x: i64, y: i64, z: i64) -> Result<(), NoMemory>
+    ensures { OnOk result (out.new.items ≡ out.old.items ++ all_spaced (signed_decimal x ∷ signed_decimal y ∷ signed_decimal z ∷ [])) }
+{
+    put_spaced(out, x)?;
+    put_spaced(out, y)?;
+    put_spaced(out, z)
 }
 
 pub(crate) fn put_word(out: &mut Vec<u8>, word: &[u8]) -> Result<(), NoMemory>

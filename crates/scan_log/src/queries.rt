@@ -1,12 +1,14 @@
 //! Reading what is asked.
 ghost use Rattle.std.specs.Prelude.{◌≡◌};
+ghost use Rattle.std.specs.Option.{option_copied};
 ghost use Rattle.scan_log.specs.Outcomes.{Gives};
-ghost use Rattle.scan_log.specs.Reading.{ball_of, inside_of, near_of, nears_of, reach_of};
+ghost use Rattle.scan_log.specs.Reading.{ball_of, inside_of, near_of, nearest_of, nears_of, reach_of};
 
 use crate::boxes::cuboid;
 use crate::fields::Fields;
 use crate::line_fault::LineFault;
 use crate::number::{distance as distance_in, natural_in};
+use crate::piece::is_word;
 use crate::points::{all_points, groups, point};
 use crate::{Command, Format, LogCause};
 use std::alloc::Global;
@@ -19,28 +21,48 @@ pub fn near(format: Format, caller: u8, fields: Fields) -> Result<Command, LogCa
     ensures { result ≡ near_of format caller fields.entry }
 {
     let mut fields = fields;
-    let k = fields.next().ok_or(LogCause::WrongCount)?;
-    let (x, y, z) = fields.three().ok_or(LogCause::WrongCount)?;
-    let Some(word) = fields.next() else {
-        return Ok(Command::Near {
-            caller,
-            k: natural_in(1, 256, k)?,
-            point: point(format, x, y, z)?,
-            within: None,
-        });
+    let Some(k) = fields.next() else {
+        return Err(LogCause::WrongCount);
     };
-    let distance = fields.next().ok_or(LogCause::WrongCount)?;
-    if fields.next().is_some() || word != b"within".as_slice() {
+    let Some((x, y, z)) = fields.three() else {
+        return Err(LogCause::WrongCount);
+    };
+    let Some(word) = fields.next() else {
+        return nearest(format, caller, k, x, y, z, None);
+    };
+    let Some(distance) = fields.next() else {
+        return Err(LogCause::WrongCount);
+    };
+    if fields.next().is_some() || !is_word(word, b"within") {
         return Err(LogCause::WrongCount);
     }
+    nearest(format, caller, k, x, y, z, Some(distance))
+}
+
+// The search for so many points that are nearest to a place, up to a distance if one is given.
+#[tactic(auto, unfolding(crate::specs::Reading::near_of))]
+fn nearest(
+    format: Format,
+    caller: u8,
+    k: &[u8],
+    x: &[u8],
+    y: &[u8],
+    z: &[u8],
+    distance: Option<&[u8]>,
+) -> Result<Command, LogCause>
+    ensures { result ≡ nearest_of format caller k.now x.now y.now z.now (option_copied distance.entry) }
+{
     let k = natural_in(1, 256, k)?;
     let point = point(format, x, y, z)?;
-    let within = distance_in(format, distance)?;
+    let within = match distance {
+        Some(distance) => Some(distance_in(format, distance)?),
+        None => None,
+    };
     Ok(Command::Near {
         caller,
         k,
         point,
-        within: Some(within),
+        within,
     })
 }
 
@@ -50,9 +72,15 @@ pub fn inside(format: Format, caller: u8, fields: Fields) -> Result<Command, Log
     ensures { result ≡ inside_of format caller fields.entry }
 {
     let mut fields = fields;
-    let k = fields.next().ok_or(LogCause::WrongCount)?;
-    let (x, y, z) = fields.three().ok_or(LogCause::WrongCount)?;
-    let (far_x, far_y, far_z) = fields.three().ok_or(LogCause::WrongCount)?;
+    let Some(k) = fields.next() else {
+        return Err(LogCause::WrongCount);
+    };
+    let Some((x, y, z)) = fields.three() else {
+        return Err(LogCause::WrongCount);
+    };
+    let Some((far_x, far_y, far_z)) = fields.three() else {
+        return Err(LogCause::WrongCount);
+    };
     if fields.next().is_some() {
         return Err(LogCause::WrongCount);
     }
@@ -67,7 +95,9 @@ pub fn nears(alloc: Global, caller: u8, fields: Fields) -> Result<Command, LineF
     ensures { Gives result (nears_of caller fields.entry) }
 {
     let mut fields = fields;
-    let k = fields.next().ok_or(LogCause::WrongCount)?;
+    let Some(k) = fields.next() else {
+        return Err(LineFault::Bad(LogCause::WrongCount));
+    };
     let count = groups(&fields, 3, MAX_PLACES_OF_COMMAND)?;
     let k = natural_in(1, 256, k)?;
     let points = all_points(alloc, Format::Two, count, fields)?;
@@ -80,9 +110,15 @@ pub fn ball(caller: u8, fields: Fields) -> Result<Command, LogCause>
     ensures { result ≡ ball_of caller fields.entry }
 {
     let mut fields = fields;
-    let k = fields.next().ok_or(LogCause::WrongCount)?;
-    let r = fields.next().ok_or(LogCause::WrongCount)?;
-    let (x, y, z) = fields.three().ok_or(LogCause::WrongCount)?;
+    let Some(k) = fields.next() else {
+        return Err(LogCause::WrongCount);
+    };
+    let Some(r) = fields.next() else {
+        return Err(LogCause::WrongCount);
+    };
+    let Some((x, y, z)) = fields.three() else {
+        return Err(LogCause::WrongCount);
+    };
     if fields.next().is_some() {
         return Err(LogCause::WrongCount);
     }
@@ -103,8 +139,12 @@ pub fn reach(fields: Fields) -> Result<(u32, u64), LogCause>
     ensures { result ≡ reach_of fields.entry }
 {
     let mut fields = fields;
-    let k = fields.next().ok_or(LogCause::WrongCount)?;
-    let r = fields.next().ok_or(LogCause::WrongCount)?;
+    let Some(k) = fields.next() else {
+        return Err(LogCause::WrongCount);
+    };
+    let Some(r) = fields.next() else {
+        return Err(LogCause::WrongCount);
+    };
     if fields.next().is_some() {
         return Err(LogCause::WrongCount);
     }

@@ -2,7 +2,7 @@
 use map_fold::{BoxReply, ClusterReply, NearReply, NearsReply};
 
 /// The reply to a command, or the one at the end.
-#[derive(Debug, Drop)]
+#[derive(Drop)]
 pub enum Reply {
     /// A change was made.
     Done {

@@ -10,7 +10,7 @@ use std::alloc::Global;
 use std::marker::Model;
 
 /// A version, settings, and commands in order, within the limits of a log.
-#[derive(Debug, Drop)]
+#[derive(Drop)]
 pub struct Script {
     format: Format,
     settings: Settings,

@@ -3,12 +3,13 @@ ghost use Rattle.std.specs.Prelude.{◌≡◌, ◌+◌, [], ◌∷◌, ◌++◌,
 ghost use Rattle.std.specs.List.{flat_map};
 ghost use Rattle.scan_log.specs.Formats.{version_field};
 ghost use Rattle.scan_log.specs.Faults.{line_feeds};
-ghost use Rattle.scan_log.specs.Spelling.{Spells, box_fields, caller_field, header_fields, point_fields, update_fields, within_fields};
+ghost use Rattle.scan_log.specs.Spelling.{Spells, box_fields, caller_field, command_fields, header_fields, point_fields, update_fields, within_fields};
 ghost use Rattle.scan_log.specs.Transcript.{all_spaced, spaced};
 ghost use Rattle.scan_log.specs.Written.{corner_text, cuboid_text, joined_fields, written_line, script_text};
 
 use crate::putting::{
-    Listed, put, put_all, put_caller, put_head, put_named, put_point, put_spaced, put_word,
+    Listed, put, put_all, put_caller, put_head, put_named, put_point, put_spaced, put_three,
+    put_word,
 };
 use crate::{Command, Format, Script};
 use local_region::RegionRules;
@@ -57,37 +58,42 @@ impl Listed for Command {
     ghost text = { command_text };
 
     fn put(&self, out: &mut Vec<u8>, format: Format) -> Result<(), NoMemory> {
-        match self {
-            Command::Change { caller, update } => {
-                put_caller(out, *caller)?;
-                put_update(out, format, update)?;
-            }
-            Command::Near {
-                caller,
-                k,
-                point,
-                within,
-            } => put_near(out, *caller, *k, point, *within)?,
-            Command::Nears { caller, k, points } => {
-                put_nears(out, *caller, *k, points.as_slice())?;
-            }
-            Command::Inside { caller, k, cuboid } => put_inside(out, *caller, *k, cuboid)?,
-            Command::Ball {
-                caller,
-                k,
-                r,
-                point,
-            } => put_ball(out, *caller, *k, *r, point)?,
-            Command::Lonely { caller, k, r } => put_reach(out, *caller, b"lonely", *k, *r)?,
-            Command::Clusters { caller, k, r } => put_reach(out, *caller, b"clusters", *k, *r)?,
-            Command::Pose {
-                caller,
-                rules,
-                point,
-            } => put_pose(out, *caller, rules, point)?,
-            Command::Sync => put(out, b"sync")?,
-        }
+        put_command(out, format, self)?;
         put(out, b"\n")
+    }
+}
+
+// Without the line feed.
+fn put_command(out: &mut Vec<u8>, format: Format, command: &Command) -> Result<(), NoMemory>
+    ensures { OnOk result (out.new.items ≡ out.old.items ++ joined_fields (command_fields format command.now)) }
+{
+    match command {
+        Command::Change { caller, update } => {
+            put_caller(out, *caller)?;
+            put_update(out, format, update)
+        }
+        Command::Near {
+            caller,
+            k,
+            point,
+            within,
+        } => put_near(out, *caller, *k, point, *within),
+        Command::Nears { caller, k, points } => put_nears(out, *caller, *k, points.as_slice()),
+        Command::Inside { caller, k, cuboid } => put_inside(out, *caller, *k, cuboid),
+        Command::Ball {
+            caller,
+            k,
+            r,
+            point,
+        } => put_ball(out, *caller, *k, *r, point),
+        Command::Lonely { caller, k, r } => put_reach(out, *caller, b"lonely", *k, *r),
+        Command::Clusters { caller, k, r } => put_reach(out, *caller, b"clusters", *k, *r),
+        Command::Pose {
+            caller,
+            rules,
+            point,
+        } => put_pose(out, *caller, rules, point),
+        Command::Sync => put(out, b"sync"),
     }
 }
 
@@ -210,9 +216,7 @@ fn put_cuboid(out: &mut Vec<u8>, cuboid: &Cuboid) -> Result<(), NoMemory>
 fn put_corner(out: &mut Vec<u8>, corner: Corner) -> Result<(), NoMemory>
     ensures { OnOk result (out.new.items ≡ out.old.items ++ corner_text corner) }
 {
-    put_spaced(out, corner.x)?;
-    put_spaced(out, corner.y)?;
-    put_spaced(out, corner.z)
+    put_three(out, corner.x, corner.y, corner.z)
 }
 
 fn put_within(out: &mut Vec<u8>, within: Option<u64>) -> Result<(), NoMemory>

@@ -1,6 +1,15 @@
 use Rattle.std.proofs.Common.{◌≤◌, length, length-drop, sym, ◌∙◌, arith}
-use Rattle.scan_log.proofs.Fronts.{points_next}
+use Rattle.scan_log.proofs.Fronts.{points_bad, points_next}
+use Rattle.scan_log.proofs.StepLemmas.{passed_on}
+use Rattle.scan_log.specs.declared.line_fault.LineFault.TheVariants.{Bad}
 use Rattle.scan_log.proofs.points.all_points.Goals as goal
+
+pub returns-in_err-point : goal.returns-in_err-point
+returns-in_err-point c =
+    let fields = c.loop.fields in
+    let some : 3 ≤ length fields = omega (arith, c.loop.invariant.count, c.loop-test.true) in
+    rw (passed_on _ (Bad c.in_err-point.field-0.0) c.from_residual-in_err-point.ensures.1)
+    (sym c.loop.invariant.left ∙ points_bad c.args.format c.loop.points.items fields c.in_err-point.field-0.0 some (sym c.in_err-point.ensures.value))
 
 pub loop-preserved : goal.loop-preserved
 loop-preserved c =
