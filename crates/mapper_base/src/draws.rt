@@ -7,7 +7,7 @@ use point_geom::Point;
 use std::marker::Model;
 
 /// A generator of draws, seen as the number that it has reached.
-#[derive(Debug, Drop)]
+#[derive(Drop)]
 pub struct Draws {
     number: u32,
 }

@@ -8,7 +8,7 @@ use map_fold::NoMemory;
 use scan_log::LogCause;
 
 /// How a run ended, with what is told of it.
-#[derive(Clone, Copy, Debug, PartialEq, Eq)]
+#[derive(Clone, Copy)]
 pub enum Ending {
     /// All was written.
     Done,

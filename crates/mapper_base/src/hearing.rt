@@ -1,6 +1,6 @@
 //! What `clap` reads from the words.
 ghost use Rattle.std.specs.Prelude.{◌≡◌, false, codes, Some, IfSome, IfOk, ◌∷◌, map};
-ghost use Rattle.clap.specs.Words.{app_of, found_of, one_text};
+ghost use Rattle.clap.specs.Words.{app_of, found_of, one_text, subcommand_of, subcommand_rows_of, with_subcommand};
 ghost use Rattle.clap.specs.declared.builder.command.Command.TheViews.{out-Command as fields_of};
 ghost use Rattle.mapper_base.specs.declared.words.Ask.{Ask};
 ghost use Rattle.mapper_base.specs.declared.words.Ask.TheVariants as asks;
@@ -21,10 +21,7 @@ pub fn heard(alloc: Global, argv: &[&str]) -> Result<Option<Ask>, AllocError>
 {
     let command = command_line(alloc)?;
     match command.try_get_matches_from(argv) {
-        Ok(matches) => match matches.subcommand() {
-            Some((name, inner)) => Ok(said(name, inner)),
-            None => Ok(None),
-        },
+        Ok(matches) => Ok(said_in(&matches)),
         Err(error) => {
             if error.kind() == ErrorKind::OutOfMemory {
                 Err(AllocError)
@@ -35,19 +32,26 @@ pub fn heard(alloc: Global, argv: &[&str]) -> Result<Option<Ask>, AllocError>
     }
 }
 
+// What the subcommand that was met asks for.
+fn said_in(matches: &ArgMatches<'_>) -> Option<Ask>
+    ensures can_be_done { IfSome result CanBeDone }
+    ensures heard { (a : Ask) → CanBeDone a → subcommand_rows_of matches.now ≡ subcommand_of mapper (codes "mapper" ∷ spelled a) → IsHeard result (spelled a) }
+{
+    match matches.subcommand() {
+        Some((name, inner)) => said(name, inner),
+        None => None,
+    }
+}
+
 // `run`, `run --serial`, `make n`, `drive n` and `check n`.
 fn command_line<'a>(alloc: Global) -> Result<Command<'a>, AllocError>
     ensures { IfOk result (λ c. app_of c ≡ mapper) }
 {
     let run = run_command(alloc)?;
-    let make = numbered(alloc, "make")?;
-    let drive = numbered(alloc, "drive")?;
-    let check = numbered(alloc, "check")?;
-    Command::new(alloc, "mapper")
-        .subcommand(run)?
-        .subcommand(make)?
-        .subcommand(drive)?
-        .subcommand(check)
+    let command = Command::new(alloc, "mapper").subcommand(run)?;
+    let command = with_numbered(alloc, command, "make")?;
+    let command = with_numbered(alloc, command, "drive")?;
+    with_numbered(alloc, command, "check")
 }
 
 fn run_command<'a>(alloc: Global) -> Result<Command<'a>, AllocError>
@@ -58,6 +62,18 @@ fn run_command<'a>(alloc: Global) -> Result<Command<'a>, AllocError>
         .long("serial")
         .action(ArgAction::SetTrue);
     Command::new(alloc, "run").arg(serial)
+}
+
+// The command with a subcommand of this name that takes a number.
+fn with_numbered<'a>(
+    alloc: Global,
+    command: Command<'a>,
+    name: &'a str,
+) -> Result<Command<'a>, AllocError>
+    ensures { IfOk result (λ c. app_of c ≡ with_subcommand (app_of command.entry) (numbered name.now).top) }
+{
+    let number = numbered(alloc, name)?;
+    command.subcommand(number)
 }
 
 // The command of this name that takes a number.

@@ -1,5 +1,6 @@
 //! A script, run in the log's order.
 ghost use Rattle.std.specs.Prelude.{◌≡◌, IfOk};
+ghost use Rattle.rebuild_core.specs.Lawful.{new_state};
 ghost use Rattle.scan_log.specs.Poses.{plain_script};
 ghost use Rattle.scan_log.specs.Transcript.{replies, serial_marks, lines_text};
 
@@ -26,12 +27,24 @@ pub fn in_order(alloc: Global, script: &PlainScript) -> Result<Replies, NoMemory
     ensures { IfOk result (λ rs. rs ≡ replies script.now (serial_marks script.now)) }
 {
     let mut state = MapState::new(alloc, *script.settings())?;
+    in_order_on(alloc, &mut state, script)
+}
+
+// The same on the state of an empty map.
+fn in_order_on(
+    alloc: Global,
+    state: &mut MapState,
+    script: &PlainScript,
+) -> Result<Replies, NoMemory>
+    requires { state.old.state ≡ new_state script.now.sizes }
+    ensures { IfOk result (λ rs. rs ≡ replies script.now (serial_marks script.now)) }
+{
     let mut replies = Replies::new(alloc);
     for command in script.commands() {
-        let reply = answer(alloc, &mut state, command)?;
+        let reply = answer(alloc, state, command)?;
         replies.push(reply)?;
     }
-    replies.push(totals(&state))?;
+    replies.push(totals(state))?;
     Ok(replies)
 }
 

@@ -50,7 +50,7 @@ fn points_in(script: &PlainScript) -> usize
 }
 
 // How many points are live, and how many suspended.
-#[derive(Clone, Copy, Debug)]
+#[derive(Clone, Copy)]
 struct Counted {
     live: u32,
     suspended: u32,

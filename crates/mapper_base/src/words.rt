@@ -8,7 +8,7 @@ use crate::spelling::is_spelled;
 use std::alloc::{AllocError, Global};
 
 /// What the words ask for.
-#[derive(Clone, Copy, Debug, PartialEq, Eq)]
+#[derive(Clone, Copy)]
 pub enum Ask {
     /// A run of a log.
     Run,

@@ -87,6 +87,14 @@ AllParted [] [] (rs ∷ lists) = ⊥
 AllParted (t ∷ ts) [] lists = ⊥
 AllParted (t ∷ ts) (q ∷ qs) [] = ⊥
 
+-- a turn's pass and replies were put behind the others
+pub record IsParted (t : Result (Seen × List Reply) NoMemory) (ps ps_after : List Seen) (lists lists_after : List (List Reply)) : Type 0 where
+  pub pass : Seen
+  pub replies : List Reply
+  pub is : t ≡ Ok (pass, replies)
+  pub passes : ps_after ≡ ps ++ pass ∷ []
+  pub queues : lists_after ≡ lists ++ replies ∷ []
+
 -- each pass has made its caller's updates of the commands
 abbrev pub AllDone : List Command → List Seen → Type 0
 AllDone cs [] = Unit {0}

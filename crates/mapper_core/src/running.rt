@@ -1,10 +1,12 @@
 //! The top call.
 ghost use Rattle.std.specs.Prelude.{◌≡◌, ℕ, Some, IfOk, IfErr};
 ghost use Rattle.scan_log.specs.Legal.{AreLegalLines};
+ghost use Rattle.scan_log.specs.Written.{script_text};
 ghost use Rattle.mapper_base.specs.Asks.{Asks, AskForLog, AskForRun, AskForScans, AskNothing, CanBeDone, IsOfLog};
 ghost use Rattle.mapper_base.specs.Causes.{Ended, Ends, HasNoText, IsTextOf, ReadsInLimit};
 ghost use Rattle.mapper_base.specs.Done.{IsChecked, IsDriven, IsScriptMade, IsTranscribed, IsTranscribedInOrder};
 ghost use Rattle.mapper_base.specs.Endings.{IsOrNoMemory};
+ghost use Rattle.mapper_base.specs.Generated.{generated};
 ghost use Rattle.mapper_base.specs.Inputs.{IfBad, IfOverLimit, IfSpelled};
 ghost use Rattle.mapper_base.specs.Outside.{NoFault};
 ghost use Rattle.mapper_base.specs.Prints.{AreSerialLines, IsVerdictLine};
@@ -114,27 +116,61 @@ fn text_of<H: Threads + Wait + Sync, R: Source, G: Gate + Sync>(
     ensures unread { (IsOfLog ask → ⊥) → log.new ≡ log.old }
 {
     match ask {
-        Ask::Run => {
-            let script = read_script(alloc, ask, log)?;
-            Ok(callers_text(rt, alloc, script, gate)?)
-        }
-        Ask::Serial => {
-            let script = read_script(alloc, ask, log)?;
-            Ok(serial_text(alloc, script)?)
-        }
-        Ask::Make(scans) => {
-            let script = made(alloc, scans)?;
-            Ok(write_script(alloc, &script)?)
-        }
-        Ask::Drive(scans) => {
-            let script = made(alloc, scans)?;
-            Ok(drive_text(alloc, scans, script)?)
-        }
-        Ask::Check(length) => {
-            let input = read_input(alloc, ask, log)?;
-            Ok(check_text(alloc, &input, length)?)
-        }
+        Ask::Run => run_text(rt, alloc, log, gate),
+        Ask::Serial => in_order_text(alloc, log),
+        Ask::Make(scans) => Ok(made_text(alloc, scans)?),
+        Ask::Drive(scans) => Ok(driven_text(alloc, scans)?),
+        Ask::Check(length) => checked_text(alloc, length, log),
     }
+}
+
+fn run_text<H: Threads + Wait + Sync, R: Source, G: Gate + Sync>(
+    rt: &H,
+    alloc: Global,
+    log: &mut R,
+    gate: &G,
+) -> Result<Vec<u8>, Ending>
+    ensures text { IfOk result (λ v. IsTextOf Ask.Run (log_seen R.Source log.old log.new) v.items) }
+    ensures cause { IfErr result (HasNoText Ask.Run (log_seen R.Source log.old log.new)) }
+    ensures reads { ReadsInLimit Ask.Run (log_seen R.Source log.old log.new) }
+{
+    let script = read_script(alloc, Ask::Run, log)?;
+    Ok(callers_text(rt, alloc, script, gate)?)
+}
+
+fn in_order_text<R: Source>(alloc: Global, log: &mut R) -> Result<Vec<u8>, Ending>
+    ensures text { IfOk result (λ v. IsTextOf Ask.Serial (log_seen R.Source log.old log.new) v.items) }
+    ensures cause { IfErr result (HasNoText Ask.Serial (log_seen R.Source log.old log.new)) }
+    ensures reads { ReadsInLimit Ask.Serial (log_seen R.Source log.old log.new) }
+{
+    let script = read_script(alloc, Ask::Serial, log)?;
+    Ok(serial_text(alloc, script)?)
+}
+
+fn made_text(alloc: Global, scans: u32) -> Result<Vec<u8>, NoMemory>
+    requires { CanBeDone (Ask.Make scans) }
+    ensures { IfOk result (λ v. v.items ≡ script_text (generated scans)) }
+{
+    let script = made(alloc, scans)?;
+    write_script(alloc, &script)
+}
+
+fn driven_text(alloc: Global, scans: u32) -> Result<Vec<u8>, NoMemory>
+    requires { CanBeDone (Ask.Drive scans) }
+    ensures { IfOk result (λ v. v.items ≡ summary_of scans (generated scans)) }
+{
+    let script = made(alloc, scans)?;
+    drive_text(alloc, scans, script)
+}
+
+fn checked_text<R: Source>(alloc: Global, length: u32, log: &mut R) -> Result<Vec<u8>, Ending>
+    requires { CanBeDone (Ask.Check length) }
+    ensures text { IfOk result (λ v. IsTextOf (Ask.Check length) (log_seen R.Source log.old log.new) v.items) }
+    ensures cause { IfErr result (HasNoText (Ask.Check length) (log_seen R.Source log.old log.new)) }
+    ensures reads { ReadsInLimit (Ask.Check length) (log_seen R.Source log.old log.new) }
+{
+    let input = read_input(alloc, Ask::Check(length), log)?;
+    Ok(check_text(alloc, &input, length)?)
 }
 
 // The lines of the replies where each caller runs on a thread of its own. The script is run as it is but for its poses, so that

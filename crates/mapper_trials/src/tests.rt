@@ -1,3 +1,4 @@
+mod assertions;
 mod callers;
 mod ended;
 mod outside;

@@ -1,4 +1,5 @@
 //! What refusals say to people.
+use crate::tests::assertions::same;
 use local_region::RulesFault;
 use map_fold::NoMemory;
 use point_geom::{Axis, CuboidError, OutOfRange};
@@ -31,6 +32,6 @@ fn a_refusal_says_where_and_why(rt: HostRuntime) -> Result<(), Fail> {
 
 fn says<D: Display>(rt: &impl Abort, alloc: Global, refusal: &D, want: &str) -> Result<(), Fail> {
     let text = format!(in alloc; "{refusal}")?;
-    assert_eq!(rt; text.as_str(), want);
+    same(rt, "the message", text.as_str(), want);
     Ok(())
 }

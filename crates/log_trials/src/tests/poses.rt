@@ -1,23 +1,22 @@
 //! Poses, by hand.
-use crate::tests::assertions::{are_bytes, same};
+use crate::tests::assertions::same;
 use crate::tests::reading::{WIDE_HEADER, read};
-use crate::tests::written::is_told;
+use crate::tests::written::{is_told, is_written_as};
 use map_fold::Update;
-use scan_log::{Command, PlainScript, Reply, Script, write_script};
+use scan_log::{Command, PlainScript, Reply, Script};
 use std::alloc::Global;
 use std::test::Fail;
 
 #[test]
 fn a_pose_is_written_as_it_was_read_and_told_by_its_place(rt: HostRuntime) -> Result<(), Fail> {
     let alloc = rt.alloc();
-    let log = b"ikdmap 2 voxel 200 large 1500\n@7 pose 100 20 30 1 -2 3\n".as_slice();
-    let script = read(alloc, log)?;
-    let written = write_script(alloc, &script)?;
-    are_bytes(&rt, written.as_slice(), log);
-    same(&rt, "commands", script.commands().len(), 1);
     let done = Reply::Done { mark: 3 };
     let pose = b"@7 pose 100 20 30 1 -2 3";
-    is_told(&rt, alloc, WIDE_HEADER, pose, &done, b"@7 ok 3\n")
+    is_told(&rt, alloc, WIDE_HEADER, pose, done, b"@7 ok 3\n")?;
+    let log = b"ikdmap 2 voxel 200 large 1500\n@7 pose 100 20 30 1 -2 3\n".as_slice();
+    let script = read(alloc, log)?;
+    same(&rt, "commands", script.commands().len(), 1);
+    is_written_as(&rt, alloc, &script, log)
 }
 
 // What each command of the script that is run deletes.
@@ -25,15 +24,20 @@ fn deletions(alloc: Global, script: &Script) -> Result<Vec<usize>, Fail> {
     let plain = PlainScript::copied(alloc, script)?;
     let mut counts = Vec::new(alloc);
     for command in plain.commands() {
-        match command {
-            Command::Change {
-                update: Update::Delete(boxes),
-                ..
-            } => counts.push(boxes.len())?,
-            _ => counts.push(9)?,
-        }
+        counts.push(deleted(command))?;
     }
     Ok(counts)
+}
+
+// How many boxes it deletes, or 9 where it is no deletion.
+fn deleted(command: &Command) -> usize {
+    match command {
+        Command::Change {
+            update: Update::Delete(boxes),
+            ..
+        } => boxes.len(),
+        _ => 9,
+    }
 }
 
 #[test]

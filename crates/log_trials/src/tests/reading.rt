@@ -26,11 +26,16 @@ pub fn read(alloc: Global, log: &[u8]) -> Result<Script, ParseFault> {
     parse(alloc, log)
 }
 
+// The script of the log of this header and these lines.
+pub fn read_with(alloc: Global, header: &[u8], lines: &[u8]) -> Result<Script, Fail> {
+    let log = log_with(alloc, header, lines)?;
+    Ok(read(alloc, log.as_slice())?)
+}
+
 #[test]
 fn the_smallest_run_is_read_and_told(rt: HostRuntime) -> Result<(), Fail> {
     let alloc = rt.alloc();
-    let log = log_with(alloc, HEADER, b"@1 add 1 2 3\n@1 near 1 0 0 0\n")?;
-    let script = read(alloc, log.as_slice())?;
+    let script = read_with(alloc, HEADER, b"@1 add 1 2 3\n@1 near 1 0 0 0\n")?;
     let are_set = script.settings() == &Settings::new(200, 1500);
     holds(&rt, "the settings", are_set);
     let [add, near] = script.commands() else {

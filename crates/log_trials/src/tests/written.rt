@@ -6,7 +6,7 @@ ghost use Rattle.scan_log.specs.Scripts.{AreBoxes, AreScanned, IsCaller, IsCalle
 ghost use Rattle.scan_log.specs.declared.fault.ParseFault.TheVariants.{NoMemory as want};
 
 use crate::tests::assertions::are_bytes;
-use crate::tests::reading::{HEADER, WIDE_HEADER, log_with, read};
+use crate::tests::reading::{HEADER, WIDE_HEADER, log_with, read, read_with};
 use map_fold::{
     BoxReply, Cuboids, Hit, Hits, Item, Items, Label, MAX_POINTS, NearReply, Points, Settings,
     Update,
@@ -203,16 +203,25 @@ fn is_written_twice(
     written: &[u8],
 ) -> Result<(), Fail> {
     let script = read(alloc, by_hand)?;
-    let log = write_script(alloc, &script)?;
-    are_bytes(rt, log.as_slice(), written);
+    is_written_as(rt, alloc, &script, written)?;
     let script = again(alloc, &script)?;
-    let log = write_script(alloc, &script)?;
-    are_bytes(rt, log.as_slice(), written);
+    is_written_as(rt, alloc, &script, written)
+}
+
+// The script is written as this log.
+pub fn is_written_as(
+    rt: &impl Abort,
+    alloc: Global,
+    script: &Script,
+    log: &[u8],
+) -> Result<(), Fail> {
+    let written = write_script(alloc, script)?;
+    are_bytes(rt, written.as_slice(), log);
     Ok(())
 }
 
 // The line of this reply is this text, where this line behind this header asks for it, or at the end where none does.
-pub fn is_told(
+fn has_line(
     rt: &impl Abort,
     alloc: Global,
     header: &[u8],
@@ -220,12 +229,23 @@ pub fn is_told(
     reply: &Reply,
     want: &[u8],
 ) -> Result<(), Fail> {
-    let log = log_with(alloc, header, asked)?;
-    let script = read(alloc, log.as_slice())?;
+    let script = read_with(alloc, header, asked)?;
     let mut line = Vec::new(alloc);
     reply_line(&mut line, script.format(), script.commands().first(), reply)?;
     are_bytes(rt, line.as_slice(), want);
     Ok(())
+}
+
+// The same of a reply that is told once.
+pub fn is_told(
+    rt: &impl Abort,
+    alloc: Global,
+    header: &[u8],
+    asked: &[u8],
+    reply: Reply,
+    want: &[u8],
+) -> Result<(), Fail> {
+    has_line(rt, alloc, header, asked, &reply, want)
 }
 
 // The same in version 1, where no point has an intensity, and in version 2.
@@ -237,15 +257,15 @@ fn is_told_in_both(
     plain: &[u8],
     wide: &[u8],
 ) -> Result<(), Fail> {
-    is_told(rt, alloc, HEADER, asked, reply, plain)?;
-    is_told(rt, alloc, WIDE_HEADER, asked, reply, wide)
+    has_line(rt, alloc, HEADER, asked, reply, plain)?;
+    has_line(rt, alloc, WIDE_HEADER, asked, reply, wide)
 }
 
 #[test]
 fn an_update_is_told_by_its_place(rt: HostRuntime) -> Result<(), Fail> {
     let reply = Reply::Done { mark: 65_536 };
     let want = b"@8 ok 65536\n";
-    is_told(&rt, rt.alloc(), HEADER, b"@8 add 1 2 3", &reply, want)
+    is_told(&rt, rt.alloc(), HEADER, b"@8 add 1 2 3", reply, want)
 }
 
 #[test]
@@ -262,7 +282,7 @@ fn each_hit_is_told_with_its_distance(rt: HostRuntime) -> Result<(), Fail> {
 
 fn two_hits(alloc: Global, point: Point) -> Result<Hits, Fail> {
     let mut hits = Hits::new(alloc);
-    for (number, dist2) in [(5, 0), (0, 12_000_000_000_000_000_000)] {
+    for &(number, dist2) in &[(5, 0), (0, 12_000_000_000_000_000_000)] {
         hits.push(Hit {
             number,
             point,
@@ -287,10 +307,10 @@ fn a_reply_of_another_kind_has_no_line(rt: HostRuntime) -> Result<(), Fail> {
     let alloc = rt.alloc();
     let done = Reply::Done { mark: 1 };
     let boxed = b"@2 box 1 4 -5 6 1000000001 -5 7";
-    is_told(&rt, alloc, WIDE_HEADER, boxed, &done, b"")?;
+    is_told(&rt, alloc, WIDE_HEADER, boxed, done, b"")?;
     // A box is no ball.
     let inside = Reply::Inside(found(alloc, 6)?);
-    is_told(&rt, alloc, WIDE_HEADER, b"@2 ball 1 5 0 0 0", &inside, b"")
+    is_told(&rt, alloc, WIDE_HEADER, b"@2 ball 1 5 0 0 0", inside, b"")
 }
 
 // Seven points, of which this one is listed.
@@ -311,13 +331,16 @@ pub fn found(alloc: Global, number: u32) -> Result<BoxReply, Fail> {
 #[test]
 fn a_barrier_and_the_end_tell_how_many_are_held(rt: HostRuntime) -> Result<(), Fail> {
     let alloc = rt.alloc();
-    let totals = Reply::Totals {
+    let want = b"sync 3 live 2 suspended 1\n";
+    is_told(&rt, alloc, WIDE_HEADER, b"sync", totals(), want)?;
+    let want = b"end 3 live 2 suspended 1\n";
+    is_told(&rt, alloc, HEADER, b"", totals(), want)
+}
+
+fn totals() -> Reply {
+    Reply::Totals {
         mark: 3,
         live: 2,
         suspended: 1,
-    };
-    let want = b"sync 3 live 2 suspended 1\n";
-    is_told(&rt, alloc, WIDE_HEADER, b"sync", &totals, want)?;
-    let want = b"end 3 live 2 suspended 1\n";
-    is_told(&rt, alloc, HEADER, b"", &totals, want)
+    }
 }

@@ -105,19 +105,36 @@ pub fn run_own<L: MapName, G: Gate, R: Threads + Wait + Sync>(
     ensures { IfOk result (λ r. Turned L.voxel commands.now pass r.0 r.1) }
 {
     let mut pass = pass;
+    let replies = told_own(rt, alloc, shared, signals, commands, &mut pass)?;
+    Ok((pass, replies))
+}
+
+// What the caller of a pass is told.
+fn told_own<L: MapName, G: Gate, R: Threads + Wait + Sync>(
+    rt: &R,
+    alloc: Global,
+    shared: &Shared<L>,
+    signals: &Signals<'_, G>,
+    commands: &[Command],
+    pass: &mut Pass<L>,
+) -> Result<Queue, NoMemory>
+    requires good { AllByRecursion IsPlain commands.now }
+    requires commands { signals.now.from + length commands.now ≤ MAX_COMMANDS }
+    ensures { IfOk result (λ rs. Turned L.voxel commands.now pass.old pass.new rs) }
+{
     let mut replies = Queue::new(alloc);
     let mut index = signals.from;
     for command in commands {
         if is_own(command, pass.caller()) {
-            let Some(reply) = answer(rt, alloc, shared, signals.bells, &mut pass, command)? else {
-                return Ok((pass, replies));
+            let Some(reply) = answer(rt, alloc, shared, signals.bells, pass, command)? else {
+                return Ok(replies);
             };
             replies.put(reply)?;
             signals.gate.replied(pass.caller(), index);
         }
         index += 1;
     }
-    Ok((pass, replies))
+    Ok(replies)
 }
 
 // Whether it is this caller's command.

@@ -1,5 +1,5 @@
 //! The commands between two barriers.
-ghost use Rattle.std.specs.Prelude.{◌≡◌, ◌+◌, ◌-◌, ◌<◌, ◌≤◌, length, take, drop, slice_get, Some, IfOk};
+ghost use Rattle.std.specs.Prelude.{◌≡◌, ◌+◌, ◌-◌, ◌<◌, ◌≤◌, length, take, drop, slice_get, Some, IfOk, OnOk};
 ghost use Rattle.std.specs.List.{AllByRecursion};
 ghost use Rattle.std.specs.Thread.{IsSync, IsSend};
 ghost use Rattle.scan_log.specs.declared.command.Command.TheVariants as command_of;
@@ -7,7 +7,7 @@ ghost use Rattle.scan_log.specs.Plain.{IsPlain};
 ghost use Rattle.scan_log.specs.Scripts.{points_of};
 ghost use Rattle.published_map.specs.Marks.{callers_of, IsDistinct, AllMetNow};
 ghost use Rattle.mapper_core.specs.Mine.{Turned};
-ghost use Rattle.mapper_core.specs.Meetings.{AllTurned, AllParted, IsOfCallers, Standing, IsTotal};
+ghost use Rattle.mapper_core.specs.Meetings.{AllTurned, AllParted, IsOfCallers, IsParted, Standing, IsTotal};
 
 use super::alarm::Signals;
 use super::caller::run_own;
@@ -72,15 +72,27 @@ fn part<L: MapName>(
     let mut passes = Vec::new(alloc);
     let mut queues = Vec::new(alloc);
     for turn in turns {
-        let (pass, queue) = turn?;
-        let Ok(()) = passes.push(pass) else {
-            return Err(NoMemory);
-        };
-        let Ok(()) = queues.push(queue) else {
-            return Err(NoMemory);
-        };
+        part_one(turn, &mut passes, &mut queues)?;
     }
     Ok((passes, queues))
+}
+
+// One more pass, and its replies.
+fn part_one<L: MapName>(
+    turn: Turn<L>,
+    passes: &mut Vec<Pass<L>>,
+    queues: &mut Vec<Queue>,
+) -> Result<(), NoMemory>
+    ensures { OnOk result (IsParted turn passes.old.items passes.new.items queues.old.items queues.new.items) }
+{
+    let (pass, queue) = turn?;
+    let Ok(()) = passes.push(pass) else {
+        return Err(NoMemory);
+    };
+    let Ok(()) = queues.push(queue) else {
+        return Err(NoMemory);
+    };
+    Ok(())
 }
 
 // The callers meet.

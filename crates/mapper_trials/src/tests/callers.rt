@@ -1,10 +1,14 @@
 //! Runs of several callers, and what gates show of their threads.
+use crate::tests::assertions::{are_bytes, holds, same};
 use crate::tests::runs::ran;
-use mapper_core::Status;
+use mapper_core::{Status, SureSink};
 use rebuild_worker::{Gate, HoldGate, MeetGate};
+use std::alloc::{AllocError, Global};
+use std::process::Abort;
+use std::sync::Wait;
 use std::sync::atomic::{AtomicBool, AtomicU64, Ordering};
 use std::test::Fail;
-use std::thread::yield_now;
+use std::thread::{Threads, yield_now};
 
 // How long a gate waits.
 const TURNS: u64 = 20_000_000;
@@ -56,36 +60,51 @@ const FORTY: &str = "ikdmap 1 voxel 200 large 16\n\
     21 0 0 22 0 0 23 0 0 24 0 0 25 0 0 26 0 0 27 0 0 28 0 0 29 0 0 30 0 0 \
     31 0 0 32 0 0 33 0 0 34 0 0 35 0 0 36 0 0 37 0 0 38 0 0 39 0 0 40 0 0\n";
 
+// The log of these lines behind that front.
+fn after_forty(alloc: Global, rest: &str) -> Result<String, AllocError> {
+    let mut log = String::from_str(alloc, FORTY)?;
+    log.push_str(rest)?;
+    Ok(log)
+}
+
+// The log is run to its end with this gate, and this is written.
+fn done<R: Threads + Wait + Abort + Sync, G: Gate + Sync>(
+    rt: &R,
+    alloc: Global,
+    log: &str,
+    gate: &G,
+) -> Result<SureSink, AllocError> {
+    let (status, out) = ran(rt, alloc, log.as_bytes(), gate)?;
+    same(rt, "the status", status, Status::Done);
+    Ok(out)
+}
+
 // A build of the forty points begins, and is held until both later commands are replied to.
 #[test]
 fn callers_go_on_while_a_build_is_held(rt: HostRuntime) -> Result<(), Fail> {
     let alloc = rt.alloc();
-    let mut log = String::from_str(alloc, FORTY)?;
-    log.push_str("@1 add 100 0 0\n@1 near 1 0 0 0\n")?;
+    let log = after_forty(alloc, "@1 add 100 0 0\n@1 near 1 0 0 0\n")?;
     let gate = HoldGate::new(0, 2, TURNS);
-    let (status, out) = ran(&rt, alloc, log.as_bytes(), &gate)?;
-    assert_eq!(rt; status, Status::Done);
-    assert!(rt; gate.held());
-    let want = "@1 ok 1\n@1 ok 2\n@1 near 2 | 0 1 0 0 1\nend 2 live 41 suspended 0\n";
-    assert_eq!(rt; out.bytes(), want.as_bytes());
+    let out = done(&rt, alloc, log.as_str(), &gate)?;
+    holds(&rt, "the build was held", gate.held());
+    let want = b"@1 ok 1\n@1 ok 2\n@1 near 2 | 0 1 0 0 1\nend 2 live 41 suspended 0\n";
+    are_bytes(&rt, "the transcript", out.bytes(), want);
     Ok(())
 }
 
 // Caller 1 goes on from its first query only once caller 2's update is replied to, and so reads it by the second.
 #[test]
 fn callers_run_beside_each_other(rt: HostRuntime) -> Result<(), Fail> {
-    let alloc = rt.alloc();
     let log = "ikdmap 1 voxel 200 large 1500\n\
                @1 near 1 0 0 0\n\
                @1 near 1 0 0 0\n\
                @1 add 100 0 0\n\
                @2 add 1 0 0\n";
     let gate = MeetGate::new(0, 3, TURNS);
-    let (status, out) = ran(&rt, alloc, log.as_bytes(), &gate)?;
-    assert_eq!(rt; status, Status::Done);
-    assert!(rt; gate.held());
+    let out = done(&rt, rt.alloc(), log, &gate)?;
+    holds(&rt, "they met", gate.held());
     let rest = "@1 near 1 | 0 1 0 0 1\n@1 ok 2\n@2 ok 1\nend 2 live 2 suspended 0\n";
-    assert!(rt; out.bytes().ends_with(rest.as_bytes()));
+    holds(&rt, "the end", out.bytes().ends_with(rest.as_bytes()));
     Ok(())
 }
 
@@ -93,38 +112,38 @@ fn callers_run_beside_each_other(rt: HostRuntime) -> Result<(), Fail> {
 // waits for a build sees it begin.
 #[test]
 fn neither_a_build_nor_a_barrier_waits_for_a_build(rt: HostRuntime) -> Result<(), Fail> {
-    let alloc = rt.alloc();
-    for (rest, held, last, want) in [
-        // Two workers build beside each other: each of these updates leaves one of the top's sons in breach.
-        (
-            "sync\n\
-             @1 add 41 0 0 42 0 0 43 0 0 44 0 0\n\
-             @1 add 0 0 0 -1 0 0 -2 0 0 -3 0 0 -4 0 0\n",
-            2,
-            3,
-            "@1 ok 1\nsync 1 live 40 suspended 0\n@1 ok 2\n@1 ok 3\nend 3 live 49 suspended 0\n",
-        ),
-        // The first build, of the whole tree, is held until the second begins. Nothing beside the whole tree can be built, so the
-        // barrier has rebuilt it itself.
-        (
-            "sync\n@1 add 41 0 0 42 0 0 43 0 0 44 0 0\n",
-            1,
-            2,
-            "@1 ok 1\nsync 1 live 40 suspended 0\n@1 ok 2\nend 2 live 44 suspended 0\n",
-        ),
-    ] {
-        let mut log = String::from_str(alloc, FORTY)?;
-        log.push_str(rest)?;
-        let gate = TwoBuilds {
-            held,
-            begun: AtomicU64::new(0),
-            missed: AtomicBool::new(false),
-        };
-        let (status, out) = ran(&rt, alloc, log.as_bytes(), &gate)?;
-        assert_eq!(rt; status, Status::Done);
-        assert!(rt; !gate.missed.load(Ordering::SeqCst));
-        assert_eq!(rt; gate.begun.load(Ordering::SeqCst), last);
-        assert_eq!(rt; out.bytes(), want.as_bytes());
-    }
+    // Two workers build beside each other: each of these updates leaves one of the top's sons in breach.
+    let rest = "sync\n\
+                @1 add 41 0 0 42 0 0 43 0 0 44 0 0\n\
+                @1 add 0 0 0 -1 0 0 -2 0 0 -3 0 0 -4 0 0\n";
+    let want =
+        b"@1 ok 1\nsync 1 live 40 suspended 0\n@1 ok 2\n@1 ok 3\nend 3 live 49 suspended 0\n";
+    none_waits(&rt, rt.alloc(), rest, 2, 3, want)?;
+    // The first build, of the whole tree, is held until the second begins. Nothing beside the whole tree can be built, so the
+    // barrier has rebuilt it itself.
+    let rest = "sync\n@1 add 41 0 0 42 0 0 43 0 0 44 0 0\n";
+    let want = b"@1 ok 1\nsync 1 live 40 suspended 0\n@1 ok 2\nend 2 live 44 suspended 0\n";
+    none_waits(&rt, rt.alloc(), rest, 1, 2, want)
+}
+
+// The build of the first ticket is held up until that of the last begins.
+fn none_waits<R: Threads + Wait + Abort + Sync>(
+    rt: &R,
+    alloc: Global,
+    rest: &str,
+    held: u64,
+    last: u64,
+    want: &[u8],
+) -> Result<(), Fail> {
+    let log = after_forty(alloc, rest)?;
+    let gate = TwoBuilds {
+        held,
+        begun: AtomicU64::new(0),
+        missed: AtomicBool::new(false),
+    };
+    let out = done(rt, alloc, log.as_str(), &gate)?;
+    holds(rt, "none was missed", !gate.missed.load(Ordering::SeqCst));
+    same(rt, "the last", gate.begun.load(Ordering::SeqCst), last);
+    are_bytes(rt, "the transcript", out.bytes(), want);
     Ok(())
 }

@@ -4,6 +4,7 @@ ghost use Rattle.std.specs.List.{AllByRecursion};
 ghost use Rattle.published_map.specs.Held.{IsOpenedAs};
 ghost use Rattle.mapper_core.specs.Meetings.{HasCaller};
 
+use crate::tests::assertions::same;
 use map_fold::NoMemory;
 use mapper_core::run_callers;
 use published_map::{Ended, MapName, Opened, Shared};
@@ -12,6 +13,7 @@ use rebuild_worker::FreeGate;
 use scan_log::{Script, parse};
 use std::alloc::Global;
 use std::marker::Brand;
+use std::process::Abort;
 use std::sync::Wait;
 use std::sync::ledger::Blank;
 use std::test::Fail;
@@ -63,16 +65,26 @@ fn the_passes_of_a_script_end_its_map(rt: HostRuntime) -> Result<(), Fail> {
     let alloc = rt.alloc();
     let script = parse(alloc, LOG.as_bytes())?;
     let (state, ended) = ended(&rt, alloc, &script)?;
+    have_ended(&rt, ended.as_slice());
+    let counts = state.version().tree().counts();
+    same(&rt, "points", (counts.live, counts.suspended), (19, 2));
+    Ok(())
+}
+
+// What is known of each caller.
+fn have_ended(rt: &impl Abort, ended: &[Ended]) {
     let mut updates = 0u32;
-    for (index, one) in ended.as_slice().iter().enumerate() {
-        assert_eq!(rt; usize::from(one.caller), index.saturating_add(1));
-        assert_eq!(rt; one.mark, 3);
+    for (index, one) in ended.iter().enumerate() {
+        same(
+            rt,
+            "a caller",
+            usize::from(one.caller),
+            index.saturating_add(1),
+        );
+        same(rt, "its mark", one.mark, 3);
         updates = updates.saturating_add(one.updates);
     }
     assert_eq!(rt; ended.len(), 8);
-    assert_eq!(rt; updates, 3);
-    assert_eq!(rt; ended.as_slice()[7].updates, 2);
-    let counts = state.version().tree().counts();
-    assert_eq!(rt; (counts.live, counts.suspended), (19, 2));
-    Ok(())
+    same(rt, "updates", updates, 3);
+    same(rt, "updates of the last", ended[7].updates, 2);
 }

@@ -1,7 +1,9 @@
 //! Runs, as their users see them.
-use mapper_core::{Sink, Source, Status, SureSink, SureSource, run};
-use rebuild_worker::Gate;
+use crate::tests::assertions::{are_bytes, same};
+use mapper_core::{MemSink, MemSource, Sink, Source, Status, SureSink, SureSource, run};
+use rebuild_worker::{FreeGate, Gate};
 use std::alloc::{AllocError, Global};
+use std::process::Abort;
 use std::sync::Wait;
 use std::thread::Threads;
 
@@ -21,12 +23,16 @@ pub fn ended<R: Threads + Wait + Sync, I: Source, O: Sink, N: Sink, G: Gate + Sy
     notes: &mut N,
     gate: &G,
 ) -> Result<Status, AllocError> {
+    let words = words_of(alloc, line)?;
+    Ok(run(rt, alloc, words.as_slice(), log, out, notes, gate))
+}
+
+fn words_of(alloc: Global, line: &str) -> Result<Vec<String>, AllocError> {
     let mut words = Vec::new(alloc);
     for word in line.split_whitespace() {
         words.push(String::from_str(alloc, word)?)?;
     }
-    let words = words.as_slice();
-    Ok(run(rt, alloc, words, log, out, notes, gate))
+    Ok(words)
 }
 
 // How a log is run with this gate over streams that never fail, and what is written.
@@ -41,4 +47,46 @@ pub fn ran<R: Threads + Wait + Sync, G: Gate + Sync>(
     let mut notes = SureSink::new(alloc);
     let status = ended(rt, alloc, "run", &mut source, &mut out, &mut notes, gate)?;
     Ok((status, out))
+}
+
+// How the program ends that is given the words of this line and these streams, and what it notes.
+pub fn ends<R: Threads + Wait + Abort + Sync, I: Source, O: Sink>(
+    rt: &R,
+    alloc: Global,
+    line: &str,
+    log: &mut I,
+    out: &mut O,
+    want: Status,
+    note: &str,
+) -> Result<(), AllocError> {
+    let mut notes = SureSink::new(alloc);
+    let status = ended(rt, alloc, line, log, out, &mut notes, &FreeGate)?;
+    same(rt, "the status", status, want);
+    are_bytes(rt, "the notes", notes.bytes(), note.as_bytes());
+    Ok(())
+}
+
+// A source in memory that gives these bytes in these pieces, and fails at this call.
+pub fn failing_source(
+    rt: &impl Abort,
+    alloc: Global,
+    bytes: &[u8],
+    piece: usize,
+    failing: u32,
+) -> Result<MemSource, AllocError> {
+    assert!(rt; 1 <= piece);
+    let failing = [failing].to_vec(alloc)?;
+    Ok(MemSource::new(bytes.to_vec(alloc)?, piece, failing))
+}
+
+// A sink in memory that takes these pieces, and fails at this call.
+pub fn failing_sink(
+    rt: &impl Abort,
+    alloc: Global,
+    piece: usize,
+    failing: u32,
+) -> Result<MemSink, AllocError> {
+    assert!(rt; 1 <= piece);
+    let failing = [failing].to_vec(alloc)?;
+    Ok(MemSink::new(alloc, piece, failing))
 }

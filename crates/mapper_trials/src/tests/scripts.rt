@@ -1,9 +1,11 @@
 //! A script is run and kept: the program gives its own away, and so calls neither of these.
+use crate::tests::assertions::are_bytes;
 use map_fold::NoMemory;
 use mapper_core::{Replies, serial, threaded};
 use rebuild_worker::FreeGate;
 use scan_log::{Script, parse, reply_line};
 use std::alloc::Global;
+use std::process::Abort;
 use std::test::Fail;
 
 const POSES: &'static [u8] = b"ikdmap 2 voxel 200 large 16
@@ -31,9 +33,20 @@ fn told(alloc: Global, script: &Script, replies: &Replies) -> Result<Vec<u8>, No
 fn a_script_is_run_with_its_poses_and_kept(rt: HostRuntime) -> Result<(), Fail> {
     let alloc = rt.alloc();
     let script = parse(alloc, POSES)?;
-    let in_turn = serial(alloc, &script)?;
+    are_told(&rt, alloc, &script, serial(alloc, &script)?)?;
     let side_by_side = threaded(&rt, alloc, &script, &FreeGate)?;
-    assert_eq!(rt; told(alloc, &script, &in_turn)?.as_slice(), POSES_OUT);
-    assert_eq!(rt; told(alloc, &script, &side_by_side)?.as_slice(), POSES_OUT);
+    are_told(&rt, alloc, &script, side_by_side)?;
+    Ok(())
+}
+
+// The lines of these replies are those that stand above.
+fn are_told(
+    rt: &impl Abort,
+    alloc: Global,
+    script: &Script,
+    replies: Replies,
+) -> Result<(), NoMemory> {
+    let out = told(alloc, script, &replies)?;
+    are_bytes(rt, "the transcript", out.as_slice(), POSES_OUT);
     Ok(())
 }

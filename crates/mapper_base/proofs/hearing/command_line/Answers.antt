@@ -6,12 +6,11 @@ use Rattle.mapper_base.proofs.hearing.command_line.Goals as goal
 
 pub returns : goal.returns
 returns c =
-    let top = λ (a : App). a.top in
-    let one : app_of c.in_ok-subcommand.field-0 ≡ with_subcommand (new_app (codes "mapper")) run.top =
-    c.in_ok-subcommand.ensures.shape c.in_ok-run.ensures.local ∙ ap₂ with_subcommand c.new.ensures.app (ap top c.in_ok-run.ensures.app) in
-    let two : app_of c.in_ok-subcommand-2.field-0 ≡ with_subcommand (with_subcommand (new_app (codes "mapper")) run.top) (numbered (codes "make")).top =
-    c.in_ok-subcommand-2.ensures.shape c.in_ok-make.ensures.local ∙ ap₂ with_subcommand one (ap top c.in_ok-make.ensures.app) in
-    let three : app_of c.in_ok-subcommand-3.field-0
+    let one : app_of c.in_ok-command.command ≡ with_subcommand (new_app (codes "mapper")) run.top =
+    c.in_ok-command.ensures.shape c.in_ok-run.ensures.local ∙ ap₂ with_subcommand c.new.ensures.app (ap (λ (a : App). a.top) c.in_ok-run.ensures.app) in
+    let two : app_of c.in_ok-command-2.command ≡ with_subcommand (with_subcommand (new_app (codes "mapper")) run.top) (numbered (codes "make")).top =
+    c.in_ok-command-2.ensures ∙ ap (λ a. with_subcommand a (numbered (codes "make")).top) one in
+    let three : app_of c.in_ok-command-3.command
     ≡ with_subcommand (with_subcommand (with_subcommand (new_app (codes "mapper")) run.top) (numbered (codes "make")).top) (numbered (codes "drive")).top =
-    c.in_ok-subcommand-3.ensures.shape c.in_ok-drive.ensures.local ∙ ap₂ with_subcommand two (ap top c.in_ok-drive.ensures.app) in
-    IfOk-weaker c.subcommand-4.result _ _ (λ r h. h.shape c.in_ok-check.ensures.local ∙ ap₂ with_subcommand three (ap top c.in_ok-check.ensures.app)) c.subcommand-4.ensures
+    c.in_ok-command-3.ensures ∙ ap (λ a. with_subcommand a (numbered (codes "drive")).top) two in
+    IfOk-weaker c.with_numbered-3.result _ _ (λ r h. h ∙ ap (λ a. with_subcommand a (numbered (codes "check")).top) three) c.with_numbered-3.ensures

@@ -1,28 +1,21 @@
-use Rattle.std.proofs.Common.{◌≡◌, ℕ, List, drop, Option, None, Some, IfSome, sym, subst}
-use Rattle.scan_log.specs.Scripts.{ScriptAt}
-use Rattle.transcript_check.specs.declared.verdict.Verdict.{Verdict}
-use Rattle.transcript_check.specs.Verdicts.{IsVerdict}
+use Rattle.std.proofs.Common.{◌≡◌, ℕ, List, refl, sym, subst}
+use Rattle.scan_log.specs.Written.{script_text}
 use Rattle.mapper_base.specs.declared.words.Ask.{Ask}
-use Rattle.mapper_base.specs.declared.words.Ask.TheVariants.{Check}
-use Rattle.mapper_base.specs.Causes.{Says, IsTextOf}
-use Rattle.mapper_base.specs.Prints.{IsVerdictLine}
+use Rattle.mapper_base.specs.declared.words.Ask.TheVariants.{Make, Drive}
+use Rattle.mapper_base.specs.Causes.{IsTextOf}
+use Rattle.mapper_base.specs.Generated.{generated}
 use Rattle.mapper_base.specs.Seen.{LogSeen}
+use Rattle.mapper_base.specs.Summary.{summary_of}
 use Rattle.mapper_core.proofs.running.text_of.Goals as goal
 
--- the verdict on what was read is the one on what there was
-found_in : (input : Option (List ℕ)) (bytes : List ℕ) (n : ℕ) (x : ScriptAt) (v : Verdict) → IfSome input (λ b. b ≡ bytes) → IsVerdict x (drop n bytes) v
-    → IfSome input (λ b. IsVerdict x (drop n b) v)
-found_in None bytes n x v all found = tt
-found_in (Some b) bytes n x v all found = subst (λ z. IsVerdict x (drop n z) v) (sym all) found
+script_made : (a : Ask) (n : ℕ) (log : LogSeen) (lines : List ℕ) → a ≡ Make n → lines ≡ script_text (generated n) → IsTextOf a log lines
+script_made a n log lines is told = subst (λ b. IsTextOf b log lines) (sym is) (record { script = generated n; said = refl; printed = told })
 
-check_made : (a : Ask) (n : ℕ) (log : LogSeen) (x : ScriptAt) (bytes lines : List ℕ) → a ≡ Check n → Says (Check n) log x → IfSome log.left (λ b. b ≡ bytes)
-    → IsVerdictLine x n (Some bytes) lines → IsTextOf a log lines
-check_made a n log x bytes lines is said all line = subst (λ b. IsTextOf b log lines) (sym is) (record {
-  script = x;
-  said = said;
-  printed = record { verdict = line.verdict; found = found_in log.left bytes n x line.verdict all line.found; told = line.told };
-})
+sums_told : (a : Ask) (n : ℕ) (log : LogSeen) (lines : List ℕ) → a ≡ Drive n → lines ≡ summary_of n (generated n) → IsTextOf a log lines
+sums_told a n log lines is told = subst (λ b. IsTextOf b log lines) (sym is) (record { script = generated n; said = refl; printed = told })
 
-pub returns-in_ok-check_text-in-Check-clause-text : goal.returns-in_ok-check_text-in-Check-clause-text
-returns-in_ok-check_text-in-Check-clause-text g c =
-    check_made c.args.ask c.in-Check.length _ _ _ _ c.in-Check.is c.in_ok-input-in-Check.ensures.says c.in_ok-input-in-Check.ensures.bytes c.in_ok-check_text-in-Check.ensures
+pub returns-in_ok-made_text-in-Make-clause-text : goal.returns-in_ok-made_text-in-Make-clause-text
+returns-in_ok-made_text-in-Make-clause-text g c = script_made c.args.ask c.in-Make.scans _ _ c.in-Make.is c.in_ok-made_text-in-Make.ensures
+
+pub returns-in_ok-driven_text-in-Drive-clause-text : goal.returns-in_ok-driven_text-in-Drive-clause-text
+returns-in_ok-driven_text-in-Drive-clause-text g c = sums_told c.args.ask c.in-Drive.scans _ _ c.in-Drive.is c.in_ok-driven_text-in-Drive.ensures

@@ -1,7 +1,8 @@
-use Rattle.std.proofs.Common.{◌≡◌, ◌≤◌, true, false, ◌∷◌, ◌++◌, [], ◌+◌, ◌-◌, take, suc, Some, slice_get, sym, ap, ◌∙◌, refl, subst, drop, drop-cons, add-one, arith}
+use Rattle.std.proofs.Common.{rules, length, ◌≡◌, ◌≤◌, true, false, ◌∷◌, ◌++◌, [], ◌+◌, ◌-◌, take, suc, Some, slice_get, sym, ap, ◌∙◌, refl, subst, drop, drop-cons, add-one, arith}
+use Rattle.std.proofs.lemmas.List.{take_all}
 use Rattle.std.specs.List.{AllByRecursion}
 use Rattle.scan_log.specs.declared.command.Command.TheVariants as command_of
-use Rattle.mapper_core.specs.Meetings.{Standing, is_barrier, IsOfCallers, HasCaller}
+use Rattle.mapper_core.specs.Meetings.{Standing, is_barrier, IsOfCallers, IsTotal, HasCaller}
 use Rattle.mapper_core.proofs.Beginnings.{get_of_drop}
 use Rattle.mapper_core.proofs.Meeting.{standing_start}
 use Rattle.mapper_core.proofs.Slices.{barrier_is, caller_is, all_get, all_last, all_none, slice_next}
@@ -61,3 +62,18 @@ loop-command-preserved g c =
             standing = inv.standing;
           })
     ]
+
+pub returns : goal.returns
+returns g c =
+    let cs = c.args.commands.now in
+    let ps = c.in_ok-passes-2.passes.items in
+    let same : c.as_slice.result.now ≡ ps = search rules in
+    let le : length cs ≤ c.loop-command.at = (let e = c.loop-command.invariant.at in omega arith) in
+    record {
+      front = _;
+      ending = c.held.result;
+      replies = c.in_ok-push.ensures.ok;
+      standing = rw (take_all c.loop-command.at cs le) at c.in_ok-passes-2.ensures.standing;
+      total = subst (λ z. IsTotal g.L.MapName.voxel z c.held.result) same c.held.ensures;
+      all = c.in_ok-passes-2.ensures.all;
+    }

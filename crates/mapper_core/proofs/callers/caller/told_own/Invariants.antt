@@ -1,6 +1,6 @@
 use Rattle.std.proofs.Common.{◌≡◌, ◌+◌, drop}
 use Rattle.mapper_core.specs.Mine.{RanTo}
-use Rattle.mapper_core.proofs.callers.caller.run_own.Given as goal
+use Rattle.mapper_core.proofs.callers.caller.told_own.Given as goal
 
 abbrev pub invariant-loop-command : goal.invariant-loop-command
 invariant-loop-command g l = record {
