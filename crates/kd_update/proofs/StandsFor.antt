@@ -1,5 +1,5 @@
 -- A subtree that another tree stands in for.
-use Rattle.std.proofs.Common.{◌≡◌, ℕ, ◌+◌, ◌≤◌, inl, inr, refl, ap, ◌∙◌, sym, subst, arith, List, [], ◌∷◌, length, Some, cond, ◌==◌, ◌≤ℤ◌, IsPermutation}
+use Rattle.std.proofs.Common.{◌≡◌, ℕ, ◌+◌, ◌≤◌, inl, inr, refl, ap, ◌∙◌, sym, subst, arith, List, [], ◌∷◌, length, None, Some, cond, ◌==◌, ◌≤ℤ◌, IsPermutation}
 use Rattle.std.proofs.lemmas.Bool.{cases_lt}
 use Rattle.std.proofs.lemmas.List.Elements.{Contains-append_left}
 use Rattle.std.proofs.lemmas.List.Sorted.{All-permutation, sum_by-IsPermutation, IsPermutation-sym, IsPermutation-trans, IsPermutation-append_left, IsPermutation-append_right}
@@ -151,6 +151,17 @@ pub son_stands : (side : Side) (path : List Side) (t other s : Shape) → at (si
 son_stands side path leaf other s e k = absurd (cc)
 son_stands Left path (fork h l r) other s e k = record { node = k.node; there = subst (λ x. at path x ≡ Some k.node) (same_Some l s e) k.there; same = k.same }
 son_stands Right path (fork h l r) other s e k = record { node = k.node; there = subst (λ x. at path x ≡ Some k.node) (same_Some r s e) k.there; same = k.same }
+
+pub son_room : (side : Side) (path : List Side) (t other s : Shape) → at (side ∷ []) t ≡ Some s → HasRoomAt (side ∷ path) other t → HasRoomAt path other s
+son_room side path leaf other s e k = absurd (cc)
+son_room Left path (fork h l r) other s e k = subst (HasRoomAt path other) (same_Some l s e) (record { low = omega (arith, k.low); few = omega (arith, k.few) })
+son_room Right path (fork h l r) other s e k = subst (HasRoomAt path other) (same_Some r s e) (record { low = omega (arith, k.low); few = omega (arith, k.few) })
+
+-- there is one
+pub son_there : (side : Side) (path : List Side) (t other : Shape) → at (side ∷ []) t ≡ None → StandsFor (side ∷ path) t other → ⊥
+son_there side path leaf other e k = cc k.there
+son_there Left path (fork h l r) other e k = cc
+son_there Right path (fork h l r) other e k = cc
 
 -- the tree with the changed son is sound
 pub son_sound : (large : ℕ) (side : Side) (path : List Side) (t other s new : Shape) → at (side ∷ []) t ≡ Some s → IsSound t → HasRoomAt (side ∷ path) other t → IsReplaced large path s other new → IsTopSound (with_son side new t)
