@@ -1,11 +1,12 @@
-use Rattle.std.proofs.Common.{◌∙◌, List, [], sym, subst, arith, ap}
+use Rattle.std.proofs.Common.{◌∙◌, List, [], refl, sym, subst, arith, ap}
 use Rattle.std.proofs.lemmas.List.{nil_from_length}
 use Rattle.std.proofs.lemmas.Result.{IfOk-weaker}
 use Rattle.std.proofs.lemmas.List.Elements.{All-head}
 use Rattle.map_fold.specs.declared.item.Item.{Item}
+use Rattle.kd_tree.specs.Shape.{Shape}
 use Rattle.kd_tree.specs.Parts.{fork_in, fork_of}
 use Rattle.kd_update.specs.Update.{IsBalancedBelow}
-use Rattle.kd_update.specs.Scan.{AreLive, IsGrown}
+use Rattle.kd_update.specs.Scan.{AreLive, IsGrown, IsParted}
 use Rattle.kd_update.proofs.Trees.{pushed_smaller}
 use Rattle.kd_update.proofs.Grown.{IsLive, IsStep, alone, grown_moved, grown_none, grown_put, piece_moved, piece_new, step_at, step_pieces, step_sound, step_grown, step_balanced}
 use Rattle.kd_update.proofs.Several.{balanced_free}
@@ -61,3 +62,6 @@ pub returns-clause-balance : goal.returns-clause-balance
 returns-clause-balance g t c =
     IfOk-weaker c.rejoined.result _ (λ v. IsBalancedBelow c.args.large c.args.tree → IsBalancedBelow c.args.large v)
     (λ v done balanced. step_balanced c.args.large c.args.tree (fork_of c.in-Some-2.node) c.in_ok-left.left c.in_ok-right.right v (ap fork_in (sym c.in-Some-2.is) ∙ c.in_ok-node.ensures.parts) c.in_ok-left.ensures.balance c.in_ok-right.ensures.balance done balanced) c.rejoined.ensures.due
+
+pub returns-in_default-2-clause-grown : goal.returns-in_default-2-clause-grown
+returns-in_default-2-clause-grown g t c = absurd (subst (λ (s : Shape). IsParted s c.in-Some-parted.count c.parted.new.items) (c.in_ok-node.ensures.none.0 (rw c.in_default-2.is refl)) c.in-Some-parted.ensures.parted)

@@ -1,8 +1,9 @@
-use Rattle.std.proofs.Common.{◌∙◌, List, [], sym, subst, arith, ap}
+use Rattle.std.proofs.Common.{◌∙◌, List, [], refl, sym, subst, arith, ap}
 use Rattle.std.proofs.lemmas.List.{nil_from_length}
 use Rattle.std.proofs.lemmas.Result.{IfOk-weaker}
 use Rattle.std.proofs.lemmas.List.Elements.{All-head}
 use Rattle.map_fold.specs.declared.item.Item.{Item}
+use Rattle.kd_tree.specs.Shape.{nodes}
 use Rattle.kd_tree.specs.Parts.{fork_in, fork_of}
 use Rattle.kd_update.specs.Scan.{AreLive}
 use Rattle.kd_update.specs.Crossing.{IsWholeGrown}
@@ -50,3 +51,6 @@ pub returns : goal.returns
 returns g t c =
     let done = whole_step _ _ _ _ _ c.in_ok-left.left c.in_ok-right.right (ap fork_in (sym c.in-Some-2.is) ∙ c.in_ok-node.ensures.parts) (step g t (goal.at.returns g t c).After-split_at_mut-lefts) c.in_ok-left.ensures c.in_ok-right.ensures in
     IfOk-weaker c.joined.result _ _ (λ v e. subst (λ u. IsWholeGrown c.args.tree c.args.items.now u) (sym e) done) c.joined.ensures.shape
+
+pub returns-in_default-2 : goal.returns-in_default-2
+returns-in_default-2 g t c = absurd (omega (arith, ap nodes (c.in_ok-node.ensures.none.0 (rw c.in_default-2.is refl))))
