@@ -162,15 +162,15 @@ fn what_rests_above_a_watched_root_is_logged_when_pushed_in(rt: HostRuntime) -> 
     let at = marked_row(&rt, alloc, at, (30, 33), Tag::RESTORE)?;
     let is_large = is_large(&at.map.tree, 24, &right);
     holds(&rt, "a large subtree", is_large);
-    has_logged_both(&rt, alloc, &at.watches, row(30, 33)?)
+    has_logged_both(&rt, alloc, &at.watches, (30, 33))
 }
 
-// The first watch has that all were suspended, and that part of them was restored.
+// The first watch has that all were suspended, and that the points from `from` to `to` less one were restored.
 fn has_logged_both(
     rt: &impl Abort,
     alloc: Global,
     watches: &Watches,
-    part: Choice,
+    (from, to): (i64, i64),
 ) -> Result<(), Fail> {
     let Some(watch) = watches.as_slice().first() else {
         return Err(Fail::new("no watch"));
@@ -180,7 +180,7 @@ fn has_logged_both(
         tag: Tag::SUSPEND,
     };
     let restored = Op::Mark {
-        choice: part,
+        choice: row(from, to)?,
         tag: Tag::RESTORE,
     };
     let ops = watch.log.after(alloc, 0)?;
