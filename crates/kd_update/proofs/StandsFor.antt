@@ -25,7 +25,7 @@ use Rattle.kd_tree.proofs.Numbered.{by_number_moves, by_number-moved}
 use Rattle.kd_update.specs.Refresh.{IsNotDue, RefreshesIfDue}
 use Rattle.kd_update.specs.Watch.{IsLargeAt}
 use Rattle.kd_update.specs.Several.{AreLargeAt, AreSameAt}
-use Rattle.kd_update.specs.Replace.{StandsFor, HasRoomAt, IsNoLarger, IsReplaced}
+use Rattle.kd_update.specs.Replace.{StandsFor, HasRoomAt, IsNoLarger, IsReplaced, RebuildsNoneAbove}
 use Rattle.kd_tree.proofs.Left.{all_left, left_all}
 use Rattle.kd_update.proofs.Trees.{among_left, among_right, nodes_below}
 use Rattle.kd_update.proofs.Refresh.{refresh_contents, refreshed_refresh}
@@ -156,6 +156,13 @@ pub son_room : (side : Side) (path : List Side) (t other s : Shape) → at (side
 son_room side path leaf other s e k = absurd (cc)
 son_room Left path (fork h l r) other s e k = subst (HasRoomAt path other) (same_Some l s e) (record { low = omega (arith, k.low); few = omega (arith, k.few) })
 son_room Right path (fork h l r) other s e k = subst (HasRoomAt path other) (same_Some r s e) (record { low = omega (arith, k.low); few = omega (arith, k.few) })
+
+-- where no node above the path is to be rebuilt, neither is the father nor one above it in the son
+pub son_calm : (large : ℕ) (side : Side) (path : List Side) (t other s : Shape) → at (side ∷ []) t ≡ Some s → RebuildsNoneAbove large (side ∷ path) (replaced_at (side ∷ path) other t)
+    → IsNotDue large (with_son side (replaced_at path other s) t) × RebuildsNoneAbove large path (replaced_at path other s)
+son_calm large side path leaf other s e k = absurd (cc)
+son_calm large Left path (fork h l r) other s e k = subst (λ x. IsNotDue large (fork h (replaced_at path other x) r) × RebuildsNoneAbove large path (replaced_at path other x)) (same_Some l s e) k
+son_calm large Right path (fork h l r) other s e k = subst (λ x. IsNotDue large (fork h l (replaced_at path other x)) × RebuildsNoneAbove large path (replaced_at path other x)) (same_Some r s e) k
 
 -- there is one
 pub son_there : (side : Side) (path : List Side) (t other : Shape) → at (side ∷ []) t ≡ None → StandsFor (side ∷ path) t other → ⊥

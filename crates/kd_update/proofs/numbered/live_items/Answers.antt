@@ -17,5 +17,5 @@ loop-point-preserved c =
     record {
       number = omega (arith, c.loop-point.invariant.number);
       rest = ap (λ (ys : List Item). ys ++ rest) c.in_ok-push.ensures.items ∙ append_assoc xs (c.live.result ∷ []) rest
-        ∙ ap (λ (j : Item). xs ++ j ∷ rest) c.live.ensures ∙ ap (λ (qs : List Place). xs ++ live_from n qs) (sym cut) ∙ c.loop-point.invariant.rest;
+          ∙ ap (λ (j : Item). xs ++ j ∷ rest) c.live.ensures ∙ ap (λ (qs : List Place). xs ++ live_from n qs) (sym cut) ∙ c.loop-point.invariant.rest;
     }
