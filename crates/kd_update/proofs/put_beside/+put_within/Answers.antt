@@ -8,7 +8,7 @@ use Rattle.kd_tree.specs.Parts.{fork_in, fork_of}
 use Rattle.kd_update.specs.Scan.{AreLive}
 use Rattle.kd_update.specs.Crossing.{IsWholeGrown}
 use Rattle.kd_update.proofs.Trees.{pushed_smaller}
-use Rattle.kd_update.proofs.Grown.{IsLive, IsStep, alone, step_pieces, step_sound}
+use Rattle.kd_update.proofs.Grown.{IsLive, IsStep, alone, live_of, step_pieces, step_sound}
 use Rattle.kd_update.proofs.Results.{ok_three}
 use Rattle.kd_update.proofs.Crossing.{step_from, whole_built, whole_none, whole_put, whole_step}
 use Rattle.kd_update.proofs.put_beside.+put_within.Goals as goal
@@ -19,6 +19,9 @@ step : (g : _) (t : _) (c : After-split_at_mut-lefts g t) → IsStep c.args.tree
 step g t c =
     step_from c.args.tree (fork_of c.in-Some-2.node) c.moved_left-count.result c.args.items.now c.moved_left-count.new.items _ _ (ap fork_in (sym c.in-Some-2.is) ∙ c.in_ok-node.ensures.parts) c.size-size.ensures.sound
     c.moved_left-count.ensures.moved c.moved_left-count.ensures.left c.moved_left-count.ensures.right c.split_at_mut-lefts.ensures.front c.split_at_mut-lefts.ensures.back
+
+pub put_below-requires-clause-live : goal.put_below-requires-clause-live
+put_below-requires-clause-live g t c = live_of c.in-Some.first.now (All-head IsLive c.in-Some.first.now c.in-Some.rest.now (subst AreLive c.in-Some.ensures.cases.0 c.requires.1.live))
 
 pub returns-in_default : goal.returns-in_default
 returns-in_default g t c = subst (λ (xs : List Item). IsWholeGrown c.args.tree xs c.args.tree) (sym (nil_from_length c.args.items.now c.in_default.ensures.cases)) (whole_none c.args.tree)
