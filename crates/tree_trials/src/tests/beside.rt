@@ -8,7 +8,7 @@ ghost use Rattle.kd_update.specs.Several.{AreLargeAt};
 ghost use Rattle.kd_update.specs.Watches.{paths_in};
 
 use crate::tests::assertions::{holds, same};
-use crate::tests::draw::{Action, Draw};
+use crate::tests::draw::Draw;
 use crate::tests::numbered::Numbered;
 use crate::tests::watch::{became, drawn_map, grandsons, held_at};
 use crate::tests::watching::{Watched, Watching, are_large};
@@ -158,12 +158,6 @@ struct Both {
 }
 
 impl Both {
-    fn started(rt: &impl Abort, alloc: Global, paths: &[Path], large: u32) -> Result<Both, Fail> {
-        let singly = Watching::started(rt, alloc, paths, large)?;
-        let scanned = Watching::started(rt, alloc, paths, large)?;
-        Ok(Both { singly, scanned })
-    }
-
     fn changed(
         self,
         rt: &impl Abort,
@@ -171,34 +165,14 @@ impl Both {
         draw: &mut Draw,
         count: u32,
     ) -> Result<Both, Fail> {
+        let Both { singly, scanned } = self;
         let action = draw.action()?;
-        let both = self.marked(rt, alloc, &action)?;
+        let singly = singly.marked(rt, alloc, &action)?;
+        let scanned = scanned.marked(rt, alloc, &action)?;
         let points = draw.points(alloc, count)?;
-        both.put(rt, alloc, points.as_slice())
-    }
-
-    fn marked(self, rt: &impl Abort, alloc: Global, action: &Action) -> Result<Both, Fail> {
-        let Both { singly, scanned } = self;
-        let singly = singly.marked(rt, alloc, action)?;
-        let scanned = scanned.marked(rt, alloc, action)?;
+        let singly = singly.put_singly(rt, alloc, points.as_slice())?;
+        let scanned = scanned.put_at_once(rt, alloc, points.as_slice())?;
         Ok(Both { singly, scanned })
-    }
-
-    fn put(self, rt: &impl Abort, alloc: Global, points: &[Point]) -> Result<Both, Fail> {
-        let Both { singly, scanned } = self;
-        let singly = singly.put_singly(rt, alloc, points)?;
-        let scanned = scanned.put_at_once(rt, alloc, points)?;
-        Ok(Both { singly, scanned })
-    }
-
-    fn changed_often(self, rt: &impl Abort, alloc: Global, count: u32) -> Result<Both, Fail> {
-        let mut both = self;
-        let mut draw = Draw { state: 11 };
-        for _ in 0..5 {
-            both = both.changed(rt, alloc, &mut draw, count)?;
-            both.hold_the_same(rt, alloc)?;
-        }
-        Ok(both)
     }
 
     fn hold_the_same(&self, rt: &impl Abort, alloc: Global) -> Result<(), Fail> {
@@ -236,9 +210,15 @@ fn scans_beside(
     large: u32,
     count: u32,
 ) -> Result<(), Fail> {
-    let both = Both::started(rt, alloc, paths, large)?;
-    let olds = held_at(alloc, &both.scanned.map.tree, paths)?;
-    let both = both.changed_often(rt, alloc, count)?;
+    let singly = Watching::started(rt, alloc, paths, large)?;
+    let scanned = Watching::started(rt, alloc, paths, large)?;
+    let olds = held_at(alloc, &scanned.map.tree, paths)?;
+    let mut both = Both { singly, scanned };
+    let mut draw = Draw { state: 11 };
+    for _ in 0..5 {
+        both = both.changed(rt, alloc, &mut draw, count)?;
+        both.hold_the_same(rt, alloc)?;
+    }
     both.have_logged(rt, alloc, olds)
 }
 

@@ -37,31 +37,14 @@ fn first_breaches<L: Ledger>(rt: &impl Abort, alloc: Global, blank: Blank) -> Re
     requires blank { IsBlankOf L.name L.parts blank }
 {
     let mut steps: Steps<L> = Steps::new(blank);
-    breaches_of_dropped(rt, alloc, &mut steps)?;
-    breaches_of_leaning(rt, alloc, &mut steps)
-}
-
-// 19 of 40 dropped are fewer than half, and all of the left son's.
-fn breaches_of_dropped<L: Ledger>(
-    rt: &impl Abort,
-    alloc: Global,
-    steps: &mut Steps<L>,
-) -> Result<(), Fail> {
-    let tree = forty(alloc, steps)?;
-    let dropped = left_dropped(alloc, tree, steps)?;
+    // 19 of 40 dropped are fewer than half, and all of the left son's.
+    let tree = forty(alloc, &mut steps)?;
+    let dropped = left_dropped(alloc, tree, &mut steps)?;
     begins(rt, &dropped, 10, Some(Path::root().down(Side::Left)));
     begins(rt, &dropped, 20, None);
-    Ok(())
-}
-
-// All of the 19 nodes below the top stand on one side.
-fn breaches_of_leaning<L: Ledger>(
-    rt: &impl Abort,
-    alloc: Global,
-    steps: &mut Steps<L>,
-) -> Result<(), Fail> {
-    let tree = forty(alloc, steps)?;
-    let leaning = leaning(alloc, tree, steps)?;
+    // All of the 19 nodes below the top stand on one side.
+    let tree = forty(alloc, &mut steps)?;
+    let leaning = leaning(alloc, tree, &mut steps)?;
     begins(rt, &leaning, 10, Some(Path::root()));
     begins(rt, &leaning, 21, None);
     Ok(())
