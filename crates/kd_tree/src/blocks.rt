@@ -8,7 +8,7 @@ const MAX_KEPT: usize = 8_192;
 
 // The memory of old nodes, and trees that are dropped. These are taken apart node by node, as memory is wanted: so a node is written
 // just after it was read, while the processor has it at hand.
-#[derive(Debug, Drop)]
+#[derive(Drop)]
 pub(crate) struct Blocks {
     ready: Vec<Block>,
     trees: Vec<Tree>,

@@ -16,7 +16,7 @@ use std::alloc::Global;
 use std::sync::ledger::Ledger;
 
 /// A tree taken apart at its top. The sons owe nothing to it.
-#[derive(Debug, Drop)]
+#[derive(Drop)]
 pub struct Fork {
     pub item: Item,
     pub axis: Axis,

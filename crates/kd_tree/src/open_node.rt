@@ -18,7 +18,7 @@ use std::sync::Arc;
 use std::sync::ledger::Ledger;
 
 /// A tree taken apart at its top, as a `Fork` is, together with the memory of its top node.
-#[derive(Debug, Drop)]
+#[derive(Drop)]
 pub struct OpenNode {
     pub item: Item,
     pub axis: Axis,
@@ -29,13 +29,13 @@ pub struct OpenNode {
 }
 
 /// The memory of a node, if any is kept.
-#[derive(Debug, Drop)]
+#[derive(Drop)]
 pub struct Block {
     node: Option<Arc<Node>>,
 }
 
 // A top node whose sons still owe what is pending.
-#[derive(Debug, Drop)]
+#[derive(Drop)]
 pub(crate) struct Opened {
     pub(crate) item: Item,
     pub(crate) axis: Axis,

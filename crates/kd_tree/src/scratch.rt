@@ -20,7 +20,7 @@ use std::sync::ledger::Ledger;
 const FRESH_FROM: usize = 8_192;
 
 /// Memory for new nodes, and for rebuilding. What it holds between two calls means nothing.
-#[derive(Debug, Drop)]
+#[derive(Drop)]
 pub struct Scratch {
     items: Vec<Item>,
     blocks: Blocks,

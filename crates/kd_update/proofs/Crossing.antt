@@ -301,6 +301,19 @@ pub ahead_scan : (side : Side) (path : List Side) (is : List Item) (q o : Tag) (
 ahead_scan side path [] q o t s h l r e owed on some = absurd (some refl)
 ahead_scan side path (i ∷ is) q o t s h l r e owed on some = rw (e, owed, on) refl
 
+-- where the path ends, all items
+pub ahead_scan_root : (path : List Side) (is : List Item) (t : Shape) → length path ≡ 0 → logged_scan path is t ≡ puts_of is
+ahead_scan_root [] is t e = refl
+ahead_scan_root (side ∷ path) is t e = absurd (omega (arith, e))
+
+-- and nothing above it, where no item comes or no node is there
+pub ahead_scan_none : (side : Side) (path : List Side) (is : List Item) (t : Shape) → is ≡ [] → logged_scan (side ∷ path) is t ≡ []
+ahead_scan_none side path is t e = ap (λ (xs : List Item). logged_scan (side ∷ path) xs t) e
+
+pub ahead_scan_leaf : (side : Side) (path : List Side) (is : List Item) (q : Tag) (t : Shape) → t ≡ leaf → logged_scan (side ∷ path) is (tagged q t) ≡ []
+ahead_scan_leaf side path [] q t e = refl
+ahead_scan_leaf side path (i ∷ is) q t e = ap (λ z. logged_scan (side ∷ path) (i ∷ is) (tagged q z)) e
+
 pub logged_scan_few : (path : List Side) (is : List Item) (t : Shape) → length (logged_scan path is t) ≤ length is + 1
 logged_scan_few [] is t = omega (arith, puts_length is)
 logged_scan_few (side ∷ path) [] t = omega arith

@@ -216,6 +216,12 @@ pub some_of : (large : ℕ) (ps : List (List Side)) (t : Shape) → (ps ≡ [] �
 some_of large [] t n k = absurd (n refl)
 some_of large (p ∷ ps) t n k = large_nodes large p t k.0
 
+-- no path goes on from an empty tree
+pub none_on : (large : ℕ) (ps : List (List Side)) → AreLargeAt large ps leaf → is_here ps ≡ false → ps ≡ []
+none_on large [] k e = refl
+none_on large ([] ∷ ps) k e = absurd (cc)
+none_on large ((side ∷ p) ∷ ps) k e = absurd (cc k.0.there)
+
 -- an entered node
 pub marked_joined : (large m : ℕ) (c : Choice) (a : Tag) (ps lefts rights : List (List Side)) (s : Shape) (f : Fork) (l r t : Shape) → IsEntered c a s f → Some f ≡ pushed s → AreLargeAt large ps s
     → m ≡ large_at ps large → lefts ≡ onward Left ps → rights ≡ onward Right ps

@@ -1,5 +1,5 @@
 -- A subtree that another tree stands in for.
-use Rattle.std.proofs.Common.{◌≡◌, ℕ, ◌+◌, ◌≤◌, inl, inr, refl, ap, ◌∙◌, sym, subst, arith, List, [], ◌∷◌, length, Some, cond, ◌==◌, ◌≤ℤ◌, IsPermutation}
+use Rattle.std.proofs.Common.{◌≡◌, ℕ, ◌+◌, ◌≤◌, inl, inr, refl, ap, ◌∙◌, sym, subst, arith, List, [], ◌∷◌, length, None, Some, cond, ◌==◌, ◌≤ℤ◌, IsPermutation}
 use Rattle.std.proofs.lemmas.Bool.{cases_lt}
 use Rattle.std.proofs.lemmas.List.Elements.{Contains-append_left}
 use Rattle.std.proofs.lemmas.List.Sorted.{All-permutation, sum_by-IsPermutation, IsPermutation-sym, IsPermutation-trans, IsPermutation-append_left, IsPermutation-append_right}
@@ -25,7 +25,7 @@ use Rattle.kd_tree.proofs.Numbered.{by_number_moves, by_number-moved}
 use Rattle.kd_update.specs.Refresh.{IsNotDue, RefreshesIfDue}
 use Rattle.kd_update.specs.Watch.{IsLargeAt}
 use Rattle.kd_update.specs.Several.{AreLargeAt, AreSameAt}
-use Rattle.kd_update.specs.Replace.{StandsFor, HasRoomAt, IsNoLarger, IsReplaced}
+use Rattle.kd_update.specs.Replace.{StandsFor, HasRoomAt, IsNoLarger, IsReplaced, RebuildsNoneAbove}
 use Rattle.kd_tree.proofs.Left.{all_left, left_all}
 use Rattle.kd_update.proofs.Trees.{among_left, among_right, nodes_below}
 use Rattle.kd_update.proofs.Refresh.{refresh_contents, refreshed_refresh}
@@ -151,6 +151,24 @@ pub son_stands : (side : Side) (path : List Side) (t other s : Shape) → at (si
 son_stands side path leaf other s e k = absurd (cc)
 son_stands Left path (fork h l r) other s e k = record { node = k.node; there = subst (λ x. at path x ≡ Some k.node) (same_Some l s e) k.there; same = k.same }
 son_stands Right path (fork h l r) other s e k = record { node = k.node; there = subst (λ x. at path x ≡ Some k.node) (same_Some r s e) k.there; same = k.same }
+
+pub son_room : (side : Side) (path : List Side) (t other s : Shape) → at (side ∷ []) t ≡ Some s → HasRoomAt (side ∷ path) other t → HasRoomAt path other s
+son_room side path leaf other s e k = absurd (cc)
+son_room Left path (fork h l r) other s e k = subst (HasRoomAt path other) (same_Some l s e) (record { low = omega (arith, k.low); few = omega (arith, k.few) })
+son_room Right path (fork h l r) other s e k = subst (HasRoomAt path other) (same_Some r s e) (record { low = omega (arith, k.low); few = omega (arith, k.few) })
+
+-- where no node above the path is to be rebuilt, neither is the father nor one above it in the son
+pub son_calm : (large : ℕ) (side : Side) (path : List Side) (t other s : Shape) → at (side ∷ []) t ≡ Some s → RebuildsNoneAbove large (side ∷ path) (replaced_at (side ∷ path) other t)
+    → IsNotDue large (with_son side (replaced_at path other s) t) × RebuildsNoneAbove large path (replaced_at path other s)
+son_calm large side path leaf other s e k = absurd (cc)
+son_calm large Left path (fork h l r) other s e k = subst (λ x. IsNotDue large (fork h (replaced_at path other x) r) × RebuildsNoneAbove large path (replaced_at path other x)) (same_Some l s e) k
+son_calm large Right path (fork h l r) other s e k = subst (λ x. IsNotDue large (fork h l (replaced_at path other x)) × RebuildsNoneAbove large path (replaced_at path other x)) (same_Some r s e) k
+
+-- there is one
+pub son_there : (side : Side) (path : List Side) (t other : Shape) → at (side ∷ []) t ≡ None → StandsFor (side ∷ path) t other → ⊥
+son_there side path leaf other e k = cc k.there
+son_there Left path (fork h l r) other e k = cc
+son_there Right path (fork h l r) other e k = cc
 
 -- the tree with the changed son is sound
 pub son_sound : (large : ℕ) (side : Side) (path : List Side) (t other s new : Shape) → at (side ∷ []) t ≡ Some s → IsSound t → HasRoomAt (side ∷ path) other t → IsReplaced large path s other new → IsTopSound (with_son side new t)

@@ -8,7 +8,7 @@ use map_fold::Choice;
 use point_geom::{Cuboid, Extent};
 
 // Where the nodes of a tree lie, and from which number to which they go. Dropped ones count too.
-#[derive(Clone, Copy, Debug)]
+#[derive(Clone, Copy)]
 pub(crate) struct Reach {
     pub(crate) extent: Extent,
     pub(crate) numbers: Numbers,

@@ -2,7 +2,7 @@
 use kd_tree::Tree;
 
 /// A tree of which a subtree was replaced.
-#[derive(Debug, Drop)]
+#[derive(Drop)]
 pub struct Replaced {
     pub tree: Tree,
     /// Whether the whole tree was rebuilt by medians, for want of room.

@@ -7,7 +7,7 @@ use map_fold::{NoMemory, Op};
 use op_logger::{MAX_LOGGED, OpLog};
 
 /// A subtree that is watched: its path, and the operations on its own items that were met since the log was empty.
-#[derive(Debug, Drop)]
+#[derive(Drop)]
 pub struct Watch {
     pub path: Path,
     pub log: OpLog,

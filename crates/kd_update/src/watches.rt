@@ -8,7 +8,7 @@ use std::alloc::Global;
 use std::marker::Model;
 
 /// At most four watches, in order.
-#[derive(Debug, Drop)]
+#[derive(Drop)]
 pub struct Watches {
     pub(crate) items: Vec<Watch>,
 }

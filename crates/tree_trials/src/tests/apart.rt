@@ -53,13 +53,17 @@ fn three_joined<L: Ledger>(rt: &impl Abort, alloc: Global, blank: Blank) -> Resu
     let mut steps: Steps<L> = Steps::new(blank);
     let tree = joined(alloc, &mut steps)?;
     let copy = tree.copy(alloc, &mut steps)?;
-    let items = tree.flatten(alloc)?;
-    holds_all(rt, alloc, &copy, items.as_slice())?;
+    hold_the_same(rt, alloc, &tree, &copy)?;
     same(rt, "live items", copy.counts().live, 3);
     are_suspended(rt, alloc, tree, &mut steps)?;
     // The copy still has the nodes that were shared.
     same(rt, "live items of the copy", copy.counts().live, 3);
     Ok(())
+}
+
+fn hold_the_same(rt: &impl Abort, alloc: Global, tree: &Tree, copy: &Tree) -> Result<(), Fail> {
+    let items = tree.flatten(alloc)?;
+    holds_all(rt, alloc, copy, items.as_slice())
 }
 
 fn are_suspended<L: Ledger>(
@@ -81,7 +85,7 @@ fn three_joined_items_are_suspended_through_push_down_and_pull_up(
     three_joined::<Brand>(&rt, rt.alloc(), Blank::new(1))
 }
 
-// The tree taken apart and put together, where 19 items are suspended on its left and 20 on its right.
+// The tree taken apart and put together, where 40 items are suspended: 19 on its left, one at its top and 20 on its right.
 fn reassembled<L: Ledger>(
     rt: &impl Abort,
     alloc: Global,
@@ -93,7 +97,9 @@ fn reassembled<L: Ledger>(
     };
     same(rt, "suspended left", node.left.counts().suspended, 19);
     same(rt, "suspended right", node.right.counts().suspended, 20);
-    Ok(Tree::put_together(alloc, node, steps)?)
+    let tree = Tree::put_together(alloc, node, steps)?;
+    is_suspended(rt, alloc, &tree, 40)?;
+    Ok(tree)
 }
 
 fn taken_apart<L: Ledger>(
@@ -107,10 +113,9 @@ fn taken_apart<L: Ledger>(
     let mut steps: Steps<L> = Steps::new(blank);
     let shared = tree.copy(alloc, &mut steps)?;
     let own = reassembled(rt, alloc, shared, &mut steps)?;
-    is_suspended(rt, alloc, &own, 40)?;
     // Its top is no longer shared.
-    let own = reassembled(rt, alloc, own, &mut steps)?;
-    is_suspended(rt, alloc, &own, 40)
+    let _own = reassembled(rt, alloc, own, &mut steps)?;
+    Ok(())
 }
 
 #[test]

@@ -9,7 +9,7 @@ use crate::tests::script::Script;
 use crate::tests::watching::is_large;
 use kd_tree::{Path, Side, Steps, Tree};
 use kd_update::{Replaced, replaced, replayed};
-use map_fold::{Choice, Items, Tag};
+use map_fold::{Choice, Item, Items, Tag};
 use std::alloc::Global;
 use std::marker::Brand;
 use std::process::Abort;
@@ -111,16 +111,22 @@ fn what_stands_at_another_path_stays(rt: HostRuntime) -> Result<(), Fail> {
     let alloc = rt.alloc();
     let tree = forked(&rt, alloc)?;
     let with = under_a_dropped_point(&rt, alloc)?;
-    let left = Path::root().down(Side::Left);
     let right = Path::root().down(Side::Right);
     let held = held_at(alloc, &tree, &right)?;
     let done = put_left(alloc, tree, with)?;
     holds(&rt, "not rebuilt", !done.whole_rebuilt);
-    is_line(&rt, &done.tree, &left, 33)?;
-    is_line(&rt, &done.tree, &right, 32)?;
-    let still_held = held_at(alloc, &done.tree, &right)?;
-    let are_same = still_held.as_slice() == held.as_slice();
-    holds(&rt, "what was held on the right", are_same);
+    is_put_left(&rt, alloc, &done.tree, held.as_slice())
+}
+
+// The tree has the row with the dropped point on its left, and on its right what was held there.
+fn is_put_left(rt: &impl Abort, alloc: Global, tree: &Tree, held: &[Item]) -> Result<(), Fail> {
+    let left = Path::root().down(Side::Left);
+    let right = Path::root().down(Side::Right);
+    is_line(rt, tree, &left, 33)?;
+    is_line(rt, tree, &right, 32)?;
+    let still_held = held_at(alloc, tree, &right)?;
+    let are_same = still_held.as_slice() == held;
+    holds(rt, "what was held on the right", are_same);
     Ok(())
 }
 

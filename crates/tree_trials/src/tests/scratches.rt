@@ -8,7 +8,7 @@ use crate::tests::breaches::left_dropped;
 use crate::tests::forty::{forty, item};
 use crate::tests::lists::holds_all;
 use kd_tree::{Scratch, Steps, Tree};
-use map_fold::{Item, Tag};
+use map_fold::{Item, Items, Tag};
 use std::alloc::Global;
 use std::marker::Brand;
 use std::process::Abort;
@@ -95,24 +95,63 @@ fn rebuilt_with<L: Ledger>(rt: &impl Abort, alloc: Global, blank: Blank) -> Resu
 {
     let mut steps: Steps<L> = Steps::new(blank);
     let mut scratch = Scratch::new(alloc);
-    let tree = half_left(alloc, &mut steps)?;
-    let first = rebuilt_beside(rt, alloc, &tree, &mut scratch, &mut steps)?;
-    let items = first.flatten(alloc)?;
+    let items = rebuilt_first(rt, alloc, &mut scratch, &mut steps)?;
+    rebuilt_next(rt, alloc, items.as_slice(), &mut scratch, &mut steps)
+}
+
+// What the first tree holds when it is rebuilt, beside itself and in its own nodes.
+fn rebuilt_first<L: Ledger>(
+    rt: &impl Abort,
+    alloc: Global,
+    scratch: &mut Scratch,
+    steps: &mut Steps<L>,
+) -> Result<Items, Fail> {
+    let tree = half_left(alloc, steps)?;
+    let items = held_when_rebuilt(rt, alloc, &tree, scratch, steps)?;
     are_from_19_on(rt, items.as_slice());
-
     // The tree's own nodes are used again, and some of them are left over.
-    let second = with_hundredth(alloc, tree, &mut scratch, &mut steps)?;
-    holds_all(rt, alloc, &second, items.as_slice())?;
+    let rebuilt = with_hundredth(alloc, tree, scratch, steps)?;
+    holds_all(rt, alloc, &rebuilt, items.as_slice())?;
+    Ok(items)
+}
 
-    // Those take the nodes of the next trees.
-    let other = half_left(alloc, &mut steps)?;
-    let third = rebuilt_beside(rt, alloc, &other, &mut scratch, &mut steps)?;
-    holds_all(rt, alloc, &third, items.as_slice())?;
-    let restored = restored(alloc, &mut scratch, &mut steps)?;
-    let fourth = rebuilt_beside(rt, alloc, &other, &mut scratch, &mut steps)?;
-    holds_all(rt, alloc, &fourth, items.as_slice())?;
+fn held_when_rebuilt<L: Ledger>(
+    rt: &impl Abort,
+    alloc: Global,
+    tree: &Tree,
+    scratch: &mut Scratch,
+    steps: &mut Steps<L>,
+) -> Result<Items, Fail> {
+    let copy = rebuilt_beside(rt, alloc, tree, scratch, steps)?;
+    Ok(copy.flatten(alloc)?)
+}
+
+// The nodes that are left over take the next trees.
+fn rebuilt_next<L: Ledger>(
+    rt: &impl Abort,
+    alloc: Global,
+    items: &[Item],
+    scratch: &mut Scratch,
+    steps: &mut Steps<L>,
+) -> Result<(), Fail> {
+    let other = half_left(alloc, steps)?;
+    holds_when_rebuilt(rt, alloc, &other, items, scratch, steps)?;
+    let restored = restored(alloc, scratch, steps)?;
+    holds_when_rebuilt(rt, alloc, &other, items, scratch, steps)?;
     same(rt, "the restored tree", counts(&restored), (21, 0, 19));
     Ok(())
+}
+
+fn holds_when_rebuilt<L: Ledger>(
+    rt: &impl Abort,
+    alloc: Global,
+    tree: &Tree,
+    items: &[Item],
+    scratch: &mut Scratch,
+    steps: &mut Steps<L>,
+) -> Result<(), Fail> {
+    let copy = rebuilt_beside(rt, alloc, tree, scratch, steps)?;
+    holds_all(rt, alloc, &copy, items)
 }
 
 #[test]

@@ -71,10 +71,36 @@ fn acted(
     at: Watching,
     (from, to, tag, want): (i64, i64, Tag, Logged),
 ) -> Result<Watching, Fail> {
-    let choice = Choice::within(&between((from, 0, 0), (to, 1, 1))?);
-    let at = at.marked(rt, alloc, &Action { choice, tag })?;
-    assert_eq!(rt; logged(&at.watches)?, want, "from {from} to {to}");
+    let at = marked_row(rt, alloc, at, (from, to), tag)?;
+    have_logged(rt, &at.watches, (from, to), want)?;
     Ok(at)
+}
+
+// The points from `from` to `to` less one.
+fn row(from: i64, to: i64) -> Result<Choice, Fail> {
+    Ok(Choice::within(&between((from, 0, 0), (to, 1, 1))?))
+}
+
+fn marked_row(
+    rt: &impl Abort,
+    alloc: Global,
+    at: Watching,
+    (from, to): (i64, i64),
+    tag: Tag,
+) -> Result<Watching, Fail> {
+    let choice = row(from, to)?;
+    Ok(at.marked(rt, alloc, &Action { choice, tag })?)
+}
+
+// So many operations are logged after a change from `from` to `to`.
+fn have_logged(
+    rt: &impl Abort,
+    watches: &Watches,
+    (from, to): (i64, i64),
+    want: Logged,
+) -> Result<(), Fail> {
+    assert_eq!(rt; logged(watches)?, want, "from {from} to {to}");
+    Ok(())
 }
 
 // The map after a point more, which leaves so many logged.
@@ -84,8 +110,9 @@ fn with_point(
     at: Watching,
     (x, want): (i64, Logged),
 ) -> Result<Watching, Fail> {
-    let at = at.put(rt, alloc, Point::new(x, 0, 0)?)?;
-    assert_eq!(rt; logged(&at.watches)?, want, "a point at {x}");
+    let point = Point::new(x, 0, 0)?;
+    let at = at.put(rt, alloc, point)?;
+    have_logged(rt, &at.watches, (x, x), want)?;
     Ok(at)
 }
 
@@ -131,24 +158,19 @@ fn what_rests_above_a_watched_root_is_logged_when_pushed_in(rt: HostRuntime) -> 
     let map = map.risen(&rt, alloc, 41, 45)?;
     let right = Path::root().down(Side::Right);
     let at = Watching::new(&rt, alloc, map, &[right])?;
-
-    let choice = Choice::within(&between((0, 0, 0), (100, 1, 1))?);
-    let tag = Tag::SUSPEND;
-    let at = at.marked(&rt, alloc, &Action { choice, tag })?;
-    let choice = Choice::within(&between((30, 0, 0), (33, 1, 1))?);
-    let tag = Tag::RESTORE;
-    let at = at.marked(&rt, alloc, &Action { choice, tag })?;
+    let at = marked_row(&rt, alloc, at, (0, 100), Tag::SUSPEND)?;
+    let at = marked_row(&rt, alloc, at, (30, 33), Tag::RESTORE)?;
     let is_large = is_large(&at.map.tree, 24, &right);
     holds(&rt, "a large subtree", is_large);
-    has_logged_both(&rt, alloc, &at.watches, choice)
+    has_logged_both(&rt, alloc, &at.watches, (30, 33))
 }
 
-// The first watch has that all were suspended, and that part of them was restored.
+// The first watch has that all were suspended, and that the points from `from` to `to` less one were restored.
 fn has_logged_both(
     rt: &impl Abort,
     alloc: Global,
     watches: &Watches,
-    part: Choice,
+    (from, to): (i64, i64),
 ) -> Result<(), Fail> {
     let Some(watch) = watches.as_slice().first() else {
         return Err(Fail::new("no watch"));
@@ -158,7 +180,7 @@ fn has_logged_both(
         tag: Tag::SUSPEND,
     };
     let restored = Op::Mark {
-        choice: part,
+        choice: row(from, to)?,
         tag: Tag::RESTORE,
     };
     let ops = watch.log.after(alloc, 0)?;
@@ -202,10 +224,31 @@ fn beside(rt: &impl Abort, alloc: Global, paths: &[Path]) -> Result<(), Fail> {
     let mut draw = Draw { state: 7 };
     let map = drawn_map(rt, alloc, &mut draw)?;
     let olds = held_at(alloc, &map.tree, paths)?;
-    let mut at = Watching::new(rt, alloc, map, paths)?;
+    let at = Watching::new(rt, alloc, map, paths)?;
+    let at = changed_often(rt, alloc, at, &mut draw)?;
+    all_became(rt, alloc, &at, olds)
+}
+
+fn changed_often(
+    rt: &impl Abort,
+    alloc: Global,
+    at: Watching,
+    draw: &mut Draw,
+) -> Result<Watching, Fail> {
+    let mut at = at;
     for _ in 0..300 {
-        at = changed(rt, alloc, at, &mut draw)?;
+        at = changed(rt, alloc, at, draw)?;
     }
+    Ok(at)
+}
+
+// What was logged at each watch makes of its old items what its subtree holds.
+fn all_became(
+    rt: &impl Abort,
+    alloc: Global,
+    at: &Watching,
+    olds: Vec<Vec<Item>>,
+) -> Result<(), Fail> {
     let mut olds = olds.into_iter();
     for watch in at.watches.as_slice() {
         let Some(items) = olds.next() else {

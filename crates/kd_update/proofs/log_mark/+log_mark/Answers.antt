@@ -1,9 +1,11 @@
-use Rattle.std.proofs.Common.{◌≡◌, Bool, true, false, not, cond, [], ◌∷◌, ◌++◌, length, sym, ap, ◌∙◌, subst, arith, OnOk}
+use Rattle.std.proofs.Common.{◌≡◌, Bool, true, false, not, cond, [], ◌∷◌, ◌++◌, length, sym, ap, ◌∙◌, subst, arith, OnOk, refl}
 use Rattle.std.proofs.lemmas.Bool.{and_left, and_right}
 use Rattle.map_fold.specs.declared.op.Op.TheVariants.{Mark}
+use Rattle.map_fold.proofs.Replays.{extends_itself, extends_on}
 use Rattle.kd_tree.specs.Shape.{Head}
 use Rattle.kd_tree.specs.Walk.{tagged}
 use Rattle.kd_update.specs.Mark.{is_entered}
+use Rattle.kd_update.specs.Reach.{reach}
 use Rattle.kd_update.specs.Watch.{handed, logged_mark}
 use Rattle.kd_update.proofs.Logged.{ahead_root, ahead_none, ahead_passed, ahead_entered, few_first, few_rest, logged_all, logged_none, room_first, room_rest}
 use Rattle.std.proofs.lemmas.Result.{on_ok_weaker}
@@ -38,6 +40,11 @@ returns-in_default-reach_of-clause-logged t c =
     logged_none c.args.log.now _ (ap (λ q. logged_mark c.args.choice.now c.args.tag q (tagged c.args.owed c.args.tree.now)) c.in-Some.ensures.cases.0
     ∙ ahead_none c.args.choice.now c.args.tag c.args.owed c.in-Some.side.now c.in-Some.rest.now c.args.tree.now (sym c.in_default-reach_of.is ∙ c.reach_of.ensures))
 
+pub returns-in_default-top-clause-logged : goal.returns-in_default-top-clause-logged
+returns-in_default-top-clause-logged t c =
+    logged_none c.args.log.now _ (ap (λ q. logged_mark c.args.choice.now c.args.tag q (tagged c.args.owed c.args.tree.now)) c.in-Some.ensures.cases.0
+    ∙ ahead_none c.args.choice.now c.args.tag c.args.owed c.in-Some.side.now c.in-Some.rest.now c.args.tree.now (sym (ap reach (c.in_default-top.ensures.none.0 refl))))
+
 -- what is logged where the mark doesn't enter
 passed : (t : _) (c : In-Some-reach_of t) → is_entered c.args.choice.now c.in-Some-reach_of.reach ≡ false → logged_mark c.args.choice.now c.args.tag c.args.sides.now (tagged c.args.owed c.args.tree.now) ≡ []
 passed t c k =
@@ -67,3 +74,21 @@ returns-in_err-note_owed-clause-few t c = few_first _ _ _ _ _ (parts t (goal.at.
 
 pub returns-clause-few : goal.returns-clause-few
 returns-clause-few t c = few_rest _ _ _ _ _ _ (parts t (goal.at.returns-clause-few t c).After-son-next) c.note_owed.ensures.few c.log_mark.ensures.few
+
+pub returns-then-not-is_met-clause-begins : goal.returns-then-not-is_met-clause-begins
+returns-then-not-is_met-clause-begins t c = extends_itself c.args.log.now
+
+pub returns-in_default-reach_of-clause-begins : goal.returns-in_default-reach_of-clause-begins
+returns-in_default-reach_of-clause-begins t c = extends_itself c.args.log.now
+
+pub returns-then-not-meets-clause-begins : goal.returns-then-not-meets-clause-begins
+returns-then-not-meets-clause-begins t c = extends_itself c.args.log.now
+
+pub returns-then-covers-clause-begins : goal.returns-then-covers-clause-begins
+returns-then-covers-clause-begins t c = extends_itself c.args.log.now
+
+pub returns-in_default-top-clause-begins : goal.returns-in_default-top-clause-begins
+returns-in_default-top-clause-begins t c = extends_itself c.args.log.now
+
+pub returns-clause-begins : goal.returns-clause-begins
+returns-clause-begins t c = extends_on _ _ _ c.note_owed.ensures.begins c.log_mark.ensures.begins

@@ -32,3 +32,6 @@ pub returns-clause-few : goal.returns-clause-few
 returns-clause-few t c =
     more_front (length c.args.items.now + 1) _ c.in-Some.rest.now _ _ c.log_scan.new.log c.in-Some.ensures.cases.0
     (omega (arith, c.log_scan.ensures.few, logged_scan_few c.as_slice.result.now c.in_ok-items_there.items_there.items (tagged keep_tag c.args.tree.now), ap (λ (xs : List Item). length xs) c.in_ok-items_there.ensures.items)) c.log_each_scan.ensures.few
+
+pub returns-clause-begins : goal.returns-clause-begins
+returns-clause-begins t c = extended_front _ c.in-Some.rest.now _ _ _ c.in-Some.ensures.cases.0 c.log_scan.ensures.begins c.log_each_scan.ensures.begins

@@ -1,14 +1,18 @@
-use Rattle.std.proofs.Common.{◌≡◌, ◌∙◌, sym, subst, arith, List}
+use Rattle.std.proofs.Common.{◌≡◌, ◌∙◌, sym, subst, arith, List, refl}
 use Rattle.std.specs.Prelude.{IfOk}
+use Rattle.std.proofs.lemmas.Bool.{eqb-true}
+use Rattle.std.proofs.lemmas.List.{nil_from_length}
 use Rattle.std.proofs.lemmas.Result.{IfOk-weaker}
 use Rattle.kd_tree.specs.declared.path.Side.{Side}
 use Rattle.kd_update.specs.Mark.{RebuildsNoneEntered, marked_shape}
-use Rattle.kd_update.specs.Several.{AreLargeAt, IsUpdatedClear}
-use Rattle.kd_update.specs.Watches.{paths_in}
+use Rattle.kd_update.specs.Several.{AreLargeAt, AreWatched, IsUpdatedClear}
+use Rattle.kd_update.specs.Watch.{IsWatched, logged_mark}
+use Rattle.kd_update.specs.declared.watch.Watch.{Watch}
+use Rattle.kd_update.specs.Watches.{paths_in, with_marks}
 use Rattle.kd_update.specs.Ways.{paths_of}
 use Rattle.kd_update.proofs.InBox.{marked_contents, marked_numbers}
 use Rattle.kd_update.proofs.Made.{made_few}
-use Rattle.kd_update.proofs.ManyLogs.{watched_before}
+use Rattle.kd_update.proofs.ManyLogs.{extended_itself, more_itself, watched_before}
 use Rattle.kd_update.proofs.Several.{balanced_unwatched, all_watched-mark, large_all_marked, large_all_same}
 use Rattle.kd_update.proofs.mark_watched.marked_watched.Goals as goal
 use Rattle.kd_update.proofs.mark_watched.marked_watched.Goals.{After-marked_within, After-of-ways}
@@ -50,3 +54,24 @@ returns-then-is_empty-clause-balance g c = λ balanced.
     let none = sym c.is_empty.ensures ∙ c.if-is_empty.true in
     let large = c.args.large in
     IfOk-weaker c.marked.result _ _ (λ t. (balanced_unwatched large _ t none).1) (c.marked.ensures.balance ((balanced_unwatched large _ c.args.tree none).0 balanced))
+
+pub returns-then-is_empty-clause-there : goal.returns-then-is_empty-clause-there
+returns-then-is_empty-clause-there g c =
+    let none = nil_from_length c.args.watches.now (eqb-true _ 0 (sym c.is_empty.ensures ∙ c.if-is_empty.true)) in
+    IfOk-weaker c.marked.result _ _ (λ t _. subst (λ (ws : List Watch). AreLargeAt c.args.large (paths_in ws) t) (sym none) tt) c.marked.ensures.contents
+
+pub returns-then-is_empty-clause-begins : goal.returns-then-is_empty-clause-begins
+returns-then-is_empty-clause-begins g c = extended_itself c.args.watches.now
+
+pub returns-then-is_empty-clause-few : goal.returns-then-is_empty-clause-few
+returns-then-is_empty-clause-few g c = more_itself 2 c.args.watches.now
+
+pub returns-then-is_empty-clause-logged : goal.returns-then-is_empty-clause-logged
+returns-then-is_empty-clause-logged g c =
+    let none = nil_from_length c.args.watches.now (eqb-true _ 0 (sym c.is_empty.ensures ∙ c.if-is_empty.true)) in
+    IfOk-weaker c.marked.result _ _ (λ t _. subst (λ (ws : List Watch). ws ≡ with_marks c.args.choice.now c.args.tag c.args.tree ws) (sym none) refl) c.marked.ensures.contents
+
+pub returns-then-is_empty-clause-watched : goal.returns-then-is_empty-clause-watched
+returns-then-is_empty-clause-watched g c =
+    let none = nil_from_length c.args.watches.now (eqb-true _ 0 (sym c.is_empty.ensures ∙ c.if-is_empty.true)) in
+    IfOk-weaker c.marked.result _ _ (λ t _. subst (λ (ws : List Watch). AreWatched (λ p. IsWatched p c.args.tree t (logged_mark c.args.choice.now c.args.tag p c.args.tree)) (paths_in ws)) (sym none) tt) c.marked.ensures.contents

@@ -1,4 +1,4 @@
-use Rattle.std.proofs.Common.{◌∙◌, List, sym, subst, arith, length, ap}
+use Rattle.std.proofs.Common.{◌∙◌, List, refl, sym, subst, arith, length, ap}
 use Rattle.std.proofs.lemmas.Bool.{eqb-true}
 use Rattle.std.proofs.lemmas.List.{nil_from_length}
 use Rattle.std.proofs.lemmas.Result.{IfOk-weaker}
@@ -12,7 +12,7 @@ use Rattle.kd_update.specs.Ways.{paths_of}
 use Rattle.kd_update.proofs.Grown.{IsStep, step_pieces, step_sound}
 use Rattle.kd_update.proofs.Lists.{some_items}
 use Rattle.kd_update.proofs.Results.{ok_both}
-use Rattle.kd_update.proofs.Several.{passed_by}
+use Rattle.kd_update.proofs.Several.{none_on, passed_by}
 use Rattle.kd_update.proofs.Trees.{pushed_smaller}
 use Rattle.kd_update.proofs.WayLists.{none_of, some_of}
 use Rattle.kd_update.proofs.Crossing.{apart_on, crossed_free, crossed_here, crossed_none, crossed_step, step_from}
@@ -66,3 +66,9 @@ returns g t c =
     let done = crossed_step c.args.large ps c.args.tree c.args.items.now f _ _ c.in_ok-left.left c.in_ok-right.right (ap fork_in (sym c.in-Some.is) ∙ c.in_ok-node.ensures.parts) (step g t (goal.at.returns g t c).After-split_at_mut-lefts) c.requires.piece c.requires.there (sym c.is_here.ensures ∙ c.if-is_here.false)
     (some_of ps (sym c.is_empty.ensures ∙ c.if-is_empty.false)) (some_items c.args.items.now (sym c.is_empty-2.ensures ∙ c.if-is_empty-2.false)) u v in
     IfOk-weaker c.joined.result _ _ (λ w e. subst (λ z. IsCrossed c.args.large ps c.args.tree c.args.items.now z) (sym e) done) c.joined.ensures.shape
+
+pub returns-in_default : goal.returns-in_default
+returns-in_default g t c =
+    let ps = paths_of c.args.ways.now in
+    let there = subst (AreLargeAt c.args.large ps) (c.in_ok-node.ensures.none.0 (rw c.in_default.is refl)) c.requires.there in
+    absurd (some_of ps (sym c.is_empty.ensures ∙ c.if-is_empty.false) (none_on c.args.large ps there (sym c.is_here.ensures ∙ c.if-is_here.false)))

@@ -5,7 +5,7 @@ use Rattle.node_labels.specs.Labels.{keep_tag}
 use Rattle.map_fold.specs.declared.item.Item.{Item}
 use Rattle.kd_tree.specs.Shape.{Shape, nodes, numbers}
 use Rattle.kd_tree.specs.Walk.{walk}
-use Rattle.kd_tree.specs.Contents.{AreDistinct, contents}
+use Rattle.kd_tree.specs.Contents.{AreDistinct, by_number, contents}
 use Rattle.kd_tree.specs.Build.{IsBuilt}
 use Rattle.kd_tree.proofs.Actions.{sound_once}
 use Rattle.kd_tree.proofs.Contents.{once_walk}
@@ -30,6 +30,12 @@ refresh g c =
     let same = subst (λ (xs : List Item). IfOk c.rebuilt_with.result (λ t. IsBuilt xs t)) alone c.rebuilt_with.ensures.shape in
     let all = subst (λ (xs : List Item). IfOk c.rebuilt_with.result (λ t. IsPermutation (map (λ (i : Item). i.number) xs) (numbers t))) alone c.rebuilt_with.ensures.numbers in
     ok_both c.rebuilt_with.result _ _ (IsRefresh s) (λ t b ns. built_refresh s t b ns) same all
+
+pub returns-clause-contents : goal.returns-clause-contents
+returns-clause-contents g c = IfOk-weaker c.rebuilt_with.result _ (λ t. contents t ≡ contents c.args.tree) (λ t e. e ∙ ap by_number (append-nil (walk keep_tag c.args.tree))) c.rebuilt_with.ensures.contents
+
+pub returns-clause-levels : goal.returns-clause-levels
+returns-clause-levels g c = c.rebuilt_with.ensures.levels 23 (omega (arith, ap length (append-nil (walk keep_tag c.args.tree)), walk_few keep_tag c.args.tree, c.size-size.ensures.value, c.size-size.ensures.few))
 
 pub returns-clause-refresh : goal.returns-clause-refresh
 returns-clause-refresh g c = refresh g (goal.at.returns-clause-refresh g c).After-rebuilt_with
