@@ -3,6 +3,7 @@ use crate::tests::assertions::{holds, same};
 use crate::tests::draws::Draws;
 use kd_search::{count_in, in_cuboid, nearest};
 use map_fold::{PlainMap, Settings, Update};
+use point_geom::{Cuboid, Point};
 use rebuild_core::Version;
 use std::alloc::Global;
 use std::mem;
@@ -19,32 +20,54 @@ pub fn compare(
 ) -> Result<(), Fail> {
     same(rt, "the next number", version.next(), plain.next());
     holds(rt, "the counts", version.counts() == plain.counts());
-    let items = version.tree().flatten(alloc)?;
-    let want = plain.items(alloc)?;
-    let are_same = items.as_slice() == want.as_slice();
-    holds(rt, "what both hold", are_same);
-    compare_searches(rt, alloc, version, plain, draws)
+    let query = draws.point()?;
+    let cuboid = draws.cuboid()?;
+    compare_items(rt, alloc, version, plain)?;
+    compare_nearest(rt, alloc, version, plain, &query)?;
+    compare_in_cuboid(rt, alloc, version, plain, &cuboid)?;
+    let count = count_in(version.tree(), &cuboid);
+    same(rt, "the count", count, plain.count_in(&cuboid));
+    Ok(())
 }
 
-fn compare_searches(
+fn compare_items(
     rt: &impl Abort,
     alloc: Global,
     version: &Version,
     plain: &PlainMap,
-    draws: &mut Draws,
 ) -> Result<(), Fail> {
-    let query = draws.point()?;
-    let found = nearest(alloc, version.tree(), 5, &query, Some(6))?;
-    let want = plain.nearest(alloc, 5, &query, Some(6))?;
+    let items = version.tree().flatten(alloc)?;
+    let want = plain.items(alloc)?;
+    let are_same = items.as_slice() == want.as_slice();
+    holds(rt, "what both hold", are_same);
+    Ok(())
+}
+
+fn compare_nearest(
+    rt: &impl Abort,
+    alloc: Global,
+    version: &Version,
+    plain: &PlainMap,
+    query: &Point,
+) -> Result<(), Fail> {
+    let found = nearest(alloc, version.tree(), 5, query, Some(6))?;
+    let want = plain.nearest(alloc, 5, query, Some(6))?;
     let are_same = found.as_slice() == want.as_slice();
     holds(rt, "the nearest", are_same);
-    let cuboid = draws.cuboid()?;
-    let found = in_cuboid(alloc, version.tree(), &cuboid, 7)?;
-    let want = plain.in_cuboid(alloc, &cuboid, 7)?;
+    Ok(())
+}
+
+fn compare_in_cuboid(
+    rt: &impl Abort,
+    alloc: Global,
+    version: &Version,
+    plain: &PlainMap,
+    cuboid: &Cuboid,
+) -> Result<(), Fail> {
+    let found = in_cuboid(alloc, version.tree(), cuboid, 7)?;
+    let want = plain.in_cuboid(alloc, cuboid, 7)?;
     let are_same = found.as_slice() == want.as_slice();
     holds(rt, "what the box shows", are_same);
-    let count = count_in(version.tree(), &cuboid);
-    same(rt, "the count", count, plain.count_in(&cuboid));
     Ok(())
 }
 

@@ -1,12 +1,14 @@
 //! A drawn schedule of updates and of subtrees that are detached, built, brought up to date and swapped in, beside the plain
 //! map.
 ghost use Rattle.std.specs.Prelude.{◌≤◌};
+ghost use Rattle.map_fold.specs.Ops.{Fit};
+ghost use Rattle.kd_tree.specs.Contents.{contents};
 
 use crate::tests::assertions::{holds, same};
 use crate::tests::beside::{compare, updated_plainly};
 use crate::tests::draws::Draws;
 use crate::tests::steps::{settled, swapped, updated};
-use map_fold::{PlainMap, Points, Settings, Update};
+use map_fold::{Op, PlainMap, Points, Settings, Update};
 use rebuild_core::{Built, BuiltLeft, Job, LogAsk, MapState, SwapFault, SwapLeft};
 use std::alloc::Global;
 use std::process::Abort;
@@ -74,6 +76,14 @@ impl Schedule {
         }
     }
 
+    // A turn, after which the map is beside the plain one.
+    fn compared_turn(&mut self, rt: &impl Abort, alloc: Global) -> Result<Turn, Fail> {
+        let turn = self.turn(rt, alloc)?;
+        let version = self.state.version();
+        compare(rt, alloc, version, &self.plain, &mut self.draws)?;
+        Ok(turn)
+    }
+
     fn update(&mut self, rt: &impl Abort, alloc: Global) -> Result<Turn, Fail> {
         let update = self.drawn_update(alloc)?;
         holds(rt, "not many points", update.points() <= 2_000);
@@ -132,12 +142,17 @@ impl Schedule {
         let Some(value) = taken(&mut self.draws, &mut self.values) else {
             return Ok(Turn::Idle);
         };
-        let ops = match self.state.log_after(alloc, &value) {
-            Ok(ops) => ops,
-            Err(LogAsk::NoMemory) => return Err(Fail::new("no memory")),
-            Err(LogAsk::Stale { .. }) => return self.put_back(value),
-        };
-        match value.replay(alloc, self.large, ops.as_slice()) {
+        match self.state.log_after(alloc, &value) {
+            Ok(ops) => self.replay(alloc, value, ops.as_slice()),
+            Err(LogAsk::NoMemory) => Err(Fail::new("no memory")),
+            Err(LogAsk::Stale { .. }) => self.put_back(value),
+        }
+    }
+
+    fn replay(&mut self, alloc: Global, value: Built, ops: &[Op]) -> Result<Turn, Fail>
+        requires { Fit (contents value.tree) ops.now }
+    {
+        match value.replay(alloc, self.large, ops) {
             Err(BuiltLeft { .. }) => Err(Fail::new("nothing was replayed")),
             Ok(value) => {
                 self.values.push(value)?;
@@ -209,17 +224,32 @@ const LEAST: [(Turn, usize); 9] = [
 #[test]
 fn a_drawn_schedule_answers_as_the_plain_map_does(rt: HostRuntime) -> Result<(), Fail> {
     let alloc = rt.alloc();
-    let mut schedule = Schedule::new(alloc, 16, (80, 0))?;
-    compared(&rt, alloc, &mut schedule, 3_000, &LEAST)?;
+    drawn(&rt, alloc, 16, (80, 0), 3_000, &LEAST)?;
     // Whole scans, of which those beside subtrees of 100 nodes and more are put in pieces at once, and others one by one.
     for large in [16, 100] {
-        let mut schedule = Schedule::new(alloc, large, (200, 1_800))?;
-        compared(&rt, alloc, &mut schedule, 100, &[(Turn::Swapped, 0)])?;
+        let leasts = [(Turn::Swapped, 0)];
+        drawn(&rt, alloc, large, (200, 1_800), 100, &leasts)?;
     }
     Ok(())
 }
 
-// So many turns, after each of which the map is beside the plain one. More than so many of them come to each of these.
+// A schedule of so many turns, from the start.
+fn drawn(
+    rt: &impl Abort,
+    alloc: Global,
+    large: u32,
+    scan: (u32, u32),
+    count: u32,
+    leasts: &[(Turn, usize)],
+) -> Result<(), Fail>
+    requires large_from { 16 ≤ large }
+    requires large_to { large ≤ 1000000 }
+{
+    let mut schedule = Schedule::new(alloc, large, scan)?;
+    compared(rt, alloc, &mut schedule, count, leasts)
+}
+
+// So many turns. More than so many of them come to each of these.
 fn compared(
     rt: &impl Abort,
     alloc: Global,
@@ -229,10 +259,8 @@ fn compared(
 ) -> Result<(), Fail> {
     let mut turns = Vec::new(alloc);
     for _ in 0..count {
-        let turn = schedule.turn(rt, alloc)?;
+        let turn = schedule.compared_turn(rt, alloc)?;
         turns.push(turn)?;
-        let version = schedule.state.version();
-        compare(rt, alloc, version, &schedule.plain, &mut schedule.draws)?;
     }
     for (turn, least) in leasts {
         is_frequent(rt, turns.as_slice(), *turn, *least);

@@ -42,15 +42,33 @@ fn three_scans(alloc: Global, state: &mut MapState, draws: &mut Draws) -> Result
 fn a_held_version_stays_while_others_nodes_are_reused(rt: HostRuntime) -> Result<(), Fail> {
     let alloc = rt.alloc();
     let mut state = MapState::new(alloc, Settings::new(1, 1_500))?;
-    let mut draws = Draws::from(3);
+    stay_the_same(&rt, alloc, &mut state)
+}
+
+fn stay_the_same(rt: &impl Abort, alloc: Global, state: &mut MapState) -> Result<(), Fail> {
     let mut held = Vec::new(alloc);
+    hold_six(rt, alloc, state, &mut held)
+}
+
+fn hold_six(
+    rt: &impl Abort,
+    alloc: Global,
+    state: &mut MapState,
+    held: &mut Vec<Held>,
+) -> Result<(), Fail> {
+    let mut draws = Draws::from(3);
     for _ in 0..6 {
-        three_scans(alloc, &mut state, &mut draws)?;
-        let version = Arc::try_clone(state.version())?;
-        let items = version.tree().flatten(alloc)?;
-        held.push(Held { version, items })?;
-        assert_all_same(&rt, alloc, held.as_slice())?;
+        three_scans(alloc, state, &mut draws)?;
+        hold(alloc, state, held)?;
+        assert_all_same(rt, alloc, held.as_slice())?;
     }
-    holds(&rt, "many are live", live(&state) > 200);
+    holds(rt, "many are live", live(state) > 200);
+    Ok(())
+}
+
+fn hold(alloc: Global, state: &MapState, held: &mut Vec<Held>) -> Result<(), Fail> {
+    let version = Arc::try_clone(state.version())?;
+    let items = version.tree().flatten(alloc)?;
+    held.push(Held { version, items })?;
     Ok(())
 }

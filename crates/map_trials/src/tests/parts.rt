@@ -3,11 +3,11 @@ use crate::tests::assertions::{holds, same};
 use crate::tests::draws::Draws;
 use crate::tests::looks::{cuboid, is_breached, live, logged, suspended};
 use crate::tests::steps::{
-    add, built, detached, is_balanced, row, settled, swap_ends, swapped, updated,
+    add, built, detached, is_balanced, is_of, is_stale, row, settled, swap_ends, swapped, updated,
 };
 use map_fold::{Cuboids, Points, Settings, Update};
 use point_geom::Point;
-use rebuild_core::{Built, Job, LogAsk, MapState, SwapFault};
+use rebuild_core::{Built, Job, MapState, SwapFault};
 use std::alloc::Global;
 use std::process::Abort;
 use std::test::Fail;
@@ -31,55 +31,71 @@ fn restore(alloc: Global, state: &mut MapState, first: i64, last: i64) -> Result
     Ok(())
 }
 
-fn with_row(alloc: Global, last: i64) -> Result<MapState, Fail> {
-    let mut state = MapState::new(alloc, Settings::new(200, 16))?;
-    add(alloc, &mut state, 1, last)?;
-    Ok(state)
-}
-
 #[test]
 fn what_expires_in_a_detached_subtree_is_logged(rt: HostRuntime) -> Result<(), Fail> {
     let alloc = rt.alloc();
-    let mut state = with_row(alloc, 41)?;
-    let job = detached(alloc, &mut state, 1)?;
-    updated(alloc, &mut state, 1, Update::Expire(20))?;
-    same(&rt, "operations", logged(&state, 1), Some(1));
-    let built = built(alloc, job)?;
-    swap_ends(&rt, alloc, &mut state, built, false, None);
+    let mut state = MapState::new(alloc, Settings::new(200, 16))?;
+    expires_meanwhile(&rt, alloc, &mut state)
+}
+
+fn holds_the_later(rt: &impl Abort, alloc: Global, state: &MapState) -> Result<(), Fail> {
     let items = state.version().tree().flatten(alloc)?;
-    same(&rt, "items", items.len(), 20);
+    same(rt, "items", items.len(), 20);
     let first = items.as_slice().first().map(|item| item.number);
-    same(&rt, "the first number", first, Some(20));
+    same(rt, "the first number", first, Some(20));
     Ok(())
 }
 
-// A settled row with points more at its end, and its right son, which leans to the right.
-fn leaning(rt: &impl Abort, alloc: Global) -> Result<(MapState, Job), Fail> {
-    let mut state = with_row(alloc, 41)?;
-    settled(alloc, &mut state)?;
-    // The right son has 9 nodes on its left and 14 on its right now.
-    add(alloc, &mut state, 41, 45)?;
-    let job = detached(alloc, &mut state, 1)?;
-    same(rt, "the ticket", job.ticket(), 1);
-    same(rt, "items", job.items().len(), 24);
-    Ok((state, job))
+fn expires_meanwhile(rt: &impl Abort, alloc: Global, state: &mut MapState) -> Result<(), Fail> {
+    add(alloc, state, 1, 41)?;
+    let job = detached(alloc, state, 1)?;
+    updated(alloc, state, 1, Update::Expire(20))?;
+    same(rt, "operations", logged(state, 1), Some(1));
+    let built = built(alloc, job)?;
+    swap_ends(rt, alloc, state, built, false, None);
+    holds_the_later(rt, alloc, state)
 }
 
 #[test]
 fn an_action_that_is_pushed_into_a_detached_subtree_is_logged(rt: HostRuntime) -> Result<(), Fail> {
     let alloc = rt.alloc();
-    let (mut state, job) = leaning(&rt, alloc)?;
-    suspend(alloc, &mut state, 0, 100)?;
-    same(&rt, "operations", logged(&state, 1), Some(0));
-    restore(alloc, &mut state, 30, 33)?;
-    same(&rt, "operations", logged(&state, 1), Some(2));
+    let mut state = MapState::new(alloc, Settings::new(200, 16))?;
+    pushes_meanwhile(&rt, alloc, &mut state)
+}
+
+fn has_three_live(rt: &impl Abort, alloc: Global, state: &mut MapState) -> Result<(), Fail> {
+    holds(rt, "no breach", !is_breached(state, 16));
+    same(rt, "live points", live(state), 3);
+    same(rt, "suspended points", suspended(state), 41);
+    holds(rt, "nothing to detach", is_balanced(alloc, state, 1)?);
+    Ok(())
+}
+
+fn pushes_meanwhile(rt: &impl Abort, alloc: Global, state: &mut MapState) -> Result<(), Fail> {
+    let job = leaning(rt, alloc, state)?;
+    pushes(rt, alloc, state)?;
     let built = built(alloc, job)?;
-    holds(&rt, "a breach", is_breached(&state, 16));
-    swap_ends(&rt, alloc, &mut state, built, true, None);
-    holds(&rt, "no breach", !is_breached(&state, 16));
-    same(&rt, "live points", live(&state), 3);
-    same(&rt, "suspended points", suspended(&state), 41);
-    holds(&rt, "nothing to detach", is_balanced(alloc, &mut state, 1)?);
+    holds(rt, "a breach", is_breached(state, 16));
+    swap_ends(rt, alloc, state, built, true, None);
+    has_three_live(rt, alloc, state)
+}
+
+// Settles a row and puts points more at its end. Its right son leans to the right then, and is detached.
+fn leaning(rt: &impl Abort, alloc: Global, state: &mut MapState) -> Result<Job, Fail> {
+    add(alloc, state, 1, 41)?;
+    settled(alloc, state)?;
+    // The right son has 9 nodes on its left and 14 on its right now.
+    add(alloc, state, 41, 45)?;
+    let job = detached(alloc, state, 1)?;
+    is_of(rt, &job, 1, 24);
+    Ok(job)
+}
+
+fn pushes(rt: &impl Abort, alloc: Global, state: &mut MapState) -> Result<(), Fail> {
+    suspend(alloc, state, 0, 100)?;
+    same(rt, "operations", logged(state, 1), Some(0));
+    restore(alloc, state, 30, 33)?;
+    same(rt, "operations", logged(state, 1), Some(2));
     Ok(())
 }
 
@@ -87,17 +103,25 @@ fn an_action_that_is_pushed_into_a_detached_subtree_is_logged(rt: HostRuntime) -
 fn a_value_behind_catches_up_and_a_stale_one_is_refused(rt: HostRuntime) -> Result<(), Fail> {
     let alloc = rt.alloc();
     let mut state = MapState::new(alloc, Settings::new(200, 16))?;
-    holds(&rt, "nothing to detach", is_balanced(alloc, &mut state, 1)?);
-    add(alloc, &mut state, 1, 41)?;
-    let job = detached(alloc, &mut state, 1)?;
-    same(&rt, "the first ticket", job.ticket(), 1);
-    let first = built(alloc, job)?;
-    add(alloc, &mut state, 41, 106)?;
-    let first = found_behind(&rt, alloc, &mut state, first)?;
-    let first = caught_up(&rt, alloc, &mut state, first)?;
-    swap_ends(&rt, alloc, &mut state, first, false, None);
-    same(&rt, "live points", live(&state), 105);
-    refuses_the_second_of_three(&rt, alloc, &mut state)
+    catches_up(&rt, alloc, &mut state)
+}
+
+fn first_built(rt: &impl Abort, alloc: Global, state: &mut MapState) -> Result<Built, Fail> {
+    holds(rt, "nothing to detach", is_balanced(alloc, state, 1)?);
+    add(alloc, state, 1, 41)?;
+    let job = detached(alloc, state, 1)?;
+    same(rt, "the first ticket", job.ticket(), 1);
+    built(alloc, job)
+}
+
+fn catches_up(rt: &impl Abort, alloc: Global, state: &mut MapState) -> Result<(), Fail> {
+    let first = first_built(rt, alloc, state)?;
+    add(alloc, state, 41, 106)?;
+    let first = found_behind(rt, alloc, state, first)?;
+    let first = caught_up(rt, alloc, state, first)?;
+    swap_ends(rt, alloc, state, first, false, None);
+    same(rt, "live points", live(state), 105);
+    refuses_the_second_of_three(rt, alloc, state)
 }
 
 // The value, which is 65 operations behind.
@@ -142,14 +166,16 @@ fn refuses_the_second_of_three(
     add(alloc, state, 106, 160)?;
     let second = detached(alloc, state, 1)?;
     same(rt, "the second ticket", second.ticket(), 2);
+    detach_the_third(rt, alloc, state)?;
+    let second = built(alloc, second)?;
+    is_stale(rt, alloc, state, second, 2);
+    Ok(())
+}
+
+fn detach_the_third(rt: &impl Abort, alloc: Global, state: &mut MapState) -> Result<(), Fail> {
     let third = detached(alloc, state, 1)?;
     same(rt, "the third ticket", third.ticket(), 3);
     same(rt, "operations", logged(state, 1), Some(0));
-    let second = built(alloc, second)?;
-    let asked = state.log_after(alloc, &second).err();
-    same(rt, "the answer", asked, Some(LogAsk::Stale { ticket: 2 }));
-    let stale = SwapFault::Stale { ticket: 2 };
-    swap_ends(rt, alloc, state, second, true, Some(stale));
     Ok(())
 }
 
@@ -160,15 +186,26 @@ fn forgets_what_is_detached(
     points: Points,
     all: u32,
 ) -> Result<(), Fail> {
-    let mut state = with_row(alloc, 41)?;
-    let job = detached(alloc, &mut state, 1)?;
+    let mut state = MapState::new(alloc, Settings::new(200, 16))?;
+    forgets(rt, alloc, &mut state, points, all)
+}
+
+fn forgets(
+    rt: &impl Abort,
+    alloc: Global,
+    state: &mut MapState,
+    points: Points,
+    all: u32,
+) -> Result<(), Fail> {
+    add(alloc, state, 1, 41)?;
+    let job = detached(alloc, state, 1)?;
     same(rt, "the ticket", job.ticket(), 1);
-    updated(alloc, &mut state, 1, Update::Add(points))?;
-    same(rt, "operations", logged(&state, 1), None);
+    updated(alloc, state, 1, Update::Add(points))?;
+    same(rt, "operations", logged(state, 1), None);
     let built = built(alloc, job)?;
     let stale = SwapFault::Stale { ticket: 1 };
-    swap_ends(rt, alloc, &mut state, built, true, Some(stale));
-    same(rt, "live points", live(&state), all);
+    swap_ends(rt, alloc, state, built, true, Some(stale));
+    same(rt, "live points", live(state), all);
     Ok(())
 }
 

@@ -13,14 +13,18 @@ use std::test::Fail;
 fn a_new_state_refuses_more_points_than_there_may_be(rt: HostRuntime) -> Result<(), Fail> {
     let alloc = rt.alloc();
     let mut state = MapState::new(alloc, Settings::new(200, 5_000))?;
+    refuses_too_many(&rt, alloc, &mut state)
+}
+
+fn refuses_too_many(rt: &impl Abort, alloc: Global, state: &mut MapState) -> Result<(), Fail> {
     let points = too_many(alloc)?;
-    let answer = updated(alloc, &mut state, 1, Update::Add(points));
+    let answer = updated(alloc, state, 1, Update::Add(points));
     let Err(StateFault::TooManyPoints { next, asked }) = answer else {
         return Err(Fail::new("another answer"));
     };
-    same(&rt, "the next number of the fault", next, 0);
-    same(&rt, "the points of the fault", asked, 4_194_305);
-    is_new(&rt, &state);
+    same(rt, "the next number of the fault", next, 0);
+    same(rt, "the points of the fault", asked, 4_194_305);
+    is_new(rt, state);
     Ok(())
 }
 
@@ -44,16 +48,24 @@ fn is_new(rt: &impl Abort, state: &MapState) {
 fn a_full_history_refuses_the_next_update(rt: HostRuntime) -> Result<(), Fail> {
     let alloc = rt.alloc();
     let mut state = MapState::new(alloc, Settings::new(200, 5_000))?;
+    fills_its_history(&rt, alloc, &mut state)
+}
+
+fn fills_its_history(rt: &impl Abort, alloc: Global, state: &mut MapState) -> Result<(), Fail> {
     for _ in 0..1_048_576u32 {
         let nothing = Update::Delete(Cuboids::new(alloc));
-        updated(alloc, &mut state, 1, nothing)?;
+        updated(alloc, state, 1, nothing)?;
     }
+    refuses_the_next(rt, alloc, state)
+}
+
+fn refuses_the_next(rt: &impl Abort, alloc: Global, state: &mut MapState) -> Result<(), Fail> {
     let nothing = Update::Delete(Cuboids::new(alloc));
-    let Err(StateFault::TooManyUpdates { len }) = updated(alloc, &mut state, 2, nothing) else {
+    let Err(StateFault::TooManyUpdates { len }) = updated(alloc, state, 2, nothing) else {
         return Err(Fail::new("another answer"));
     };
-    same(&rt, "the updates of the fault", len, 1_048_576);
-    same(&rt, "updates", state.history().len(), 1_048_576);
+    same(rt, "the updates of the fault", len, 1_048_576);
+    same(rt, "updates", state.history().len(), 1_048_576);
     Ok(())
 }
 

@@ -15,13 +15,17 @@ use std::test::Fail;
 fn a_rising_row_fills_all_levels(rt: HostRuntime) -> Result<(), Fail> {
     let alloc = rt.alloc();
     let mut state = MapState::new(alloc, Settings::new(200, 16))?;
+    rises(&rt, alloc, &mut state)
+}
+
+fn rises(rt: &impl Abort, alloc: Global, state: &mut MapState) -> Result<(), Fail> {
     let mut most_levels = 0;
     for x in 0..4_000 {
-        add_row(alloc, &mut state, &[x])?;
+        add_row(alloc, state, &[x])?;
         most_levels = state.version().tree().levels().max(most_levels);
     }
     // No tree is higher, so this one was rebuilt on the way.
-    same(&rt, "the most levels", most_levels, 512);
+    same(rt, "the most levels", most_levels, 512);
     Ok(())
 }
 
@@ -29,23 +33,32 @@ fn a_rising_row_fills_all_levels(rt: HostRuntime) -> Result<(), Fail> {
 fn equal_points_are_settled_and_found_by_number(rt: HostRuntime) -> Result<(), Fail> {
     let alloc = rt.alloc();
     let mut state = MapState::new(alloc, Settings::new(200, 1_500))?;
-    let place = Point::new(3, 3, 3)?;
-    let points = so_many_at(alloc, place)?;
-    updated(alloc, &mut state, 1, Update::Add(points))?;
-    settled(alloc, &mut state)?;
-    holds(&rt, "no breach", !is_breached(&state, 10));
-    same(&rt, "live points", live(&state), 5_000);
-    let found = nearest(alloc, state.version().tree(), 200, &place, None)?;
-    are_numbered(&rt, found.as_slice());
-    Ok(())
+    settles_equal_points(&rt, alloc, &mut state)
 }
 
-fn so_many_at(alloc: Global, place: Point) -> Result<Points, Fail> {
+fn settles_equal_points(rt: &impl Abort, alloc: Global, state: &mut MapState) -> Result<(), Fail> {
+    add_equal(alloc, state)?;
+    settled(alloc, state)?;
+    holds(rt, "no breach", !is_breached(state, 10));
+    same(rt, "live points", live(state), 5_000);
+    finds_by_number(rt, alloc, state)
+}
+
+fn add_equal(alloc: Global, state: &mut MapState) -> Result<(), Fail> {
+    let place = Point::new(3, 3, 3)?;
     let mut points = Points::new(alloc);
     for _ in 0..5_000 {
         points.push(place)?;
     }
-    Ok(points)
+    updated(alloc, state, 1, Update::Add(points))?;
+    Ok(())
+}
+
+fn finds_by_number(rt: &impl Abort, alloc: Global, state: &MapState) -> Result<(), Fail> {
+    let place = Point::new(3, 3, 3)?;
+    let found = nearest(alloc, state.version().tree(), 200, &place, None)?;
+    are_numbered(rt, found.as_slice());
+    Ok(())
 }
 
 // The points of the numbers from 0 on, found where they lie.
@@ -61,18 +74,25 @@ fn are_numbered(rt: &impl Abort, found: &[Hit]) {
 fn a_row_that_is_settled_takes_one_more_point(rt: HostRuntime) -> Result<(), Fail> {
     let alloc = rt.alloc();
     let mut state = MapState::new(alloc, Settings::new(200, 16))?;
-    let points = row(alloc, 1, 41)?;
-    let mark = updated(alloc, &mut state, 1, Update::Add(points))?;
-    same(&rt, "the first mark", mark, 1);
-    holds(&rt, "a breach", is_breached(&state, 10));
-    settled(alloc, &mut state)?;
-    holds(&rt, "no breach", !is_breached(&state, 10));
+    settles_a_row(&rt, alloc, &mut state)
+}
 
+fn settles_a_row(rt: &impl Abort, alloc: Global, state: &mut MapState) -> Result<(), Fail> {
+    let points = row(alloc, 1, 41)?;
+    let mark = updated(alloc, state, 1, Update::Add(points))?;
+    same(rt, "the first mark", mark, 1);
+    holds(rt, "a breach", is_breached(state, 10));
+    settled(alloc, state)?;
+    holds(rt, "no breach", !is_breached(state, 10));
+    takes_one_more(rt, alloc, state)
+}
+
+fn takes_one_more(rt: &impl Abort, alloc: Global, state: &mut MapState) -> Result<(), Fail> {
     let points = row(alloc, 0, 1)?;
-    let mark = updated(alloc, &mut state, 8, Update::Add(points))?;
-    same(&rt, "the second mark", mark, 2);
-    same(&rt, "live points", live(&state), 41);
-    finds_the_last(&rt, alloc, &state)
+    let mark = updated(alloc, state, 8, Update::Add(points))?;
+    same(rt, "the second mark", mark, 2);
+    same(rt, "live points", live(state), 41);
+    finds_the_last(rt, alloc, state)
 }
 
 // The point of number 40, at 5 from the query.

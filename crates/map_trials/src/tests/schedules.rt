@@ -2,12 +2,13 @@
 use crate::tests::assertions::{holds, same};
 use crate::tests::looks::{cuboid, live, logged, suspended};
 use crate::tests::steps::{
-    add, add_row, built, detached, is_balanced, row, settled, swap_ends, updated,
+    add, add_row, add_row_and, built, detached, is_balanced, is_of, is_stale, settled, swap_ends,
+    updated,
 };
 use kd_search::nearest;
 use map_fold::{Cuboids, Points, Settings, Update};
 use point_geom::Point;
-use rebuild_core::{Built, Job, LogAsk, MapState, SwapFault};
+use rebuild_core::{Job, MapState, SwapFault};
 use std::alloc::Global;
 use std::process::Abort;
 use std::test::Fail;
@@ -22,14 +23,10 @@ fn boxes(alloc: Global, first: i64, last: i64, times: u32) -> Result<Cuboids, Fa
     Ok(boxes)
 }
 
-// A map of 40 points in a row, the last of them at this place, with its whole tree detached.
-fn begun(alloc: Global, last: i64) -> Result<(MapState, Job), Fail> {
-    let mut state = MapState::new(alloc, Settings::new(200, 16))?;
-    let mut points = row(alloc, 1, 40)?;
-    points.push(Point::new(last, 0, 0)?)?;
-    updated(alloc, &mut state, 1, Update::Add(points))?;
-    let job = detached(alloc, &mut state, 1)?;
-    Ok((state, job))
+// Puts 40 points in a row, the last of them at this place, and detaches their whole tree.
+fn begun(alloc: Global, state: &mut MapState, last: i64) -> Result<Job, Fail> {
+    add_row_and(alloc, state, (1, 40), last)?;
+    detached(alloc, state, 1)
 }
 
 // The job is built and swapped in, and so many points are live then.
@@ -47,24 +44,21 @@ fn swaps(
     Ok(())
 }
 
-fn is_stale(rt: &impl Abort, alloc: Global, state: &mut MapState, built: Built, force: bool) {
-    let stale = SwapFault::Stale { ticket: 1 };
-    swap_ends(rt, alloc, state, built, force, Some(stale));
-}
-
 #[test]
 fn a_value_is_stale_once_its_map_was_settled(rt: HostRuntime) -> Result<(), Fail> {
     let alloc = rt.alloc();
-    let (mut state, job) = begun(alloc, 40)?;
-    same(&rt, "the ticket", job.ticket(), 1);
-    same(&rt, "items", job.items().len(), 40);
+    let mut state = MapState::new(alloc, Settings::new(200, 16))?;
+    settles_meanwhile(&rt, alloc, &mut state)
+}
+
+fn settles_meanwhile(rt: &impl Abort, alloc: Global, state: &mut MapState) -> Result<(), Fail> {
+    let job = begun(alloc, state, 40)?;
+    is_of(rt, &job, 1, 40);
     let built = built(alloc, job)?;
-    settled(alloc, &mut state)?;
-    let asked = state.log_after(alloc, &built).err();
-    same(&rt, "the answer", asked, Some(LogAsk::Stale { ticket: 1 }));
-    is_stale(&rt, alloc, &mut state, built, true);
-    same(&rt, "operations", logged(&state, 1), None);
-    same(&rt, "live points", live(&state), 40);
+    settled(alloc, state)?;
+    is_stale(rt, alloc, state, built, 1);
+    same(rt, "operations", logged(state, 1), None);
+    same(rt, "live points", live(state), 40);
     Ok(())
 }
 
@@ -73,36 +67,83 @@ fn a_value_fits_another_map_and_is_stale_where_it_holds_another_point(
     rt: HostRuntime,
 ) -> Result<(), Fail> {
     let alloc = rt.alloc();
-    let (_state, job) = begun(alloc, 40)?;
-    let (mut other, _job) = begun(alloc, 40)?;
-    swaps(&rt, alloc, &mut other, job, false, 40)?;
-    let (_state, job) = begun(alloc, 40)?;
-    let (mut other, _job) = begun(alloc, 41)?;
+    ends_elsewhere(&rt, alloc, 40, None)?;
+    let stale = SwapFault::Stale { ticket: 1 };
+    ends_elsewhere(&rt, alloc, 41, Some(stale))
+}
+
+// So ends the swap of a value of a map whose last point is at 40, in another, whose last point is at this place.
+fn ends_elsewhere(
+    rt: &impl Abort,
+    alloc: Global,
+    last: i64,
+    fault: Option<SwapFault>,
+) -> Result<(), Fail> {
+    let mut other = MapState::new(alloc, Settings::new(200, 16))?;
+    ends_in(rt, alloc, &mut other, last, fault)
+}
+
+fn ends_in(
+    rt: &impl Abort,
+    alloc: Global,
+    other: &mut MapState,
+    last: i64,
+    fault: Option<SwapFault>,
+) -> Result<(), Fail> {
+    begun(alloc, other, last)?;
+    let job = job_of_another(alloc)?;
     let built = built(alloc, job)?;
-    is_stale(&rt, alloc, &mut other, built, false);
+    swap_ends(rt, alloc, other, built, false, fault);
+    same(rt, "live points", live(other), 40);
     Ok(())
+}
+
+// The first job of a map whose last point is at 40.
+fn job_of_another(alloc: Global) -> Result<Job, Fail> {
+    let mut state = MapState::new(alloc, Settings::new(200, 16))?;
+    begun(alloc, &mut state, 40)
 }
 
 #[test]
 fn a_forced_swap_does_all_that_is_left(rt: HostRuntime) -> Result<(), Fail> {
     let alloc = rt.alloc();
-    let (mut state, job) = begun(alloc, 40)?;
-    add(alloc, &mut state, 41, 141)?;
-    swaps(&rt, alloc, &mut state, job, true, 140)
+    let mut state = MapState::new(alloc, Settings::new(200, 16))?;
+    grows_meanwhile(&rt, alloc, &mut state)
+}
+
+fn grows_meanwhile(rt: &impl Abort, alloc: Global, state: &mut MapState) -> Result<(), Fail> {
+    let job = begun(alloc, state, 40)?;
+    add(alloc, state, 41, 141)?;
+    swaps(rt, alloc, state, job, true, 140)
 }
 
 #[test]
 fn what_was_deleted_meanwhile_stays_so(rt: HostRuntime) -> Result<(), Fail> {
     let alloc = rt.alloc();
-    let (mut state, job) = begun(alloc, 40)?;
+    let mut state = MapState::new(alloc, Settings::new(200, 16))?;
+    empties_meanwhile(&rt, alloc, &mut state)
+}
+
+fn empties_meanwhile(rt: &impl Abort, alloc: Global, state: &mut MapState) -> Result<(), Fail> {
+    let job = begun(alloc, state, 40)?;
+    delete_all(alloc, state)?;
+    swaps(rt, alloc, state, job, false, 0)?;
+    stays_empty(rt, alloc, state)
+}
+
+fn delete_all(alloc: Global, state: &mut MapState) -> Result<(), Fail> {
     let all = boxes(alloc, 0, 100, 1)?;
-    updated(alloc, &mut state, 1, Update::Delete(all))?;
-    swaps(&rt, alloc, &mut state, job, false, 0)?;
-    settled(alloc, &mut state)?;
-    same(&rt, "live points", live(&state), 0);
-    holds(&rt, "nothing to detach", is_balanced(alloc, &mut state, 1)?);
-    add_row(alloc, &mut state, &[5])?;
-    holds_only(&rt, alloc, &state, 40)
+    updated(alloc, state, 1, Update::Delete(all))?;
+    Ok(())
+}
+
+// Until a point is added.
+fn stays_empty(rt: &impl Abort, alloc: Global, state: &mut MapState) -> Result<(), Fail> {
+    settled(alloc, state)?;
+    same(rt, "live points", live(state), 0);
+    holds(rt, "nothing to detach", is_balanced(alloc, state, 1)?);
+    add_row(alloc, state, &[5])?;
+    holds_only(rt, alloc, state, 40)
 }
 
 // One point is live, and has this number.
@@ -120,29 +161,42 @@ fn holds_only(rt: &impl Abort, alloc: Global, state: &MapState, number: u32) -> 
 #[test]
 fn a_voxel_that_was_thinned_meanwhile_keeps_its_winner(rt: HostRuntime) -> Result<(), Fail> {
     let alloc = rt.alloc();
-    let (mut state, job) = begun(alloc, 40)?;
-    let mut points = Points::new(alloc);
-    points.push(Point::new(50, 100, 100)?)?;
-    updated(alloc, &mut state, 1, Update::Thin(points))?;
+    let mut state = MapState::new(alloc, Settings::new(200, 16))?;
+    thins_meanwhile(&rt, alloc, &mut state)
+}
+
+fn thins_meanwhile(rt: &impl Abort, alloc: Global, state: &mut MapState) -> Result<(), Fail> {
+    let job = begun(alloc, state, 40)?;
+    thin_at(alloc, state, Point::new(50, 100, 100)?)?;
     let built = built(alloc, job)?;
     // That its voxel's points are dropped, and the winner.
-    same(&rt, "operations", logged(&state, 1), Some(2));
-    swap_ends(&rt, alloc, &mut state, built, false, None);
-    holds_only(&rt, alloc, &state, 40)
+    same(rt, "operations", logged(state, 1), Some(2));
+    swap_ends(rt, alloc, state, built, false, None);
+    holds_only(rt, alloc, state, 40)
+}
+
+fn thin_at(alloc: Global, state: &mut MapState, point: Point) -> Result<(), Fail> {
+    let mut points = Points::new(alloc);
+    points.push(point)?;
+    updated(alloc, state, 1, Update::Thin(points))?;
+    Ok(())
 }
 
 #[test]
 fn a_part_that_is_detached_afresh_takes_only_its_new_value(rt: HostRuntime) -> Result<(), Fail> {
     let alloc = rt.alloc();
-    let (mut state, job) = begun(alloc, 40)?;
+    let mut state = MapState::new(alloc, Settings::new(200, 16))?;
+    detaches_afresh(&rt, alloc, &mut state)
+}
+
+fn detaches_afresh(rt: &impl Abort, alloc: Global, state: &mut MapState) -> Result<(), Fail> {
+    let job = begun(alloc, state, 40)?;
     let old = built(alloc, job)?;
-    let job = detached(alloc, &mut state, 1)?;
-    same(&rt, "the ticket", job.ticket(), 2);
-    same(&rt, "operations", logged(&state, 1), Some(0));
-    let asked = state.log_after(alloc, &old).err();
-    same(&rt, "the answer", asked, Some(LogAsk::Stale { ticket: 1 }));
-    is_stale(&rt, alloc, &mut state, old, true);
-    swaps(&rt, alloc, &mut state, job, false, 40)
+    let job = detached(alloc, state, 1)?;
+    same(rt, "the ticket", job.ticket(), 2);
+    same(rt, "operations", logged(state, 1), Some(0));
+    is_stale(rt, alloc, state, old, 1);
+    swaps(rt, alloc, state, job, false, 40)
 }
 
 // One operation more fills a log.
@@ -151,12 +205,18 @@ const NEARLY_FULL: u32 = 65_535;
 #[test]
 fn a_part_whose_log_is_full_is_forgotten(rt: HostRuntime) -> Result<(), Fail> {
     let alloc = rt.alloc();
-    let (mut state, job) = begun(alloc, 40)?;
-    fill_its_log(&rt, alloc, &mut state)?;
+    let mut state = MapState::new(alloc, Settings::new(200, 16))?;
+    fills_a_log(&rt, alloc, &mut state)
+}
+
+fn fills_a_log(rt: &impl Abort, alloc: Global, state: &mut MapState) -> Result<(), Fail> {
+    let job = begun(alloc, state, 40)?;
+    fill_its_log(rt, alloc, state)?;
     let built = built(alloc, job)?;
-    is_stale(&rt, alloc, &mut state, built, true);
+    let stale = SwapFault::Stale { ticket: 1 };
+    swap_ends(rt, alloc, state, built, true, Some(stale));
     // The box held the point of number 0.
-    same(&rt, "live points", live(&state), 39);
+    same(rt, "live points", live(state), 39);
     Ok(())
 }
 
@@ -173,30 +233,16 @@ fn fill_its_log(rt: &impl Abort, alloc: Global, state: &mut MapState) -> Result<
 // Points on either side of a row from 1 to 40.
 const OUTER: [i64; 9] = [41, 42, 43, 44, 0, -1, -2, -3, -4];
 
-// A map whose two sons are out of balance.
-fn uneven(alloc: Global) -> Result<MapState, Fail> {
-    let mut state = MapState::new(alloc, Settings::new(200, 16))?;
-    add(alloc, &mut state, 1, 41)?;
-    settled(alloc, &mut state)?;
-    add_row(alloc, &mut state, &OUTER)?;
-    Ok(state)
-}
-
-// The same with both detached at once.
-fn with_two_parts(rt: &impl Abort, alloc: Global) -> Result<(MapState, Job, Job), Fail> {
-    let mut state = uneven(alloc)?;
-    let left = detached(alloc, &mut state, 1)?;
-    let right = detached(alloc, &mut state, 2)?;
-    holds(rt, "nothing to detach", is_balanced(alloc, &mut state, 3)?);
-    begins_at(rt, &left, 1, -4);
-    begins_at(rt, &right, 2, 21);
-    Ok((state, left, right))
+// Leaves two sons out of balance.
+fn unbalance(alloc: Global, state: &mut MapState) -> Result<(), Fail> {
+    add(alloc, state, 1, 41)?;
+    settled(alloc, state)?;
+    add_row(alloc, state, &OUTER)
 }
 
 // The job has this ticket, and its items begin at this x.
 fn begins_at(rt: &impl Abort, job: &Job, ticket: u64, first: i64) {
-    same(rt, "the ticket", job.ticket(), ticket);
-    same(rt, "items", job.items().len(), 24);
+    is_of(rt, job, ticket, 24);
     let least = job.items().iter().map(|item| item.point.x()).min();
     same(rt, "the least x", least, Some(first));
 }
@@ -210,17 +256,28 @@ fn are_logged(rt: &impl Abort, state: &MapState, left: u32, right: u32) {
 #[test]
 fn what_two_detached_subtrees_met_is_done_on_both(rt: HostRuntime) -> Result<(), Fail> {
     let alloc = rt.alloc();
-    let (mut state, left, right) = with_two_parts(&rt, alloc)?;
-    meets_both(&rt, alloc, &mut state)?;
+    let mut state = MapState::new(alloc, Settings::new(200, 16))?;
+    swaps_both(&rt, alloc, &mut state)
+}
+
+// Both are detached at once.
+fn swaps_both(rt: &impl Abort, alloc: Global, state: &mut MapState) -> Result<(), Fail> {
+    unbalance(alloc, state)?;
+    let left = detached(alloc, state, 1)?;
+    let right = detached(alloc, state, 2)?;
+    begins_at(rt, &left, 1, -4);
+    begins_at(rt, &right, 2, 21);
+    meets_both(rt, alloc, state)?;
     let left = built(alloc, left)?;
     let right = built(alloc, right)?;
-    swap_ends(&rt, alloc, &mut state, right, true, None);
-    swap_ends(&rt, alloc, &mut state, left, true, None);
-    holds_three(&rt, alloc, &state)
+    swap_ends(rt, alloc, state, right, true, None);
+    swap_ends(rt, alloc, state, left, true, None);
+    holds_three(rt, alloc, state)
 }
 
 // An action that is done above both isn't logged at either, until it is handed down.
 fn meets_both(rt: &impl Abort, alloc: Global, state: &mut MapState) -> Result<(), Fail> {
+    holds(rt, "nothing to detach", is_balanced(alloc, state, 3)?);
     let all = boxes(alloc, -100, 100, 1)?;
     updated(alloc, state, 1, Update::Suspend(all))?;
     are_logged(rt, state, 0, 0);

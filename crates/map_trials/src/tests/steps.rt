@@ -6,7 +6,7 @@ use crate::tests::assertions::same;
 use kd_tree::Steps;
 use map_fold::{Points, Update};
 use point_geom::Point;
-use rebuild_core::{Built, Job, MapState, StateFault, SwapFault, SwapLeft};
+use rebuild_core::{Built, Job, LogAsk, MapState, StateFault, SwapFault, SwapLeft};
 use std::alloc::Global;
 use std::marker::Brand;
 use std::process::Abort;
@@ -72,6 +72,14 @@ pub fn swap_ends(
     same(rt, "the end of the swap", end, fault);
 }
 
+// The value of this ticket is told nothing, and is stale, though its swap is forced.
+pub fn is_stale(rt: &impl Abort, alloc: Global, state: &mut MapState, built: Built, ticket: u64) {
+    let asked = state.log_after(alloc, &built).err();
+    same(rt, "the answer", asked, Some(LogAsk::Stale { ticket }));
+    let stale = SwapFault::Stale { ticket };
+    swap_ends(rt, alloc, state, built, true, Some(stale));
+}
+
 pub fn settled(alloc: Global, state: &mut MapState) -> Result<(), Fail> {
     state.settle(alloc)?;
     Ok(())
@@ -85,6 +93,12 @@ pub fn detached(alloc: Global, state: &mut MapState, slot: u8) -> Result<Job, Fa
         Some(job) => Ok(job),
         None => Err(Fail::new("nothing was detached")),
     }
+}
+
+// The job has this ticket and so many items.
+pub fn is_of(rt: &impl Abort, job: &Job, ticket: u64, items: usize) {
+    same(rt, "the ticket", job.ticket(), ticket);
+    same(rt, "items", job.items().len(), items);
 }
 
 // Whether nothing is left to be detached.
@@ -123,6 +137,20 @@ pub fn add_row(alloc: Global, state: &mut MapState, xs: &[i64]) -> Result<(), Fa
     for x in xs {
         points.push(Point::new(*x, 0, 0)?)?;
     }
+    updated(alloc, state, 1, Update::Add(points))?;
+    Ok(())
+}
+
+// Adds the points of a row, and one more at this place.
+pub fn add_row_and(
+    alloc: Global,
+    state: &mut MapState,
+    (first, last): (i64, i64),
+    more: i64,
+) -> Result<(), Fail> {
+    let point = Point::new(more, 0, 0)?;
+    let mut points = row(alloc, first, last)?;
+    points.push(point)?;
     updated(alloc, state, 1, Update::Add(points))?;
     Ok(())
 }
