@@ -3,11 +3,9 @@ ghost use Rattle.std.specs.Prelude.{◌≡◌, ℕ, ◌<◌, ◌≤◌, List, So
 ghost use Rattle.node_labels.specs.Labels.{keep_tag};
 ghost use Rattle.map_fold.specs.Contents.{chosen_by, mark, put};
 ghost use Rattle.map_fold.specs.declared.op.Op.TheVariants.{Mark, Put};
-ghost use Rattle.kd_tree.specs.Shape.{levels, nodes, numbers};
+ghost use Rattle.kd_tree.specs.Shape.{levels, nodes};
 ghost use Rattle.kd_tree.specs.Walk.{times};
 ghost use Rattle.kd_tree.specs.Contents.{contents};
-ghost use Rattle.kd_tree.specs.Criteria.{AllMeetCriteria};
-ghost use Rattle.kd_update.specs.Refresh.{AreAmong, IsRefresh};
 ghost use Rattle.kd_update.specs.Watches.{HaveRoom, paths_in};
 ghost use Rattle.rebuild_core.specs.Draft.{DoesPlainly, IsDraft, IsDraftLeft, IsWork, IsWorked, KeepsDraft, MakesFew};
 ghost use Rattle.rebuild_core.specs.Parts.{PartAt};
@@ -140,11 +138,12 @@ impl Work {
         ensures fewer { IfOk result (λ w. length w.watches < length self.watches) }
     {
         let Work { tree, mut watches } = self;
-        let path = watches.remove(place).path;
+        let Watch { path, .. } = watches.remove(place);
         let Some(node) = tree.subtree_at(&path) else {
             return Ok(Work { tree, watches });
         };
-        let with = rebuilt_copy(alloc, node, steps)?;
+        let node = node.copy(alloc, steps)?;
+        let with = rebuilt(alloc, node, steps)?;
         let others = paths_of(alloc, watches.as_slice())?;
         let (path, others) = (&path, others.as_slice());
         let Replaced {
@@ -159,21 +158,6 @@ impl Work {
         }
         Ok(Work { tree, watches })
     }
-}
-
-// A copy of the tree, rebuilt by medians.
-fn rebuilt_copy<L: Ledger>(
-    alloc: Global,
-    tree: &Tree,
-    steps: &mut Steps<L>,
-) -> Result<Tree, NoMemory>
-    ensures contents { IfOk result (λ t. contents t ≡ contents tree.now) }
-    ensures numbers { IfOk result (λ t. AreAmong (numbers t) (numbers tree.now)) }
-    ensures refresh { IfOk result (λ t. IsRefresh tree.now t) }
-    ensures criteria { IfOk result (λ t. AllMeetCriteria 10 t) }
-{
-    let twin = tree.copy(alloc, steps)?;
-    rebuilt(alloc, twin, steps)
 }
 
 // Where the first watch stands whose log has no room for two operations.

@@ -1,4 +1,4 @@
-use Rattle.std.proofs.Common.{◌≡◌, Option, Some, None, ap, sym, ◌∙◌, subst}
+use Rattle.std.proofs.Common.{◌≡◌, List, Option, Some, None, ap, sym, ◌∙◌, subst}
 use Rattle.std.specs.Prelude.{◌↔◌, IsNone}
 use Rattle.rebuild_core.specs.Detach.{IsDetachedAt, IsNoneToDetach}
 use Rattle.rebuild_core.specs.Lawful.{Stored}
