@@ -1,4 +1,4 @@
-use Rattle.std.proofs.Common.{◌≡◌, ℕ, ◌+◌, ◌-◌, ◌<◌, ◌≤◌, ap, ◌∙◌, arith, length, slice_index_or, subst, sym}
+use Rattle.std.proofs.Common.{◌≡◌, ◌+◌, ◌-◌, ◌<◌, ◌≤◌, ap, ◌∙◌, arith, length, slice_index_or, subst, sym}
 use Rattle.map_fold.specs.Fold.{points_in}
 use Rattle.rebuild_core.specs.Lawful.{StateAt, Stored, VersionAt}
 use Rattle.rebuild_core.specs.StateView.{state_of}
