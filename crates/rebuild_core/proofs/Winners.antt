@@ -1,9 +1,8 @@
 -- Which item a voxel is left with, and where nothing changes.
-use Rattle.std.proofs.Common.{◌≡◌, ℕ, ◌+◌, ◌<◌, true, false, [], ◌∷◌, List, Option, Some, None, inl, inr, refl, drop, length, sym, subst, ap, ◌∙◌, arith}
+use Rattle.std.proofs.Common.{◌≡◌, ℕ, ◌+◌, ◌<◌, true, false, [], ◌∷◌, List, inl, inr, refl, drop, length, sym, subst, ap, ◌∙◌, arith}
 use Rattle.std.specs.Prelude.{IfOk}
 use Rattle.std.specs.declared.result.Result.{Result}
 use Rattle.std.specs.declared.result.Result.TheVariants.{Ok, Err}
-use Rattle.std.proofs.lemmas.Option.{same_Some, none-some}
 use Rattle.point_geom.specs.Place.{Place, Bounds}
 use Rattle.point_geom.specs.Boxes.{voxel}
 use Rattle.map_fold.specs.declared.item.Item.{Item}
@@ -20,7 +19,7 @@ use Rattle.kd_tree.specs.Shape.{Shape}
 use Rattle.kd_tree.specs.Sound.{IsSound}
 use Rattle.kd_tree.specs.Contents.{contents}
 use Rattle.kd_tree.proofs.Held.{are_contents}
-use Rattle.kd_search.specs.Best.{IsBest, best_inside, best_of}
+use Rattle.kd_search.specs.Best.{IsBest}
 use Rattle.rebuild_core.specs.Draft.{IsWork}
 use Rattle.rebuild_core.specs.declared.update.work.Work.{Work}
 use Rattle.rebuild_core.specs.Lawful.{map_of}
@@ -58,28 +57,6 @@ only_one x (y ∷ z ∷ zs) n e = absurd (omega arith)
 -- where one item is live in the box, it is the best
 pub alone_inside : (m : List Item) (c : Bounds) (i : Item) → IsBest m c i → length (inside_all m c) ≡ 1 → inside_all m c ≡ i ∷ []
 alone_inside m c i best one = only_one i (inside_all m c) (member-filter_of (in_box c) i (live_items m) best.live best.held) one
-
--- where a point is turned away, the one item in its voxel is the best there
-turned_best : (edge n : ℕ) (t : Shape) (p : Place) (box : Bounds) (best : Option Item) → box ≡ voxel edge p → best ≡ best_inside (contents t) box → (k : IsTurnedAway edge (map_of t n) p) → best ≡ Some k.held
-turned_best edge n t p box best same is k = is ∙ ap (best_inside (contents t)) same ∙ ap (best_of (voxel edge p)) k.alone
-
--- so none is turned away where nothing is live in the voxel
-pub none_turned : (edge n : ℕ) (t : Shape) (p : Place) (box : Bounds) (best : Option Item) → box ≡ voxel edge p → best ≡ best_inside (contents t) box → best ≡ None → IsTurnedAway edge (map_of t n) p → ⊥
-none_turned edge n t p box best same is none k = none-some k.held (sym none ∙ turned_best edge n t p box best same is k)
-
--- nor one that comes before the best
-pub first_turned : (edge n : ℕ) (t : Shape) (p : Place) (box : Bounds) (best : Option Item) (i held : Item) → box ≡ voxel edge p → best ≡ best_inside (contents t) box → best ≡ Some held → i ≡ live_at n p
-    → comes_before box i held ≡ true → IsTurnedAway edge (map_of t n) p → ⊥
-first_turned edge n t p box best i held same is some new before k =
-    let one : held ≡ k.held = same_Some held k.held (sym some ∙ turned_best edge n t p box best same is k) in
-    let here : comes_before (voxel edge p) (live_at n p) k.held ≡ true =
-    ap (λ (j : Item). comes_before (voxel edge p) (live_at n p) j) (sym one) ∙ ap (λ (j : Item). comes_before (voxel edge p) j held) (sym new) ∙ ap (λ (c : Bounds). comes_before c i held) (sym same) ∙ before in
-    let both : true ≡ false = sym here ∙ k.behind in
-    absurd cc
-
--- nor one where not just one is live there
-pub many_turned : (edge n : ℕ) (t : Shape) (p : Place) (box : Bounds) (many : ℕ) → box ≡ voxel edge p → many ≡ length (inside_all (contents t) box) → (many ≡ 1 → ⊥) → IsTurnedAway edge (map_of t n) p → ⊥
-many_turned edge n t p box many same is more k = more (is ∙ ap (λ (c : Bounds). length (inside_all (contents t) c)) same ∙ ap length k.alone)
 
 -- what is held is also what that is equal to
 pub becomes : (r : Result Work NoMemory) (xs ys : List Item) → xs ≡ ys → IfOk r (λ w. contents w.tree ≡ xs) → IfOk r (λ w. contents w.tree ≡ ys)

@@ -4,7 +4,6 @@ use Rattle.map_fold.specs.Fold.{step, points_in}
 use Rattle.map_fold.specs.declared.op.Op.{Op}
 use Rattle.map_fold.specs.declared.update.Update.{Update}
 use Rattle.kd_tree.specs.Shape.{Shape, numbers}
-use Rattle.kd_tree.specs.Sound.{IsSound}
 use Rattle.kd_tree.specs.Contents.{contents}
 use Rattle.kd_tree.specs.Criteria.{AllMeetCriteria}
 use Rattle.kd_update.specs.Several.{IsBalancedClear}
@@ -16,7 +15,6 @@ use Rattle.rebuild_core.specs.Lawful.{IsLawful, StateAt, VersionAt, map_of}
 use Rattle.rebuild_core.specs.Logs.{LogPlan, planned_parts}
 use Rattle.rebuild_core.specs.Parts.{AreLawfulParts, AreLeft, HaveLogRoom, paths}
 use Rattle.rebuild_core.specs.declared.plan.Drafted.{Drafted}
-use Rattle.rebuild_core.specs.declared.plan.Unlisted.{Unlisted}
 use Rattle.rebuild_core.specs.Single.{RebuildsNothing, only_op}
 use Rattle.map_fold.specs.declared.limits.TheConstants.{MAX_POINTS}
 use Rattle.rebuild_core.specs.declared.plan.TheConstants.{MAX_UPDATES}
@@ -60,13 +58,6 @@ pub record IsDrafted (u : Update) (s : StateAt) (d : Drafted) : Type 0 where
   pub parts : AreLawfulParts s.settings.large (s.next + points_in u) s.last d.tree (planned_parts d.logs.items s.parts)
   pub balanced : IsBalancedClear s.settings.large (paths (planned_parts d.logs.items s.parts)) d.tree
   pub below : All (λ n. n < s.next + points_in u) (numbers d.tree)
-
--- the plan of the update, but for its entry
-pub record IsUnlisted (u : Update) (s : StateAt) (x : Unlisted) : Type 0 where
-  pub drafted : IsDrafted u s x.draft
-  pub sound : IsSound x.draft.tree
-  pub next : x.next ≡ s.next + points_in u
-  pub version : x.version.value ≡ record { tree = x.draft.tree; next = x.next; len = length s.history + 1 }
 
 -- the plan is that of this caller's update
 pub record IsUpdatePlan (caller : ℕ) (u : Update) (s : StateAt) (p : PlannedAt) : Type 0 where

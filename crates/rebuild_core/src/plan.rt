@@ -4,7 +4,7 @@ ghost use Rattle.map_fold.specs.Fold.{points_in};
 ghost use Rattle.kd_tree.specs.Counter.{IsBlankOf};
 ghost use Rattle.rebuild_core.specs.Logs.{planned_parts};
 ghost use Rattle.rebuild_core.specs.Outcome.{IsLeftByUpdate, MakesNodes};
-ghost use Rattle.rebuild_core.specs.Steps.{HasRoom, IsDrafted, IsFault, IsSettlePlan, IsSettleStep, IsUnlisted, IsUpdatePlan, IsUpdateStep};
+ghost use Rattle.rebuild_core.specs.Steps.{HasRoom, IsDrafted, IsFault, IsSettlePlan, IsSettleStep, IsUpdatePlan, IsUpdateStep};
 
 use crate::logs::{PartLog, forgotten, logs_of};
 use crate::part::watched;
@@ -16,7 +16,6 @@ use kd_update::settled;
 use map_fold::{Entry, MAX_POINTS, NoMemory, Update};
 use std::alloc::Global;
 use std::marker::Brand;
-use std::sync::Arc;
 use std::sync::ledger::{Blank, Ledger};
 
 /// The most updates of a history: 1,048,576.
@@ -27,14 +26,6 @@ pub const MAX_UPDATES: u64 = 1_048_576;
 struct Drafted {
     tree: Tree,
     logs: Vec<PartLog>,
-}
-
-// What an update stores, but for its entry.
-#[derive(Drop)]
-struct Unlisted {
-    draft: Drafted,
-    next: u32,
-    version: Arc<Version>,
 }
 
 impl MapState {
@@ -91,12 +82,15 @@ impl MapState {
         ensures refused { IfErr result (IsFault update self.old.state) }
         ensures nodes { MakesNodes update self.old.state steps.old steps.new }
     {
-        let Unlisted {
-            draft,
-            next,
-            version,
-        } = self.plan_unlisted(alloc, &update, steps)?;
-        let Drafted { tree, logs } = draft;
+        let next = self.next_after(&update)?;
+        let mut scratch = self.lent(alloc);
+        let draft = self.drafted(alloc, &update, &mut scratch, steps);
+        self.returned(scratch);
+        let Drafted { tree, logs } = draft?;
+        let _size = tree.size();
+        let len = self.history.len() as u64;
+        self.history.reserve(1)?;
+        let version = Version::shared(alloc, &tree, next, len + 1, steps)?;
         let seq = self.made[caller as usize - 1];
         let entry = Some(Entry {
             caller,
@@ -109,38 +103,6 @@ impl MapState {
             version,
             entry,
             logs,
-        })
-    }
-
-    // Does the same but for the entry.
-    fn plan_unlisted<L: Ledger>(
-        &mut self,
-        alloc: Global,
-        update: &Update,
-        steps: &mut Steps<L>,
-    ) -> Result<Unlisted, StateFault>
-        ensures same { self.new.state ≡ self.old.state }
-        ensures planned { IfOk result (IsUnlisted update.now self.old.state) }
-        ensures room { OnOk result (HasRoom update.now self.old.state) }
-        ensures spare { OnOk result (1 ≤ self.new.spare) }
-        ensures leaves { IfOk result (λ x. IsLeftByUpdate update.now self.old.state (planned_parts x.draft.logs.items self.old.state.parts) x.draft.tree) }
-
-        ensures refused { IfErr result (IsFault update.now self.old.state) }
-        ensures nodes { MakesNodes update.now self.old.state steps.old steps.new }
-    {
-        let next = self.next_after(update)?;
-        let mut scratch = self.lent(alloc);
-        let drafted = self.drafted(alloc, update, &mut scratch, steps);
-        self.returned(scratch);
-        let draft = drafted?;
-        let _size = draft.tree.size();
-        let len = self.history.len() as u64;
-        self.history.reserve(1)?;
-        let version = Version::shared(alloc, &draft.tree, next, len + 1, steps)?;
-        Ok(Unlisted {
-            draft,
-            next,
-            version,
         })
     }
 

@@ -1,20 +1,17 @@
-use Rattle.std.proofs.Common.{◌≡◌, ℕ, ◌-◌, List, ap, arith, length, length-drop, subst, sym}
+use Rattle.std.proofs.Common.{◌≡◌, ap, arith, length, subst, sym}
 use Rattle.std.specs.Prelude.{IfErr, IsErrAnd}
 use Rattle.std.specs.declared.result.Result.{Result}
 use Rattle.std.specs.declared.result.Result.TheVariants.{Ok, Err}
-use Rattle.map_fold.specs.declared.op.Op.{Op}
-use Rattle.rebuild_core.specs.Built.{BuiltAt, undone}
+use Rattle.rebuild_core.specs.Built.{BuiltAt}
 use Rattle.rebuild_core.specs.declared.fault.SwapFault.{SwapFault}
 use Rattle.rebuild_core.specs.declared.fault.SwapFault.TheVariants.{NoMemory}
 use Rattle.rebuild_core.specs.Parts.{PartAt}
 use Rattle.rebuild_core.specs.Steps.{PlannedAt}
 use Rattle.rebuild_core.specs.Swap.{IsSwapFault, MaySwap}
+use Rattle.rebuild_core.proofs.SameItems.{not_both}
+use Rattle.rebuild_core.proofs.Swapping.{left_is}
 use Rattle.rebuild_core.proofs.state.MapState.plan_swap.Goals as goal
 use Rattle.rebuild_core.proofs.state.MapState.plan_swap.Goals.{else-not-force-via-then-not-force+else-left-gt-MOST_LEFT, else-not-force-via-else-not-force}
-
--- how many operations are left
-left_is : (b : BuiltAt) (p : PartAt) (all done : ℕ) (log ops : List Op) → all ≡ length log → log ≡ p.log → done ≡ length ops → ops ≡ b.done → length (undone b p) ≡ all - done
-left_is b p all done log ops of_log same of_ops begun = omega (arith, length-drop (length b.done) p.log, of_log, of_ops, ap (λ (xs : List Op). length xs) same, ap (λ (xs : List Op). length xs) begun)
 
 -- where memory runs out, that is the fault
 out_of : (r : Result PlannedAt SwapFault) (P : SwapFault → Type 0) → IsErrAnd r (λ e. e ≡ NoMemory) → P NoMemory → IfErr r P
@@ -31,7 +28,7 @@ returns-in_err-ops-clause-refused g c =
       c.in-Some.ensures.some.of,
       λ unforced. elim c.else-not-force.branch [
         | else-not-force-via-then-not-force+else-left-gt-MOST_LEFT w ↦ omega (arith, left, w.if-left-gt-MOST_LEFT.false)
-        | else-not-force-via-else-not-force w ↦ let forced = w.if-not-force.false in absurd cc
+        | else-not-force-via-else-not-force w ↦ absurd (not_both c.args.force w.if-not-force.false unforced)
       ],
     ) in
     out_of c.from_residual.result (IsSwapFault c.args.built.now c.args.force c.args.self.now.state) c.from_residual.ensures.1 may
@@ -46,7 +43,7 @@ returns-in_err-twin-clause-refused g c =
       c.in-Some.ensures.some.of,
       λ unforced. elim c.else-not-force.branch [
         | else-not-force-via-then-not-force+else-left-gt-MOST_LEFT w ↦ omega (arith, left, w.if-left-gt-MOST_LEFT.false)
-        | else-not-force-via-else-not-force w ↦ let forced = w.if-not-force.false in absurd cc
+        | else-not-force-via-else-not-force w ↦ absurd (not_both c.args.force w.if-not-force.false unforced)
       ],
     ) in
     out_of c.from_residual-in_err-twin.result (IsSwapFault c.args.built.now c.args.force c.args.self.now.state) c.from_residual-in_err-twin.ensures.1 may
@@ -61,7 +58,7 @@ returns-in_err-planned-clause-refused g c =
       c.in-Some.ensures.some.of,
       λ unforced. elim c.else-not-force.branch [
         | else-not-force-via-then-not-force+else-left-gt-MOST_LEFT w ↦ omega (arith, left, w.if-left-gt-MOST_LEFT.false)
-        | else-not-force-via-else-not-force w ↦ let forced = w.if-not-force.false in absurd cc
+        | else-not-force-via-else-not-force w ↦ absurd (not_both c.args.force w.if-not-force.false unforced)
       ],
     ) in
     out_of c.from_residual-in_err-planned.result (IsSwapFault c.args.built.now c.args.force c.args.self.now.state) c.from_residual-in_err-planned.ensures.1 may
@@ -75,6 +72,6 @@ returns-clause-may g c =
       c.in-Some.ensures.some.of,
       λ unforced. elim c.else-not-force.branch [
         | else-not-force-via-then-not-force+else-left-gt-MOST_LEFT w ↦ omega (arith, left, w.if-left-gt-MOST_LEFT.false)
-        | else-not-force-via-else-not-force w ↦ let forced = w.if-not-force.false in absurd cc
+        | else-not-force-via-else-not-force w ↦ absurd (not_both c.args.force w.if-not-force.false unforced)
       ],
     )

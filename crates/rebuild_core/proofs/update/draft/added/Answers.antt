@@ -141,14 +141,3 @@ returns-then-len-ge-SCAN-clause-kept g c = λ room.
     let same = c.as_slice-then-len-ge-SCAN.ensures.value ∙ c.in_ok-items.ensures.items ∙ ap (live_from c.args.next) c.as_slice.ensures in
     let many = ap length same ∙ live_from-length c.args.next c.args.points.now in
     c.put_items.ensures.kept (subst (λ k. HasRoomFor k k c.args.work) (sym many) room)
-
--- so many points are no one operation
-
-pub returns-in_err-items-clause-ticks : goal.returns-in_err-items-clause-ticks
-returns-in_err-items-clause-ticks g c = λ op only. absurd (omega (arith, only_point c.args.next c.args.points.now op only, c.len.ensures))
-
-pub returns-then-len-ge-SCAN-clause-unrebuilt : goal.returns-then-len-ge-SCAN-clause-unrebuilt
-returns-then-len-ge-SCAN-clause-unrebuilt g c = λ op only. absurd (omega (arith, only_point c.args.next c.args.points.now op only, c.len.ensures))
-
-pub returns-then-len-ge-SCAN-clause-ticks : goal.returns-then-len-ge-SCAN-clause-ticks
-returns-then-len-ge-SCAN-clause-ticks g c = λ op only. absurd (omega (arith, only_point c.args.next c.args.points.now op only, c.len.ensures))

@@ -13,9 +13,9 @@ use Rattle.rebuild_core.proofs.Detached.{left_itself}
 use Rattle.rebuild_core.proofs.Working.{draft_more}
 use Rattle.map_fold.proofs.Numbered.{contents_rise, unheld_above}
 use Rattle.std.proofs.lemmas.Result.{IfOk-weaker}
-use Rattle.rebuild_core.specs.Draft.{IsWorked}
+use Rattle.rebuild_core.specs.Draft.{IsWork, IsWorked}
 use Rattle.rebuild_core.proofs.Worked.{worked_itself, worked_more}
-use Rattle.rebuild_core.proofs.Winners.{alone_inside, becomes, draft_contents, first_turned, held_wins, many_turned, new_wins, none_turned}
+use Rattle.rebuild_core.proofs.Winners.{alone_inside, becomes, draft_contents, held_wins, new_wins}
 use Rattle.rebuild_core.proofs.update.thin.thinned_one.Goals as goal
 
 pub returns-in_default-clause-contents : goal.returns-in_default-clause-contents
@@ -119,36 +119,17 @@ returns-in_default-clause-worked g c = IfOk-weaker c.added_one.result _ (IsWorke
 pub returns-then-count-eq1-clause-worked : goal.returns-then-count-eq1-clause-worked
 returns-then-count-eq1-clause-worked g c = worked_itself 1 2 c.args.work
 
--- no point that changes something is turned away
+pub added_one-requires-clause-draft : goal.added_one-requires-clause-draft
+added_one-requires-clause-draft g c = subst (λ n. IsWork n c.args.next c.args.work) (sym c.large-large.ensures.value) c.requires.draft
 
-pub returns-in_default-clause-turned_away : goal.returns-in_default-clause-turned_away
-returns-in_default-clause-turned_away g c = λ turned.
-    let same : c.voxel-cube.result ≡ voxel c.args.settings.now.voxel c.args.point = rw c.voxel.ensures.value at c.voxel-cube.ensures.value in
-    absurd (none_turned _ c.args.next c.args.work.tree c.args.point c.voxel-cube.result c.rivals_in-best.result.best same c.rivals_in-best.ensures.best c.in_default.is turned)
+pub left_alone-requires-clause-draft : goal.left_alone-requires-clause-draft
+left_alone-requires-clause-draft g c = subst (λ n. IsWork n c.args.next c.args.work) (sym c.large-large.ensures.value) c.requires.draft
 
-pub returns-in_default-clause-still : goal.returns-in_default-clause-still
-returns-in_default-clause-still g c = λ turned.
-    let same : c.voxel-cube.result ≡ voxel c.args.settings.now.voxel c.args.point = rw c.voxel.ensures.value at c.voxel-cube.ensures.value in
-    absurd (none_turned _ c.args.next c.args.work.tree c.args.point c.voxel-cube.result c.rivals_in-best.result.best same c.rivals_in-best.ensures.best c.in_default.is turned)
+pub left_alone-requires-2-clause-draft : goal.left_alone-requires-2-clause-draft
+left_alone-requires-2-clause-draft g c = subst (λ n. IsWork n c.args.next c.args.work) (sym c.large-large.ensures.value) c.requires.draft
 
-pub returns-then-comes_before-clause-turned_away : goal.returns-then-comes_before-clause-turned_away
-returns-then-comes_before-clause-turned_away g c = λ turned.
-    let same : c.voxel-cube.result ≡ voxel c.args.settings.now.voxel c.args.point = rw c.voxel.ensures.value at c.voxel-cube.ensures.value in
-    let before = sym c.comes_before.ensures ∙ c.if-comes_before.true in
-    absurd (first_turned _ c.args.next c.args.work.tree c.args.point c.voxel-cube.result c.rivals_in-best.result.best c.live-new.result c.in-Some.held same c.rivals_in-best.ensures.best c.in-Some.is c.live-new.ensures before turned)
+pub returns-in_default-clause-draft : goal.returns-in_default-clause-draft
+returns-in_default-clause-draft g c = rw c.large-large.ensures.value at c.added_one.ensures.draft
 
-pub returns-then-comes_before-clause-still : goal.returns-then-comes_before-clause-still
-returns-then-comes_before-clause-still g c = λ turned.
-    let same : c.voxel-cube.result ≡ voxel c.args.settings.now.voxel c.args.point = rw c.voxel.ensures.value at c.voxel-cube.ensures.value in
-    let before = sym c.comes_before.ensures ∙ c.if-comes_before.true in
-    absurd (first_turned _ c.args.next c.args.work.tree c.args.point c.voxel-cube.result c.rivals_in-best.result.best c.live-new.result c.in-Some.held same c.rivals_in-best.ensures.best c.in-Some.is c.live-new.ensures before turned)
-
-pub returns-clause-turned_away : goal.returns-clause-turned_away
-returns-clause-turned_away g c = λ turned.
-    let same : c.voxel-cube.result ≡ voxel c.args.settings.now.voxel c.args.point = rw c.voxel.ensures.value at c.voxel-cube.ensures.value in
-    absurd (many_turned _ c.args.next c.args.work.tree c.args.point c.voxel-cube.result c.rivals_in-best.result.count same c.rivals_in-best.ensures.count c.if-count-eq1.false turned)
-
-pub returns-clause-still : goal.returns-clause-still
-returns-clause-still g c = λ turned.
-    let same : c.voxel-cube.result ≡ voxel c.args.settings.now.voxel c.args.point = rw c.voxel.ensures.value at c.voxel-cube.ensures.value in
-    absurd (many_turned _ c.args.next c.args.work.tree c.args.point c.voxel-cube.result c.rivals_in-best.result.count same c.rivals_in-best.ensures.count c.if-count-eq1.false turned)
+pub returns-then-comes_before-clause-draft : goal.returns-then-comes_before-clause-draft
+returns-then-comes_before-clause-draft g c = rw c.large-large.ensures.value at c.left_alone.ensures.draft
