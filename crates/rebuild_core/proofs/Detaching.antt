@@ -1,6 +1,6 @@
 -- Parts that come into a slot.
 use Rattle.std.proofs.Common.{◌≡◌, ℕ, ◌+◌, ◌<◌, ◌≤◌, cond, List, [], ◌∷◌, refl, ap, sym, ◌∙◌, arith, subst, inl, inr, Option, Some, None, nat_lt}
-use Rattle.std.specs.Prelude.{◌==◌}
+use Rattle.std.specs.Prelude.{◌==◌, ◌↔◌, IfSome, IsNone}
 use Rattle.std.proofs.lemmas.Bool.{cond_both, eqb-false, eqb-true, ltb-false, ltb-true}
 use Rattle.std.proofs.lemmas.List.Elements.{All-nil}
 use Rattle.std.proofs.lemmas.Option.{same_Some}
@@ -9,11 +9,11 @@ use Rattle.kd_tree.specs.Shape.{Shape, numbers}
 use Rattle.kd_tree.specs.Sound.{IsSound}
 use Rattle.kd_tree.specs.Contents.{contents}
 use Rattle.kd_tree.specs.Parts.{at}
-use Rattle.kd_tree.specs.Apart.{AreAllApart, AreApart, IsClear}
+use Rattle.kd_tree.specs.Apart.{AllClearMeetCriteria, AreAllApart, AreApart, IsClear, IsFirstFree}
 use Rattle.kd_tree.specs.declared.path.Side.{Side}
 use Rattle.kd_tree.proofs.Held.{are_contents}
 use Rattle.kd_update.specs.Watch.{IsLargeAt}
-use Rattle.rebuild_core.specs.Detach.{IsDetachedAt, with_part}
+use Rattle.rebuild_core.specs.Detach.{IsDetachedAt, IsNoneToDetach, with_part}
 use Rattle.rebuild_core.specs.Lawful.{IsLawful, StateAt}
 use Rattle.rebuild_core.specs.Parts.{AreEachLawful, AreInSlots, HaveOwnTickets, IsLawfulPart, IsNewTicket, PartAt, part_in, paths}
 use Rattle.rebuild_core.proofs.ApartPaths.{AreOnesOf, IsOneOf, apart_sym, balanced_more}
@@ -200,3 +200,21 @@ detached_lawful slot s path node from to k sound chosen there =
       shown_next = k.shown_next;
       shown_len = k.shown_len;
     }
+
+-- where there is no part in the slot, what is told of the nodes that are clear of the parts
+
+pub none_free : (s : StateAt) (large : ℕ) (qs : List (List Side)) (t : Shape) (o : Option (List Side)) (q : Option PartAt) → q ≡ None → large ≡ s.settings.large → qs ≡ paths s.parts → t ≡ s.tree
+    → (IsNone o ↔ AllClearMeetCriteria large qs t) → IsNone o ↔ IsNoneToDetach q s
+none_free s large qs t o q none same at is k =
+    let here = subst (λ (n : ℕ). IsNone o ↔ AllClearMeetCriteria n qs t) same k in
+    let clear = subst (λ (ps : List (List Side)). IsNone o ↔ AllClearMeetCriteria s.settings.large ps t) at here in
+    let whole = subst (λ (x : Shape). IsNone o ↔ AllClearMeetCriteria s.settings.large (paths s.parts) x) is clear in
+    subst (λ (x : Option PartAt). IsNone o ↔ IsNoneToDetach x s) (sym none) whole
+
+pub first_free_path : (s : StateAt) (large : ℕ) (qs : List (List Side)) (t : Shape) (o : Option (List Side)) (q : Option PartAt) → q ≡ None → large ≡ s.settings.large → qs ≡ paths s.parts → t ≡ s.tree
+    → IfSome o (IsFirstFree large qs t) → IfSome o (IsDetachedAt q s)
+first_free_path s large qs t o q none same at is k =
+    let here = subst (λ (n : ℕ). IfSome o (IsFirstFree n qs t)) same k in
+    let clear = subst (λ (ps : List (List Side)). IfSome o (IsFirstFree s.settings.large ps t)) at here in
+    let whole = subst (λ (x : Shape). IfSome o (IsFirstFree s.settings.large (paths s.parts) x)) is clear in
+    subst (λ (x : Option PartAt). IfSome o (IsDetachedAt x s)) (sym none) whole

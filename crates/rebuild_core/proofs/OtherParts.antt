@@ -1,10 +1,17 @@
 -- The parts beside the one of a ticket.
-use Rattle.std.proofs.Common.{◌≡◌, ℕ, List, [], ◌∷◌, ◌++◌, length, refl, ap, sym, ◌∙◌, subst, Some}
+use Rattle.std.proofs.Common.{◌≡◌, ℕ, ◌+◌, ◌<◌, List, [], ◌∷◌, ◌++◌, get_or, length, refl, ap, sym, ◌∙◌, subst, take, Some}
 use Rattle.std.specs.Prelude.{◌==◌}
 use Rattle.std.specs.List.{remove}
 use Rattle.std.proofs.lemmas.Bool.{cond_both, eq-eqb, eqb-false, eqb-true, ne_eqb}
+use Rattle.std.proofs.lemmas.List.{map-append, take_more}
 use Rattle.kd_tree.specs.declared.path.Side.{Side}
 use Rattle.rebuild_core.specs.Parts.{IsNewTicket, IsPlaceOf, PartAt, part_of, paths, without}
+
+-- the paths of the first parts, and that of the next one
+pub paths_next : (ps : List PartAt) (i : ℕ) (p : PartAt) (q : List Side) (old new : List (List Side)) → i < length ps → p ≡ get_or ps i p → q ≡ p.path → old ≡ paths (take i ps) → new ≡ old ++ q ∷ [] → new ≡ paths (take (i + 1) ps)
+paths_next ps i p q old new low at is all added =
+    let more : take (i + 1) ps ≡ take i ps ++ p ∷ [] = take_more ps i p low ∙ ap (λ (r : PartAt). take i ps ++ r ∷ []) (sym at) in
+    added ∙ ap (λ (qs : List (List Side)). qs ++ q ∷ []) all ∙ ap (λ (r : List Side). paths (take i ps) ++ r ∷ []) is ∙ sym (ap paths more ∙ map-append (λ (r : PartAt). r.path) (take i ps) (p ∷ []))
 
 without_past : (ticket : ℕ) (p : PartAt) (ps : List PartAt) → (ticket ≡ p.ticket → ⊥) → without ticket (p ∷ ps) ≡ p ∷ without ticket ps
 without_past ticket p ps n = rw (ne_eqb ticket p.ticket n) refl

@@ -1,5 +1,5 @@
 -- Items whose numbers rise, searched and compared.
-use Rattle.std.proofs.Common.{◌≡◌, ℕ, ◌+◌, ◌<◌, ◌≤◌, List, [], ◌∷◌, ◌++◌, length, get_or, false, zero, suc, refl, ap, sym, ◌∙◌, arith, subst, inl, inr, Result, Ok, Err}
+use Rattle.std.proofs.Common.{◌≡◌, ℕ, ◌+◌, ◌<◌, ◌≤◌, List, [], ◌∷◌, ◌++◌, length, get_or, Bool, true, false, zero, suc, refl, ap, sym, ◌∙◌, arith, subst, inl, inr, Result, Ok, Err}
 use Rattle.std.specs.Prelude.{MatchResult}
 use Rattle.std.specs.List.{AllByRecursion}
 use Rattle.std.specs.List.Sorted.{IsSearchInRange, IsBinarySearchResult, IsNonDecreasingBy}
@@ -23,6 +23,10 @@ use Rattle.kd_tree.specs.Walk.{walk}
 use Rattle.kd_tree.proofs.Held.{are_distinct, contents_kept, contents_rise, rising_rises}
 use Rattle.kd_tree.proofs.Numbered.{Above, Rises, numbered_from, numbered_in, one_item}
 use Rattle.rebuild_core.specs.Holding.{AreAllFrom}
+
+-- no test is both
+pub not_both : (b : Bool) → b ≡ true → b ≡ false → ⊥
+not_both b is left = let both : true ≡ false = sym is ∙ left in absurd cc
 
 -- parts of a list
 

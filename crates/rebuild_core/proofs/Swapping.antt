@@ -1,5 +1,5 @@
 -- Values that are swapped into a lawful state.
-use Rattle.std.proofs.Common.{◌≡◌, ℕ, ◌+◌, ◌<◌, Bool, true, false, List, [], ◌∷◌, ◌++◌, map, refl, ap, sym, ◌∙◌, subst, inl, inr, arith}
+use Rattle.std.proofs.Common.{◌≡◌, ℕ, ◌+◌, ◌-◌, ◌<◌, Bool, true, false, List, [], ◌∷◌, ◌++◌, length, length-drop, map, refl, ap, sym, ◌∙◌, subst, inl, inr, arith}
 use Rattle.std.specs.Prelude.{All, Contains, ◌↔◌}
 use Rattle.std.proofs.lemmas.List.Elements.{All-append, All-cons, All-contains, All-contains_itself, All-nil, All-weaker, Contains-append_cases, Contains-append_left, Contains-append_right}
 use Rattle.map_fold.specs.declared.item.Item.{Item}
@@ -136,3 +136,7 @@ swaps s b p with t whole_rebuilt logs k o sound caught held below room criteria 
       none = refl;
       parts = which_left s b p with whole_rebuilt (planned_parts logs s.parts) o caught room none one;
     }
+
+-- how many operations are left
+pub left_is : (b : BuiltAt) (p : PartAt) (all done : ℕ) (log ops : List Op) → all ≡ length log → log ≡ p.log → done ≡ length ops → ops ≡ b.done → length (undone b p) ≡ all - done
+left_is b p all done log ops of_log same of_ops begun = omega (arith, length-drop (length b.done) p.log, of_log, of_ops, ap (λ (xs : List Op). length xs) same, ap (λ (xs : List Op). length xs) begun)

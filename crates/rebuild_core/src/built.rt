@@ -20,7 +20,7 @@ use std::marker::{Brand, Model};
 use std::sync::ledger::{Blank, Ledger};
 
 /// A tree that was built of a detached subtree's items, with some operations done on it since.
-#[derive(Debug, Drop)]
+#[derive(Drop)]
 pub struct Built {
     pub(crate) job: Job,
     pub(crate) done: Vec<Op>,
@@ -46,7 +46,7 @@ impl Model for Built {
 }
 
 /// A value on which nothing more was done for lack of memory.
-#[derive(Debug, Drop)]
+#[derive(Drop)]
 pub struct BuiltLeft {
     pub built: Built,
 }

@@ -15,12 +15,12 @@ use std::sync::ledger::{Blank, Ledger};
 
 /// What a detached subtree held, by itself, when it was detached. Contracts see the list of its items, whether it is kept as a
 /// list or as a tree, which shares its nodes with the map's tree.
-#[derive(Debug, Drop)]
+#[derive(Drop)]
 pub struct Holding {
     held: Held,
 }
 
-#[derive(Debug, Drop)]
+#[derive(Drop)]
 enum Held {
     Unlisted(Arc<Tree>),
     Listed(Arc<Items>),

@@ -14,7 +14,7 @@ use std::sync::Arc;
 use std::sync::ledger::{Blank, Ledger};
 
 /// The items of a detached subtree, which its state holds as well.
-#[derive(Debug, Drop)]
+#[derive(Drop)]
 pub struct Job {
     pub(crate) ticket: u64,
     pub(crate) items: Arc<Items>,
@@ -34,7 +34,7 @@ impl Model for Job {
 }
 
 /// A job that wasn't done for lack of memory.
-#[derive(Debug, Drop)]
+#[derive(Drop)]
 pub struct JobLeft {
     pub job: Job,
 }

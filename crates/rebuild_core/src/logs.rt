@@ -14,7 +14,7 @@ use std::alloc::Global;
 use std::marker::Model;
 
 // What becomes of the part of a ticket: its new log, or none where it is forgotten.
-#[derive(Debug, Drop)]
+#[derive(Drop)]
 pub(crate) struct PartLog {
     pub(crate) ticket: u64,
     pub(crate) log: Option<OpLog>,

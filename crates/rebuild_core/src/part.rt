@@ -22,7 +22,7 @@ pub struct PartInfo {
 }
 
 // A detached subtree. What it held is shared with the snapshot or the job that was made of it.
-#[derive(Debug, Drop)]
+#[derive(Drop)]
 pub(crate) struct Part {
     pub(crate) slot: u8,
     pub(crate) path: Path,

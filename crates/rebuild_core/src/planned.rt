@@ -12,7 +12,7 @@ use std::sync::Arc;
 use std::sync::ledger::Ledger;
 
 /// What a step stores in the state, for which all memory is taken.
-#[derive(Debug, Drop)]
+#[derive(Drop)]
 pub struct Planned {
     pub(crate) tree: Tree,
     pub(crate) next: u32,

@@ -7,7 +7,7 @@ use std::alloc::Global;
 use std::marker::Model;
 
 /// A detached subtree, as it was when it was detached. It shares its nodes with the map's tree.
-#[derive(Debug, Drop)]
+#[derive(Drop)]
 pub struct Snapshot {
     pub(crate) ticket: u64,
     pub(crate) holding: Holding,
@@ -22,7 +22,7 @@ impl Model for Snapshot {
 }
 
 /// A snapshot whose items weren't listed for lack of memory.
-#[derive(Debug, Drop)]
+#[derive(Drop)]
 pub struct SnapshotLeft {
     pub snapshot: Snapshot,
 }

@@ -13,7 +13,7 @@ use std::marker::Model;
 use std::sync::Arc;
 
 /// The state of a map. Whatever steps it takes, it holds the fold of its history, and its version shows that.
-#[derive(Debug, Drop)]
+#[derive(Drop)]
 pub struct MapState {
     pub(crate) settings: Settings,
     pub(crate) tree: Tree,

@@ -20,7 +20,7 @@ use std::sync::ledger::Ledger;
 const MOST_LEFT: u32 = 64;
 
 /// A built value that wasn't swapped in, as it was.
-#[derive(Debug, Drop)]
+#[derive(Drop)]
 pub struct SwapLeft {
     pub built: Built,
     pub fault: SwapFault,

@@ -12,7 +12,7 @@ use std::sync::Arc;
 use std::sync::ledger::Ledger;
 
 /// A version of a map, which stays as it is while the map goes on.
-#[derive(Debug, Drop)]
+#[derive(Drop)]
 pub struct Version {
     pub(crate) tree: Tree,
     next: u32,

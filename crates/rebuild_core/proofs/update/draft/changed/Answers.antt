@@ -1,12 +1,67 @@
-use Rattle.std.proofs.Common.{arith, subst}
+use Rattle.std.proofs.Common.{[], ◌∷◌, add-zero, arith, subst, sym}
 use Rattle.std.proofs.lemmas.Result.{IfOk-weaker}
 use Rattle.map_fold.specs.Fold.{points_in}
 use Rattle.map_fold.specs.declared.update.Update.{Update}
-use Rattle.rebuild_core.specs.Draft.{HasRoomFor}
+use Rattle.rebuild_core.specs.Draft.{HasRoomFor, IsWork}
 use Rattle.rebuild_core.specs.Stays.{most_ops}
-use Rattle.rebuild_core.proofs.OnePoint.{points_one}
+use Rattle.rebuild_core.proofs.OnePoint.{add_not_thin, delete_not_thin, points_one, restore_not_thin, suspend_not_thin}
 use Rattle.rebuild_core.proofs.Worked.{worked_kept}
 use Rattle.rebuild_core.proofs.update.draft.changed.Goals as goal
+
+pub added-requires-clause-draft : goal.added-requires-clause-draft
+added-requires-clause-draft g c = subst (λ n. IsWork n c.args.next c.args.work) (sym c.large-large.ensures.value) c.requires.draft
+
+pub returns-in-Add : goal.returns-in-Add
+returns-in-Add g c =
+    rw c.in-Add.is
+    (record {
+      stepped = c.added.ensures.stepped;
+      draft = rw c.large-large.ensures.value at c.added.ensures.draft;
+      kept = c.added.ensures.kept;
+      unrebuilt = rw c.large-large.ensures.value at c.added.ensures.unrebuilt;
+      ticks = rw c.large-large.ensures.value at c.added.ensures.ticks;
+      turned_away = λ p one. absurd (add_not_thin c.in-Add.points (p ∷ []) one);
+      still = λ p one. absurd (add_not_thin c.in-Add.points (p ∷ []) one);
+    })
+
+pub returns-in-Delete : goal.returns-in-Delete
+returns-in-Delete g c =
+    rw (c.in-Delete.is, add-zero)
+    (record {
+      stepped = c.marked_each.ensures.stepped;
+      draft = rw c.large-large.ensures.value at c.marked_each.ensures.draft;
+      kept = c.marked_each.ensures.kept;
+      unrebuilt = rw c.large-large.ensures.value at c.marked_each.ensures.unrebuilt;
+      ticks = rw c.large-large.ensures.value at c.marked_each.ensures.ticks;
+      turned_away = λ p one. absurd (delete_not_thin c.in-Delete.boxes (p ∷ []) one);
+      still = λ p one. absurd (delete_not_thin c.in-Delete.boxes (p ∷ []) one);
+    })
+
+pub returns-in-Suspend : goal.returns-in-Suspend
+returns-in-Suspend g c =
+    rw (c.in-Suspend.is, add-zero)
+    (record {
+      stepped = c.marked_each-in-Suspend.ensures.stepped;
+      draft = rw c.large-large.ensures.value at c.marked_each-in-Suspend.ensures.draft;
+      kept = c.marked_each-in-Suspend.ensures.kept;
+      unrebuilt = rw c.large-large.ensures.value at c.marked_each-in-Suspend.ensures.unrebuilt;
+      ticks = rw c.large-large.ensures.value at c.marked_each-in-Suspend.ensures.ticks;
+      turned_away = λ p one. absurd (suspend_not_thin c.in-Suspend.boxes (p ∷ []) one);
+      still = λ p one. absurd (suspend_not_thin c.in-Suspend.boxes (p ∷ []) one);
+    })
+
+pub returns-in-Restore : goal.returns-in-Restore
+returns-in-Restore g c =
+    rw (c.in-Restore.is, add-zero)
+    (record {
+      stepped = c.marked_each-in-Restore.ensures.stepped;
+      draft = rw c.large-large.ensures.value at c.marked_each-in-Restore.ensures.draft;
+      kept = c.marked_each-in-Restore.ensures.kept;
+      unrebuilt = rw c.large-large.ensures.value at c.marked_each-in-Restore.ensures.unrebuilt;
+      ticks = rw c.large-large.ensures.value at c.marked_each-in-Restore.ensures.ticks;
+      turned_away = λ p one. absurd (restore_not_thin c.in-Restore.boxes (p ∷ []) one);
+      still = λ p one. absurd (restore_not_thin c.in-Restore.boxes (p ∷ []) one);
+    })
 
 pub returns-in-Thin-clause-turned_away : goal.returns-in-Thin-clause-turned_away
 returns-in-Thin-clause-turned_away g c = λ p one turned. c.thinned.ensures.turned_away p (points_one c.in-Thin.points c.args.update.now p c.in-Thin.is one) turned

@@ -13,7 +13,7 @@ use Rattle.rebuild_core.proofs.Detached.{left_itself}
 use Rattle.rebuild_core.proofs.Working.{draft_more}
 use Rattle.map_fold.proofs.Numbered.{contents_rise, unheld_above}
 use Rattle.std.proofs.lemmas.Result.{IfOk-weaker}
-use Rattle.rebuild_core.specs.Draft.{IsWorked}
+use Rattle.rebuild_core.specs.Draft.{IsWork, IsWorked}
 use Rattle.rebuild_core.proofs.Worked.{worked_itself, worked_more}
 use Rattle.rebuild_core.proofs.Winners.{alone_inside, becomes, draft_contents, held_wins, new_wins}
 use Rattle.rebuild_core.proofs.update.thin.thinned_one.Goals as goal
@@ -118,3 +118,18 @@ returns-in_default-clause-worked g c = IfOk-weaker c.added_one.result _ (IsWorke
 
 pub returns-then-count-eq1-clause-worked : goal.returns-then-count-eq1-clause-worked
 returns-then-count-eq1-clause-worked g c = worked_itself 1 2 c.args.work
+
+pub added_one-requires-clause-draft : goal.added_one-requires-clause-draft
+added_one-requires-clause-draft g c = subst (λ n. IsWork n c.args.next c.args.work) (sym c.large-large.ensures.value) c.requires.draft
+
+pub left_alone-requires-clause-draft : goal.left_alone-requires-clause-draft
+left_alone-requires-clause-draft g c = subst (λ n. IsWork n c.args.next c.args.work) (sym c.large-large.ensures.value) c.requires.draft
+
+pub left_alone-requires-2-clause-draft : goal.left_alone-requires-2-clause-draft
+left_alone-requires-2-clause-draft g c = subst (λ n. IsWork n c.args.next c.args.work) (sym c.large-large.ensures.value) c.requires.draft
+
+pub returns-in_default-clause-draft : goal.returns-in_default-clause-draft
+returns-in_default-clause-draft g c = rw c.large-large.ensures.value at c.added_one.ensures.draft
+
+pub returns-then-comes_before-clause-draft : goal.returns-then-comes_before-clause-draft
+returns-then-comes_before-clause-draft g c = rw c.large-large.ensures.value at c.left_alone.ensures.draft

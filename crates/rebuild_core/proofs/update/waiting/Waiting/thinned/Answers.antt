@@ -180,3 +180,23 @@ pub returns-clause-worked : goal.returns-clause-worked
 returns-clause-worked g c =
     IfOk-weaker c.with-2.result _ (λ (w : Waiting). IsWorked 0 1 c.args.self.work w.work)
     (λ w same. subst (IsWorked 0 1 c.args.self.work) (sym same) c.in_ok-cleared-2.ensures.worked) c.with-2.ensures.work
+
+-- what is said of the settings' number, said of the one that is handed on
+
+pub with-requires-clause-waiting : goal.with-requires-clause-waiting
+with-requires-clause-waiting g c = rw c.large-large.ensures.value c.requires.waiting
+
+pub cleared-requires-clause-waiting : goal.cleared-requires-clause-waiting
+cleared-requires-clause-waiting g c = rw c.large-large.ensures.value c.requires.waiting
+
+pub cleared-requires-2-clause-waiting : goal.cleared-requires-2-clause-waiting
+cleared-requires-2-clause-waiting g c = rw c.large-large.ensures.value c.requires.waiting
+
+pub returns-in_default-clause-waiting : goal.returns-in_default-clause-waiting
+returns-in_default-clause-waiting g c = rw c.large-large.ensures.value at c.with.ensures.waiting
+
+pub returns-then-comes_before-clause-waiting : goal.returns-then-comes_before-clause-waiting
+returns-then-comes_before-clause-waiting g c = rw c.large-large.ensures.value at c.with-then-comes_before.ensures.waiting
+
+pub returns-clause-waiting : goal.returns-clause-waiting
+returns-clause-waiting g c = rw c.large-large.ensures.value at c.with-2.ensures.waiting
