@@ -1,5 +1,5 @@
 -- What detaching, building, replaying and swapping leave in handles.
-use Rattle.std.specs.Prelude.{◌≡◌, ◌<◌, ◌≤◌, ◌⊎◌, ℕ, ℤ, Bool, false, [], length, Option, None, Some}
+use Rattle.std.specs.Prelude.{◌≡◌, ◌<◌, ◌⊎◌, ℕ, ℤ, Bool, false, [], length, Option, None, Some}
 use Rattle.rebuild_core.specs.Built.{BuiltAt, IsBuiltOf, IsPartOf, IsReplayOf, IsStale, undone}
 use Rattle.rebuild_core.specs.Detach.{IsDetachStep, IsNoDetach, IsSlot}
 use Rattle.rebuild_core.specs.Lawful.{StateAt}

@@ -1,5 +1,5 @@
 -- A script that runs in the log's order.
-use Rattle.std.proofs.Common.{◌≡◌, ℕ, ◌+◌, ◌<◌, ◌≤◌, List, [], ◌∷◌, ◌++◌, length, take, refl, sym, ap, ◌∙◌, arith, append_assoc, length-append, Option, Some, None}
+use Rattle.std.proofs.Common.{◌≡◌, ℕ, ◌+◌, ◌≤◌, List, [], ◌∷◌, ◌++◌, length, take, refl, sym, ap, ◌∙◌, arith, append_assoc, length-append, Option, Some, None}
 use Rattle.std.proofs.lemmas.List.{length-map, take-append-le}
 use Rattle.std.specs.Option.{option_to_list}
 use Rattle.map_fold.specs.declared.entry.Entry.{Entry}

@@ -136,8 +136,3 @@ made_all n left i t z made none =
     let sizes : z.sizes ≡ (generated n).sizes = made.sizes in
     let format : z.format ≡ (generated n).format = made.format in
     ap₂ (λ (f : Format) (r : Sizes × List Command). record { format = f; sizes = r.0; commands = r.1 }) format (ap₂ (λ (a : Sizes) (cs : List Command). (a, cs)) sizes own)
-
--- the commands of a scan, one after another
-pub in_turn : (cs ds : List Command) (a b c d : Command) → ((((cs ++ a ∷ []) ++ b ∷ []) ++ c ∷ []) ++ ds) ++ d ∷ [] ≡ cs ++ a ∷ b ∷ c ∷ ds ++ d ∷ []
-in_turn [] ds a b c d = refl
-in_turn (x ∷ cs) ds a b c d = ap (λ ys. x ∷ ys) (in_turn cs ds a b c d)

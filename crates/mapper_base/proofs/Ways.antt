@@ -1,5 +1,5 @@
 -- What follows from the way in which a run ended.
-use Rattle.std.proofs.Common.{◌≡◌, ℕ, ◌≤◌, ◌<◌, ◌+◌, ◌⊎◌, inl, inr, Bool, true, false, List, length, Option, None, Some, IfSome, refl, ap, ◌∙◌, subst, arith, length-append}
+use Rattle.std.proofs.Common.{◌≡◌, ℕ, ◌≤◌, ◌+◌, inl, inr, Bool, true, false, List, length, Option, None, Some, IfSome, refl, ap, ◌∙◌, subst, arith, length-append}
 use Rattle.std.specs.Prelude.{if◌then◌else◌}
 use Rattle.std.specs.Io.KnownBytes.{Appends, Consumes}
 use Rattle.scan_log.specs.Scripts.{ScriptAt}
@@ -19,7 +19,6 @@ use Rattle.mapper_base.specs.Asks.{Asks, AskForRun, AskForScans, AskNothing, Ask
 use Rattle.mapper_base.specs.Causes.{Says, NotRead, IsDoneOn, IsTextOf, HasPrinted, HasRefused, Ended}
 use Rattle.mapper_base.specs.Done.{IsChecked, IsDriven, IsScriptMade, IsTranscribed, IsTranscribedInOrder}
 use Rattle.mapper_base.specs.Endings.{IsOrNoMemory, status_of}
-use Rattle.mapper_base.specs.Generated.{generated}
 use Rattle.mapper_base.specs.Inputs.{IsOverLimit}
 use Rattle.mapper_base.specs.Outside.{NoFault, HasRead, AppendsFront}
 use Rattle.mapper_base.specs.Seen.{RunSeen, LogSeen}

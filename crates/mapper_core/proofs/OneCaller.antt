@@ -1,5 +1,5 @@
 -- What a caller's thread shows of its pass.
-use Rattle.std.proofs.Common.{◌≡◌, ℕ, ◌+◌, ◌≤◌, ◌==◌, Bool, true, false, List, [], ◌∷◌, ◌++◌, length, take, Option, Some, None, slice_get, inl, inr, refl, ap, ap₂, sym, ◌∙◌, subst, arith, append_assoc, append-nil, length-append, MatchBool}
+use Rattle.std.proofs.Common.{◌≡◌, ℕ, ◌+◌, ◌≤◌, ◌==◌, Bool, true, false, List, [], ◌∷◌, ◌++◌, length, take, Option, Some, None, slice_get, inl, refl, ap, ap₂, sym, ◌∙◌, subst, arith, append_assoc, append-nil, length-append, MatchBool}
 use Rattle.std.proofs.lemmas.Bool.Decides.{nat_tests}
 use Rattle.std.proofs.lemmas.List.{take-map}
 use mathlib.Core.List.{IsPrefix}
@@ -154,20 +154,6 @@ ran_end voxel cs left p q rs ran none =
       mine = sym (append-nil q.mine) ∙ all.mine;
       told = λ h pre.
           subst (λ z. Mine voxel h p.caller cs (length p.seen) z (length q.seen)) (append-nil rs) (all.told h pre [] (length q.seen) (refl, omega arith));
-    })
-
--- the map has no room for the next command
-pub ran_stopped : (voxel : ℕ) (cs left : List Command) (c : Command) (p q s : Seen) (rs : List Reply)
-    → RanTo voxel cs (c ∷ left) p q rs → is_by q.caller c ≡ true → Tried voxel c q s None → Turned voxel cs p s rs
-ran_stopped voxel cs left c p q s rs ran by t =
-    let grown : Grown q s = t.0 in
-    inr (record {
-      next = c;
-      left = left;
-      own = subst (λ z. is_by z c ≡ true) ran.caller by;
-      over = t.1;
-      caller = grown.0 ∙ ran.caller;
-      mine = ap (λ z. z ++ updates_by p.caller (c ∷ left)) grown.2 ∙ ran.mine;
     })
 
 -- the next command is this caller's, whose reply comes first

@@ -88,7 +88,7 @@ AllParted (t ∷ ts) [] lists = ⊥
 AllParted (t ∷ ts) (q ∷ qs) [] = ⊥
 
 -- a turn's pass and replies were put behind the others
-pub record IsParted (t : Result (Seen × List Reply) NoMemory) (ps ps_after : List Seen) (lists lists_after : List (List Reply)) : Type 0 where
+pub record IsPutBehind (t : Result (Seen × List Reply) NoMemory) (ps ps_after : List Seen) (lists lists_after : List (List Reply)) : Type 0 where
   pub pass : Seen
   pub replies : List Reply
   pub is : t ≡ Ok (pass, replies)

@@ -7,7 +7,7 @@ ghost use Rattle.scan_log.specs.Plain.{IsPlain};
 ghost use Rattle.scan_log.specs.Scripts.{points_of};
 ghost use Rattle.published_map.specs.Marks.{callers_of, IsDistinct, AllMetNow};
 ghost use Rattle.mapper_core.specs.Mine.{Turned};
-ghost use Rattle.mapper_core.specs.Meetings.{AllTurned, AllParted, IsOfCallers, IsParted, Standing, IsTotal};
+ghost use Rattle.mapper_core.specs.Meetings.{AllTurned, AllParted, IsOfCallers, IsPutBehind, Standing, IsTotal};
 
 use super::alarm::Signals;
 use super::caller::run_own;
@@ -83,7 +83,7 @@ fn part_one<L: MapName>(
     passes: &mut Vec<Pass<L>>,
     queues: &mut Vec<Queue>,
 ) -> Result<(), NoMemory>
-    ensures { OnOk result (IsParted turn passes.old.items passes.new.items queues.old.items queues.new.items) }
+    ensures { OnOk result (IsPutBehind turn passes.old.items passes.new.items queues.old.items queues.new.items) }
 {
     let (pass, queue) = turn?;
     let Ok(()) = passes.push(pass) else {

@@ -1,4 +1,4 @@
-use Rattle.std.proofs.Common.{◌≡◌, ◌≤◌, ◌*◌, ap, sym, subst, ◌∙◌, length, arith}
+use Rattle.std.proofs.Common.{◌≤◌, ◌*◌, ap, sym, subst, ◌∙◌, length, arith}
 use Rattle.std.proofs.lemmas.Result.{on_ok_weaker}
 use Rattle.scan_log.specs.Scripts.{ScriptAt, points_of, hits_of, with_command}
 use Rattle.scan_log.proofs.Growth.{points_of-push, hits_of-push}
