@@ -3,7 +3,7 @@ use Rattle.std.specs.Prelude.{◌≡◌, ◌<◌, ◌⊎◌, ℕ, ℤ, Bool, fal
 use Rattle.rebuild_core.specs.Built.{BuiltAt, IsBuiltOf, IsPartOf, IsReplayOf, IsStale, undone}
 use Rattle.rebuild_core.specs.Detach.{IsDetachStep, IsNoDetach, IsSlot}
 use Rattle.rebuild_core.specs.Lawful.{StateAt}
-use Rattle.rebuild_core.specs.Parts.{PartAt}
+use Rattle.map_update.specs.Parts.{PartAt}
 use Rattle.rebuild_core.specs.Swap.{IsSwapStep, MaySwap}
 use Rattle.rebuild_core.specs.declared.fault.SwapFault.{SwapFault}
 use Rattle.rebuild_core.specs.declared.fault.SwapFault.TheVariants as fault

@@ -7,7 +7,7 @@ use Rattle.std.proofs.lemmas.Option.{same_Some}
 use Rattle.kd_tree.specs.Shape.{Shape}
 use Rattle.rebuild_core.specs.Built.{BuiltAt}
 use Rattle.rebuild_core.specs.Lawful.{IsLawful, StateAt}
-use Rattle.rebuild_core.specs.Parts.{AreEachLawful, PartAt, part_of}
+use Rattle.map_update.specs.Parts.{AreEachLawful, PartAt, part_of}
 use Rattle.rebuild_core.specs.Swap.{IsLate}
 use Rattle.rebuild_core.specs.declared.fault.Late.{Late}
 use Rattle.rebuild_core.specs.declared.fault.Late.TheVariants.{Stale, Behind, NoMemory}

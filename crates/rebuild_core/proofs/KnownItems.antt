@@ -9,7 +9,7 @@ use Rattle.rebuild_core.specs.Built.{JobAt}
 use Rattle.rebuild_core.specs.Detach.{IsDetachStep, with_part}
 use Rattle.rebuild_core.specs.Lawful.{IsLawful, StateAt}
 use Rattle.rebuild_core.specs.Logs.{LogPlan, planned_parts, relogged, with_log}
-use Rattle.rebuild_core.specs.Parts.{AreItemsOf, AreLeft, HaveOwnTickets, IsNewTicket, IsPlaceOf, PartAt, part_of}
+use Rattle.map_update.specs.Parts.{AreItemsOf, AreLeft, HaveOwnTickets, IsNewTicket, IsPlaceOf, PartAt, part_of}
 use Rattle.rebuild_core.specs.Steps.{PlannedAt, entered}
 use Rattle.rebuild_core.proofs.Detaching.{later_new, part_detached, with_cases}
 

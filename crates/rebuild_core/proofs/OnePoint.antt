@@ -1,8 +1,8 @@
 -- Updates that thin the voxel of one point.
-use Rattle.std.proofs.Common.{◌≡◌, ℕ, List, [], ◌∷◌, ap, sym, subst, ◌∙◌}
-use Rattle.point_geom.specs.Place.{Bounds, Place}
+use Rattle.std.proofs.Common.{◌≡◌, ℕ, [], ◌∷◌, ap, sym, subst, ◌∙◌}
+use Rattle.point_geom.specs.Place.{Place}
 use Rattle.map_fold.specs.declared.update.Update.{Update}
-use Rattle.map_fold.specs.declared.update.Update.TheVariants.{Thin, Add, Delete, Suspend, Restore}
+use Rattle.map_fold.specs.declared.update.Update.TheVariants.{Thin}
 use Rattle.map_fold.specs.Contents.{thin}
 use Rattle.map_fold.specs.Fold.{MapAt, step}
 use Rattle.map_fold.specs.Thinned.{IsThinned}
@@ -10,8 +10,10 @@ use Rattle.map_fold.proofs.Thinning.{thinned_is}
 use Rattle.kd_tree.specs.Shape.{Shape}
 use Rattle.kd_tree.specs.Contents.{contents}
 use Rattle.kd_tree.proofs.Held.{are_contents}
-use Rattle.rebuild_core.specs.Lawful.{IsLawful, StateAt, map_of}
-use Rattle.rebuild_core.specs.OnePoint.{IsThinnedFrom, IsTurnedAway, IsTurnedAwayFrom}
+use Rattle.rebuild_core.specs.Lawful.{IsLawful, StateAt}
+use Rattle.map_update.specs.Maps.{map_of}
+use Rattle.rebuild_core.specs.OnePoint.{IsThinnedFrom, IsTurnedAwayFrom}
+use Rattle.map_update.specs.OnePoint.{IsTurnedAway}
 
 -- what is turned away from a state is turned away from a copy of its tree
 pub turned_copy : (s z : StateAt) (t : Shape) (p : Place) → s ≡ z → t ≡ s.tree → IsTurnedAwayFrom z p → IsTurnedAway s.settings.voxel (map_of t s.next) p
@@ -29,21 +31,3 @@ thinned_from u s z copy t next p is k same stepped one =
     let law = thinned_is s.settings.voxel s.next (contents s.tree) p k.sizes.voxel_from (are_contents s.next s.tree k.sound k.below) in
     let here : IsThinnedFrom s p t = subst (IsThinned s.settings.voxel (contents s.tree) s.next p) (sym held) law in
     subst (λ (x : StateAt). IsThinnedFrom x p t) is here
-
--- the list of an update that thins the voxel of one point has that point
-pub points_one : (ps : List Place) (u : Update) (p : Place) → u ≡ Thin ps → u ≡ Thin (p ∷ []) → ps ≡ p ∷ []
-points_one ps u p e f = let same : Thin ps ≡ Thin (p ∷ []) = sym e ∙ f in cc
-
--- other updates thin nothing
-
-pub add_not_thin : (ps qs : List Place) → Add ps ≡ Thin qs → ⊥
-add_not_thin ps qs e = absurd cc
-
-pub delete_not_thin : (cs : List Bounds) (qs : List Place) → Delete cs ≡ Thin qs → ⊥
-delete_not_thin cs qs e = absurd cc
-
-pub suspend_not_thin : (cs : List Bounds) (qs : List Place) → Suspend cs ≡ Thin qs → ⊥
-suspend_not_thin cs qs e = absurd cc
-
-pub restore_not_thin : (cs : List Bounds) (qs : List Place) → Restore cs ≡ Thin qs → ⊥
-restore_not_thin cs qs e = absurd cc

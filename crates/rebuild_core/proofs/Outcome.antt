@@ -7,12 +7,13 @@ use Rattle.map_fold.specs.declared.update.Update.TheVariants.{Thin}
 use Rattle.kd_tree.specs.Shape.{Shape}
 use Rattle.kd_update.specs.declared.watch.Watch.{Watch}
 use Rattle.kd_update.specs.Watches.{HaveRoom}
-use Rattle.rebuild_core.specs.Draft.{watches_of}
-use Rattle.rebuild_core.specs.Lawful.{StateAt, map_of}
+use Rattle.map_update.specs.Draft.{watches_of}
+use Rattle.rebuild_core.specs.Lawful.{StateAt}
+use Rattle.map_update.specs.Maps.{map_of}
 use Rattle.rebuild_core.specs.Logs.{planned_parts}
-use Rattle.rebuild_core.specs.OnePoint.{IsTurnedAway}
+use Rattle.map_update.specs.OnePoint.{IsTurnedAway}
 use Rattle.rebuild_core.specs.Outcome.{IsLeftByUpdate, MakesNodes}
-use Rattle.rebuild_core.specs.Single.{RebuildsNothing, entered_nodes, only_op}
+use Rattle.map_update.specs.Single.{RebuildsNothing, entered_nodes, only_op}
 use Rattle.rebuild_core.specs.Steps.{PlannedAt, entered}
 use Rattle.rebuild_core.proofs.OnePoint.{turned_copy}
 use Rattle.rebuild_core.proofs.Plans.{plan_ticks}

@@ -11,10 +11,10 @@ use Rattle.map_fold.specs.declared.memory.NoMemory.{NoMemory}
 use Rattle.kd_tree.specs.Apart.{AreApart, IsClear}
 use Rattle.kd_tree.specs.declared.path.Side.{Side}
 use Rattle.kd_update.specs.declared.watch.Watch.{Watch}
-use Rattle.rebuild_core.specs.Draft.{watch_of, watches_of}
+use Rattle.map_update.specs.Draft.{watch_of, watches_of}
 use Rattle.rebuild_core.specs.Logs.{AddsLogs, IsUnnamed, LogPlan, planned_parts, relogged, with_log}
-use Rattle.rebuild_core.specs.Parts.{AreLeft, AreOwn, IsNewTicket, IsPlaceOf, PartAt, paths}
-use Rattle.rebuild_core.proofs.ApartPaths.{apart_itself}
+use Rattle.map_update.specs.Parts.{AreLeft, AreOwn, IsNewTicket, IsPlaceOf, PartAt, paths}
+use Rattle.map_update.proofs.ApartPaths.{apart_itself}
 
 -- the plan is of the first part
 pub relogged_here : (x : LogPlan) (p : PartAt) (ps : List PartAt) → x.ticket ≡ p.ticket → relogged x (p ∷ ps) ≡ with_log x.log p ++ ps

@@ -15,19 +15,19 @@ use Rattle.kd_update.specs.Watches.{HaveRoom}
 use Rattle.kd_update.proofs.Several.{balanced_clear}
 use Rattle.kd_update.proofs.Update.{criteria_balanced}
 use Rattle.map_fold.specs.declared.entry.Entry.{Entry}
-use Rattle.rebuild_core.specs.Draft.{watches_of}
+use Rattle.map_update.specs.Draft.{watches_of}
 use Rattle.rebuild_core.specs.History.{entry_by}
 use Rattle.rebuild_core.specs.Lawful.{IsLawful, StateAt, VersionAt}
 use Rattle.rebuild_core.specs.Logs.{LogPlan, planned_parts}
-use Rattle.rebuild_core.specs.Parts.{AreInSlots, AreLawfulParts, PartAt, paths}
-use Rattle.rebuild_core.specs.Single.{RebuildsNothing, entered_nodes, only_op, unrebuilt}
+use Rattle.map_update.specs.Parts.{AreInSlots, AreLawfulParts, PartAt, paths}
+use Rattle.map_update.specs.Single.{RebuildsNothing, entered_nodes, only_op, unrebuilt}
 use Rattle.rebuild_core.specs.StateView.{IsNextOf}
 use Rattle.rebuild_core.specs.Steps.{IsDrafted, IsUnrebuiltUpdate, IsSettlePlan, IsUpdatePlan, PlannedAt, entered, plan_with}
 use Rattle.rebuild_core.specs.declared.plan.Drafted.{Drafted}
-use Rattle.rebuild_core.proofs.Detached.{left_lawful, left_none}
-use Rattle.rebuild_core.proofs.Drafts.{among_below}
+use Rattle.map_update.proofs.Detached.{left_lawful, left_none}
+use Rattle.map_update.proofs.Drafts.{among_below}
 use Rattle.rebuild_core.proofs.Histories.{entries-push, fold-entry, next_entry}
-use Rattle.rebuild_core.proofs.Working.{watched_room}
+use Rattle.map_update.proofs.Working.{watched_room}
 
 slots_few : (from : ℕ) (ps : List PartAt) → from ≤ 5 → AreInSlots from ps → from + length ps ≤ 5
 slots_few from [] low k = omega (arith, low)

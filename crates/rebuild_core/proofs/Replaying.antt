@@ -15,7 +15,7 @@ use Rattle.kd_update.specs.Refresh.{AreAmong}
 use Rattle.kd_update.proofs.Trees.{among_append, among_same}
 use Rattle.rebuild_core.specs.Built.{AreNumbersOf, BuiltAt, IsLawfulBuilt, IsPartOf, undone}
 use Rattle.rebuild_core.specs.Lawful.{IsLawful, StateAt}
-use Rattle.rebuild_core.specs.Parts.{AreEachLawful, IsLawfulPart, PartAt, part_of}
+use Rattle.map_update.specs.Parts.{AreEachLawful, IsLawfulPart, PartAt, part_of}
 
 pub numbers_of : (items : List Item) (t : Shape) → IsPermutation (map (λ i. i.number) items) (numbers t) → AreNumbersOf items t
 numbers_of items t p n k = Contains-permutation (numbers t) (map (λ (i : Item). i.number) items) n (IsPermutation-sym _ _ p) k

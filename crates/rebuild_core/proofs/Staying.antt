@@ -10,16 +10,16 @@ use Rattle.kd_update.specs.declared.watch.Watch.{Watch}
 use Rattle.kd_update.specs.Several.{IsBalancedClear}
 use Rattle.kd_update.specs.Watch.{logged_mark, logged_put}
 use Rattle.kd_update.specs.Watches.{HaveRoom, paths_in}
-use Rattle.rebuild_core.specs.Draft.{HasRoomFor, HaveRoomFor, IsDraft, IsDraftLeft, plain_work, watches_of, with_op}
+use Rattle.map_update.specs.Draft.{HasRoomFor, HaveRoomFor, IsDraft, IsDraftLeft, plain_work, watches_of, with_op}
 use Rattle.rebuild_core.specs.Lawful.{IsLawful, StateAt}
 use Rattle.rebuild_core.specs.Logs.{LogPlan, planned_parts}
-use Rattle.rebuild_core.specs.Parts.{AreLawfulParts, AreLeft, PartAt, paths}
-use Rattle.rebuild_core.specs.Single.{RebuildsNothing, only_op}
-use Rattle.rebuild_core.specs.Stays.{HasRoomBeside, HaveLogRoomFor, logged_by, most_ops}
+use Rattle.map_update.specs.Parts.{AreLawfulParts, AreLeft, PartAt, paths}
+use Rattle.map_update.specs.Single.{most_ops, only_op, RebuildsNothing}
+use Rattle.rebuild_core.specs.Stays.{HasRoomBeside, HaveLogRoomFor, logged_by}
 use Rattle.rebuild_core.specs.Steps.{IsUnrebuiltUpdate}
-use Rattle.rebuild_core.specs.declared.update.work.Work.{Work}
-use Rattle.rebuild_core.proofs.Detached.{left_logged}
-use Rattle.rebuild_core.proofs.Working.{marks-watched, paths-watched, puts-watched, watched_room}
+use Rattle.map_update.specs.declared.work.Work.{Work}
+use Rattle.map_update.proofs.Detached.{left_logged}
+use Rattle.map_update.proofs.Working.{marks-watched, paths-watched, puts-watched, watched_room}
 
 watched_by : (op : Op) (t : Shape) (ps : List PartAt) → with_op op t (watches_of ps) ≡ watches_of (logged_by op t ps)
 watched_by (Mark c a) t ps = marks-watched c a t ps

@@ -7,7 +7,7 @@ use Rattle.kd_tree.specs.Shape.{Shape, numbers}
 use Rattle.kd_tree.specs.Contents.{contents}
 use Rattle.kd_tree.specs.Criteria.{AllMeetCriteria}
 use Rattle.kd_update.specs.Refresh.{AreAmong}
-use Rattle.rebuild_core.specs.Parts.{PartAt, part_of}
+use Rattle.map_update.specs.Parts.{PartAt, part_of}
 use Rattle.op_logger.specs.declared.log.TheConstants.{MAX_LOGGED}
 
 -- the items of a subtree that was detached with this ticket

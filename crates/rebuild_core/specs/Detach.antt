@@ -12,7 +12,7 @@ use Rattle.rebuild_core.specs.Built.{BuiltAt, IsPartOf, IsStale, JobAt, undone}
 use Rattle.rebuild_core.specs.Lawful.{StateAt, Stored}
 use Rattle.rebuild_core.specs.declared.fault.LogAsk.{LogAsk}
 use Rattle.rebuild_core.specs.declared.fault.LogAsk.TheVariants.{Stale, NoMemory}
-use Rattle.rebuild_core.specs.Parts.{PartAt, part_in, paths}
+use Rattle.map_update.specs.Parts.{PartAt, part_in, paths}
 
 -- a subtree is detached afresh where its part stands, and else where the first node that is clear of the parts breaches a criterion
 abbrev pub IsDetachedAt : Option PartAt → StateAt → List Side → Type 0

@@ -1,14 +1,14 @@
 -- When the state of a map is lawful.
 use Rattle.std.specs.Prelude.{◌≡◌, ℕ, ◌<◌, ◌≤◌, List, [], length, All}
 use Rattle.map_fold.specs.Sizes.{Sizes, AreSizes}
-use Rattle.map_fold.specs.Fold.{MapAt, fold}
+use Rattle.map_fold.specs.Fold.{fold}
 use Rattle.kd_tree.specs.Shape.{Shape, leaf, numbers}
 use Rattle.kd_tree.specs.Sound.{IsSound}
-use Rattle.kd_tree.specs.Contents.{contents}
 use Rattle.kd_update.specs.Several.{IsBalancedClear}
 use Rattle.map_fold.specs.declared.entry.Entry.{Entry}
 use Rattle.rebuild_core.specs.History.{AreEntries, updates}
-use Rattle.rebuild_core.specs.Parts.{AreLawfulParts, PartAt, paths}
+use Rattle.map_update.specs.Maps.{map_of}
+use Rattle.map_update.specs.Parts.{AreLawfulParts, PartAt, paths}
 use Rattle.map_fold.specs.declared.limits.TheConstants.{MAX_POINTS}
 use Rattle.rebuild_core.specs.declared.plan.TheConstants.{MAX_UPDATES}
 
@@ -32,10 +32,6 @@ pub record StateAt : Type 0 where
 pub record Stored : Type 0 where
   pub state : StateAt
   pub spare : ℕ
-
--- a tree, and how many points were submitted, as a map
-abbrev pub map_of : Shape → ℕ → MapAt
-map_of t next = record { items = contents t; next = next }
 
 -- The state holds the fold of its history, within the limits; its tree is sound, and balanced outside its lawful parts, and its version shows this very tree.
 pub record IsLawful (s : StateAt) : Type 0 where

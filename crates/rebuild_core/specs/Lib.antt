@@ -1,8 +1,6 @@
 pub mod History
-pub mod Parts
 pub mod Logs
 pub mod Lawful
-pub mod Single
 pub mod OnePoint
 pub mod Built
 pub mod Steps
@@ -11,10 +9,5 @@ pub mod Outcome
 pub mod Desk
 pub mod Detach
 pub mod Holding
-pub mod Draft
 pub mod StateView
 pub mod Swap
-pub mod Entrants
-pub mod Ranks
-pub mod Waiting
-pub mod Pieces

@@ -1,21 +1,12 @@
--- One point that thins its voxel.
-use Rattle.std.specs.Prelude.{◌≡◌, ℕ, false, [], ◌∷◌}
+-- One point that thins its voxel in a state.
+use Rattle.std.specs.Prelude.{ℕ}
 use Rattle.point_geom.specs.Place.{Place}
-use Rattle.point_geom.specs.Boxes.{voxel}
-use Rattle.map_fold.specs.declared.item.Item.{Item}
-use Rattle.map_fold.specs.Contents.{comes_before, live_at}
-use Rattle.map_fold.specs.Answers.{inside_all}
-use Rattle.map_fold.specs.Fold.{MapAt}
 use Rattle.map_fold.specs.Thinned.{IsThinned}
 use Rattle.kd_tree.specs.Shape.{Shape}
 use Rattle.kd_tree.specs.Contents.{contents}
-use Rattle.rebuild_core.specs.Lawful.{StateAt, map_of}
-
--- One item alone is live in the voxel of p, and p under the next number doesn't come before it.
-pub record IsTurnedAway (edge : ℕ) (m : MapAt) (p : Place) : Type 0 where
-  pub held : Item
-  pub alone : inside_all m.items (voxel edge p) ≡ held ∷ []
-  pub behind : comes_before (voxel edge p) (live_at m.next p) held ≡ false
+use Rattle.map_update.specs.Maps.{map_of}
+use Rattle.map_update.specs.OnePoint.{IsTurnedAway}
+use Rattle.rebuild_core.specs.Lawful.{StateAt}
 
 -- the point p is turned away from a state
 abbrev pub IsTurnedAwayFrom : StateAt → Place → Type 0

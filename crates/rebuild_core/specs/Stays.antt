@@ -4,22 +4,13 @@ use Rattle.map_fold.specs.Fold.{points_in}
 use Rattle.map_fold.specs.declared.op.Op.{Op}
 use Rattle.map_fold.specs.declared.op.Op.TheVariants.{Mark, Put}
 use Rattle.map_fold.specs.declared.update.Update.{Update}
-use Rattle.map_fold.specs.declared.update.Update.TheVariants.{Add, Thin, Delete, Suspend, Restore, Expire}
 use Rattle.kd_tree.specs.Shape.{Shape, levels, nodes}
 use Rattle.kd_update.specs.Watch.{logged_mark, logged_put}
+use Rattle.map_update.specs.Single.{most_ops}
 use Rattle.rebuild_core.specs.Lawful.{StateAt}
-use Rattle.rebuild_core.specs.Parts.{PartAt}
+use Rattle.map_update.specs.Parts.{PartAt}
 use Rattle.kd_tree.specs.declared.limits.TheConstants.{MAX_LEVELS, MAX_NODES}
 use Rattle.op_logger.specs.declared.log.TheConstants.{MAX_LOGGED}
-
--- how many operations the update is at most: a point that thins its voxel may be an action and a point that is put
-abbrev pub most_ops : Update → ℕ
-most_ops (Add ps) = length ps
-most_ops (Thin ps) = 2 * length ps
-most_ops (Delete cs) = length cs
-most_ops (Suspend cs) = length cs
-most_ops (Restore cs) = length cs
-most_ops (Expire n) = 1
 
 -- each log has room for two operations for each of so many
 abbrev pub HaveLogRoomFor : ℕ → List PartAt → Type 0

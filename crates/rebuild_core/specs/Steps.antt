@@ -11,11 +11,12 @@ use Rattle.map_fold.specs.declared.entry.Entry.{Entry}
 use Rattle.rebuild_core.specs.declared.fault.StateFault.{StateFault}
 use Rattle.rebuild_core.specs.declared.fault.StateFault.TheVariants.{TooManyUpdates, TooManyPoints, NoMemory}
 use Rattle.rebuild_core.specs.History.{entry_by}
-use Rattle.rebuild_core.specs.Lawful.{IsLawful, StateAt, VersionAt, map_of}
+use Rattle.rebuild_core.specs.Lawful.{IsLawful, StateAt, VersionAt}
+use Rattle.map_update.specs.Maps.{map_of}
 use Rattle.rebuild_core.specs.Logs.{LogPlan, planned_parts}
-use Rattle.rebuild_core.specs.Parts.{AreLawfulParts, AreLeft, HaveLogRoom, paths}
+use Rattle.map_update.specs.Parts.{AreLawfulParts, AreLeft, HaveLogRoom, paths}
 use Rattle.rebuild_core.specs.declared.plan.Drafted.{Drafted}
-use Rattle.rebuild_core.specs.Single.{RebuildsNothing, only_op}
+use Rattle.map_update.specs.Single.{RebuildsNothing, only_op}
 use Rattle.map_fold.specs.declared.limits.TheConstants.{MAX_POINTS}
 use Rattle.rebuild_core.specs.declared.plan.TheConstants.{MAX_UPDATES}
 

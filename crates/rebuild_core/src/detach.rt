@@ -3,7 +3,7 @@ ghost use Rattle.std.specs.Prelude.{◌≡◌, ◌+◌, ◌<◌, ◌≤◌, ◌�
 ghost use Rattle.std.specs.List.{insert};
 ghost use Rattle.rebuild_core.specs.Built.{CanBeDoneOn, IsFoundPart, IsStale};
 ghost use Rattle.rebuild_core.specs.Detach.{Detaches, IsDetachStep, IsDetachable, IsDetachedAt, IsLogAfter, IsLogFault, IsNoDetach, IsNoneToDetach, IsSlot, with_part};
-ghost use Rattle.rebuild_core.specs.Parts.{AreItemsOf, PartAt, part_in};
+ghost use Rattle.map_update.specs.Parts.{AreItemsOf, PartAt, part_in};
 
 use crate::part::{Part, part_in, part_of, paths_of};
 use crate::{Built, Holding, Job, LogAsk, MapState, Snapshot};

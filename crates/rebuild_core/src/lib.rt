@@ -20,7 +20,6 @@ mod same_items;
 mod snapshot;
 mod state;
 mod swap;
-mod update;
 mod version;
 
 pub use built::{Built, BuiltLeft};

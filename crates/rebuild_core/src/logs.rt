@@ -1,9 +1,9 @@
 //! What a step makes of the logs of detached subtrees.
 ghost use Rattle.std.specs.Prelude.{◌≡◌, ◌↔◌, true, false, List, [], ◌∷◌, IfSome, IsNone, IfOk, OnOk};
 ghost use Rattle.kd_update.specs.declared.watch.Watch.{Watch};
-ghost use Rattle.rebuild_core.specs.Draft.{watches_of};
+ghost use Rattle.map_update.specs.Draft.{watches_of};
 ghost use Rattle.rebuild_core.specs.Logs.{AddsLogs, planned_parts, relogged};
-ghost use Rattle.rebuild_core.specs.Parts.{AreLeft, AreOwn, PartAt, without};
+ghost use Rattle.map_update.specs.Parts.{AreLeft, AreOwn, PartAt, without};
 
 use crate::part::{Part, place_of};
 use kd_tree::Path;

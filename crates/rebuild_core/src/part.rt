@@ -1,8 +1,8 @@
 //! Detached subtrees, as a state keeps them.
 ghost use Rattle.std.specs.Prelude.{◌≡◌, ◌≤◌, length, IfOk, IfSome, IsNone};
 ghost use Rattle.std.specs.Option.{option_map};
-ghost use Rattle.rebuild_core.specs.Draft.{watches_of};
-ghost use Rattle.rebuild_core.specs.Parts.{IsNewTicket, IsPlaceOf, part_in, part_of, paths, without};
+ghost use Rattle.map_update.specs.Draft.{watches_of};
+ghost use Rattle.map_update.specs.Parts.{IsNewTicket, IsPlaceOf, part_in, part_of, paths, without};
 
 use crate::Holding;
 use kd_tree::Path;
@@ -32,7 +32,7 @@ pub(crate) struct Part {
 }
 
 impl Model for Part {
-    ghost use Rattle.rebuild_core.specs.Parts.{PartAt};
+    ghost use Rattle.map_update.specs.Parts.{PartAt};
 
     ghost Value = { PartAt };
 

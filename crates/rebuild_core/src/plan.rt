@@ -8,12 +8,11 @@ ghost use Rattle.rebuild_core.specs.Steps.{HasRoom, IsDrafted, IsFault, IsSettle
 
 use crate::logs::{PartLog, forgotten, logs_of};
 use crate::part::watched;
-use crate::update::draft::changed;
-use crate::update::work::Work;
 use crate::{MapState, Planned, StateFault, Version};
 use kd_tree::{Scratch, Steps, Tree};
 use kd_update::settled;
 use map_fold::{Entry, MAX_POINTS, NoMemory, Update};
+use map_update::{Work, changed};
 use std::alloc::Global;
 use std::marker::Brand;
 use std::sync::ledger::{Blank, Ledger};

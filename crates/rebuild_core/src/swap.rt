@@ -3,7 +3,7 @@ ghost use Rattle.std.specs.Prelude.{◌≡◌, ◌+◌, ◌≤◌, length, IfErr
 ghost use Rattle.kd_tree.specs.Parts.{replaced_at};
 ghost use Rattle.kd_update.specs.Update.{IsBalancedBelow};
 ghost use Rattle.rebuild_core.specs.Built.{BuiltAt, IsTreeOf};
-ghost use Rattle.rebuild_core.specs.Parts.{AreItemsOf};
+ghost use Rattle.map_update.specs.Parts.{AreItemsOf};
 ghost use Rattle.rebuild_core.specs.Swap.{IsLate, IsLeftUnrebuilt, IsNear, IsUnrebuiltSwap, IsSwapFault, IsSwapPlan, IsSwapStep, MakesPath, MaySwap};
 
 use crate::built::caught_up;

@@ -1,7 +1,7 @@
 use Rattle.std.proofs.Common.{◌≡◌, List, ◌∷◌, ap, sym, ◌∙◌, subst}
 use Rattle.std.specs.Prelude.{OnOk}
 use Rattle.rebuild_core.specs.Logs.{AddsLogs, LogPlan}
-use Rattle.rebuild_core.specs.Parts.{AreLeft, AreOwn, PartAt}
+use Rattle.map_update.specs.Parts.{AreLeft, AreOwn, PartAt}
 use Rattle.rebuild_core.proofs.PartLogs.{adds_nothing, logs_step}
 use Rattle.rebuild_core.proofs.logs.+add_logs.Goals as goal
 

@@ -1,6 +1,6 @@
 use Rattle.std.proofs.Common.{◌≡◌, ◌++◌, List, take}
 use Rattle.rebuild_core.specs.Logs.{planned_parts}
-use Rattle.rebuild_core.specs.Parts.{PartAt}
+use Rattle.map_update.specs.Parts.{PartAt}
 use Rattle.rebuild_core.proofs.logs.forgotten.Given as goal
 
 abbrev pub invariant-loop-part : goal.invariant-loop-part

@@ -1,5 +1,5 @@
 use Rattle.std.proofs.Common.{[], ◌∷◌, refl, sym, ap, ◌∙◌, arith, List}
-use Rattle.rebuild_core.specs.Parts.{PartAt}
+use Rattle.map_update.specs.Parts.{PartAt}
 use Rattle.rebuild_core.proofs.part.+place_of.Goals as goal
 
 pub returns-then-first-ticket-clause-some : goal.returns-then-first-ticket-clause-some

@@ -1,5 +1,5 @@
 use Rattle.std.proofs.Common.{ap}
-use Rattle.rebuild_core.specs.Parts.{PartAt}
+use Rattle.map_update.specs.Parts.{PartAt}
 use Rattle.rebuild_core.proofs.OtherParts.{paths_next}
 use Rattle.rebuild_core.proofs.part.paths_of.Goals as goal
 

@@ -1,5 +1,5 @@
 use Rattle.std.proofs.Common.{◌≡◌, take}
-use Rattle.rebuild_core.specs.Parts.{paths}
+use Rattle.map_update.specs.Parts.{paths}
 use Rattle.rebuild_core.proofs.part.paths_of.Given as goal
 
 abbrev pub invariant-loop-part : goal.invariant-loop-part

@@ -1,5 +1,5 @@
 use Rattle.std.proofs.Common.{◌≡◌, take}
-use Rattle.rebuild_core.specs.Draft.{watches_of}
+use Rattle.map_update.specs.Draft.{watches_of}
 use Rattle.rebuild_core.proofs.part.watched.Given as goal
 
 abbrev pub invariant-loop-part : goal.invariant-loop-part

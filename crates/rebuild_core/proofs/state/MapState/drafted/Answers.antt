@@ -2,7 +2,7 @@ use Rattle.std.proofs.Common.{◌∙◌, ◌+◌, ap}
 use Rattle.map_fold.specs.Fold.{points_in}
 use Rattle.rebuild_core.specs.Lawful.{StateAt, Stored}
 use Rattle.rebuild_core.specs.StateView.{state_of}
-use Rattle.rebuild_core.specs.declared.update.work.Work.{Work}
+use Rattle.map_update.specs.declared.work.Work.{Work}
 use Rattle.rebuild_core.proofs.OnePoint.{thinned_from, turned_copy}
 use Rattle.rebuild_core.proofs.Outcome.{makes_none, plan_makes}
 use Rattle.rebuild_core.proofs.Plans.{parts_few, plan_shape}

@@ -5,7 +5,7 @@ use Rattle.std.specs.declared.result.Result.TheVariants.{Ok, Err}
 use Rattle.rebuild_core.specs.Built.{BuiltAt}
 use Rattle.rebuild_core.specs.declared.fault.SwapFault.{SwapFault}
 use Rattle.rebuild_core.specs.declared.fault.SwapFault.TheVariants.{NoMemory}
-use Rattle.rebuild_core.specs.Parts.{PartAt}
+use Rattle.map_update.specs.Parts.{PartAt}
 use Rattle.rebuild_core.specs.Steps.{PlannedAt}
 use Rattle.rebuild_core.specs.Swap.{IsSwapFault, MaySwap}
 use Rattle.rebuild_core.proofs.SameItems.{not_both}

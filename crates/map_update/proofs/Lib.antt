@@ -1,0 +1,16 @@
+pub mod Drafts
+pub mod Winners
+pub mod OnePoint
+pub mod ApartPaths
+pub mod Detached
+pub mod Working
+pub mod Both
+pub mod AtOnce
+pub mod Voxels
+pub mod Entering
+pub mod Firsts
+pub mod AnyOrder
+pub mod Ranks
+pub mod Entrances
+pub mod Worked
+pub mod Passes

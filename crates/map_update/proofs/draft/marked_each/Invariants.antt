@@ -1,0 +1,19 @@
+use Rattle.std.proofs.Common.{◌≡◌, ℕ, ◌+◌, ◌*◌, ◌≤◌, List, Some, drop}
+use Rattle.map_fold.specs.declared.op.Op.{Op}
+use Rattle.map_fold.specs.Fold.{mark_boxes}
+use Rattle.kd_update.specs.Watches.{HaveRoom}
+use Rattle.map_update.specs.Draft.{IsDraft, IsDraftLeft, IsWorked, plain_work}
+use Rattle.map_update.specs.Maps.{map_of}
+use Rattle.map_update.specs.Parts.{PartAt}
+use Rattle.map_update.specs.Single.{RebuildsNothing, entered_nodes, only_mark}
+use Rattle.map_update.proofs.draft.marked_each.Given as goal
+
+abbrev pub invariant-loop-cuboid : goal.invariant-loop-cuboid
+invariant-loop-cuboid g l = record {
+  draft : (last : ℕ) (ps : List PartAt) → IsDraft l.large l.next last ps l.fn.work → IsDraftLeft l.large l.next last ps l.work;
+  rest : mark_boxes l.tag (drop l.cuboid-index l.boxes) (map_of l.work.tree l.next) ≡ mark_boxes l.tag l.boxes (map_of l.fn.work.tree l.next);
+  worked : IsWorked 0 l.cuboid-index l.fn.work l.work;
+  first : l.cuboid-index ≡ 0 → (l.work ≡ l.fn.work) × (l.steps ≡ l.fn.steps);
+  second : l.cuboid-index ≡ 1 → (op : Op) → only_mark l.tag l.boxes ≡ Some op → HaveRoom l.fn.work.watches → RebuildsNothing l.large op l.fn.work.tree
+      → (l.work ≡ plain_work op l.fn.work) × (l.steps ≤ l.fn.steps + (5 * entered_nodes op l.fn.work.tree + 1));
+}

@@ -1,0 +1,17 @@
+use Rattle.std.proofs.Common.{◌≡◌, ℕ, ◌+◌, ◌*◌, List, [], ◌∷◌, length, drop}
+use Rattle.point_geom.specs.Place.{Place}
+use Rattle.map_fold.specs.Fold.{thin_points}
+use Rattle.map_update.specs.Draft.{IsDraft, IsDraftLeft, IsWorked}
+use Rattle.map_update.specs.Maps.{map_of}
+use Rattle.map_update.specs.OnePoint.{IsTurnedAway}
+use Rattle.map_update.specs.Parts.{PartAt}
+use Rattle.map_update.proofs.thin.thinned.Given as goal
+
+abbrev pub invariant-loop-point : goal.invariant-loop-point
+invariant-loop-point g l = record {
+  draft : (last : ℕ) (ps : List PartAt) → IsDraft l.settings.large l.fn.next last ps l.fn.work → IsDraftLeft l.settings.large l.next last ps l.work;
+  room : l.next + length (drop l.point-index l.points) ≡ l.fn.next + length l.points;
+  rest : thin_points l.settings.voxel (drop l.point-index l.points) (map_of l.work.tree l.next) ≡ thin_points l.settings.voxel l.points (map_of l.fn.work.tree l.fn.next);
+  worked : IsWorked l.point-index (2 * l.point-index) l.fn.work l.work;
+  same : (p : Place) → l.points ≡ p ∷ [] → IsTurnedAway l.settings.voxel (map_of l.fn.work.tree l.fn.next) p → (l.work.tree ≡ l.fn.work.tree) × (l.steps ≡ l.fn.steps);
+}

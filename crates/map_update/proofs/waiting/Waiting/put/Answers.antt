@@ -1,0 +1,37 @@
+use Rattle.std.proofs.Common.{◌≡◌, ◌<◌, ◌∙◌, List, ap, length, subst, sym}
+use Rattle.std.specs.Prelude.{All}
+use Rattle.std.proofs.lemmas.Result.{IfOk-weaker}
+use Rattle.map_fold.specs.declared.item.Item.{Item}
+use Rattle.kd_tree.specs.Contents.{contents}
+use Rattle.kd_update.specs.Scan.{MayJoin, put_each}
+use Rattle.map_update.specs.Draft.{HasRoomFor}
+use Rattle.map_update.specs.Waiting.{held_by}
+use Rattle.map_update.specs.declared.work.Work.{Work}
+use Rattle.map_update.proofs.Both.{may_join, put_held}
+use Rattle.map_update.proofs.waiting.Waiting.put.Goals as goal
+
+pub put_items-requires-clause-fit : goal.put_items-requires-clause-fit
+put_items-requires-clause-fit g c =
+    let t = c.args.self.work.tree in
+    let k = c.requires.waiting in
+    subst (λ (xs : List Item). MayJoin (contents t) xs) (sym c.as_slice.ensures.value) (may_join c.args.high t c.args.self.items.items c.requires.few k.live k.held)
+
+pub put_items-requires-clause-draft : goal.put_items-requires-clause-draft
+put_items-requires-clause-draft g c =
+    let k = c.requires.waiting in
+    (c.args.high, k.work, subst (All (λ (i : Item). i.number < c.args.high)) (sym c.as_slice.ensures.value) k.given)
+
+pub returns-clause-held : goal.returns-clause-held
+returns-clause-held g c =
+    let t = c.args.self.work.tree in
+    let k = c.requires.waiting in
+    IfOk-weaker c.put_items.result _ (λ (w : Work). contents w.tree ≡ held_by c.args.self)
+    (λ w e. e ∙ ap (put_each (contents t)) c.as_slice.ensures.value ∙ put_held c.args.high t c.args.self.items.items c.size-size.ensures.sound k.live k.held) c.put_items.ensures.contents
+
+pub returns-clause-draft : goal.returns-clause-draft
+returns-clause-draft g c = λ last ps d.
+    c.put_items.ensures.draft c.args.high last ps (subst (All (λ (i : Item). i.number < c.args.high)) (sym c.as_slice.ensures.value) c.requires.waiting.given) d
+
+pub returns-clause-kept : goal.returns-clause-kept
+returns-clause-kept g c = λ room.
+    c.put_items.ensures.kept (subst (λ (xs : List Item). HasRoomFor (length xs) (length xs) c.args.self.work) (sym c.as_slice.ensures.value) room)

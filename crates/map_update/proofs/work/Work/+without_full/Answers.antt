@@ -1,0 +1,13 @@
+use Rattle.std.proofs.lemmas.Result.{IfOk-weaker}
+use Rattle.map_update.specs.Draft.{IsDraftLeft}
+use Rattle.map_update.proofs.Detached.{left_itself}
+use Rattle.map_update.proofs.Working.{draft_on}
+use Rattle.map_update.proofs.work.Work.+without_full.Goals as goal
+
+pub returns-in_default-clause-draft : goal.returns-in_default-clause-draft
+returns-in_default-clause-draft g t c = λ next last ps d. (ps, left_itself ps, d)
+
+pub returns-clause-draft : goal.returns-clause-draft
+returns-clause-draft g t c = λ next last ps d.
+    let k = c.in_ok-work.ensures.draft next last ps d in
+    IfOk-weaker c.without_full.result _ (IsDraftLeft c.args.large next last ps) (λ w. draft_on c.args.large next last ps k.0 w k.1) (c.without_full.ensures.draft next last k.0 k.2)

@@ -1,0 +1,86 @@
+-- Trees on which an update is at work, beside watched subtrees.
+use Rattle.std.specs.Prelude.{◌≡◌, ℕ, ◌+◌, ◌*◌, ◌<◌, ◌≤◌, List, [], ◌∷◌, length, map, All, Result, IfOk}
+use Rattle.map_fold.specs.declared.memory.NoMemory.{NoMemory}
+use Rattle.map_fold.specs.declared.op.Op.{Op}
+use Rattle.map_fold.specs.declared.op.Op.TheVariants.{Mark, Put}
+use Rattle.kd_tree.specs.Shape.{Shape, levels, nodes, numbers}
+use Rattle.kd_update.specs.declared.watch.Watch.{Watch}
+use Rattle.kd_update.specs.Several.{IsBalancedClear}
+use Rattle.kd_update.specs.Watches.{HaveRoom, paths_in, with_marks, with_puts}
+use Rattle.map_update.specs.Parts.{AreLawfulParts, AreLeft, PartAt, paths}
+use Rattle.map_update.specs.Single.{RebuildsNothing, entered_nodes, unrebuilt}
+use Rattle.map_update.specs.declared.work.Work.{Work}
+use Rattle.kd_tree.specs.declared.limits.TheConstants.{MAX_LEVELS, MAX_NODES}
+use Rattle.op_logger.specs.declared.log.TheConstants.{MAX_LOGGED}
+
+-- a part as it is watched
+abbrev pub watch_of : PartAt → Watch
+watch_of p = record { path = p.path; log = p.log }
+
+-- the parts as they are watched, in their order
+abbrev pub watches_of : List PartAt → List Watch
+watches_of ps = map watch_of ps
+
+-- The work watches these parts: they are lawful in its tree, which is balanced outside them, and each number is below the next one.
+pub record IsDraft (large next last : ℕ) (ps : List PartAt) (w : Work) : Type 0 where
+  pub watched : w.watches ≡ watches_of ps
+  pub parts : AreLawfulParts large next last w.tree ps
+  pub balanced : IsBalancedClear large (paths ps) w.tree
+  pub below : All (λ n. n < next) (numbers w.tree)
+
+-- it watches some parts
+abbrev pub IsWork : ℕ → ℕ → Work → Type 0
+IsWork large next w = (last : ℕ) × (ps : List PartAt) × IsDraft large next last ps w
+
+-- it watches what is left of these parts
+abbrev pub IsDraftLeft : ℕ → ℕ → ℕ → List PartAt → Work → Type 0
+IsDraftLeft large next last ps w = (qs : List PartAt) × AreLeft ps qs × IsDraft large next last qs w
+
+-- each log has room for two operations for each of so many
+abbrev pub HaveRoomFor : ℕ → List Watch → Type 0
+HaveRoomFor n [] = Unit {0}
+HaveRoomFor n (w ∷ ws) = (length w.log + 2 * n ≤ MAX_LOGGED) × HaveRoomFor n ws
+
+-- so many points may be put before the tree is full, and so many operations done before a log has no room for two
+pub record HasRoomFor (puts ops : ℕ) (w : Work) : Type 0 where
+  pub low : levels w.tree + puts ≤ MAX_LEVELS
+  pub few : nodes w.tree + puts ≤ MAX_NODES
+  pub logs : HaveRoomFor ops w.watches
+
+-- the same is watched, and no log has more than two operations more for each of so many
+abbrev pub AreStill : ℕ → List Watch → List Watch → Type 0
+AreStill n [] ws = ws ≡ []
+AreStill n (v ∷ vs) [] = ⊥
+AreStill n (v ∷ vs) (w ∷ ws) = (w.path ≡ v.path) × (length w.log ≤ length v.log + 2 * n) × AreStill n vs ws
+
+-- The second work is the first after at most so many operations, of which so many put a point.
+pub record IsWorked (puts ops : ℕ) (v w : Work) : Type 0 where
+  pub low : levels w.tree ≤ levels v.tree + puts
+  pub few : nodes w.tree ≤ nodes v.tree + puts
+  -- nothing that is watched is forgotten where there is room
+  pub still : HasRoomFor puts ops v → AreStill ops v.watches w.watches
+
+-- the watches, each log with what the operation is to its subtree
+abbrev pub with_op : Op → Shape → List Watch → List Watch
+with_op (Mark c a) t ws = with_marks c a t ws
+with_op (Put n p) t ws = with_puts n p t ws
+
+-- the work after the operation, where nothing is rebuilt
+abbrev pub plain_work : Op → Work → Work
+plain_work op w = record { tree = unrebuilt op w.tree; watches = with_op op w.tree w.watches }
+
+-- A draft stays one, of what is left of its parts, with so many points submitted after.
+abbrev pub KeepsDraft : ℕ → ℕ → ℕ → Work → Result Work NoMemory → Type 0
+KeepsDraft large next more v done = (last : ℕ) (ps : List PartAt) → IsDraft large next last ps v → IfOk done (IsDraftLeft large more last ps)
+
+-- The same is watched after, where there is room for so many points and operations.
+abbrev pub KeepsWatched : ℕ → ℕ → Work → Result Work NoMemory → Type 0
+KeepsWatched puts ops v done = HasRoomFor puts ops v → IfOk done (λ w. paths_in w.watches ≡ paths_in v.watches)
+
+-- The operation is done, and nothing else, where it rebuilds nothing and each log has room.
+abbrev pub DoesPlainly : ℕ → Op → Work → Result Work NoMemory → Type 0
+DoesPlainly large op v done = HaveRoom v.watches → RebuildsNothing large op v.tree → IfOk done (λ w. w ≡ plain_work op v)
+
+-- Then it makes at most so many nodes: the counter rises from the one number to the other.
+abbrev pub MakesFew : ℕ → Op → Work → ℕ → ℕ → Type 0
+MakesFew large op v before after = HaveRoom v.watches → RebuildsNothing large op v.tree → after ≤ before + (5 * entered_nodes op v.tree + 1)

@@ -1,0 +1,9 @@
+pub mod Maps
+pub mod Parts
+pub mod Single
+pub mod OnePoint
+pub mod Draft
+pub mod Entrants
+pub mod Ranks
+pub mod Waiting
+pub mod Pieces

@@ -1,0 +1,33 @@
+-- Items that wait to be put into a tree. Cited by private functions alone.
+use Rattle.std.specs.Prelude.{◌≡◌, ℕ, ◌<◌, ◌⊎◌, true, false, List, [], ◌∷◌, ◌++◌, All}
+use Rattle.point_geom.specs.Place.{Bounds}
+use Rattle.point_geom.specs.Boxes.{voxel}
+use Rattle.map_fold.specs.declared.item.Item.{Item}
+use Rattle.map_fold.specs.Contents.{AreContents, in_box}
+use Rattle.kd_tree.specs.Contents.{by_number, contents}
+use Rattle.kd_update.specs.Scan.{AreLive}
+use Rattle.map_update.specs.Draft.{IsWork}
+use Rattle.map_update.specs.declared.waiting.Waiting.{Waiting}
+
+-- what the tree holds and what waits, by number
+abbrev pub held_by : Waiting → List Item
+held_by w = by_number (contents w.work.tree ++ w.items.items)
+
+-- What waits is live, no number stands twice, each is below the next one, and the tree is at work beside what is watched.
+pub record IsWaiting (large next : ℕ) (w : Waiting) : Type 0 where
+  pub live : AreLive w.items.items
+  pub held : AreContents 0 next (held_by w)
+  pub given : All (λ i. i.number < next) w.items.items
+  pub work : IsWork large next w.work
+
+-- nothing that waits is in the box
+abbrev pub NoneWaitsIn : Bounds → Waiting → Type 0
+NoneWaitsIn c w = All (λ i. in_box c i ≡ false) w.items.items
+
+-- what waits is the same, or one item of the box more
+abbrev pub IsJoined : Bounds → Waiting → Waiting → Type 0
+IsJoined c before after = (after.items.items ≡ before.items.items) ⊎ ((i : Item) × (in_box c i ≡ true) × (after.items.items ≡ before.items.items ++ i ∷ []))
+
+-- nothing that waits is in the voxel of one of the items
+abbrev pub AreClear : ℕ → Waiting → List Item → Type 0
+AreClear edge w is = All (λ i. NoneWaitsIn (voxel edge i.point) w) is

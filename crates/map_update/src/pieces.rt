@@ -1,0 +1,123 @@
+//! Items that are put into a tree in as few passes as may be, beside what is watched in it. Nothing here knows where they come from.
+ghost use Rattle.std.specs.Prelude.{◌≡◌, ℕ, ◌<◌, ◌≤◌, List, length, All, IfOk};
+ghost use Rattle.kd_tree.specs.Contents.{contents};
+ghost use Rattle.kd_update.specs.Crossing.{HaveRoomAtOnce};
+ghost use Rattle.kd_update.specs.Scan.{MayJoin, put_each};
+ghost use Rattle.map_update.specs.Draft.{IsDraft, IsDraftLeft, IsWork, IsWorked, KeepsWatched};
+ghost use Rattle.map_update.specs.Parts.{PartAt};
+ghost use Rattle.map_update.specs.Pieces.{MayPass};
+
+use crate::work::{Work, Worked};
+use kd_tree::{MAX_NODES, Scratch, Steps};
+use kd_update::{Watch, put_all, put_all_watched};
+use map_fold::Item;
+use std::alloc::Global;
+use std::sync::ledger::Ledger;
+
+// From so many points on an update is put in one pass. Of fewer each has most of its way to itself, so that a pass would
+// save little, and one by one they leave every node where the last of them alone would.
+pub(crate) const SCAN: usize = 64;
+
+// A pass adds at most 22 levels, so it begins with no more than these.
+const LOW: u32 = 490;
+
+impl Work {
+    // The work with these items put, in as few passes as may be. Where nothing is watched that is one, before which a full tree is
+    // rebuilt with all that is left. Else a full log is asked for before each pass, as before each item that is put alone.
+    pub(crate) fn put_items<L: Ledger>(
+        self,
+        alloc: Global,
+        large: u32,
+        items: &[Item],
+        scratch: &mut Scratch,
+        steps: &mut Steps<L>,
+    ) -> Worked
+        requires draft { (next : ℕ) × IsWork large next self × All (λ i. i.number < next) items.now }
+        requires fit { MayJoin (contents self.tree) items.now }
+        ensures contents { IfOk result (λ w. contents w.tree ≡ put_each (contents self.tree) items.now) }
+        ensures draft { (next last : ℕ) (ps : List PartAt) → All (λ i. i.number < next) items.now → IsDraft large next last ps self
+            → IfOk result (IsDraftLeft large next last ps) }
+        ensures kept { KeepsWatched (length items.now) (length items.now) self result }
+    {
+        if self.watches.len() == 0 {
+            let Work { tree, watches } = self;
+            let tree = put_all(alloc, tree, large, items, scratch, steps)?;
+            return Ok(Work { tree, watches });
+        }
+        let mut work = self;
+        let mut rest = items;
+        while !rest.is_empty() {
+            let count = work.most_at_once(large, rest.len());
+            let (piece, more) = rest.split_at(count);
+            work = work.put_piece(alloc, large, piece, scratch, steps)?;
+            rest = more;
+        }
+        Ok(work)
+    }
+
+    // Whether each log has room for all that thinning by so many points at once may add, and two operations more. To each voxel
+    // belong a mark, which may be two operations, and a point; and the points may add an action that is handed down to them.
+    pub(crate) fn may_thin_at_once(&self, points: usize) -> bool {
+        self.watches.len() == 0 || points < least_room(self.watches.as_slice()) as usize / 3
+    }
+
+    // How many of so many items are put next: as many as one pass may take, and one alone where these would be few.
+    fn most_at_once(&self, large: u32, wanted: usize) -> usize
+        requires { 1 ≤ wanted }
+        ensures some { 1 ≤ result }
+        ensures within { result ≤ wanted }
+        ensures pass { 1 < result → MayPass large result self.now }
+    {
+        let size = self.tree.size();
+        if self.tree.levels() > LOW || size >= MAX_NODES {
+            return 1;
+        }
+        let room = least_room(self.watches.as_slice());
+        let most = (large.clamp(2, MAX_NODES) - 1)
+            .min(MAX_NODES - size)
+            .min(room) as usize;
+        let count = most.min(wanted);
+        if count < SCAN {
+            return 1;
+        }
+        count
+    }
+
+    // The work with these put: all in one pass, and one alone by itself.
+    fn put_piece<L: Ledger>(
+        self,
+        alloc: Global,
+        large: u32,
+        piece: &[Item],
+        scratch: &mut Scratch,
+        steps: &mut Steps<L>,
+    ) -> Worked
+        requires draft { (next : ℕ) × IsWork large next self }
+        requires fit { MayJoin (contents self.tree) piece.now }
+        requires pass { 1 < length piece.now → MayPass large (length piece.now) self }
+        ensures contents { IfOk result (λ w. contents w.tree ≡ put_each (contents self.tree) piece.now) }
+        ensures draft { (next last : ℕ) (ps : List PartAt) → All (λ i. i.number < next) piece.now → IsDraft large next last ps self
+            → IfOk result (IsDraftLeft large next last ps) }
+        ensures worked { IfOk result (IsWorked (length piece.now) (length piece.now) self) }
+    {
+        let Some((item, others)) = piece.split_first() else {
+            return Ok(self);
+        };
+        if others.is_empty() {
+            return self.put(alloc, large, item.number, item.point, steps);
+        }
+        let Work { tree, mut watches } = self;
+        let tree = put_all_watched(alloc, tree, large, piece, &mut watches, scratch, steps)?;
+        Ok(Work { tree, watches })
+    }
+}
+
+// How many operations each log has room for, beside two more.
+fn least_room(watches: &[Watch]) -> u32
+    ensures { (n : ℕ) → 1 ≤ n → n ≤ result → HaveRoomAtOnce n watches.now }
+{
+    let Some((watch, rest)) = watches.split_first() else {
+        return MAX_NODES;
+    };
+    watch.log.room().saturating_sub(2).min(least_room(rest))
+}

@@ -1,0 +1,114 @@
+//! Points that thin their voxels in a tree, beside what is watched in it. Nothing here knows the state that both are copied
+//! from.
+ghost use Rattle.std.specs.Prelude.{◌≡◌, ◌+◌, ◌*◌, ◌≤◌, ◌<◌, [], ◌∷◌, length, IfOk};
+ghost use Rattle.point_geom.specs.Place.{Place};
+ghost use Rattle.node_labels.specs.Labels.{thin_tag};
+ghost use Rattle.map_fold.specs.Contents.{in_box, mark, put, thin};
+ghost use Rattle.map_fold.specs.Fold.{thin_points};
+ghost use Rattle.map_fold.specs.Ops.{IsUnheld};
+ghost use Rattle.kd_tree.specs.Contents.{contents};
+ghost use Rattle.map_update.specs.Draft.{IsWork, IsWorked, KeepsDraft, KeepsWatched};
+ghost use Rattle.map_update.specs.Maps.{map_of};
+ghost use Rattle.map_update.specs.OnePoint.{IsTurnedAway};
+
+use crate::draft::added_one;
+use crate::pieces::SCAN;
+use crate::waiting::thinned_at_once;
+use crate::work::{Work, Worked};
+use kd_search::{Rivals, rivals_in};
+use kd_tree::{Scratch, Steps};
+use map_fold::{Choice, Item, MAX_POINTS, Points, Settings, Tag};
+use point_geom::{Cuboid, Point, voxel};
+use std::alloc::Global;
+use std::sync::ledger::Ledger;
+
+// The work after each point in turn has taken the next number and thinned its voxel.
+pub(crate) fn thinned<L: Ledger>(
+    alloc: Global,
+    work: Work,
+    settings: &Settings,
+    next: u32,
+    points: &Points,
+    scratch: &mut Scratch,
+    steps: &mut Steps<L>,
+) -> Worked
+    requires draft { IsWork settings.now.large next work }
+    requires few { next + length points.now ≤ MAX_POINTS }
+    ensures stepped { IfOk result (λ w. map_of w.tree (next + length points.now) ≡ thin_points settings.now.voxel points.now (map_of work.tree next)) }
+    ensures draft { KeepsDraft settings.now.large next (next + length points.now) work result }
+    ensures kept { KeepsWatched (length points.now) (2 * length points.now) work result }
+    ensures turned_away { (p : Place) → points.now ≡ p ∷ [] → IsTurnedAway settings.now.voxel (map_of work.tree next) p
+        → IfOk result (λ w. w.tree ≡ work.tree) }
+    ensures still { (p : Place) → points.now ≡ p ∷ [] → IsTurnedAway settings.now.voxel (map_of work.tree next) p
+        → steps.new ≡ steps.old }
+{
+    if points.len() >= SCAN && work.may_thin_at_once(points.len()) {
+        let points = points.as_slice();
+        return thinned_at_once(alloc, work, settings, next, points, scratch, steps);
+    }
+    let mut work = work;
+    let mut next = next;
+    for point in points.as_slice() {
+        work = thinned_one(alloc, work, settings, next, *point, steps)?;
+        next += 1;
+    }
+    Ok(work)
+}
+
+// The work with the point under the next number, or without it where the voxel's best item stays. A point that changes
+// nothing makes no node.
+fn thinned_one<L: Ledger>(
+    alloc: Global,
+    work: Work,
+    settings: &Settings,
+    next: u32,
+    point: Point,
+    steps: &mut Steps<L>,
+) -> Worked
+    requires draft { IsWork settings.now.large next work }
+    requires few { next < MAX_POINTS }
+    ensures contents { IfOk result (λ w. contents w.tree ≡ thin settings.now.voxel (contents work.tree) next point) }
+    ensures draft { KeepsDraft settings.now.large next (next + 1) work result }
+    ensures worked { IfOk result (IsWorked 1 2 work) }
+    ensures turned_away { IsTurnedAway settings.now.voxel (map_of work.tree next) point → IfOk result (λ w. w.tree ≡ work.tree) }
+    ensures still { IsTurnedAway settings.now.voxel (map_of work.tree next) point → steps.new ≡ steps.old }
+{
+    let _size = work.tree.size();
+    let large = settings.large();
+    let cube = voxel(&point, settings.voxel());
+    let Rivals { best, count } = rivals_in(&work.tree, &cube);
+    let Some(held) = best else {
+        return added_one(alloc, work, large, next, point, steps);
+    };
+    let new = Item::live(next, point);
+    if new.comes_before(&held, &cube) {
+        return left_alone(alloc, work, large, next, &cube, new, steps);
+    }
+    if count == 1 {
+        return Ok(work);
+    }
+    left_alone(alloc, work, large, next, &cube, held, steps)
+}
+
+// The work with this item as the only live one in the cuboid.
+fn left_alone<L: Ledger>(
+    alloc: Global,
+    work: Work,
+    large: u32,
+    next: u32,
+    cuboid: &Cuboid,
+    item: Item,
+    steps: &mut Steps<L>,
+) -> Worked
+    requires draft { IsWork large next work }
+    requires few { next < MAX_POINTS }
+    requires below { item.number < next + 1 }
+    requires new { IsUnheld item.number (mark (contents work.tree) (in_box cuboid.now) thin_tag) }
+    ensures contents { IfOk result (λ w. contents w.tree ≡ put (mark (contents work.tree) (in_box cuboid.now) thin_tag) item.number item.point) }
+    ensures draft { KeepsDraft large next (next + 1) work result }
+    ensures worked { IfOk result (IsWorked 1 2 work) }
+{
+    let work = work.marked(alloc, large, &Choice::within(cuboid), Tag::THIN, steps)?;
+    let _size = work.tree.size();
+    work.put(alloc, large, item.number, item.point, steps)
+}

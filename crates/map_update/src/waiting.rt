@@ -1,0 +1,188 @@
+//! Points of a scan that have won their voxels, and wait to be put into the tree at once. Nothing here knows the state that the
+//! tree is copied from.
+ghost use Rattle.std.specs.Prelude.{◌≡◌, ℕ, ◌+◌, ◌*◌, ◌≤◌, ◌<◌, List, [], ◌∷◌, ◌++◌, ◌↔◌, length, IfOk, IfSome, IsNone};
+ghost use Rattle.point_geom.specs.Boxes.{voxel};
+ghost use Rattle.node_labels.specs.Labels.{thin_tag};
+ghost use Rattle.node_labels.specs.declared.label.Label.TheVariants.{Live};
+ghost use Rattle.map_fold.specs.Answers.{count, inside_all};
+ghost use Rattle.map_fold.specs.Contents.{in_box, mark, put, thin};
+ghost use Rattle.map_fold.specs.Fold.{thin_points};
+ghost use Rattle.map_fold.specs.Ops.{IsUnheld};
+ghost use Rattle.kd_tree.specs.Contents.{AreDistinct, contents};
+ghost use Rattle.kd_search.specs.Best.{IsBest};
+ghost use Rattle.map_update.specs.Draft.{IsDraft, IsDraftLeft, IsWork, IsWorked, KeepsDraft, KeepsWatched};
+ghost use Rattle.map_update.specs.Maps.{map_of};
+ghost use Rattle.map_update.specs.Parts.{PartAt};
+ghost use Rattle.map_update.specs.Waiting.{NoneWaitsIn, IsJoined, IsWaiting, held_by};
+
+use crate::entrants::{Entrant, firsts};
+use crate::work::{Work, Worked};
+use kd_search::{Rivals, rivals_in};
+use kd_tree::{Scratch, Steps};
+use map_fold::{Choice, Item, MAX_POINTS, NoMemory, Settings, Tag};
+use point_geom::{Cuboid, Point};
+use std::alloc::Global;
+use std::sync::ledger::Ledger;
+
+// A tree that is at work, and live items that it doesn't hold yet. A point that is turned away makes no node.
+#[derive(Drop)]
+pub(crate) struct Waiting {
+    pub(crate) work: Work,
+    pub(crate) items: Vec<Item>,
+}
+
+// The work after each point in turn has taken the next number and thinned its voxel. What that leaves doesn't depend on the
+// order of the voxels, and in a voxel only the first of the points counts: so the tree is searched once a voxel, and all that win
+// are put at once, after all voxels were cleared.
+pub(crate) fn thinned_at_once<L: Ledger>(
+    alloc: Global,
+    work: Work,
+    settings: &Settings,
+    next: u32,
+    points: &[Point],
+    scratch: &mut Scratch,
+    steps: &mut Steps<L>,
+) -> Worked
+    requires draft { IsWork settings.now.large next work }
+    requires few { next + length points.now ≤ MAX_POINTS }
+    ensures stepped { IfOk result (λ w. map_of w.tree (next + length points.now) ≡ thin_points settings.now.voxel points.now (map_of work.tree next)) }
+    ensures draft { KeepsDraft settings.now.large next (next + length points.now) work result }
+    ensures kept { KeepsWatched (length points.now) (2 * length points.now) work result }
+{
+    let large = settings.large();
+    let high = next + points.len() as u32;
+    let entrants = firsts(alloc, settings, next, points)?;
+    let _size = work.tree.size();
+    let mut waiting = Waiting::none(alloc, work);
+    for entrant in entrants.as_slice() {
+        waiting = waiting.thinned(alloc, settings, high, entrant, steps)?;
+    }
+    waiting.put(alloc, large, high, scratch, steps)
+}
+
+impl Waiting {
+    fn none(alloc: Global, work: Work) -> Waiting
+        ensures held { held_by result ≡ contents work.tree }
+        ensures waiting { (large high : ℕ) → IsWork large high work → IsWaiting large high result }
+        ensures same { result.work ≡ work }
+        ensures none { result.items.items ≡ [] }
+    {
+        let _size = work.tree.size();
+        Waiting {
+            work,
+            items: Vec::new(alloc),
+        }
+    }
+
+    // The work with all that wait.
+    fn put<L: Ledger>(
+        self,
+        alloc: Global,
+        large: u32,
+        high: u32,
+        scratch: &mut Scratch,
+        steps: &mut Steps<L>,
+    ) -> Worked
+        requires waiting { IsWaiting large high self }
+        requires few { high ≤ MAX_POINTS }
+        ensures held { IfOk result (λ w. contents w.tree ≡ held_by self) }
+        ensures draft { KeepsDraft large high high self.work result }
+        ensures kept { KeepsWatched (length self.items.items) (length self.items.items) self.work result }
+    {
+        let Waiting { work, items } = self;
+        let _size = work.tree.size();
+        work.put_items(alloc, large, items.as_slice(), scratch, steps)
+    }
+
+    // With the entrant, or without it where the voxel's best item stays. Nothing that waits lies in its voxel, so that the tree
+    // alone is searched.
+    fn thinned<L: Ledger>(
+        self,
+        alloc: Global,
+        settings: &Settings,
+        high: u32,
+        entrant: &Entrant,
+        steps: &mut Steps<L>,
+    ) -> Result<Waiting, NoMemory>
+        requires waiting { IsWaiting settings.now.large high self }
+        requires cube { entrant.now.cube ≡ voxel settings.now.voxel entrant.now.item.point }
+        requires live { entrant.now.item.label ≡ Live }
+        requires below { entrant.now.item.number < high }
+        requires new { IsUnheld entrant.now.item.number (held_by self) }
+        requires clear { NoneWaitsIn entrant.now.cube self }
+        ensures held { IfOk result (λ w. held_by w ≡ thin settings.now.voxel (held_by self) entrant.now.item.number entrant.now.item.point) }
+        ensures waiting { IfOk result (λ w. IsWaiting settings.now.large high w) }
+        ensures joined { IfOk result (IsJoined entrant.now.cube self) }
+        ensures draft { (last : ℕ) (ps : List PartAt) → IsDraft settings.now.large high last ps self.work
+            → IfOk result (λ w. IsDraftLeft settings.now.large high last ps w.work) }
+        ensures worked { IfOk result (λ w. IsWorked 0 1 self.work w.work) }
+    {
+        let large = settings.large();
+        let Entrant { item: new, cube } = *entrant;
+        let Rivals { best, count } = self.rivals(&cube);
+        let Some(best) = best else {
+            return self.with(large, high, new);
+        };
+        if new.comes_before(&best, &cube) {
+            let cleared = self.cleared(alloc, large, high, &cube, steps)?;
+            return cleared.with(large, high, new);
+        }
+        if count == 1 {
+            return Ok(self);
+        }
+        let cleared = self.cleared(alloc, large, high, &cube, steps)?;
+        cleared.with(large, high, best)
+    }
+
+    // What is live in the cuboid.
+    fn rivals(&self, cuboid: &Cuboid) -> Rivals
+        requires clear { NoneWaitsIn cuboid.now self.now }
+        requires distinct { AreDistinct (contents self.now.work.tree ++ self.now.items.items) }
+        ensures none { IsNone result.best ↔ (inside_all (held_by self.now) cuboid.now ≡ []) }
+        ensures best { IfSome result.best (IsBest (held_by self.now) cuboid.now) }
+        ensures count { result.count ≡ count (held_by self.now) cuboid.now }
+    {
+        rivals_in(&self.work.tree, cuboid)
+    }
+
+    // Without what is live in the cuboid.
+    fn cleared<L: Ledger>(
+        self,
+        alloc: Global,
+        large: u32,
+        high: u32,
+        cuboid: &Cuboid,
+        steps: &mut Steps<L>,
+    ) -> Result<Waiting, NoMemory>
+        requires waiting { IsWaiting large high self }
+        requires clear { NoneWaitsIn cuboid.now self }
+        ensures held { IfOk result (λ w. held_by w ≡ mark (held_by self) (in_box cuboid.now) thin_tag) }
+        ensures waiting { IfOk result (λ w. IsWaiting large high w) }
+        ensures same { IfOk result (λ w. w.items.items ≡ self.items.items) }
+        ensures draft { (last : ℕ) (ps : List PartAt) → IsDraft large high last ps self.work
+            → IfOk result (λ w. IsDraftLeft large high last ps w.work) }
+        ensures worked { IfOk result (λ w. IsWorked 0 1 self.work w.work) }
+    {
+        let Waiting { work, items } = self;
+        let _size = work.tree.size();
+        let choice = Choice::within(cuboid);
+        let work = work.marked(alloc, large, &choice, Tag::THIN, steps)?;
+        Ok(Waiting { work, items })
+    }
+
+    // With one more that waits.
+    fn with(self, large: u32, high: u32, item: Item) -> Result<Waiting, NoMemory>
+        requires waiting { IsWaiting large high self }
+        requires live { item.label ≡ Live }
+        requires below { item.number < high }
+        requires new { IsUnheld item.number (held_by self) }
+        ensures held { IfOk result (λ w. held_by w ≡ put (held_by self) item.number item.point) }
+        ensures waiting { IfOk result (λ w. IsWaiting large high w) }
+        ensures one { IfOk result (λ w. w.items.items ≡ self.items.items ++ item ∷ []) }
+        ensures work { IfOk result (λ w. w.work ≡ self.work) }
+    {
+        let Waiting { work, mut items } = self;
+        items.push(item)?;
+        Ok(Waiting { work, items })
+    }
+}

@@ -1,0 +1,185 @@
+//! Work on a tree beside watched subtrees. Each operation either crosses them, and is logged, or they are forgotten before.
+ghost use Rattle.std.specs.Prelude.{◌≡◌, ℕ, ◌<◌, ◌≤◌, List, Some, length, IfOk, IfSome, IsNone, ◌↔◌};
+ghost use Rattle.node_labels.specs.Labels.{keep_tag};
+ghost use Rattle.map_fold.specs.Contents.{chosen_by, mark, put};
+ghost use Rattle.map_fold.specs.declared.op.Op.TheVariants.{Mark, Put};
+ghost use Rattle.kd_tree.specs.Shape.{levels, nodes};
+ghost use Rattle.kd_tree.specs.Walk.{times};
+ghost use Rattle.kd_tree.specs.Contents.{contents};
+ghost use Rattle.kd_update.specs.Watches.{HaveRoom, paths_in};
+ghost use Rattle.map_update.specs.Draft.{DoesPlainly, IsDraft, IsDraftLeft, IsWork, IsWorked, KeepsDraft, MakesFew};
+ghost use Rattle.map_update.specs.Parts.{PartAt};
+
+use kd_tree::{MAX_LEVELS, MAX_NODES, Path, Steps, Tree};
+use kd_update::{Replaced, Watch, Watches, marked_watched, put_watched, rebuilt, replaced};
+use map_fold::{Choice, NoMemory, Tag};
+use point_geom::Point;
+use std::alloc::Global;
+use std::sync::ledger::Ledger;
+
+/// The tree that an update works on, and the subtrees that are watched meanwhile.
+#[derive(Drop)]
+pub struct Work {
+    pub tree: Tree,
+    /// None stands in another, and each is a path of the tree.
+    pub watches: Watches,
+}
+
+/// What an operation makes of the work. Where memory runs out, the work is dropped.
+pub type Worked = Result<Work, NoMemory>;
+
+impl Work {
+    // The work after this action on the chosen items.
+    pub(crate) fn marked<L: Ledger>(
+        self,
+        alloc: Global,
+        large: u32,
+        choice: &Choice,
+        tag: Tag,
+        steps: &mut Steps<L>,
+    ) -> Worked
+        requires draft { (next : ℕ) × IsWork large next self }
+        ensures contents { IfOk result (λ w. contents w.tree ≡ mark (contents self.tree) (chosen_by choice.now) tag) }
+        ensures draft { (next : ℕ) → KeepsDraft large next next self result }
+        ensures worked { IfOk result (IsWorked 0 1 self) }
+        ensures unrebuilt { DoesPlainly large (Mark choice.now tag) self result }
+        ensures ticks { MakesFew large (Mark choice.now tag) self steps.old steps.new }
+    {
+        let work = self.without_full(alloc, large, steps)?;
+        let Work { tree, mut watches } = work;
+        let tree = marked_watched(alloc, tree, large, choice, tag, &mut watches, steps)?;
+        Ok(Work { tree, watches })
+    }
+
+    // The work after the point was put under the number. A full tree is rebuilt before.
+    pub(crate) fn put<L: Ledger>(
+        self,
+        alloc: Global,
+        large: u32,
+        number: u32,
+        point: Point,
+        steps: &mut Steps<L>,
+    ) -> Worked
+        requires draft { (next : ℕ) × IsWork large next self }
+        requires few { length (contents self.tree) < MAX_NODES }
+        requires new { times number keep_tag self.tree ≡ 0 }
+        ensures contents { IfOk result (λ w. contents w.tree ≡ put (contents self.tree) number point) }
+        ensures draft { (next last : ℕ) (ps : List PartAt) → number < next → IsDraft large next last ps self
+            → IfOk result (IsDraftLeft large next last ps) }
+        ensures worked { IfOk result (IsWorked 1 1 self) }
+        ensures unrebuilt { DoesPlainly large (Put number point) self result }
+        ensures ticks { MakesFew large (Put number point) self steps.old steps.new }
+    {
+        let work = self.roomy(alloc, large, steps)?;
+        let Work { tree, mut watches } = work;
+        let tree = put_watched(alloc, tree, large, number, point, &mut watches, steps)?;
+        Ok(Work { tree, watches })
+    }
+
+    // The work with room for one more point, and in each log for what that may add.
+    fn roomy<L: Ledger>(self, alloc: Global, large: u32, steps: &mut Steps<L>) -> Worked
+        requires draft { (next : ℕ) × IsWork large next self }
+        requires few { length (contents self.tree) < MAX_NODES }
+        ensures contents { IfOk result (λ w. contents w.tree ≡ contents self.tree) }
+        ensures draft { (next : ℕ) → KeepsDraft large next next self result }
+        ensures low { IfOk result (λ w. levels w.tree < MAX_LEVELS) }
+        ensures few { IfOk result (λ w. nodes w.tree < MAX_NODES) }
+        ensures lower { IfOk result (λ w. levels w.tree ≤ levels self.tree) }
+        ensures fewer { IfOk result (λ w. nodes w.tree ≤ nodes self.tree) }
+        ensures room { IfOk result (λ w. HaveRoom w.watches) }
+        ensures same { levels self.tree < MAX_LEVELS → nodes self.tree < MAX_NODES → HaveRoom self.watches
+            → IfOk result (λ w. w ≡ self) }
+        ensures still { levels self.tree < MAX_LEVELS → nodes self.tree < MAX_NODES → HaveRoom self.watches
+            → steps.new ≡ steps.old }
+    {
+        if self.tree.levels() < MAX_LEVELS && self.tree.size() < MAX_NODES {
+            return self.without_full(alloc, large, steps);
+        }
+        let Work { tree, .. } = self;
+        let tree = rebuilt(alloc, tree, steps)?;
+        Ok(Work {
+            tree,
+            watches: Watches::new(alloc),
+        })
+    }
+
+    // The work without the subtrees whose logs have no room for two operations: each is rebuilt where it stands, in order.
+    fn without_full<L: Ledger>(self, alloc: Global, large: u32, steps: &mut Steps<L>) -> Worked
+        requires draft { (next : ℕ) × IsWork large next self }
+        ensures contents { IfOk result (λ w. contents w.tree ≡ contents self.tree) }
+        ensures draft { (next : ℕ) → KeepsDraft large next next self result }
+        ensures low { IfOk result (λ w. levels w.tree ≤ levels self.tree) }
+        ensures few { IfOk result (λ w. nodes w.tree ≤ nodes self.tree) }
+        ensures room { IfOk result (λ w. HaveRoom w.watches) }
+        ensures same { HaveRoom self.watches → IfOk result (λ w. w ≡ self) }
+        ensures still { HaveRoom self.watches → steps.new ≡ steps.old }
+    {
+        let Some(place) = first_full(self.watches.as_slice()) else {
+            return Ok(self);
+        };
+        let work = self.without(alloc, large, place, steps)?;
+        work.without_full(alloc, large, steps)
+    }
+
+    // The work without the subtree that is watched at this place of the list: it is rebuilt where it stands. Where there
+    // is no room for that, the whole tree is rebuilt and nothing more is watched.
+    fn without<L: Ledger>(
+        self,
+        alloc: Global,
+        large: u32,
+        place: usize,
+        steps: &mut Steps<L>,
+    ) -> Worked
+        requires place { place < length self.watches }
+        requires draft { (next : ℕ) × IsWork large next self }
+        ensures contents { IfOk result (λ w. contents w.tree ≡ contents self.tree) }
+        ensures draft { (next : ℕ) → KeepsDraft large next next self result }
+        ensures low { IfOk result (λ w. levels w.tree ≤ levels self.tree) }
+        ensures few { IfOk result (λ w. nodes w.tree ≤ nodes self.tree) }
+        ensures fewer { IfOk result (λ w. length w.watches < length self.watches) }
+    {
+        let Work { tree, mut watches } = self;
+        let Watch { path, .. } = watches.remove(place);
+        let Some(node) = tree.subtree_at(&path) else {
+            return Ok(Work { tree, watches });
+        };
+        let node = node.copy(alloc, steps)?;
+        let with = rebuilt(alloc, node, steps)?;
+        let others = paths_of(alloc, watches.as_slice())?;
+        let (path, others) = (&path, others.as_slice());
+        let Replaced {
+            tree,
+            whole_rebuilt,
+        } = replaced(alloc, tree, large, path, with, others, steps)?;
+        if whole_rebuilt {
+            return Ok(Work {
+                tree,
+                watches: Watches::new(alloc),
+            });
+        }
+        Ok(Work { tree, watches })
+    }
+}
+
+// Where the first watch stands whose log has no room for two operations.
+fn first_full(watches: &[Watch]) -> Option<usize>
+    ensures none { IsNone result ↔ HaveRoom watches.now }
+    ensures some { IfSome result (λ i. i < length watches.now) }
+{
+    let (first, rest) = watches.split_first()?;
+    if first.log.room() < 2 {
+        return Some(0);
+    }
+    let place = first_full(rest)?;
+    Some(place + 1)
+}
+
+fn paths_of(alloc: Global, watches: &[Watch]) -> Result<Vec<Path>, NoMemory>
+    ensures { IfOk result (λ v. v.items ≡ paths_in watches.now) }
+{
+    let mut paths = Vec::new(alloc);
+    for watch in watches {
+        paths.push(watch.path)?;
+    }
+    Ok(paths)
+}
