@@ -1,20 +1,14 @@
 -- Numbers beyond the farthest that is told apart.
-use Rattle.std.proofs.Common.{◌≡◌, ℕ, zero, suc, Bool, true, false, ◌⊎◌, inl, inr, List, min, refl, ap, sym, ◌∙◌, arith, ℤ, pos, ◌≤ℤ◌, Ok, Err}
+use Rattle.std.proofs.Common.{◌≡◌, ℕ, Bool, true, false, ◌⊎◌, inl, inr, List, min, refl, ap, sym, ◌∙◌, arith, ℤ, pos, ◌≤ℤ◌, Ok, Err}
 use lib.IntN.{negsuc}
-use Rattle.std.specs.Prelude.{◌&&◌, int_le, neg_ℤ}
+use Rattle.std.specs.Prelude.{◌&&◌, int_le}
 use Rattle.std.specs.Str.Parse.{signed_digits_value}
 use Rattle.std.proofs.lemmas.Bool.{cases_lt}
 use Rattle.std.proofs.lemmas.Int.{ints}
+use Rattle.log_numbers.specs.Numerals.{capped, is_numeral}
 use Rattle.scan_log.specs.declared.fault.LogCause.TheVariants.{OutOfRange}
 use Rattle.scan_log.specs.Steps.{given}
-use Rattle.scan_log.specs.Numbers.{capped, in_range, is_numeral, number_in}
-
-pub capped-neg : (v : ℕ) → capped (neg_ℤ (pos v)) ≡ neg_ℤ (pos (min v 1000000000000000000))
-capped-neg zero = refl
-capped-neg (suc m) = less (min (suc m) 1000000000000000000) (min m 999999999999999999) (omega arith)
-  where
-    less : (k n : ℕ) → k ≡ suc n → negsuc n ≡ neg_ℤ (pos k)
-    less k n e = rw e refl
+use Rattle.scan_log.specs.Numbers.{in_range, number_in}
 
 out : (a b : Bool) (n : ℤ) → (a ≡ false) ⊎ (b ≡ false) → given (a && b) OutOfRange (Ok n) ≡ Err OutOfRange
 out false b n h = refl
@@ -46,5 +40,3 @@ pub in_range-numeral : (low high n : ℤ) (field : List ℕ) → negsuc 99999999
     → is_numeral field ≡ true → n ≡ capped (signed_digits_value 10 field) → in_range low high n ≡ number_in low high field
 in_range-numeral low high n field l h is e =
     ap (in_range low high) e ∙ in_range-capped low high (signed_digits_value 10 field) l h ∙ rw is refl
-
-pub ruleset caps = (capped-neg)

@@ -11,6 +11,7 @@ use Rattle.point_geom.specs.declared.cuboid.Corner.{Corner}
 use Rattle.map_fold.specs.declared.update.Update.{Update}
 use Rattle.map_fold.specs.declared.update.Update.TheVariants.{Add, Thin, Delete, Suspend, Restore}
 use Rattle.map_fold.specs.Sizes.{Sizes}
+use Rattle.log_numbers.specs.Numerals.{is_numeral}
 use Rattle.scan_log.specs.declared.format.Format.{Format}
 use Rattle.scan_log.specs.Formats.{is_version, format_of, lowest, highest, box_highest, farthest, width, has_expiry}
 use Rattle.scan_log.specs.declared.format.Format.TheVariants.{One, Two}
@@ -19,7 +20,7 @@ use Rattle.scan_log.specs.declared.command.Command.{Command}
 use Rattle.scan_log.specs.declared.fault.LogCause.{LogCause}
 use Rattle.scan_log.specs.declared.fault.LogCause.TheVariants.{NoHeader, BadNumber, OutOfRange, UnknownCommand, BadCaller, WrongCount, InvertedBox, TooManyPoints}
 use Rattle.scan_log.specs.Steps.{◌>>=◌, given}
-use Rattle.scan_log.specs.Numbers.{is_numeral, number_in, in_range, natural_in, coordinate, corner_number}
+use Rattle.scan_log.specs.Numbers.{number_in, in_range, natural_in, coordinate, corner_number}
 use Rattle.scan_log.specs.Faults.{scanned_fault, named_format, ◌orelse◌, fault_unless, value, number_fault, coordinates_fault, corner_fault, boxes_fault, are_groups, expire_fault, points_fault, erase_fault, marks_fault, k_fault, near_fault, box_fault, nears_fault, distance_fault, ball_fault, reach_fault, pose_fault, basic_fault, word_fault, is_caller, called_fault, header_fault}
 use Rattle.scan_log.specs.Reading.{scanned_place_of, scanned_places_of, few_scanned_of, place_of, places_of, corner_of, is_upright, box_of, boxes_of, groups_of, few_places_of, few_boxes_of, units_of, expiry_of, update_of, near_of, inside_of, nears_of, ball_of, reach_of, pose_of, basic_of, called_of, digit_caller, caller_of, after_caller, command_of, header_of}
 use Rattle.scan_log.proofs.StepLemmas.{both, passed, bound, orelse-None, orelse_assoc, result_err-given, result_err-bind, result_err-last}

@@ -5,13 +5,14 @@ use Rattle.std.specs.Prelude.{unsigned_abs}
 use Rattle.std.specs.Str.Parse.{signed_digits_value}
 use Rattle.std.proofs.lemmas.Bool.{cases_lt}
 use Rattle.std.proofs.lemmas.Int.{ints}
+use Rattle.log_numbers.specs.Numerals.{IsRead, capped, first_field, is_numeral}
 use Rattle.scan_log.specs.declared.format.Format.{Format}
 use Rattle.scan_log.specs.declared.format.Format.TheVariants.{One, Two}
 use Rattle.scan_log.specs.declared.fault.LogCause.{LogCause}
 use Rattle.scan_log.specs.declared.fault.LogCause.TheVariants.{BadNumber}
 use Rattle.scan_log.specs.Formats.{lowest, highest}
 use Rattle.scan_log.specs.Lines.{fields_of}
-use Rattle.scan_log.specs.Numbers.{IsRead, capped, first_field, in_range, is_numeral, natural_range, number_in, read_number}
+use Rattle.scan_log.specs.Numbers.{in_range, natural_range, number_in, read_number}
 use Rattle.scan_log.specs.Reading.{first_coordinate, first_intensity, first_number}
 use Rattle.scan_log.specs.Steps.{◌>>=◌, given}
 use Rattle.scan_log.proofs.Caps.{in_range-capped}

@@ -1,7 +1,6 @@
 pub mod StepLemmas
 pub mod FirstFields
 pub mod Caps
-pub mod FrontNumbers
 pub mod FirstNumbers
 pub mod Counts
 pub mod Numerals

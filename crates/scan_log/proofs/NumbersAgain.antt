@@ -8,10 +8,11 @@ use Rattle.std.specs.Fmt.{signed_decimal}
 use Rattle.std.proofs.lemmas.Bool.Decides.{nat_tests}
 use Rattle.std.proofs.lemmas.Int.{ints}
 use Rattle.std.proofs.lemmas.Fmt.{decimal_digit, digits_decimal, digits_value-decimal, first_decimal}
+use Rattle.log_numbers.specs.Numerals.{is_numeral, is_positive_numeral}
 use Rattle.scan_log.specs.declared.format.Format.{Format}
 use Rattle.scan_log.specs.Formats.{farthest}
 use Rattle.scan_log.specs.declared.format.Format.TheVariants.{One, Two}
-use Rattle.scan_log.specs.Numbers.{is_numeral, is_positive_numeral, number_in, natural_in, coordinate, corner_number}
+use Rattle.scan_log.specs.Numbers.{number_in, natural_in, coordinate, corner_number}
 use Rattle.scan_log.specs.Scripts.{IsBoxNumber, IsLogCoordinate}
 use Rattle.scan_log.proofs.Numerals.{own}
 use Rattle.scan_log.proofs.StepLemmas.{both}

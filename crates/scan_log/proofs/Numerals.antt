@@ -5,7 +5,7 @@ use Rattle.std.specs.Str.{all_ascii_digits}
 use Rattle.std.specs.Str.Parse.{digits_value}
 use Rattle.std.proofs.lemmas.Bool.Decides.{nat_tests}
 use Rattle.std.proofs.lemmas.Str.Parse.{IsNumeralModel, numerals_by_value, tells_all_ascii_digits}
-use Rattle.scan_log.specs.Numbers.{is_positive_numeral}
+use Rattle.log_numbers.specs.Numerals.{is_positive_numeral}
 use Rattle.scan_log.proofs.StepLemmas.{both}
 
 -- std reads and writes digits alike

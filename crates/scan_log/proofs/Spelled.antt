@@ -7,8 +7,9 @@ use Rattle.std.specs.Str.Parse.{digits_value, signed_digits_value}
 use Rattle.std.proofs.lemmas.Bool.Decides.{nat_tests}
 use Rattle.std.proofs.lemmas.Int.{ints}
 use Rattle.std.proofs.lemmas.Fmt.{decimal-digits_value, decimal_digit}
+use Rattle.log_numbers.specs.Numerals.{is_numeral, is_positive_numeral}
 use Rattle.scan_log.specs.declared.fault.LogCause.TheVariants.{BadNumber, OutOfRange}
-use Rattle.scan_log.specs.Numbers.{is_numeral, is_positive_numeral, in_range, number_in, natural_in}
+use Rattle.scan_log.specs.Numbers.{in_range, number_in, natural_in}
 use Rattle.scan_log.proofs.Numerals.{own, IsPlain, positive_is, zero_plain}
 use Rattle.scan_log.proofs.StepLemmas.{both, passed, bound}
 

@@ -4,13 +4,13 @@ use Rattle.std.specs.Str.{bytes_eq}
 use Rattle.std.specs.Str.Parse.{signed_digits_value}
 use Rattle.std.specs.declared.option.Option.{Option}
 use Rattle.std.specs.declared.option.Option.TheVariants.{None, Some}
+use Rattle.log_numbers.specs.Numerals.{is_numeral}
 use Rattle.scan_log.specs.declared.format.Format.{Format}
 use Rattle.scan_log.specs.declared.format.Format.TheVariants.{One, Two}
 use Rattle.scan_log.specs.Formats.{is_version, format_of, lowest, highest, box_highest, farthest, width, greatest_intensity, has_expiry}
 use Rattle.scan_log.specs.declared.fault.LogCause.{LogCause}
 use Rattle.scan_log.specs.declared.fault.LogCause.TheVariants.{NoHeader, UnknownCommand, BadCaller, BadNumber, OutOfRange, WrongCount, InvertedBox, TooManyPoints, TooManyCommands, TooManyHits}
 use Rattle.scan_log.specs.Lines.{lines_of, kept_from, fields_of}
-use Rattle.scan_log.specs.Numbers.{is_numeral}
 use Rattle.scan_log.specs.Scripts.{room_of}
 use Rattle.map_fold.specs.declared.limits.TheConstants.{MAX_POINTS}
 use Rattle.scan_log.specs.declared.commands.TheConstants.{MAX_COMMANDS}

@@ -5,10 +5,10 @@ ghost use Rattle.scan_log.specs.Lines.{fields_of};
 ghost use Rattle.scan_log.specs.Reading.{AreTooFew, first_coordinate, first_intensity, first_number};
 ghost use Rattle.scan_log.specs.Scripts.{IsLogCoordinate};
 
-use crate::front::front_number;
 use crate::number::{as_coordinate, as_intensity};
 use crate::piece::{count_of, place_of};
 use crate::{Format, LogCause};
+use log_numbers::front_number;
 use std::marker::Model;
 
 /// The fields that are left.

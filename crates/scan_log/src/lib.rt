@@ -7,7 +7,6 @@ mod commands;
 mod fault;
 mod fields;
 mod format;
-mod front;
 mod header;
 mod line_fault;
 mod lines;

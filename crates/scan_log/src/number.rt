@@ -1,12 +1,11 @@
 //! Numbers in their one spelling.
-ghost use Rattle.std.specs.Prelude.{◌≡◌, ◌≤◌, ◌≤ℤ◌, IfOk, MatchOption, pos, negsuc, true, false};
-ghost use Rattle.std.specs.Str.Parse.{signed_digits_value};
+ghost use Rattle.std.specs.Prelude.{◌≡◌, ◌≤◌, ◌≤ℤ◌, IfOk, pos, negsuc};
 ghost use Rattle.scan_log.specs.Formats.{farthest, highest, lowest};
-ghost use Rattle.scan_log.specs.Numbers.{capped, coordinate, corner_number, in_range, is_numeral, natural_in, natural_range, number_in};
+ghost use Rattle.scan_log.specs.Numbers.{coordinate, corner_number, in_range, natural_in, natural_range, number_in};
 ghost use Rattle.scan_log.specs.Scripts.{IsBoxNumber, IsLogCoordinate};
 
-use crate::front::front_number;
 use crate::{Format, LogCause};
+use log_numbers::numeral;
 
 /// A coordinate of a point.
 pub fn coordinate(format: Format, field: &[u8]) -> Result<i64, LogCause>
@@ -91,17 +90,5 @@ fn in_range(low: i64, high: i64, number: i64) -> Result<i64, LogCause>
         Ok(number)
     } else {
         Err(LogCause::OutOfRange)
-    }
-}
-
-fn numeral(field: &[u8]) -> Option<i64>
-    ensures { MatchOption result (is_numeral field.now ≡ false)
-        (λ n. (is_numeral field.now ≡ true) × (n ≡ capped (signed_digits_value 10 field.now))) }
-{
-    let number = front_number(field)?;
-    if number.len == field.len() {
-        Some(number.value)
-    } else {
-        None
     }
 }

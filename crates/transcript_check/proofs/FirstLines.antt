@@ -6,8 +6,9 @@ use Rattle.std.specs.Result.{result_ok}
 use Rattle.std.proofs.lemmas.Bool.Decides.{nat_tests}
 use Rattle.std.proofs.lemmas.List.{append_cancel_left}
 use Rattle.memchr.specs.Find.{IsFirstByte, is_byte}
+use Rattle.log_numbers.specs.Numerals.{first_field}
 use Rattle.scan_log.specs.declared.fault.LogCause.{LogCause}
-use Rattle.scan_log.specs.Numbers.{first_field, natural_in}
+use Rattle.scan_log.specs.Numbers.{natural_in}
 use Rattle.scan_log.proofs.NumbersAgain.{natural_in-decimal}
 use Rattle.scan_log.proofs.Spelled.{natural_takes}
 use Rattle.transcript_check.specs.Heads.{SpellsMark, IsNoFeed, IsMarked}

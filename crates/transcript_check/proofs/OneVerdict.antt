@@ -4,10 +4,10 @@ use Rattle.std.specs.Prelude.{decimal, ◌↔◌}
 use Rattle.std.specs.List.{AllByRecursion}
 use Rattle.std.proofs.lemmas.Fmt.{decimal_injective}
 use Rattle.std.proofs.lemmas.List.{append_cancel_left, length-map, length-take}
+use Rattle.log_numbers.specs.Numerals.{first_field}
 use Rattle.scan_log.specs.declared.command.Command.{Command}
 use Rattle.scan_log.specs.declared.reply.Reply.{Reply}
 use Rattle.scan_log.specs.Legal.{AreLegalLines, IsLegal}
-use Rattle.scan_log.specs.Numbers.{first_field}
 use Rattle.scan_log.specs.Plain.{IsPlainScript}
 use Rattle.scan_log.specs.Poses.{no_regions, plain, plain_script}
 use Rattle.scan_log.specs.Scripts.{ScriptAt, IsScript}

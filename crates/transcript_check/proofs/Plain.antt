@@ -10,9 +10,9 @@ use Rattle.node_labels.specs.declared.label.Label.TheVariants.{Live}
 use Rattle.map_fold.specs.declared.hits.Hit.{Hit}
 use Rattle.map_fold.specs.declared.item.Item.{Item}
 use Rattle.map_fold.specs.declared.group.Group.{Group}
+use Rattle.log_numbers.specs.Numerals.{first_field}
 use Rattle.scan_log.specs.declared.format.Format.{Format}
 use Rattle.scan_log.specs.declared.format.Format.TheVariants.{One, Two}
-use Rattle.scan_log.specs.Numbers.{first_field}
 use Rattle.scan_log.specs.Spelling.{caller_field, scanned_fields}
 use Rattle.scan_log.specs.Transcript.{spaced, all_spaced, scanned_text, hit_text, list_text, item_text, group_text}
 use Rattle.transcript_check.specs.Heads.{IsNoFeed}

@@ -5,11 +5,10 @@ use Rattle.std.proofs.lemmas.Int.{ints, to_z-of_z}
 use Rattle.std.specs.Prelude.{◌||◌, nat_le, neg_ℤ}
 use Rattle.std.specs.Str.{all_ascii_digits}
 use Rattle.std.specs.Str.Parse.{digits_value, signed_digits_value}
+use Rattle.std.proofs.lemmas.Bool.{and_parts}
 use Rattle.std.proofs.lemmas.Bool.Decides.{nat_tests}
-use Rattle.scan_log.specs.Numbers.{IsRead, capped, first_field, is_numeral, is_positive_numeral, is_zero, plain_value, without_minus}
-use Rattle.scan_log.proofs.Caps.{capped-neg}
-use Rattle.scan_log.proofs.FirstFields.{first_field-digits}
-use Rattle.scan_log.proofs.StepLemmas.{both}
+use Rattle.log_numbers.specs.Numerals.{IsRead, capped, first_field, is_numeral, is_positive_numeral, is_zero, plain_value, without_minus}
+use Rattle.log_numbers.proofs.FirstFields.{first_field-digits}
 
 -- a minus stands before them
 pub minus_first : (bytes : List ℕ) → length (without_minus bytes) < length bytes → first_field bytes ≡ 45 ∷ first_field (without_minus bytes)
@@ -33,6 +32,14 @@ no_minus (c ∷ cs) h =
       | true ↦ λ k. absurd (omega arith)
       | false ↦ λ k. refl
     ] (omega arith)
+
+-- the number of a minus and digits, as far as it counts
+capped-neg : (v : ℕ) → capped (neg_ℤ (pos v)) ≡ neg_ℤ (pos (min v 1000000000000000000))
+capped-neg zero = refl
+capped-neg (suc m) = less (min (suc m) 1000000000000000000) (min m 999999999999999999) (omega arith)
+  where
+    less : (k n : ℕ) → k ≡ suc n → negsuc n ≡ neg_ℤ (pos k)
+    less k n e = rw e refl
 
 pub minus_bad : (digits : List ℕ) → is_positive_numeral digits ≡ false → is_numeral (45 ∷ digits) ≡ false
 minus_bad [] h = refl
@@ -66,8 +73,8 @@ pub plain_read : (field : List ℕ) (n : ℤ) (len : ℕ) → IsRead is_positive
     → IsRead is_numeral (signed_digits_value 10) field n len
 plain_read [] n len r = let no = r.passes in cc
 plain_read (c ∷ cs) n len r =
-    let p = both _ (all_ascii_digits cs) r.passes in
-    let q = both (nat_le 49 c) (nat_le c 57) p.0 in
+    let p = and_parts _ (all_ascii_digits cs) r.passes in
+    let q = and_parts (nat_le 49 c) (nat_le c 57) p.0 in
     let sign : nat_eq c 45 ≡ false = grind (arith, nat_tests, q.0) in
     let plus : nat_eq c 43 ≡ false = grind (arith, nat_tests, q.0) in
     record {
@@ -101,8 +108,8 @@ zero_read field h = rw (zero_is field h) (record { passes = refl; value = refl; 
 pub first_field-positive : (xs : List ℕ) → is_positive_numeral xs ≡ true → first_field xs ≡ xs
 first_field-positive [] h = refl
 first_field-positive (c ∷ cs) h =
-    let p = both _ (all_ascii_digits cs) h in
-    let q = both (nat_le 49 c) (nat_le c 57) p.0 in
+    let p = and_parts _ (all_ascii_digits cs) h in
+    let q = and_parts (nat_le 49 c) (nat_le c 57) p.0 in
     let no : nat_eq c 32 ≡ false = grind (arith, nat_tests, q.0) in
     rw no (ap (λ (ys : List ℕ). c ∷ ys) (first_field-digits cs p.1))
 

@@ -1,8 +1,8 @@
 use Rattle.std.proofs.Common.{arith, rules, FitsSigned, w64}
 use Rattle.std.proofs.lemmas.Int.{to_z-of_z}
-use Rattle.scan_log.proofs.FirstFields.{first_field-le, first_field-whole}
-use Rattle.scan_log.proofs.FrontNumbers.{spaced_bad, whole_bad}
-use Rattle.scan_log.proofs.number.numeral.Goals as goal
+use Rattle.log_numbers.proofs.FirstFields.{first_field-le, first_field-whole}
+use Rattle.log_numbers.proofs.FrontNumbers.{spaced_bad, whole_bad}
+use Rattle.log_numbers.proofs.field.numeral.Goals as goal
 
 pub returns-in_err-number : goal.returns-in_err-number
 returns-in_err-number c = rw c.from_residual.ensures (whole_bad c.args.field.now c.in_err-number.ensures)

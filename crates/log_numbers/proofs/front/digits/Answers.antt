@@ -1,7 +1,7 @@
 use Rattle.std.proofs.Common.{◌<◌, ◌≤◌, ◌^◌, get_or, rules, arith, w64}
 use Rattle.std.proofs.lemmas.Int.{to_z_pos}
-use Rattle.scan_log.proofs.FirstFields.{digits_end, digits_more}
-use Rattle.scan_log.proofs.front.digits.Goals as goal
+use Rattle.log_numbers.proofs.FirstFields.{digits_end, digits_more}
+use Rattle.log_numbers.proofs.front.digits.Goals as goal
 
 pub loop-place-preserved : goal.loop-place-preserved
 loop-place-preserved c =

@@ -2,7 +2,7 @@
 ghost use Rattle.std.specs.Prelude.{◌≡◌, ◌≤◌, ◌+◌, ◌-◌, ◌*◌, MatchOption, min, false};
 ghost use Rattle.std.specs.Str.{all_ascii_digits};
 ghost use Rattle.std.specs.Str.Parse.{signed_digits_value};
-ghost use Rattle.scan_log.specs.Numbers.{IsRead, first_field, is_numeral, is_positive_numeral, is_zero, plain_value, without_minus};
+ghost use Rattle.log_numbers.specs.Numerals.{IsRead, first_field, is_numeral, is_positive_numeral, is_zero, plain_value, without_minus};
 
 // Farther than every limit, so that a number of more digits needs no more room.
 const FAR: u64 = 1_000_000_000_000_000_000;
@@ -16,7 +16,8 @@ pub struct FrontNumber {
     pub len: usize,
 }
 
-/// What the bytes before the first space spell, in one pass over them.
+/// The number that the bytes before the first space spell, in one pass over them: `None` where they aren't a number in its one
+/// spelling. Without a space these are all bytes. Costs their length.
 pub fn front_number(bytes: &[u8]) -> Option<FrontNumber>
     ensures { MatchOption result (is_numeral (first_field bytes.now) ≡ false)
         (λ n. IsRead is_numeral (signed_digits_value 10) (first_field bytes.now) n.value n.len) }

@@ -1,9 +1,9 @@
 use Rattle.std.proofs.Common.{arith}
 use Rattle.std.specs.Str.Parse.{digits_value}
-use Rattle.scan_log.specs.Numbers.{first_field}
-use Rattle.scan_log.proofs.FirstFields.{first_field-le}
-use Rattle.scan_log.proofs.FrontNumbers.{minus_first, minus_read, minus_value}
-use Rattle.scan_log.proofs.front.front_number.Goals as goal
+use Rattle.log_numbers.specs.Numerals.{first_field}
+use Rattle.log_numbers.proofs.FirstFields.{first_field-le}
+use Rattle.log_numbers.proofs.FrontNumbers.{minus_first, minus_read, minus_value}
+use Rattle.log_numbers.proofs.front.front_number.Goals as goal
 
 pub overflow_add-result : goal.overflow_add-result
 overflow_add-result c =

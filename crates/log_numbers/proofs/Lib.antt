@@ -1,0 +1,2 @@
+pub mod FirstFields
+pub mod FrontNumbers

@@ -1,0 +1,20 @@
+//! The number that a whole field spells.
+ghost use Rattle.std.specs.Prelude.{◌≡◌, MatchOption, true, false};
+ghost use Rattle.std.specs.Str.Parse.{signed_digits_value};
+ghost use Rattle.log_numbers.specs.Numerals.{capped, is_numeral};
+
+use crate::front::front_number;
+
+/// The number that the field spells, where one that is farther than 10^18 is read as that: `None` where it isn't a number in its
+/// one spelling. The field may have any length, and costs it.
+pub fn numeral(field: &[u8]) -> Option<i64>
+    ensures { MatchOption result (is_numeral field.now ≡ false)
+        (λ n. (is_numeral field.now ≡ true) × (n ≡ capped (signed_digits_value 10 field.now))) }
+{
+    let number = front_number(field)?;
+    if number.len == field.len() {
+        Some(number.value)
+    } else {
+        None
+    }
+}
