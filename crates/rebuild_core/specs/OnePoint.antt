@@ -1,5 +1,4 @@
 -- One point that thins its voxel in a state.
-use Rattle.std.specs.Prelude.{ℕ}
 use Rattle.point_geom.specs.Place.{Place}
 use Rattle.map_fold.specs.Thinned.{IsThinned}
 use Rattle.kd_tree.specs.Shape.{Shape}
