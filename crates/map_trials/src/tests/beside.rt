@@ -1,5 +1,5 @@
 //! A version beside the plain map.
-use crate::tests::assertions::{holds, same};
+use crate::tests::assertions::{holds, made, same};
 use crate::tests::draws::Draws;
 use kd_search::{count_in, in_cuboid, nearest};
 use map_fold::{PlainMap, Settings, Update};
@@ -8,7 +8,6 @@ use rebuild_core::Version;
 use std::alloc::Global;
 use std::mem;
 use std::process::Abort;
-use std::test::Fail;
 
 // Both hold the same, and answer drawn searches so.
 pub fn compare(
@@ -17,30 +16,23 @@ pub fn compare(
     version: &Version,
     plain: &PlainMap,
     draws: &mut Draws,
-) -> Result<(), Fail> {
+) {
     same(rt, "the next number", version.next(), plain.next());
     holds(rt, "the counts", version.counts() == plain.counts());
-    let query = draws.point()?;
-    let cuboid = draws.cuboid()?;
-    compare_items(rt, alloc, version, plain)?;
-    compare_nearest(rt, alloc, version, plain, &query)?;
-    compare_in_cuboid(rt, alloc, version, plain, &cuboid)?;
+    let query = draws.point(rt);
+    let cuboid = draws.cuboid(rt);
+    compare_items(rt, alloc, version, plain);
+    compare_nearest(rt, alloc, version, plain, &query);
+    compare_in_cuboid(rt, alloc, version, plain, &cuboid);
     let count = count_in(version.tree(), &cuboid);
     same(rt, "the count", count, plain.count_in(&cuboid));
-    Ok(())
 }
 
-fn compare_items(
-    rt: &impl Abort,
-    alloc: Global,
-    version: &Version,
-    plain: &PlainMap,
-) -> Result<(), Fail> {
-    let items = version.tree().flatten(alloc)?;
-    let want = plain.items(alloc)?;
+fn compare_items(rt: &impl Abort, alloc: Global, version: &Version, plain: &PlainMap) {
+    let items = made(rt, version.tree().flatten(alloc));
+    let want = made(rt, plain.items(alloc));
     let are_same = items.as_slice() == want.as_slice();
     holds(rt, "what both hold", are_same);
-    Ok(())
 }
 
 fn compare_nearest(
@@ -49,12 +41,11 @@ fn compare_nearest(
     version: &Version,
     plain: &PlainMap,
     query: &Point,
-) -> Result<(), Fail> {
-    let found = nearest(alloc, version.tree(), 5, query, Some(6))?;
-    let want = plain.nearest(alloc, 5, query, Some(6))?;
+) {
+    let found = made(rt, nearest(alloc, version.tree(), 5, query, Some(6)));
+    let want = made(rt, plain.nearest(alloc, 5, query, Some(6)));
     let are_same = found.as_slice() == want.as_slice();
     holds(rt, "the nearest", are_same);
-    Ok(())
 }
 
 fn compare_in_cuboid(
@@ -63,12 +54,11 @@ fn compare_in_cuboid(
     version: &Version,
     plain: &PlainMap,
     cuboid: &Cuboid,
-) -> Result<(), Fail> {
-    let found = in_cuboid(alloc, version.tree(), cuboid, 7)?;
-    let want = plain.in_cuboid(alloc, cuboid, 7)?;
+) {
+    let found = made(rt, in_cuboid(alloc, version.tree(), cuboid, 7));
+    let want = made(rt, plain.in_cuboid(alloc, cuboid, 7));
     let are_same = found.as_slice() == want.as_slice();
     holds(rt, "what the box shows", are_same);
-    Ok(())
 }
 
 // Does to the plain map what the update says.
@@ -78,10 +68,9 @@ pub fn updated_plainly(
     settings: &Settings,
     plain: &mut PlainMap,
     update: &Update,
-) -> Result<(), Fail> {
+) {
     assert!(rt; update.points() <= 3_000);
     assert!(rt; plain.next() <= 4_000_000);
     let before = mem::replace(plain, PlainMap::new(alloc));
-    *plain = before.apply(settings, update)?;
-    Ok(())
+    *plain = made(rt, before.apply(settings, update));
 }

@@ -1,10 +1,11 @@
 //! Draws: numbers, places and updates that look as if by chance, and are the same at each run.
 ghost use Rattle.std.specs.Prelude.{◌<◌, ◌^◌};
 
+use crate::tests::assertions::made;
 use map_fold::{Cuboids, Points, Update};
 use point_geom::{Corner, Cuboid, Point};
 use std::alloc::Global;
-use std::test::Fail;
+use std::process::Abort;
 
 #[derive(Drop)]
 pub struct Draws {
@@ -29,14 +30,14 @@ impl Draws {
     }
 
     // A place of a small grid round the origin, so that points tie and are equal, with an intensity.
-    pub fn point(&mut self) -> Result<Point, Fail> {
+    pub fn point(&mut self, rt: &impl Abort) -> Point {
         let (x, y, z) = (self.below(16), self.below(8), self.below(4));
-        let point = Point::new(x as i64 - 8, y as i64 - 4, z as i64 - 2)?;
-        Ok(point.with_intensity((self.state % 3) as u16))
+        let point = made(rt, Point::new(x as i64 - 8, y as i64 - 4, z as i64 - 2));
+        point.with_intensity((self.state % 3) as u16)
     }
 
-    pub fn cuboid(&mut self) -> Result<Cuboid, Fail> {
-        let at = self.point()?;
+    pub fn cuboid(&mut self, rt: &impl Abort) -> Cuboid {
+        let at = self.point(rt);
         let lo = Corner {
             x: at.x(),
             y: at.y(),
@@ -47,40 +48,42 @@ impl Draws {
             y: lo.y + self.below(9) as i64,
             z: lo.z + self.below(9) as i64,
         };
-        Ok(Cuboid::new(lo, hi)?)
+        made(rt, Cuboid::new(lo, hi))
     }
 
-    fn boxes(&mut self, alloc: Global) -> Result<Cuboids, Fail> {
+    fn boxes(&mut self, rt: &impl Abort, alloc: Global) -> Cuboids {
         let mut boxes = Cuboids::new(alloc);
         for _ in 0..self.below(3) {
-            boxes.push(self.cuboid()?)?;
+            let cuboid = self.cuboid(rt);
+            made(rt, boxes.push(cuboid));
         }
-        Ok(boxes)
+        boxes
     }
 
-    fn points(&mut self, alloc: Global) -> Result<Points, Fail> {
+    fn points(&mut self, rt: &impl Abort, alloc: Global) -> Points {
         let count = self.below(9) as u32;
-        self.scan(alloc, count)
+        self.scan(rt, alloc, count)
     }
 
     // So many of those places.
-    pub fn scan(&mut self, alloc: Global, count: u32) -> Result<Points, Fail> {
+    pub fn scan(&mut self, rt: &impl Abort, alloc: Global, count: u32) -> Points {
         let mut points = Points::new(alloc);
         for _ in 0..count {
-            points.push(self.point()?)?;
+            let point = self.point(rt);
+            made(rt, points.push(point));
         }
-        Ok(points)
+        points
     }
 
     // An update of any kind, where so many points were submitted. Of their numbers a sixteenth may expire, or fewer.
-    pub fn update(&mut self, alloc: Global, next: u32) -> Result<Update, Fail> {
+    pub fn update(&mut self, rt: &impl Abort, alloc: Global, next: u32) -> Update {
         match self.below(9) {
-            0 => Ok(Update::Delete(self.boxes(alloc)?)),
-            1 => Ok(Update::Suspend(self.boxes(alloc)?)),
-            2 => Ok(Update::Restore(self.boxes(alloc)?)),
-            3 => Ok(Update::Expire(self.below(next as u64 + 1) as u32 / 16)),
-            4 | 5 => Ok(Update::Thin(self.points(alloc)?)),
-            _ => Ok(Update::Add(self.points(alloc)?)),
+            0 => Update::Delete(self.boxes(rt, alloc)),
+            1 => Update::Suspend(self.boxes(rt, alloc)),
+            2 => Update::Restore(self.boxes(rt, alloc)),
+            3 => Update::Expire(self.below(next as u64 + 1) as u32 / 16),
+            4 | 5 => Update::Thin(self.points(rt, alloc)),
+            _ => Update::Add(self.points(rt, alloc)),
         }
     }
 }

@@ -1,9 +1,10 @@
 //! What a state holds, as tests ask for it.
 ghost use Rattle.std.specs.Prelude.{◌≤◌};
 
+use crate::tests::assertions::made;
 use point_geom::{Corner, Cuboid};
 use rebuild_core::MapState;
-use std::test::Fail;
+use std::process::Abort;
 
 pub type Place = (i64, i64, i64);
 
@@ -28,9 +29,9 @@ pub fn is_breached(state: &MapState, large: u32) -> bool
     state.version().tree().first_breach(large).is_some()
 }
 
-pub fn cuboid(lo: Place, hi: Place) -> Result<Cuboid, Fail> {
+pub fn cuboid(rt: &impl Abort, lo: Place, hi: Place) -> Cuboid {
     let (x, y, z) = lo;
     let lo = Corner { x, y, z };
     let (x, y, z) = hi;
-    Ok(Cuboid::new(lo, Corner { x, y, z })?)
+    made(rt, Cuboid::new(lo, Corner { x, y, z }))
 }

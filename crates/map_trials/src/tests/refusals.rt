@@ -1,40 +1,36 @@
 //! Where a state refuses an update, and stays as it was.
-use crate::tests::assertions::same;
-use crate::tests::steps::updated;
+use crate::tests::assertions::{made, same};
+use crate::tests::steps::{new_map, update, updated};
 use map_fold::{Cuboids, Points, Settings, Update};
 use point_geom::Point;
 use rebuild_core::{LogAsk, MapState, StateFault, SwapFault};
 use std::alloc::Global;
 use std::fmt::Display;
 use std::process::Abort;
-use std::test::Fail;
 
 #[test]
-fn a_new_state_refuses_more_points_than_there_may_be(rt: HostRuntime) -> Result<(), Fail> {
+fn a_new_state_refuses_more_points_than_there_may_be(rt: HostRuntime) {
     let alloc = rt.alloc();
-    let mut state = MapState::new(alloc, Settings::new(200, 5_000))?;
-    refuses_too_many(&rt, alloc, &mut state)
+    let mut state = new_map(&rt, alloc, Settings::new(200, 5_000));
+    refuses_too_many(&rt, alloc, &mut state);
+    is_new(&rt, &state);
 }
 
-fn refuses_too_many(rt: &impl Abort, alloc: Global, state: &mut MapState) -> Result<(), Fail> {
-    let points = too_many(alloc)?;
+fn refuses_too_many(rt: &impl Abort, alloc: Global, state: &mut MapState) {
+    let points = too_many(rt, alloc);
     let answer = updated(alloc, state, 1, Update::Add(points));
-    let Err(StateFault::TooManyPoints { next, asked }) = answer else {
-        return Err(Fail::new("another answer"));
-    };
-    same(rt, "the next number of the fault", next, 0);
-    same(rt, "the points of the fault", asked, 4_194_305);
-    is_new(rt, state);
-    Ok(())
+    let (next, asked) = (0, 4_194_305);
+    let want = StateFault::TooManyPoints { next, asked };
+    same(rt, "the fault", answer.err(), Some(want));
 }
 
-fn too_many(alloc: Global) -> Result<Points, Fail> {
-    let point = Point::new(0, 0, 0)?;
+fn too_many(rt: &impl Abort, alloc: Global) -> Points {
+    let point = made(rt, Point::new(0, 0, 0));
     let mut points = Points::new(alloc);
     for _ in 0..4_194_305u32 {
-        points.push(point)?;
+        made(rt, points.push(point));
     }
-    Ok(points)
+    points
 }
 
 fn is_new(rt: &impl Abort, state: &MapState) {
@@ -45,32 +41,29 @@ fn is_new(rt: &impl Abort, state: &MapState) {
 }
 
 #[test]
-fn a_full_history_refuses_the_next_update(rt: HostRuntime) -> Result<(), Fail> {
+fn a_full_history_refuses_the_next_update(rt: HostRuntime) {
     let alloc = rt.alloc();
-    let mut state = MapState::new(alloc, Settings::new(200, 5_000))?;
-    fills_its_history(&rt, alloc, &mut state)
+    let mut state = new_map(&rt, alloc, Settings::new(200, 5_000));
+    fills_its_history(&rt, alloc, &mut state);
+    refuses_the_next(&rt, alloc, &mut state);
 }
 
-fn fills_its_history(rt: &impl Abort, alloc: Global, state: &mut MapState) -> Result<(), Fail> {
+fn fills_its_history(rt: &impl Abort, alloc: Global, state: &mut MapState) {
     for _ in 0..1_048_576u32 {
-        let nothing = Update::Delete(Cuboids::new(alloc));
-        updated(alloc, state, 1, nothing)?;
+        update(rt, alloc, state, Update::Delete(Cuboids::new(alloc)));
     }
-    refuses_the_next(rt, alloc, state)
 }
 
-fn refuses_the_next(rt: &impl Abort, alloc: Global, state: &mut MapState) -> Result<(), Fail> {
+fn refuses_the_next(rt: &impl Abort, alloc: Global, state: &mut MapState) {
     let nothing = Update::Delete(Cuboids::new(alloc));
-    let Err(StateFault::TooManyUpdates { len }) = updated(alloc, state, 2, nothing) else {
-        return Err(Fail::new("another answer"));
-    };
-    same(rt, "the updates of the fault", len, 1_048_576);
+    let answer = updated(alloc, state, 2, nothing);
+    let want = StateFault::TooManyUpdates { len: 1_048_576 };
+    same(rt, "the fault", answer.err(), Some(want));
     same(rt, "updates", state.history().len(), 1_048_576);
-    Ok(())
 }
 
 #[test]
-fn a_refusal_says_what_is_full_stale_or_behind(rt: HostRuntime) -> Result<(), Fail> {
+fn a_refusal_says_what_is_full_stale_or_behind(rt: HostRuntime) {
     let alloc = rt.alloc();
     for (fault, want) in [
         (
@@ -85,7 +78,7 @@ fn a_refusal_says_what_is_full_stale_or_behind(rt: HostRuntime) -> Result<(), Fa
             "the history is full: it has 1048576 updates",
         ),
     ] {
-        says(&rt, alloc, &fault, want)?;
+        says(&rt, alloc, &fault, want);
     }
     for (fault, want) in [
         (
@@ -97,13 +90,12 @@ fn a_refusal_says_what_is_full_stale_or_behind(rt: HostRuntime) -> Result<(), Fa
             "the value is 65 operations behind",
         ),
     ] {
-        says(&rt, alloc, &fault, want)?;
+        says(&rt, alloc, &fault, want);
     }
-    says(&rt, alloc, &LogAsk::NoMemory, "no memory")
+    says(&rt, alloc, &LogAsk::NoMemory, "no memory");
 }
 
-fn says<D: Display>(rt: &impl Abort, alloc: Global, fault: &D, want: &str) -> Result<(), Fail> {
-    let text = format!(in alloc; "{fault}")?;
+fn says<D: Display>(rt: &impl Abort, alloc: Global, fault: &D, want: &str) {
+    let text = made(rt, format!(in alloc; "{fault}"));
     assert_eq!(rt; text.as_str(), want);
-    Ok(())
 }

@@ -1,64 +1,60 @@
 //! Points in a row, and points at one place.
-use crate::tests::assertions::{holds, same};
+use crate::tests::assertions::{holds, made, same};
 use crate::tests::looks::{is_breached, live};
-use crate::tests::steps::{add_row, row, settled, updated};
+use crate::tests::steps::{add_row, new_map, row, settled, update, updated};
 use kd_search::nearest;
 use map_fold::{Hit, Points, Settings, Update};
 use point_geom::Point;
 use rebuild_core::MapState;
 use std::alloc::Global;
 use std::process::Abort;
-use std::test::Fail;
 
 // That it is found whole is seen by a stored run.
 #[test]
-fn a_rising_row_fills_all_levels(rt: HostRuntime) -> Result<(), Fail> {
+fn a_rising_row_fills_all_levels(rt: HostRuntime) {
     let alloc = rt.alloc();
-    let mut state = MapState::new(alloc, Settings::new(200, 16))?;
-    rises(&rt, alloc, &mut state)
+    let mut state = new_map(&rt, alloc, Settings::new(200, 16));
+    rises(&rt, alloc, &mut state);
 }
 
-fn rises(rt: &impl Abort, alloc: Global, state: &mut MapState) -> Result<(), Fail> {
+fn rises(rt: &impl Abort, alloc: Global, state: &mut MapState) {
     let mut most_levels = 0;
     for x in 0..4_000 {
-        add_row(alloc, state, &[x])?;
+        add_row(rt, alloc, state, &[x]);
         most_levels = state.version().tree().levels().max(most_levels);
     }
     // No tree is higher, so this one was rebuilt on the way.
     same(rt, "the most levels", most_levels, 512);
-    Ok(())
 }
 
 #[test]
-fn equal_points_are_settled_and_found_by_number(rt: HostRuntime) -> Result<(), Fail> {
+fn equal_points_are_settled_and_found_by_number(rt: HostRuntime) {
     let alloc = rt.alloc();
-    let mut state = MapState::new(alloc, Settings::new(200, 1_500))?;
-    settles_equal_points(&rt, alloc, &mut state)
+    let mut state = new_map(&rt, alloc, Settings::new(200, 1_500));
+    settles_equal_points(&rt, alloc, &mut state);
 }
 
-fn settles_equal_points(rt: &impl Abort, alloc: Global, state: &mut MapState) -> Result<(), Fail> {
-    add_equal(alloc, state)?;
-    settled(alloc, state)?;
+fn settles_equal_points(rt: &impl Abort, alloc: Global, state: &mut MapState) {
+    let place = made(rt, Point::new(3, 3, 3));
+    let points = equal_points(rt, alloc, place);
+    update(rt, alloc, state, Update::Add(points));
+    settled(rt, alloc, state);
     holds(rt, "no breach", !is_breached(state, 10));
     same(rt, "live points", live(state), 5_000);
-    finds_by_number(rt, alloc, state)
+    finds_by_number(rt, alloc, state, &place);
 }
 
-fn add_equal(alloc: Global, state: &mut MapState) -> Result<(), Fail> {
-    let place = Point::new(3, 3, 3)?;
+fn equal_points(rt: &impl Abort, alloc: Global, place: Point) -> Points {
     let mut points = Points::new(alloc);
     for _ in 0..5_000 {
-        points.push(place)?;
+        made(rt, points.push(place));
     }
-    updated(alloc, state, 1, Update::Add(points))?;
-    Ok(())
+    points
 }
 
-fn finds_by_number(rt: &impl Abort, alloc: Global, state: &MapState) -> Result<(), Fail> {
-    let place = Point::new(3, 3, 3)?;
-    let found = nearest(alloc, state.version().tree(), 200, &place, None)?;
+fn finds_by_number(rt: &impl Abort, alloc: Global, state: &MapState, place: &Point) {
+    let found = made(rt, nearest(alloc, state.version().tree(), 200, place, None));
     are_numbered(rt, found.as_slice());
-    Ok(())
 }
 
 // The points of the numbers from 0 on, found where they lie.
@@ -71,38 +67,37 @@ fn are_numbered(rt: &impl Abort, found: &[Hit]) {
 }
 
 #[test]
-fn a_row_that_is_settled_takes_one_more_point(rt: HostRuntime) -> Result<(), Fail> {
+fn a_row_that_is_settled_takes_one_more_point(rt: HostRuntime) {
     let alloc = rt.alloc();
-    let mut state = MapState::new(alloc, Settings::new(200, 16))?;
-    settles_a_row(&rt, alloc, &mut state)
+    let mut state = new_map(&rt, alloc, Settings::new(200, 16));
+    settles_a_row(&rt, alloc, &mut state);
+    takes_one_more(&rt, alloc, &mut state);
+    finds_the_last(&rt, alloc, &state);
 }
 
-fn settles_a_row(rt: &impl Abort, alloc: Global, state: &mut MapState) -> Result<(), Fail> {
-    let points = row(alloc, 1, 41)?;
-    let mark = updated(alloc, state, 1, Update::Add(points))?;
+fn settles_a_row(rt: &impl Abort, alloc: Global, state: &mut MapState) {
+    let points = row(rt, alloc, 1, 41);
+    let mark = made(rt, updated(alloc, state, 1, Update::Add(points)));
     same(rt, "the first mark", mark, 1);
     holds(rt, "a breach", is_breached(state, 10));
-    settled(alloc, state)?;
+    settled(rt, alloc, state);
     holds(rt, "no breach", !is_breached(state, 10));
-    takes_one_more(rt, alloc, state)
 }
 
-fn takes_one_more(rt: &impl Abort, alloc: Global, state: &mut MapState) -> Result<(), Fail> {
-    let points = row(alloc, 0, 1)?;
-    let mark = updated(alloc, state, 8, Update::Add(points))?;
+fn takes_one_more(rt: &impl Abort, alloc: Global, state: &mut MapState) {
+    let points = row(rt, alloc, 0, 1);
+    let mark = made(rt, updated(alloc, state, 8, Update::Add(points)));
     same(rt, "the second mark", mark, 2);
     same(rt, "live points", live(state), 41);
-    finds_the_last(rt, alloc, state)
 }
 
 // The point of number 40, at 5 from the query.
-fn finds_the_last(rt: &impl Abort, alloc: Global, state: &MapState) -> Result<(), Fail> {
-    let query = Point::new(-5, 0, 0)?;
-    let found = nearest(alloc, state.version().tree(), 1, &query, None)?;
+fn finds_the_last(rt: &impl Abort, alloc: Global, state: &MapState) {
+    let query = made(rt, Point::new(-5, 0, 0));
+    let found = made(rt, nearest(alloc, state.version().tree(), 1, &query, None));
     for hit in found.as_slice() {
         same(rt, "the number", hit.number, 40);
         same(rt, "the squared distance", hit.dist2, 25);
     }
     same(rt, "hits", found.len(), 1);
-    Ok(())
 }

@@ -1,9 +1,9 @@
 //! A detached subtree beside hostile schedules: what its map meets between the detaching and the swap.
-use crate::tests::assertions::{holds, same};
+use crate::tests::assertions::{holds, made, same};
 use crate::tests::looks::{cuboid, live, logged, suspended};
 use crate::tests::steps::{
-    add, add_row, add_row_and, built, detached, is_balanced, is_of, is_stale, settled, swap_ends,
-    updated,
+    add, add_row, add_row_and, built, detached, is_balanced, is_of, is_stale, new_map, settled,
+    swap_ends, update,
 };
 use kd_search::nearest;
 use map_fold::{Cuboids, Points, Settings, Update};
@@ -11,233 +11,196 @@ use point_geom::Point;
 use rebuild_core::{Job, MapState, SwapFault};
 use std::alloc::Global;
 use std::process::Abort;
-use std::test::Fail;
 
 // The boxes from (first, 0, 0) to (last, 1, 1), so many times.
-fn boxes(alloc: Global, first: i64, last: i64, times: u32) -> Result<Cuboids, Fail> {
-    let cuboid = cuboid((first, 0, 0), (last, 1, 1))?;
+fn boxes(rt: &impl Abort, alloc: Global, first: i64, last: i64, times: u32) -> Cuboids {
+    let cuboid = cuboid(rt, (first, 0, 0), (last, 1, 1));
     let mut boxes = Cuboids::new(alloc);
     for _ in 0..times {
-        boxes.push(cuboid)?;
+        made(rt, boxes.push(cuboid));
     }
-    Ok(boxes)
+    boxes
 }
 
 // Puts 40 points in a row, the last of them at this place, and detaches their whole tree.
-fn begun(alloc: Global, state: &mut MapState, last: i64) -> Result<Job, Fail> {
-    add_row_and(alloc, state, (1, 40), last)?;
-    detached(alloc, state, 1)
+fn begun(rt: &impl Abort, alloc: Global, state: &mut MapState, last: i64) -> Job {
+    add_row_and(rt, alloc, state, (1, 40), last);
+    detached(rt, alloc, state, 1)
 }
 
 // The job is built and swapped in, and so many points are live then.
-fn swaps(
-    rt: &impl Abort,
-    alloc: Global,
-    state: &mut MapState,
-    job: Job,
-    force: bool,
-    points: u32,
-) -> Result<(), Fail> {
-    let built = built(alloc, job)?;
+fn swaps(rt: &impl Abort, alloc: Global, state: &mut MapState, job: Job, force: bool, points: u32) {
+    let built = built(rt, alloc, job);
     swap_ends(rt, alloc, state, built, force, None);
     same(rt, "live points", live(state), points);
-    Ok(())
 }
 
 #[test]
-fn a_value_is_stale_once_its_map_was_settled(rt: HostRuntime) -> Result<(), Fail> {
+fn a_value_is_stale_once_its_map_was_settled(rt: HostRuntime) {
     let alloc = rt.alloc();
-    let mut state = MapState::new(alloc, Settings::new(200, 16))?;
-    settles_meanwhile(&rt, alloc, &mut state)
+    let mut state = new_map(&rt, alloc, Settings::new(200, 16));
+    settles_meanwhile(&rt, alloc, &mut state);
 }
 
-fn settles_meanwhile(rt: &impl Abort, alloc: Global, state: &mut MapState) -> Result<(), Fail> {
-    let job = begun(alloc, state, 40)?;
+fn settles_meanwhile(rt: &impl Abort, alloc: Global, state: &mut MapState) {
+    let job = begun(rt, alloc, state, 40);
     is_of(rt, &job, 1, 40);
-    let built = built(alloc, job)?;
-    settled(alloc, state)?;
+    let built = built(rt, alloc, job);
+    settled(rt, alloc, state);
     is_stale(rt, alloc, state, built, 1);
     same(rt, "operations", logged(state, 1), None);
     same(rt, "live points", live(state), 40);
-    Ok(())
 }
 
 #[test]
-fn a_value_fits_another_map_and_is_stale_where_it_holds_another_point(
-    rt: HostRuntime,
-) -> Result<(), Fail> {
+fn a_value_fits_another_map_and_is_stale_where_it_holds_another_point(rt: HostRuntime) {
     let alloc = rt.alloc();
-    ends_elsewhere(&rt, alloc, 40, None)?;
+    ends_elsewhere(&rt, alloc, 40, None);
     let stale = SwapFault::Stale { ticket: 1 };
-    ends_elsewhere(&rt, alloc, 41, Some(stale))
+    ends_elsewhere(&rt, alloc, 41, Some(stale));
 }
 
 // So ends the swap of a value of a map whose last point is at 40, in another, whose last point is at this place.
-fn ends_elsewhere(
-    rt: &impl Abort,
-    alloc: Global,
-    last: i64,
-    fault: Option<SwapFault>,
-) -> Result<(), Fail> {
-    let mut other = MapState::new(alloc, Settings::new(200, 16))?;
-    ends_in(rt, alloc, &mut other, last, fault)
-}
-
-fn ends_in(
-    rt: &impl Abort,
-    alloc: Global,
-    other: &mut MapState,
-    last: i64,
-    fault: Option<SwapFault>,
-) -> Result<(), Fail> {
-    begun(alloc, other, last)?;
-    let job = job_of_another(alloc)?;
-    let built = built(alloc, job)?;
-    swap_ends(rt, alloc, other, built, false, fault);
-    same(rt, "live points", live(other), 40);
-    Ok(())
+fn ends_elsewhere(rt: &impl Abort, alloc: Global, last: i64, fault: Option<SwapFault>) {
+    let job = job_of_another(rt, alloc);
+    let mut other = new_map(rt, alloc, Settings::new(200, 16));
+    begun(rt, alloc, &mut other, last);
+    let built = built(rt, alloc, job);
+    swap_ends(rt, alloc, &mut other, built, false, fault);
+    same(rt, "live points", live(&other), 40);
 }
 
 // The first job of a map whose last point is at 40.
-fn job_of_another(alloc: Global) -> Result<Job, Fail> {
-    let mut state = MapState::new(alloc, Settings::new(200, 16))?;
-    begun(alloc, &mut state, 40)
+fn job_of_another(rt: &impl Abort, alloc: Global) -> Job {
+    let mut state = new_map(rt, alloc, Settings::new(200, 16));
+    begun(rt, alloc, &mut state, 40)
 }
 
 #[test]
-fn a_forced_swap_does_all_that_is_left(rt: HostRuntime) -> Result<(), Fail> {
+fn a_forced_swap_does_all_that_is_left(rt: HostRuntime) {
     let alloc = rt.alloc();
-    let mut state = MapState::new(alloc, Settings::new(200, 16))?;
-    grows_meanwhile(&rt, alloc, &mut state)
+    let mut state = new_map(&rt, alloc, Settings::new(200, 16));
+    grows_meanwhile(&rt, alloc, &mut state);
 }
 
-fn grows_meanwhile(rt: &impl Abort, alloc: Global, state: &mut MapState) -> Result<(), Fail> {
-    let job = begun(alloc, state, 40)?;
-    add(alloc, state, 41, 141)?;
-    swaps(rt, alloc, state, job, true, 140)
+fn grows_meanwhile(rt: &impl Abort, alloc: Global, state: &mut MapState) {
+    let job = begun(rt, alloc, state, 40);
+    add(rt, alloc, state, 41, 141);
+    swaps(rt, alloc, state, job, true, 140);
 }
 
 #[test]
-fn what_was_deleted_meanwhile_stays_so(rt: HostRuntime) -> Result<(), Fail> {
+fn what_was_deleted_meanwhile_stays_so(rt: HostRuntime) {
     let alloc = rt.alloc();
-    let mut state = MapState::new(alloc, Settings::new(200, 16))?;
-    empties_meanwhile(&rt, alloc, &mut state)
+    let mut state = new_map(&rt, alloc, Settings::new(200, 16));
+    empties_meanwhile(&rt, alloc, &mut state);
+    stays_empty(&rt, alloc, &mut state);
+    holds_only(&rt, alloc, &state, 40);
 }
 
-fn empties_meanwhile(rt: &impl Abort, alloc: Global, state: &mut MapState) -> Result<(), Fail> {
-    let job = begun(alloc, state, 40)?;
-    delete_all(alloc, state)?;
-    swaps(rt, alloc, state, job, false, 0)?;
-    stays_empty(rt, alloc, state)
-}
-
-fn delete_all(alloc: Global, state: &mut MapState) -> Result<(), Fail> {
-    let all = boxes(alloc, 0, 100, 1)?;
-    updated(alloc, state, 1, Update::Delete(all))?;
-    Ok(())
+fn empties_meanwhile(rt: &impl Abort, alloc: Global, state: &mut MapState) {
+    let job = begun(rt, alloc, state, 40);
+    let all = boxes(rt, alloc, 0, 100, 1);
+    update(rt, alloc, state, Update::Delete(all));
+    swaps(rt, alloc, state, job, false, 0);
 }
 
 // Until a point is added.
-fn stays_empty(rt: &impl Abort, alloc: Global, state: &mut MapState) -> Result<(), Fail> {
-    settled(alloc, state)?;
+fn stays_empty(rt: &impl Abort, alloc: Global, state: &mut MapState) {
+    settled(rt, alloc, state);
     same(rt, "live points", live(state), 0);
-    holds(rt, "nothing to detach", is_balanced(alloc, state, 1)?);
-    add_row(alloc, state, &[5])?;
-    holds_only(rt, alloc, state, 40)
+    holds(rt, "nothing to detach", is_balanced(rt, alloc, state, 1));
+    add_row(rt, alloc, state, &[5]);
 }
 
 // One point is live, and has this number.
-fn holds_only(rt: &impl Abort, alloc: Global, state: &MapState, number: u32) -> Result<(), Fail> {
+fn holds_only(rt: &impl Abort, alloc: Global, state: &MapState, number: u32) {
     same(rt, "live points", live(state), 1);
-    let query = Point::new(0, 0, 0)?;
-    let found = nearest(alloc, state.version().tree(), 2, &query, None)?;
+    let query = made(rt, Point::new(0, 0, 0));
+    let found = made(rt, nearest(alloc, state.version().tree(), 2, &query, None));
     same(rt, "hits", found.len(), 1);
     for hit in found.as_slice() {
         same(rt, "the number", hit.number, number);
     }
-    Ok(())
 }
 
 #[test]
-fn a_voxel_that_was_thinned_meanwhile_keeps_its_winner(rt: HostRuntime) -> Result<(), Fail> {
+fn a_voxel_that_was_thinned_meanwhile_keeps_its_winner(rt: HostRuntime) {
     let alloc = rt.alloc();
-    let mut state = MapState::new(alloc, Settings::new(200, 16))?;
-    thins_meanwhile(&rt, alloc, &mut state)
+    let mut state = new_map(&rt, alloc, Settings::new(200, 16));
+    thins_meanwhile(&rt, alloc, &mut state);
 }
 
-fn thins_meanwhile(rt: &impl Abort, alloc: Global, state: &mut MapState) -> Result<(), Fail> {
-    let job = begun(alloc, state, 40)?;
-    thin_at(alloc, state, Point::new(50, 100, 100)?)?;
-    let built = built(alloc, job)?;
+fn thins_meanwhile(rt: &impl Abort, alloc: Global, state: &mut MapState) {
+    let job = begun(rt, alloc, state, 40);
+    thin_at(rt, alloc, state, made(rt, Point::new(50, 100, 100)));
+    let built = built(rt, alloc, job);
     // That its voxel's points are dropped, and the winner.
     same(rt, "operations", logged(state, 1), Some(2));
     swap_ends(rt, alloc, state, built, false, None);
-    holds_only(rt, alloc, state, 40)
+    holds_only(rt, alloc, state, 40);
 }
 
-fn thin_at(alloc: Global, state: &mut MapState, point: Point) -> Result<(), Fail> {
+fn thin_at(rt: &impl Abort, alloc: Global, state: &mut MapState, point: Point) {
     let mut points = Points::new(alloc);
-    points.push(point)?;
-    updated(alloc, state, 1, Update::Thin(points))?;
-    Ok(())
+    made(rt, points.push(point));
+    update(rt, alloc, state, Update::Thin(points));
 }
 
 #[test]
-fn a_part_that_is_detached_afresh_takes_only_its_new_value(rt: HostRuntime) -> Result<(), Fail> {
+fn a_part_that_is_detached_afresh_takes_only_its_new_value(rt: HostRuntime) {
     let alloc = rt.alloc();
-    let mut state = MapState::new(alloc, Settings::new(200, 16))?;
-    detaches_afresh(&rt, alloc, &mut state)
+    let mut state = new_map(&rt, alloc, Settings::new(200, 16));
+    detaches_afresh(&rt, alloc, &mut state);
 }
 
-fn detaches_afresh(rt: &impl Abort, alloc: Global, state: &mut MapState) -> Result<(), Fail> {
-    let job = begun(alloc, state, 40)?;
-    let old = built(alloc, job)?;
-    let job = detached(alloc, state, 1)?;
+fn detaches_afresh(rt: &impl Abort, alloc: Global, state: &mut MapState) {
+    let job = begun(rt, alloc, state, 40);
+    let old = built(rt, alloc, job);
+    let job = detached(rt, alloc, state, 1);
     same(rt, "the ticket", job.ticket(), 2);
     same(rt, "operations", logged(state, 1), Some(0));
     is_stale(rt, alloc, state, old, 1);
-    swaps(rt, alloc, state, job, false, 40)
+    swaps(rt, alloc, state, job, false, 40);
 }
 
 // One operation more fills a log.
 const NEARLY_FULL: u32 = 65_535;
 
 #[test]
-fn a_part_whose_log_is_full_is_forgotten(rt: HostRuntime) -> Result<(), Fail> {
+fn a_part_whose_log_is_full_is_forgotten(rt: HostRuntime) {
     let alloc = rt.alloc();
-    let mut state = MapState::new(alloc, Settings::new(200, 16))?;
-    fills_a_log(&rt, alloc, &mut state)
+    let mut state = new_map(&rt, alloc, Settings::new(200, 16));
+    fills_a_log(&rt, alloc, &mut state);
 }
 
-fn fills_a_log(rt: &impl Abort, alloc: Global, state: &mut MapState) -> Result<(), Fail> {
-    let job = begun(alloc, state, 40)?;
-    fill_its_log(rt, alloc, state)?;
-    let built = built(alloc, job)?;
+fn fills_a_log(rt: &impl Abort, alloc: Global, state: &mut MapState) {
+    let job = begun(rt, alloc, state, 40);
+    fill_its_log(rt, alloc, state);
+    let built = built(rt, alloc, job);
     let stale = SwapFault::Stale { ticket: 1 };
     swap_ends(rt, alloc, state, built, true, Some(stale));
     // The box held the point of number 0.
     same(rt, "live points", live(state), 39);
-    Ok(())
 }
 
-fn fill_its_log(rt: &impl Abort, alloc: Global, state: &mut MapState) -> Result<(), Fail> {
-    let many = boxes(alloc, 1, 2, NEARLY_FULL)?;
-    updated(alloc, state, 1, Update::Restore(many))?;
+fn fill_its_log(rt: &impl Abort, alloc: Global, state: &mut MapState) {
+    let many = boxes(rt, alloc, 1, 2, NEARLY_FULL);
+    update(rt, alloc, state, Update::Restore(many));
     same(rt, "operations", logged(state, 1), Some(NEARLY_FULL));
-    let one = boxes(alloc, 1, 2, 1)?;
-    updated(alloc, state, 1, Update::Delete(one))?;
+    let one = boxes(rt, alloc, 1, 2, 1);
+    update(rt, alloc, state, Update::Delete(one));
     same(rt, "operations", logged(state, 1), None);
-    Ok(())
 }
 
 // Points on either side of a row from 1 to 40.
 const OUTER: [i64; 9] = [41, 42, 43, 44, 0, -1, -2, -3, -4];
 
 // Leaves two sons out of balance.
-fn unbalance(alloc: Global, state: &mut MapState) -> Result<(), Fail> {
-    add(alloc, state, 1, 41)?;
-    settled(alloc, state)?;
-    add_row(alloc, state, &OUTER)
+fn unbalance(rt: &impl Abort, alloc: Global, state: &mut MapState) {
+    add(rt, alloc, state, 1, 41);
+    settled(rt, alloc, state);
+    add_row(rt, alloc, state, &OUTER);
 }
 
 // The job has this ticket, and its items begin at this x.
@@ -254,46 +217,44 @@ fn are_logged(rt: &impl Abort, state: &MapState, left: u32, right: u32) {
 }
 
 #[test]
-fn what_two_detached_subtrees_met_is_done_on_both(rt: HostRuntime) -> Result<(), Fail> {
+fn what_two_detached_subtrees_met_is_done_on_both(rt: HostRuntime) {
     let alloc = rt.alloc();
-    let mut state = MapState::new(alloc, Settings::new(200, 16))?;
-    swaps_both(&rt, alloc, &mut state)
+    let mut state = new_map(&rt, alloc, Settings::new(200, 16));
+    swaps_both(&rt, alloc, &mut state);
+    holds_three(&rt, alloc, &state);
 }
 
 // Both are detached at once.
-fn swaps_both(rt: &impl Abort, alloc: Global, state: &mut MapState) -> Result<(), Fail> {
-    unbalance(alloc, state)?;
-    let left = detached(alloc, state, 1)?;
-    let right = detached(alloc, state, 2)?;
+fn swaps_both(rt: &impl Abort, alloc: Global, state: &mut MapState) {
+    unbalance(rt, alloc, state);
+    let left = detached(rt, alloc, state, 1);
+    let right = detached(rt, alloc, state, 2);
     begins_at(rt, &left, 1, -4);
     begins_at(rt, &right, 2, 21);
-    meets_both(rt, alloc, state)?;
-    let left = built(alloc, left)?;
-    let right = built(alloc, right)?;
+    meets_both(rt, alloc, state);
+    let left = built(rt, alloc, left);
+    let right = built(rt, alloc, right);
     swap_ends(rt, alloc, state, right, true, None);
     swap_ends(rt, alloc, state, left, true, None);
-    holds_three(rt, alloc, state)
 }
 
 // An action that is done above both isn't logged at either, until it is handed down.
-fn meets_both(rt: &impl Abort, alloc: Global, state: &mut MapState) -> Result<(), Fail> {
-    holds(rt, "nothing to detach", is_balanced(alloc, state, 3)?);
-    let all = boxes(alloc, -100, 100, 1)?;
-    updated(alloc, state, 1, Update::Suspend(all))?;
+fn meets_both(rt: &impl Abort, alloc: Global, state: &mut MapState) {
+    holds(rt, "nothing to detach", is_balanced(rt, alloc, state, 3));
+    let all = boxes(rt, alloc, -100, 100, 1);
+    update(rt, alloc, state, Update::Suspend(all));
     are_logged(rt, state, 0, 0);
-    let three = boxes(alloc, 30, 33, 1)?;
-    updated(alloc, state, 1, Update::Restore(three))?;
+    let three = boxes(rt, alloc, 30, 33, 1);
+    update(rt, alloc, state, Update::Restore(three));
     are_logged(rt, state, 1, 2);
-    Ok(())
 }
 
 // The points at 29, 30 and 31 are live, and 46 are suspended.
-fn holds_three(rt: &impl Abort, alloc: Global, state: &MapState) -> Result<(), Fail> {
-    let query = Point::new(0, 0, 0)?;
-    let found = nearest(alloc, state.version().tree(), 5, &query, None)?;
+fn holds_three(rt: &impl Abort, alloc: Global, state: &MapState) {
+    let query = made(rt, Point::new(0, 0, 0));
+    let found = made(rt, nearest(alloc, state.version().tree(), 5, &query, None));
     let numbers = found.as_slice().iter().map(|hit| (hit.number, hit.dist2));
     assert!(rt; numbers.eq([(29, 900), (30, 961), (31, 1024)]));
     same(rt, "live points", live(state), 3);
     same(rt, "suspended points", suspended(state), 46);
-    Ok(())
 }

@@ -1,132 +1,119 @@
 //! Subtrees that are detached as trees, and listed later or never.
-ghost use Rattle.std.specs.Prelude.{◌≡◌, IfOk};
+ghost use Rattle.std.specs.Prelude.{◌≡◌};
 
-use crate::tests::assertions::{holds, same};
+use crate::tests::assertions::{found, holds, made, same};
 use crate::tests::looks::live;
-use crate::tests::steps::{add_row_and, built, swap_ends, updated};
-use map_fold::{Settings, Update};
+use crate::tests::steps::{add_row_and, built, new_map, swap_ends, update};
+use map_fold::{NoMemory, Settings, Update};
 use rebuild_core::{Built, Job, MapState, Snapshot, SwapFault};
 use std::alloc::Global;
 use std::process::Abort;
-use std::test::Fail;
 
 // Puts points in a row, and one more at this place, and detaches the whole tree.
-fn begun(alloc: Global, state: &mut MapState, count: i64, last: i64) -> Result<Snapshot, Fail> {
-    add_row_and(alloc, state, (0, count), last)?;
-    match state.snapshot(alloc, 1)? {
-        Some(snapshot) => Ok(snapshot),
-        None => Err(Fail::new("nothing was detached")),
-    }
+fn begun(rt: &impl Abort, alloc: Global, state: &mut MapState, count: i64, last: i64) -> Snapshot {
+    add_row_and(rt, alloc, state, (0, count), last);
+    let snapshot = made(rt, state.snapshot(alloc, 1));
+    found(rt, snapshot)
 }
 
-fn listed(alloc: Global, snapshot: Snapshot) -> Result<Job, Fail>
-    ensures { IfOk result (λ job. job ≡ snapshot) }
+fn listed(rt: &impl Abort, alloc: Global, snapshot: Snapshot) -> Job
+    ensures { result ≡ snapshot }
 {
     match snapshot.job(alloc) {
-        Ok(job) => Ok(job),
-        Err(_) => Err(Fail::new("nothing was listed")),
+        Ok(job) => job,
+        Err(_) => panic!(rt; "nothing was listed"),
     }
 }
 
 // Detaches the whole tree, lists it, and gives the map the list.
-fn given_a_list(alloc: Global, state: &mut MapState) -> Result<Job, Fail> {
+fn given_a_list(rt: &impl Abort, alloc: Global, state: &mut MapState) -> Result<Job, NoMemory> {
     let _history = state.history();
     let Some(snapshot) = state.snapshot(alloc, 1)? else {
-        return Err(Fail::new("nothing was detached"));
+        panic!(rt; "nothing was detached");
     };
-    let job = listed(alloc, snapshot)?;
+    let job = listed(rt, alloc, snapshot);
     let list = job.holding()?;
     let _tree = state.hold(job.ticket(), list);
     Ok(job)
 }
 
 #[test]
-fn a_value_fits_a_subtree_that_nobody_has_listed(rt: HostRuntime) -> Result<(), Fail> {
+fn a_value_fits_a_subtree_that_nobody_has_listed(rt: HostRuntime) {
     let alloc = rt.alloc();
-    let mut state = MapState::new(alloc, Settings::new(200, 16))?;
-    fits(&rt, alloc, &mut state)
+    let mut state = new_map(&rt, alloc, Settings::new(200, 16));
+    fits(&rt, alloc, &mut state);
 }
 
-fn fits(rt: &impl Abort, alloc: Global, state: &mut MapState) -> Result<(), Fail> {
-    let snapshot = begun(alloc, state, 40, 40)?;
+fn fits(rt: &impl Abort, alloc: Global, state: &mut MapState) {
+    let snapshot = begun(rt, alloc, state, 40, 40);
     same(rt, "the ticket", snapshot.ticket(), 1);
-    let job = listed(alloc, snapshot)?;
+    let job = listed(rt, alloc, snapshot);
     same(rt, "items", job.items().len(), 41);
-    updated(alloc, state, 1, Update::Expire(1))?;
-    let built = built(alloc, job)?;
+    update(rt, alloc, state, Update::Expire(1));
+    let built = built(rt, alloc, job);
     swap_ends(rt, alloc, state, built, false, None);
     same(rt, "live points", live(state), 40);
-    holds(rt, "nothing is held", state.holding(1)?.is_none());
-    Ok(())
+    let holding = made(rt, state.holding(1));
+    holds(rt, "nothing is held", holding.is_none());
 }
 
 #[test]
-fn another_value_is_stale_where_nobody_has_listed(rt: HostRuntime) -> Result<(), Fail> {
+fn another_value_is_stale_where_nobody_has_listed(rt: HostRuntime) {
     let alloc = rt.alloc();
     // The values of these rows, in a map of another row.
     for (count, last) in [(40, 41), (39, 40), (41, 41)] {
-        let job = job_of_another(alloc, count, last)?;
-        is_strange(&rt, alloc, job)?;
+        let job = job_of_another(&rt, alloc, count, last);
+        is_strange(&rt, alloc, job);
     }
-    Ok(())
 }
 
-fn job_of_another(alloc: Global, count: i64, last: i64) -> Result<Job, Fail> {
-    let mut other = MapState::new(alloc, Settings::new(200, 16))?;
-    let snapshot = begun(alloc, &mut other, count, last)?;
-    listed(alloc, snapshot)
+fn job_of_another(rt: &impl Abort, alloc: Global, count: i64, last: i64) -> Job {
+    let mut other = new_map(rt, alloc, Settings::new(200, 16));
+    let snapshot = begun(rt, alloc, &mut other, count, last);
+    listed(rt, alloc, snapshot)
 }
 
-fn is_strange(rt: &impl Abort, alloc: Global, job: Job) -> Result<(), Fail> {
-    let mut state = MapState::new(alloc, Settings::new(200, 16))?;
-    is_stale_in(rt, alloc, &mut state, job)
+fn is_strange(rt: &impl Abort, alloc: Global, job: Job) {
+    let mut state = new_map(rt, alloc, Settings::new(200, 16));
+    is_stale_in(rt, alloc, &mut state, job);
 }
 
-fn is_stale_in(rt: &impl Abort, alloc: Global, state: &mut MapState, job: Job) -> Result<(), Fail> {
-    let built = built(alloc, job)?;
-    let _snapshot = begun(alloc, state, 40, 40)?;
+fn is_stale_in(rt: &impl Abort, alloc: Global, state: &mut MapState, job: Job) {
+    let built = built(rt, alloc, job);
+    let _snapshot = begun(rt, alloc, state, 40, 40);
     let stale = SwapFault::Stale { ticket: 1 };
     swap_ends(rt, alloc, state, built, false, Some(stale));
-    Ok(())
 }
 
 // Puts points in a row, whose part is given the list, and builds its value.
-fn value(alloc: Global, state: &mut MapState, last: i64) -> Result<Built, Fail> {
-    add_row_and(alloc, state, (0, 40), last)?;
-    let job = given_a_list(alloc, state)?;
-    built(alloc, job)
+fn value(rt: &impl Abort, alloc: Global, state: &mut MapState, last: i64) -> Built {
+    add_row_and(rt, alloc, state, (0, 40), last);
+    let job = made(rt, given_a_list(rt, alloc, state));
+    built(rt, alloc, job)
 }
 
-fn value_of_another(alloc: Global) -> Result<Built, Fail> {
-    let mut other = MapState::new(alloc, Settings::new(200, 16))?;
-    value(alloc, &mut other, 41)
+fn value_of_another(rt: &impl Abort, alloc: Global) -> Built {
+    let mut other = new_map(rt, alloc, Settings::new(200, 16));
+    value(rt, alloc, &mut other, 41)
 }
 
 #[test]
-fn a_list_takes_the_place_of_the_tree(rt: HostRuntime) -> Result<(), Fail> {
+fn a_list_takes_the_place_of_the_tree(rt: HostRuntime) {
     let alloc = rt.alloc();
-    let mut state = MapState::new(alloc, Settings::new(200, 16))?;
-    takes_its_own(&rt, alloc, &mut state)
+    let mut state = new_map(&rt, alloc, Settings::new(200, 16));
+    takes_its_own(&rt, alloc, &mut state);
 }
 
-fn takes_its_own(rt: &impl Abort, alloc: Global, state: &mut MapState) -> Result<(), Fail> {
-    let own = value(alloc, state, 40)?;
-    knows_its_own(rt, alloc, state, &own)?;
+fn takes_its_own(rt: &impl Abort, alloc: Global, state: &mut MapState) {
+    let own = value(rt, alloc, state, 40);
+    knows_its_own(rt, alloc, state, &own);
     swap_ends(rt, alloc, state, own, false, None);
-    Ok(())
 }
 
-fn knows_its_own(
-    rt: &impl Abort,
-    alloc: Global,
-    state: &MapState,
-    own: &Built,
-) -> Result<(), Fail> {
-    let strange = value_of_another(alloc)?;
-    let Some(holding) = state.holding(1)? else {
-        return Err(Fail::new("the subtree is detached"));
-    };
+fn knows_its_own(rt: &impl Abort, alloc: Global, state: &MapState, own: &Built) {
+    let strange = value_of_another(rt, alloc);
+    let holding = made(rt, state.holding(1));
+    let holding = found(rt, holding);
     holds(rt, "it is of its own", holding.is_of(own));
     holds(rt, "it is of no other", !holding.is_of(&strange));
-    Ok(())
 }

@@ -2,16 +2,15 @@
 ghost use Rattle.std.specs.Prelude.{◌≤◌};
 ghost use Rattle.kd_tree.specs.Counter.{IsBlankOf};
 
-use crate::tests::assertions::same;
+use crate::tests::assertions::{found, made, same};
 use kd_tree::Steps;
-use map_fold::{Points, Update};
+use map_fold::{Points, Settings, Update};
 use point_geom::Point;
 use rebuild_core::{Built, Job, LogAsk, MapState, StateFault, SwapFault, SwapLeft};
 use std::alloc::Global;
 use std::marker::Brand;
 use std::process::Abort;
 use std::sync::ledger::{Blank, Ledger};
-use std::test::Fail;
 
 // The mark of an update.
 pub type Updated = Result<u64, StateFault>;
@@ -80,19 +79,21 @@ pub fn is_stale(rt: &impl Abort, alloc: Global, state: &mut MapState, built: Bui
     swap_ends(rt, alloc, state, built, true, Some(stale));
 }
 
-pub fn settled(alloc: Global, state: &mut MapState) -> Result<(), Fail> {
-    state.settle(alloc)?;
-    Ok(())
+// A new map.
+pub fn new_map(rt: &impl Abort, alloc: Global, settings: Settings) -> MapState {
+    made(rt, MapState::new(alloc, settings))
 }
 
-pub fn detached(alloc: Global, state: &mut MapState, slot: u8) -> Result<Job, Fail>
+pub fn settled(rt: &impl Abort, alloc: Global, state: &mut MapState) {
+    made(rt, state.settle(alloc));
+}
+
+pub fn detached(rt: &impl Abort, alloc: Global, state: &mut MapState, slot: u8) -> Job
     requires slot_from { 1 ≤ slot }
     requires slot_to { slot ≤ 4 }
 {
-    match state.detach(alloc, slot)? {
-        Some(job) => Ok(job),
-        None => Err(Fail::new("nothing was detached")),
-    }
+    let job = made(rt, state.detach(alloc, slot));
+    found(rt, job)
 }
 
 // The job has this ticket and so many items.
@@ -102,55 +103,59 @@ pub fn is_of(rt: &impl Abort, job: &Job, ticket: u64, items: usize) {
 }
 
 // Whether nothing is left to be detached.
-pub fn is_balanced(alloc: Global, state: &mut MapState, slot: u8) -> Result<bool, Fail>
+pub fn is_balanced(rt: &impl Abort, alloc: Global, state: &mut MapState, slot: u8) -> bool
     requires slot_from { 1 ≤ slot }
     requires slot_to { slot ≤ 4 }
 {
-    Ok(state.detach(alloc, slot)?.is_none())
+    made(rt, state.detach(alloc, slot)).is_none()
 }
 
-pub fn built(alloc: Global, job: Job) -> Result<Built, Fail> {
-    match job.build(alloc, 16) {
-        Ok(built) => Ok(built),
-        Err(_) => Err(Fail::new("nothing was built")),
-    }
+pub fn built(rt: &impl Abort, alloc: Global, job: Job) -> Built {
+    found(rt, job.build(alloc, 16).ok())
 }
 
 // The points (x, 0, 0), from the first on and before the last.
-pub fn row(alloc: Global, first: i64, last: i64) -> Result<Points, Fail> {
+pub fn row(rt: &impl Abort, alloc: Global, first: i64, last: i64) -> Points {
     let mut points = Points::new(alloc);
     for x in first..last {
-        points.push(Point::new(x, 0, 0)?)?;
+        push(rt, &mut points, x);
     }
-    Ok(points)
+    points
+}
+
+fn push(rt: &impl Abort, points: &mut Points, x: i64) {
+    let point = made(rt, Point::new(x, 0, 0));
+    made(rt, points.push(point));
+}
+
+// The first caller makes the update.
+pub fn update(rt: &impl Abort, alloc: Global, state: &mut MapState, update: Update) {
+    made(rt, updated(alloc, state, 1, update));
 }
 
 // Adds those points.
-pub fn add(alloc: Global, state: &mut MapState, first: i64, last: i64) -> Result<(), Fail> {
-    let points = row(alloc, first, last)?;
-    updated(alloc, state, 1, Update::Add(points))?;
-    Ok(())
+pub fn add(rt: &impl Abort, alloc: Global, state: &mut MapState, first: i64, last: i64) {
+    let points = row(rt, alloc, first, last);
+    update(rt, alloc, state, Update::Add(points));
 }
 
-pub fn add_row(alloc: Global, state: &mut MapState, xs: &[i64]) -> Result<(), Fail> {
+pub fn add_row(rt: &impl Abort, alloc: Global, state: &mut MapState, xs: &[i64]) {
     let mut points = Points::new(alloc);
     for x in xs {
-        points.push(Point::new(*x, 0, 0)?)?;
+        push(rt, &mut points, *x);
     }
-    updated(alloc, state, 1, Update::Add(points))?;
-    Ok(())
+    update(rt, alloc, state, Update::Add(points));
 }
 
 // Adds the points of a row, and one more at this place.
 pub fn add_row_and(
+    rt: &impl Abort,
     alloc: Global,
     state: &mut MapState,
     (first, last): (i64, i64),
     more: i64,
-) -> Result<(), Fail> {
-    let point = Point::new(more, 0, 0)?;
-    let mut points = row(alloc, first, last)?;
-    points.push(point)?;
-    updated(alloc, state, 1, Update::Add(points))?;
-    Ok(())
+) {
+    let mut points = row(rt, alloc, first, last);
+    push(rt, &mut points, more);
+    update(rt, alloc, state, Update::Add(points));
 }

@@ -7,27 +7,28 @@ ghost use Rattle.kd_update.specs.Crossing.{HaveRoomAtOnce};
 ghost use Rattle.kd_update.specs.Several.{AreLargeAt};
 ghost use Rattle.kd_update.specs.Watches.{paths_in};
 
-use crate::tests::assertions::{holds, same};
+use crate::tests::assertions::{found, holds, made, same};
 use crate::tests::draw::Draw;
+use crate::tests::lists::holds_all;
 use crate::tests::numbered::Numbered;
-use crate::tests::watch::{became, drawn_map, grandsons, held_at};
-use crate::tests::watching::{Watched, Watching, are_large};
+use crate::tests::watch::{all_became, drawn_map, grandsons, held_at};
+use crate::tests::watching::{Watching, are_large};
 use kd_tree::{MAX_NODES, Path, Scratch, Side, Steps};
 use kd_update::{Watch, live_items, put_all_watched};
-use map_fold::{Item, MAX_POINTS};
+use map_fold::MAX_POINTS;
 use point_geom::Point;
 use std::alloc::Global;
 use std::marker::Brand;
 use std::process::Abort;
 use std::sync::ledger::{Blank, Ledger};
-use std::test::Fail;
 
 fn put_scan_beside<L: Ledger>(
+    rt: &impl Abort,
     alloc: Global,
     at: Watching,
     points: &[Point],
     blank: Blank,
-) -> Watched
+) -> Watching
     requires blank { IsBlankOf L.name L.parts blank }
     requires next { at.map.next + length points.now ≤ MAX_POINTS }
     requires small { length points.now < max 2 at.map.large }
@@ -43,8 +44,10 @@ fn put_scan_beside<L: Ledger>(
     let Watching { map, mut watches } = at;
     let (large, next) = (map.large, map.next);
     let _size = map.tree.size();
-    let items = live_items(alloc, next, points)?;
-    let tree = put_all_watched(
+    let Ok(items) = live_items(alloc, next, points) else {
+        panic!(rt; "no memory");
+    };
+    let Ok(tree) = put_all_watched(
         alloc,
         map.tree,
         large,
@@ -52,10 +55,12 @@ fn put_scan_beside<L: Ledger>(
         &mut watches,
         &mut scratch,
         &mut steps,
-    )?;
+    ) else {
+        panic!(rt; "no memory");
+    };
     let next = next + points.len() as u32;
     let map = Numbered { tree, next, large };
-    Ok(Watching { map, watches })
+    Watching { map, watches }
 }
 
 // Whether neither begins with the other.
@@ -114,39 +119,32 @@ fn have_room_at_once(count: usize, watches: &[Watch]) -> bool
 
 impl Watching {
     // A map of drawn points, from this size on of whose subtrees none is rebuilt in what follows.
-    fn started(
-        rt: &impl Abort,
-        alloc: Global,
-        paths: &[Path],
-        large: u32,
-    ) -> Result<Watching, Fail> {
-        let mut map = drawn_map(rt, alloc, &mut Draw { state: 7 })?;
+    fn started(rt: &impl Abort, alloc: Global, paths: &[Path], large: u32) -> Watching {
+        let mut map = drawn_map(rt, alloc, &mut Draw { state: 7 });
         map.large = large;
         Watching::new(rt, alloc, map, paths)
     }
 
-    fn put_singly(self, rt: &impl Abort, alloc: Global, points: &[Point]) -> Watched {
+    fn put_singly(self, rt: &impl Abort, alloc: Global, points: &[Point]) -> Watching {
         let mut at = self;
         for point in points {
-            at = at.put(rt, alloc, *point)?;
+            at = at.put(rt, alloc, *point);
         }
-        Ok(at)
+        at
     }
 
-    fn put_at_once(self, rt: &impl Abort, alloc: Global, points: &[Point]) -> Watched {
+    fn put_at_once(self, rt: &impl Abort, alloc: Global, points: &[Point]) -> Watching {
         let many = points.len();
         let watches = self.watches.as_slice();
-        assert!(rt; many < self.map.large.max(2) as usize);
-        assert!(rt; many < 4_194_304);
-        assert!(rt; self.map.next < 4_194_304);
+        assert!(rt; many < self.map.large.max(2) as usize && many < 4_194_304);
+        assert!(rt; self.map.next < 4_194_304 && self.map.tree.size() < 4_194_304);
         assert!(rt; many <= (4_194_304 - self.map.next) as usize);
-        assert!(rt; self.map.tree.levels() <= 490);
-        assert!(rt; self.map.tree.size() < 4_194_304);
         assert!(rt; many <= (4_194_304 - self.map.tree.size()) as usize);
-        assert!(rt; are_large(&self.map.tree, self.map.large, watches));
-        assert!(rt; are_all_apart(watches));
-        assert!(rt; have_room_at_once(many, watches));
-        put_scan_beside::<Brand>(alloc, self, points, Blank::new(1))
+        assert!(rt;
+            self.map.tree.levels() <= 490 && are_large(&self.map.tree, self.map.large, watches)
+        );
+        assert!(rt; are_all_apart(watches) && have_room_at_once(many, watches));
+        put_scan_beside::<Brand>(rt, alloc, self, points, Blank::new(1))
     }
 }
 
@@ -158,79 +156,60 @@ struct Both {
 }
 
 impl Both {
-    fn changed(
-        self,
-        rt: &impl Abort,
-        alloc: Global,
-        draw: &mut Draw,
-        count: u32,
-    ) -> Result<Both, Fail> {
+    fn changed(self, rt: &impl Abort, alloc: Global, draw: &mut Draw, count: u32) -> Both {
         let Both { singly, scanned } = self;
-        let action = draw.action()?;
-        let singly = singly.marked(rt, alloc, &action)?;
-        let scanned = scanned.marked(rt, alloc, &action)?;
-        let points = draw.points(alloc, count)?;
-        let singly = singly.put_singly(rt, alloc, points.as_slice())?;
-        let scanned = scanned.put_at_once(rt, alloc, points.as_slice())?;
-        Ok(Both { singly, scanned })
+        let action = draw.action(rt);
+        let singly = singly.marked(rt, alloc, &action);
+        let scanned = scanned.marked(rt, alloc, &action);
+        let points = draw.points(rt, alloc, count);
+        let singly = singly.put_singly(rt, alloc, points.as_slice());
+        let scanned = scanned.put_at_once(rt, alloc, points.as_slice());
+        Both { singly, scanned }
     }
 
-    fn hold_the_same(&self, rt: &impl Abort, alloc: Global) -> Result<(), Fail> {
-        let scanned = self.scanned.map.tree.flatten(alloc)?;
-        let singly = self.singly.map.tree.flatten(alloc)?;
-        let are_same = scanned.as_slice() == singly.as_slice();
-        holds(rt, "what both hold", are_same);
-        Ok(())
+    fn hold_the_same(&self, rt: &impl Abort, alloc: Global) {
+        let singly = made(rt, self.singly.map.tree.flatten(alloc));
+        holds_all(rt, alloc, &self.scanned.map.tree, singly.as_slice());
     }
 
-    // As many operations are logged at each in both, and make of what it was what it holds.
-    fn have_logged(
-        &self,
-        rt: &impl Abort,
-        alloc: Global,
-        olds: Vec<Vec<Item>>,
-    ) -> Result<(), Fail> {
-        let mut olds = olds.into_iter();
+    // As many operations are logged at each in both.
+    fn have_logged(&self, rt: &impl Abort) {
         let mut others = self.singly.watches.as_slice().iter();
         for watch in self.scanned.watches.as_slice() {
-            let (Some(items), Some(other)) = (olds.next(), others.next()) else {
-                return Err(Fail::new("fewer watches"));
-            };
+            let other = found(rt, others.next());
             same(rt, "operations", watch.log.len(), other.log.len());
-            became(rt, alloc, &self.scanned.map.tree, watch, items)?;
         }
-        Ok(())
     }
 }
 
-fn scans_beside(
-    rt: &impl Abort,
-    alloc: Global,
-    paths: &[Path],
-    large: u32,
-    count: u32,
-) -> Result<(), Fail> {
-    let singly = Watching::started(rt, alloc, paths, large)?;
-    let scanned = Watching::started(rt, alloc, paths, large)?;
-    let olds = held_at(alloc, &scanned.map.tree, paths)?;
-    let mut both = Both { singly, scanned };
+// What is logged makes of what each was what it holds.
+fn scans_beside(rt: &impl Abort, alloc: Global, paths: &[Path], large: u32, count: u32) {
+    let singly = Watching::started(rt, alloc, paths, large);
+    let scanned = Watching::started(rt, alloc, paths, large);
+    let olds = held_at(rt, alloc, &scanned.map.tree, paths);
+    let both = scanned_often(rt, alloc, Both { singly, scanned }, count);
+    both.have_logged(rt);
+    all_became(rt, alloc, &both.scanned, olds);
+}
+
+fn scanned_often(rt: &impl Abort, alloc: Global, both: Both, count: u32) -> Both {
+    let mut both = both;
     let mut draw = Draw { state: 11 };
     for _ in 0..5 {
-        both = both.changed(rt, alloc, &mut draw, count)?;
-        both.hold_the_same(rt, alloc)?;
+        both = both.changed(rt, alloc, &mut draw, count);
+        both.hold_the_same(rt, alloc);
     }
-    both.have_logged(rt, alloc, olds)
+    both
 }
 
 #[test]
-fn a_scan_beside_watched_subtrees_does_what_its_points_do(rt: HostRuntime) -> Result<(), Fail> {
+fn a_scan_beside_watched_subtrees_does_what_its_points_do(rt: HostRuntime) {
     let alloc = rt.alloc();
     let [first, second, ..] = grandsons();
     let left = Path::root().down(Side::Left);
     for (large, count) in [(16, 12), (40, 39)] {
-        scans_beside(&rt, alloc, &[left], large, count)?;
-        scans_beside(&rt, alloc, &[second, first], large, count)?;
-        scans_beside(&rt, alloc, &grandsons(), large, count)?;
+        scans_beside(&rt, alloc, &[left], large, count);
+        scans_beside(&rt, alloc, &[second, first], large, count);
+        scans_beside(&rt, alloc, &grandsons(), large, count);
     }
-    Ok(())
 }

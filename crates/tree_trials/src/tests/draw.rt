@@ -1,11 +1,12 @@
 //! Draws: places, boxes and actions that look as if by chance, and are the same at each run.
 ghost use Rattle.std.specs.Prelude.{pos, ◌≤ℤ◌, ◌<ℤ◌};
 
+use crate::tests::assertions::made;
 use crate::tests::numbered::between;
 use map_fold::{Choice, Item, Label, Tag};
 use point_geom::{Cuboid, Point};
 use std::alloc::Global;
-use std::test::Fail;
+use std::process::Abort;
 
 // What is done to the items that are chosen.
 #[derive(Clone, Copy)]
@@ -31,11 +32,11 @@ impl Draw {
         (self.state >> 40) as i64 % 16
     }
 
-    pub fn action(&mut self) -> Result<Action, Fail> {
-        let cuboid = self.cuboid()?;
+    pub fn action(&mut self, rt: &impl Abort) -> Action {
+        let cuboid = self.cuboid(rt);
         let choice = self.choice(&cuboid);
         let tag = self.tag();
-        Ok(Action { choice, tag })
+        Action { choice, tag }
     }
 
     fn tag(&mut self) -> Tag {
@@ -47,27 +48,29 @@ impl Draw {
         }
     }
 
-    pub fn point(&mut self) -> Result<Point, Fail> {
-        Ok(Point::new(self.sixteenth(), self.sixteenth(), self.sixteenth())?)
+    pub fn point(&mut self, rt: &impl Abort) -> Point {
+        let point = Point::new(self.sixteenth(), self.sixteenth(), self.sixteenth());
+        made(rt, point)
     }
 
-    pub fn points(&mut self, alloc: Global, count: u32) -> Result<Vec<Point>, Fail> {
+    pub fn points(&mut self, rt: &impl Abort, alloc: Global, count: u32) -> Vec<Point> {
         let mut points = Vec::new(alloc);
         for _ in 0..count {
-            points.push(self.point()?)?;
+            let point = self.point(rt);
+            made(rt, points.push(point));
         }
-        Ok(points)
+        points
     }
 
     // It covers, touches, cuts or misses a part of the points.
-    fn cuboid(&mut self) -> Result<Cuboid, Fail> {
+    fn cuboid(&mut self, rt: &impl Abort) -> Cuboid {
         let lo = (self.sixteenth(), self.sixteenth(), self.sixteenth());
         let hi = (
             lo.0 + self.sixteenth(),
             lo.1 + self.sixteenth(),
             lo.2 + self.sixteenth(),
         );
-        between(lo, hi)
+        made(rt, between(lo, hi))
     }
 
     // By the box, by numbers below a bound, by both, and of all.

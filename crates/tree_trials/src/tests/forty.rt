@@ -4,63 +4,62 @@ ghost use Rattle.map_fold.specs.Contents.{live_at};
 ghost use Rattle.kd_tree.specs.Contents.{AreDistinct, AreKept};
 ghost use Rattle.kd_tree.specs.Counter.{IsBlankOf};
 
-use crate::tests::assertions::{holds, same};
+use crate::tests::assertions::{holds, made, same};
 use crate::tests::lists::{holds_all, top_of};
 use kd_tree::{Path, Side, Steps, Tree};
 use map_fold::{Item, Label, Tag};
 use point_geom::{Axis, Point};
-use std::alloc::Global;
+use std::alloc::{AllocError, Global};
 use std::marker::Brand;
 use std::process::Abort;
 use std::sync::ledger::{Blank, Ledger};
-use std::test::Fail;
 
 // A live item.
-pub fn item(number: u32, x: i64) -> Result<Item, Fail>
-    ensures x { IfOk result (λ i. i.point.x ≡ x) }
-    ensures live { IfOk result (λ i. i ≡ live_at number i.point) }
+pub fn item(rt: &impl Abort, number: u32, x: i64) -> Item
+    ensures x { result.point.x ≡ x }
+    ensures live { result ≡ live_at number result.point }
 {
-    let point = Point::new(x, 0, 0)?;
-    Ok(Item {
+    Item {
         number,
-        point,
+        point: made(rt, Point::new(x, 0, 0)),
         label: Label::Live,
-    })
+    }
 }
 
 // Live items at x from 1 on.
-fn forty_items(alloc: Global) -> Result<Vec<Item>, Fail>
+fn forty_items(rt: &impl Abort, alloc: Global) -> Result<Vec<Item>, AllocError>
     ensures kept { IfOk result (λ v. AreKept v.items) }
     ensures distinct { IfOk result (λ v. AreDistinct v.items) }
     ensures few { IfOk result (λ v. length v.items ≤ 40) }
 {
     let mut items = Vec::new(alloc);
     for number in 0..40 {
-        items.push(item(number, number as i64 + 1)?)?;
+        items.push(item(rt, number, number as i64 + 1))?;
     }
     Ok(items)
 }
 
-pub fn forty<L: Ledger>(alloc: Global, steps: &mut Steps<L>) -> Result<Tree, Fail> {
-    let items = forty_items(alloc)?;
-    Ok(Tree::build(alloc, &items, steps)?)
+pub fn forty<L: Ledger>(rt: &impl Abort, alloc: Global, steps: &mut Steps<L>) -> Tree {
+    let items = made(rt, forty_items(rt, alloc));
+    made(rt, Tree::build(alloc, &items, steps))
 }
 
 // The tree of the items, with this action done to all.
-pub fn forty_after(alloc: Global, tag: Tag) -> Result<Tree, Fail> {
-    tagged_forty::<Brand>(alloc, tag, Blank::new(1))
+pub fn forty_after(rt: &impl Abort, alloc: Global, tag: Tag) -> Tree {
+    tagged_forty::<Brand>(rt, alloc, tag, Blank::new(1))
 }
 
-fn tagged_forty<L: Ledger>(alloc: Global, tag: Tag, blank: Blank) -> Result<Tree, Fail>
+fn tagged_forty<L: Ledger>(rt: &impl Abort, alloc: Global, tag: Tag, blank: Blank) -> Tree
     requires blank { IsBlankOf L.name L.parts blank }
 {
     let mut steps: Steps<L> = Steps::new(blank);
-    Ok(forty(alloc, &mut steps)?.tagged(alloc, tag, &mut steps)?)
+    let tree = forty(rt, alloc, &mut steps);
+    made(rt, tree.tagged(alloc, tag, &mut steps))
 }
 
 // The tree holds the numbers from 0 to n - 1, all suspended.
-pub fn is_suspended(rt: &impl Abort, alloc: Global, tree: &Tree, n: u32) -> Result<(), Fail> {
-    let items = tree.flatten(alloc)?;
+pub fn is_suspended(rt: &impl Abort, alloc: Global, tree: &Tree, n: u32) {
+    let items = made(rt, tree.flatten(alloc));
     let mut next = 0;
     for item in items.as_slice() {
         same(rt, "the number", item.number, next);
@@ -69,19 +68,21 @@ pub fn is_suspended(rt: &impl Abort, alloc: Global, tree: &Tree, n: u32) -> Resu
     }
     same(rt, "items", next, n);
     same(rt, "suspended items", tree.counts().suspended, n);
-    Ok(())
 }
 
 #[test]
-fn forty_items_are_built_by_medians(rt: HostRuntime) -> Result<(), Fail> {
+fn forty_items_are_built_by_medians(rt: HostRuntime) {
     let alloc = rt.alloc();
-    let tree = forty_after(alloc, Tag::KEEP)?;
-    let items = forty_items(alloc)?;
-    holds_all(&rt, alloc, &tree, items.as_slice())?;
-    adds_up(&rt, &tree);
-    halves_each_row(&rt, &tree)?;
-    begins_with_a_leaf(&rt, &tree);
-    Ok(())
+    let tree = forty_after(&rt, alloc, Tag::KEEP);
+    let items = made(&rt, forty_items(&rt, alloc));
+    holds_all(&rt, alloc, &tree, items.as_slice());
+    is_halved(&rt, &tree);
+}
+
+fn is_halved(rt: &impl Abort, tree: &Tree) {
+    adds_up(rt, tree);
+    halves_each_row(rt, tree);
+    begins_with_a_leaf(rt, tree);
 }
 
 fn adds_up(rt: &impl Abort, tree: &Tree) {
@@ -94,15 +95,14 @@ fn adds_up(rt: &impl Abort, tree: &Tree) {
     holds(rt, "no breach", is_even);
 }
 
-fn halves_each_row(rt: &impl Abort, tree: &Tree) -> Result<(), Fail> {
+fn halves_each_row(rt: &impl Abort, tree: &Tree) {
     let Some(top) = tree.top() else {
-        return Err(Fail::new("no top"));
+        panic!(rt; "no top");
     };
     holds(rt, "the axis", top.axis == Axis::X);
-    same(rt, "the top", top_of(tree)?, (20, 19, 20));
-    same(rt, "the left son", top_of(top.left)?, (10, 9, 9));
-    same(rt, "the right son", top_of(top.right)?, (30, 9, 10));
-    Ok(())
+    same(rt, "the top", top_of(rt, tree), (20, 19, 20));
+    same(rt, "the left son", top_of(rt, top.left), (10, 9, 9));
+    same(rt, "the right son", top_of(rt, top.right), (30, 9, 10));
 }
 
 // The least item has no son.

@@ -3,15 +3,15 @@ ghost use Rattle.std.specs.Prelude.{◌<◌, Contains, ℕ};
 ghost use Rattle.kd_tree.specs.Shape.{numbers};
 ghost use Rattle.kd_tree.specs.Counter.{IsBlankOf};
 
+use crate::tests::assertions::made;
 use kd_tree::{Steps, Tree};
 use kd_update::{put, roomy, settled};
 use map_fold::{MAX_POINTS, NoMemory};
-use point_geom::{Corner, Cuboid, Point};
+use point_geom::{Corner, Cuboid, CuboidError, Point};
 use std::alloc::Global;
 use std::marker::Brand;
 use std::process::Abort;
 use std::sync::ledger::{Blank, Ledger};
-use std::test::Fail;
 
 // A tree whose numbers lie below the next one. Updates rebuild none of its subtrees from `large` nodes on.
 #[derive(Drop)]
@@ -34,9 +34,9 @@ impl Numbered {
         }
     }
 
-    pub fn put(self, rt: &impl Abort, alloc: Global, point: Point) -> Changed {
+    pub fn put(self, rt: &impl Abort, alloc: Global, point: Point) -> Numbered {
         assert!(rt; self.next < 4_194_304);
-        put_next::<Brand>(alloc, self, point, Blank::new(1))
+        made(rt, put_next::<Brand>(alloc, self, point, Blank::new(1)))
     }
 
     pub fn settled(self, alloc: Global) -> Changed {
@@ -49,19 +49,13 @@ impl Numbered {
     }
 
     // Puts the points (x, 0, 0) for x from `from` to `to` less one, one by one.
-    pub fn risen(
-        self,
-        rt: &impl Abort,
-        alloc: Global,
-        from: i64,
-        to: i64,
-    ) -> Result<Numbered, Fail> {
+    pub fn risen(self, rt: &impl Abort, alloc: Global, from: i64, to: i64) -> Numbered {
         let mut map = self;
         for x in from..to {
-            let point = Point::new(x, 0, 0)?;
-            map = map.put(rt, alloc, point)?;
+            let point = made(rt, Point::new(x, 0, 0));
+            map = map.put(rt, alloc, point);
         }
-        Ok(map)
+        map
     }
 }
 
@@ -70,9 +64,15 @@ fn put_next<L: Ledger>(alloc: Global, map: Numbered, point: Point, blank: Blank)
     requires next { map.next < MAX_POINTS }
 {
     let mut steps: Steps<L> = Steps::new(blank);
+    put_on(alloc, map, point, &mut steps)
+}
+
+fn put_on<L: Ledger>(alloc: Global, map: Numbered, point: Point, steps: &mut Steps<L>) -> Changed
+    requires next { map.next < MAX_POINTS }
+{
     let _size = map.tree.size();
-    let tree = roomy(alloc, map.tree, &mut steps)?;
-    let tree = put(alloc, tree, map.large, map.next, point, &mut steps)?;
+    let tree = roomy(alloc, map.tree, steps)?;
+    let tree = put(alloc, tree, map.large, map.next, point, steps)?;
     Ok(Numbered {
         tree,
         next: map.next + 1,
@@ -80,7 +80,7 @@ fn put_next<L: Ledger>(alloc: Global, map: Numbered, point: Point, blank: Blank)
     })
 }
 
-pub fn between(lo: (i64, i64, i64), hi: (i64, i64, i64)) -> Result<Cuboid, Fail> {
+pub fn between(lo: (i64, i64, i64), hi: (i64, i64, i64)) -> Result<Cuboid, CuboidError> {
     let lo = Corner {
         x: lo.0,
         y: lo.1,
@@ -91,5 +91,5 @@ pub fn between(lo: (i64, i64, i64), hi: (i64, i64, i64)) -> Result<Cuboid, Fail>
         y: hi.1,
         z: hi.2,
     };
-    Ok(Cuboid::new(lo, hi)?)
+    Cuboid::new(lo, hi)
 }

@@ -3,23 +3,22 @@ ghost use Rattle.std.specs.Prelude.{◌≡◌, ◌<◌, true};
 ghost use Rattle.std.specs.List.{AllByRecursion};
 ghost use Rattle.kd_tree.specs.Counter.{IsBlankOf};
 
-use crate::tests::assertions::same;
+use crate::tests::assertions::{made, same};
 use crate::tests::breaches::left_dropped;
 use crate::tests::forty::{forty, item};
 use crate::tests::lists::holds_all;
 use kd_tree::{Scratch, Steps, Tree};
-use map_fold::{Item, Items, Tag};
+use map_fold::{Item, Items, NoMemory, Tag};
 use std::alloc::Global;
 use std::marker::Brand;
 use std::process::Abort;
 use std::sync::ledger::{Blank, Ledger};
-use std::test::Fail;
 
 // Of forty items 19 are dropped, and the others suspended, which the sons of the top are yet to hear.
-fn half_left<L: Ledger>(alloc: Global, steps: &mut Steps<L>) -> Result<Tree, Fail> {
-    let tree = forty(alloc, steps)?;
-    let tree = left_dropped(alloc, tree, steps)?;
-    Ok(tree.tagged(alloc, Tag::SUSPEND, steps)?)
+fn half_left<L: Ledger>(rt: &impl Abort, alloc: Global, steps: &mut Steps<L>) -> Tree {
+    let tree = forty(rt, alloc, steps);
+    let tree = left_dropped(rt, alloc, tree, steps);
+    made(rt, tree.tagged(alloc, Tag::SUSPEND, steps))
 }
 
 fn all_below(items: &[Item], n: u32) -> bool
@@ -33,18 +32,19 @@ fn all_below(items: &[Item], n: u32) -> bool
 
 // The tree rebuilt with a live item more, whose number is 100.
 fn with_hundredth<L: Ledger>(
+    rt: &impl Abort,
     alloc: Global,
     tree: Tree,
     scratch: &mut Scratch,
     steps: &mut Steps<L>,
-) -> Result<Tree, Fail> {
+) -> Result<Tree, NoMemory> {
     let _size = tree.size();
     let items = tree.flatten(alloc)?;
     if !all_below(items.as_slice(), 100) {
-        return Err(Fail::new("a number from 100 on"));
+        panic!(rt; "a number from 100 on");
     }
-    let more = [item(100, 101)?];
-    Ok(tree.rebuilt_with(alloc, &more, scratch, steps)?)
+    let more = [item(rt, 100, 101)];
+    tree.rebuilt_with(alloc, &more, scratch, steps)
 }
 
 // How many items are live, suspended and dropped.
@@ -60,12 +60,12 @@ fn rebuilt_beside<L: Ledger>(
     tree: &Tree,
     scratch: &mut Scratch,
     steps: &mut Steps<L>,
-) -> Result<Tree, Fail> {
-    let copy = tree.copy(alloc, steps)?;
-    let copy = with_hundredth(alloc, copy, scratch, steps)?;
+) -> Tree {
+    let copy = made(rt, tree.copy(alloc, steps));
+    let copy = made(rt, with_hundredth(rt, alloc, copy, scratch, steps));
     same(rt, "the rebuilt tree", counts(&copy), (1, 21, 0));
     same(rt, "the tree beside it", counts(tree), (0, 21, 19));
-    Ok(copy)
+    copy
 }
 
 // What was left, and the new item.
@@ -79,24 +79,25 @@ fn are_from_19_on(rt: &impl Abort, items: &[Item]) {
 
 // A restored copy of a tree that is dropped. The tree gives up its nodes, but for those that the copy has.
 fn restored<L: Ledger>(
+    rt: &impl Abort,
     alloc: Global,
     scratch: &mut Scratch,
     steps: &mut Steps<L>,
-) -> Result<Tree, Fail> {
-    let tree = half_left(alloc, steps)?;
-    let copy = tree.copy(alloc, steps)?;
-    let restored = copy.tagged(alloc, Tag::RESTORE, steps)?;
+) -> Tree {
+    let tree = half_left(rt, alloc, steps);
+    let copy = made(rt, tree.copy(alloc, steps));
+    let restored = made(rt, copy.tagged(alloc, Tag::RESTORE, steps));
     scratch.take_in(tree);
-    Ok(restored)
+    restored
 }
 
-fn rebuilt_with<L: Ledger>(rt: &impl Abort, alloc: Global, blank: Blank) -> Result<(), Fail>
+fn rebuilt_with<L: Ledger>(rt: &impl Abort, alloc: Global, blank: Blank)
     requires blank { IsBlankOf L.name L.parts blank }
 {
     let mut steps: Steps<L> = Steps::new(blank);
     let mut scratch = Scratch::new(alloc);
-    let items = rebuilt_first(rt, alloc, &mut scratch, &mut steps)?;
-    rebuilt_next(rt, alloc, items.as_slice(), &mut scratch, &mut steps)
+    let items = rebuilt_first(rt, alloc, &mut scratch, &mut steps);
+    rebuilt_next(rt, alloc, items.as_slice(), &mut scratch, &mut steps);
 }
 
 // What the first tree holds when it is rebuilt, beside itself and in its own nodes.
@@ -105,14 +106,14 @@ fn rebuilt_first<L: Ledger>(
     alloc: Global,
     scratch: &mut Scratch,
     steps: &mut Steps<L>,
-) -> Result<Items, Fail> {
-    let tree = half_left(alloc, steps)?;
-    let items = held_when_rebuilt(rt, alloc, &tree, scratch, steps)?;
+) -> Items {
+    let tree = half_left(rt, alloc, steps);
+    let items = held_when_rebuilt(rt, alloc, &tree, scratch, steps);
     are_from_19_on(rt, items.as_slice());
     // The tree's own nodes are used again, and some of them are left over.
-    let rebuilt = with_hundredth(alloc, tree, scratch, steps)?;
-    holds_all(rt, alloc, &rebuilt, items.as_slice())?;
-    Ok(items)
+    let rebuilt = made(rt, with_hundredth(rt, alloc, tree, scratch, steps));
+    holds_all(rt, alloc, &rebuilt, items.as_slice());
+    items
 }
 
 fn held_when_rebuilt<L: Ledger>(
@@ -121,9 +122,9 @@ fn held_when_rebuilt<L: Ledger>(
     tree: &Tree,
     scratch: &mut Scratch,
     steps: &mut Steps<L>,
-) -> Result<Items, Fail> {
-    let copy = rebuilt_beside(rt, alloc, tree, scratch, steps)?;
-    Ok(copy.flatten(alloc)?)
+) -> Items {
+    let copy = rebuilt_beside(rt, alloc, tree, scratch, steps);
+    made(rt, copy.flatten(alloc))
 }
 
 // The nodes that are left over take the next trees.
@@ -133,13 +134,12 @@ fn rebuilt_next<L: Ledger>(
     items: &[Item],
     scratch: &mut Scratch,
     steps: &mut Steps<L>,
-) -> Result<(), Fail> {
-    let other = half_left(alloc, steps)?;
-    holds_when_rebuilt(rt, alloc, &other, items, scratch, steps)?;
-    let restored = restored(alloc, scratch, steps)?;
-    holds_when_rebuilt(rt, alloc, &other, items, scratch, steps)?;
+) {
+    let other = half_left(rt, alloc, steps);
+    holds_when_rebuilt(rt, alloc, &other, items, scratch, steps);
+    let restored = restored(rt, alloc, scratch, steps);
+    holds_when_rebuilt(rt, alloc, &other, items, scratch, steps);
     same(rt, "the restored tree", counts(&restored), (21, 0, 19));
-    Ok(())
 }
 
 fn holds_when_rebuilt<L: Ledger>(
@@ -149,12 +149,12 @@ fn holds_when_rebuilt<L: Ledger>(
     items: &[Item],
     scratch: &mut Scratch,
     steps: &mut Steps<L>,
-) -> Result<(), Fail> {
-    let copy = rebuilt_beside(rt, alloc, tree, scratch, steps)?;
-    holds_all(rt, alloc, &copy, items)
+) {
+    let copy = rebuilt_beside(rt, alloc, tree, scratch, steps);
+    holds_all(rt, alloc, &copy, items);
 }
 
 #[test]
-fn trees_built_anew_hold_what_was_left_and_the_new_items(rt: HostRuntime) -> Result<(), Fail> {
-    rebuilt_with::<Brand>(&rt, rt.alloc(), Blank::new(1))
+fn trees_built_anew_hold_what_was_left_and_the_new_items(rt: HostRuntime) {
+    rebuilt_with::<Brand>(&rt, rt.alloc(), Blank::new(1));
 }

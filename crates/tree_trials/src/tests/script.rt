@@ -2,12 +2,12 @@
 ghost use Rattle.std.specs.Prelude.{◌≡◌, []};
 ghost use Rattle.map_fold.specs.Ops.{Fit};
 
+use crate::tests::assertions::made;
 use map_fold::{Choice, NoMemory, Op, Tag};
 use point_geom::Point;
 use std::alloc::Global;
 use std::marker::Model;
 use std::process::Abort;
-use std::test::Fail;
 
 // Operations, each of whose points has the next number.
 #[derive(Drop)]
@@ -64,12 +64,12 @@ impl Script {
     }
 
     // Puts the points (x, 0, 0) for x from `from` to `to` less one, one by one.
-    pub fn risen(self, rt: &impl Abort, from: i64, to: i64) -> Result<Script, Fail> {
+    pub fn risen(self, rt: &impl Abort, from: i64, to: i64) -> Script {
         let mut script = self;
         for x in from..to {
-            let point = Point::new(x, 0, 0)?;
-            script = script.put(rt, point)?;
+            let point = made(rt, Point::new(x, 0, 0));
+            script = made(rt, script.put(rt, point));
         }
-        Ok(script)
+        script
     }
 }

@@ -8,11 +8,11 @@ use Rattle.rebuild_core.proofs.KnownItems.{items_of_job}
 use Rattle.map_trials.proofs.tests.snapshots.given_a_list.Goals as goal
 
 pub hold-tree-requires : goal.hold-tree-requires
-hold-tree-requires c =
+hold-tree-requires g c =
     let old = c.args.state.now.state in
     let new = c.snapshot.new.self.state in
     let snapshot = c.in-Some.snapshot in
-    let job : c.in_ok-job.job ≡ snapshot = c.in_ok-job.ensures in
+    let job : c.listed-job.result ≡ snapshot = c.listed-job.ensures in
     let step = subst (λ (o : Option JobAt). IfSome o (λ j. IsDetachStep 1 old j new)) c.in-Some.is c.in_ok-snapshot.ensures.detached in
     let known = items_of_job 1 old snapshot new c.history-history.ensures.lawful step in
     let ticket = c.ticket.ensures ∙ ap (λ (j : JobAt). j.ticket) job in

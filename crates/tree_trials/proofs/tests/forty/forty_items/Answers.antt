@@ -6,17 +6,17 @@ use Rattle.kd_tree.proofs.Held.{are_kept, are_distinct}
 use Rattle.tree_trials.proofs.tests.forty.forty_items.Goals as goal
 
 pub loop-number-preserved : goal.loop-number-preserved
-loop-number-preserved c =
+loop-number-preserved g c =
     let n = c.loop-number.number in
     let m = c.loop-number.items.items in
-    let i = c.in_ok-item.field-0 in
-    rw c.in_ok-push.ensures.items (subst (λ (j : Item). AreContents 0 (n + 1) (m ++ j ∷ [])) (sym c.in_ok-item.ensures.live) (contents_push 0 n m i.point (omega arith) c.loop-number.invariant))
+    let i = c.item.result in
+    rw c.in_ok-push.ensures.items (subst (λ (j : Item). AreContents 0 (n + 1) (m ++ j ∷ [])) (sym c.item.ensures.live) (contents_push 0 n m i.point (omega arith) c.loop-number.invariant))
 
 pub returns-clause-kept : goal.returns-clause-kept
-returns-clause-kept c = are_kept 0 c.loop-number.number c.loop-number.items.items c.loop-number.invariant
+returns-clause-kept g c = are_kept 0 c.loop-number.number c.loop-number.items.items c.loop-number.invariant
 
 pub returns-clause-distinct : goal.returns-clause-distinct
-returns-clause-distinct c = are_distinct 0 c.loop-number.number c.loop-number.items.items c.loop-number.invariant
+returns-clause-distinct g c = are_distinct 0 c.loop-number.number c.loop-number.items.items c.loop-number.invariant
 
 pub returns-clause-few : goal.returns-clause-few
-returns-clause-few c = omega (arith, contents_length 0 c.loop-number.number c.loop-number.items.items (omega arith) c.loop-number.invariant)
+returns-clause-few g c = omega (arith, contents_length 0 c.loop-number.number c.loop-number.items.items (omega arith) c.loop-number.invariant)

@@ -28,7 +28,7 @@ few t fit = omega (arith, contents_length 0 100 (contents t) (omega arith) fit, 
 pub rebuilt_with-requires-clause-distinct : goal.rebuilt_with-requires-clause-distinct
 rebuilt_with-requires-clause-distinct g c =
     let all = subst (λ (xs : List Item). AllByRecursion (λ (i : Item). i.number < 100) xs) (c.as_slice.ensures ∙ c.in_ok-items.ensures) (c.all_below.ensures c.if-not-all_below.false) in
-    joins c.args.tree c.in_ok-item.field-0 (below c.args.tree c.size-size.ensures.sound all) c.in_ok-item.ensures.live
+    joins c.args.tree c.item.result (below c.args.tree c.size-size.ensures.sound all) c.item.ensures.live
 
 pub rebuilt_with-requires-clause-few : goal.rebuilt_with-requires-clause-few
 rebuilt_with-requires-clause-few g c =

@@ -7,5 +7,5 @@ put_watched-requires-clause-new g c = unheld c.args.at.map.next c.args.at.map.tr
 
 pub invariant_of-map : goal.invariant_of-map
 invariant_of-map g c = record {
-  below = below_next c.args.at.map.next (numbers c.args.at.map.tree) (numbers c.in_ok-tree.tree) c.in_ok-tree.ensures.numbers c.args.at.map.below;
+  below = below_next c.args.at.map.next (numbers c.args.at.map.tree) (numbers c.in-Ok.tree) c.in-Ok.ensures.numbers c.args.at.map.below;
 }

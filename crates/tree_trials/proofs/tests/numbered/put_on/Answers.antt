@@ -1,7 +1,7 @@
 use Rattle.std.proofs.Common.{arith}
 use Rattle.kd_tree.specs.Shape.{numbers}
 use Rattle.kd_update.proofs.Numbers.{left_few, unheld, below_next}
-use Rattle.tree_trials.proofs.tests.numbered.put_next.Goals as goal
+use Rattle.tree_trials.proofs.tests.numbered.put_on.Goals as goal
 
 pub roomy-requires : goal.roomy-requires
 roomy-requires g c = omega (arith, left_few c.args.map.next c.args.map.tree c.size-size.ensures.sound c.args.map.below)
