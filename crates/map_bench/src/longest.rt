@@ -3,10 +3,12 @@ use crate::bench::Bench;
 use crate::course::{Lie, POINTS_OF_SCAN, Scan, scans};
 use crate::draws::Draws;
 use crate::growing::taking_in;
-use crate::robot::{LARGE, Robot};
+use crate::robot::Robot;
 use crate::stop::Stop;
 use crate::told::Told;
+use rebuild_core::Job;
 use std::alloc::Global;
+use std::io;
 use std::sync::ledger::Ledger;
 use std::time::{Clock, Instant};
 
@@ -44,11 +46,14 @@ impl Longest {
 }
 
 /// A map grows to so many points, and then by so many more, whose scans are looked at.
-pub fn longest_steps<L: Ledger, R: Clock>(at: &mut Bench<'_, L, R>) -> Result<Told, Stop> {
+pub fn longest_steps<L: Ledger, R: Clock>(
+    at: &mut Bench<'_, L, R>,
+    robot: &mut Robot,
+) -> Result<Told, Stop> {
     let count = at.size.count.saturating_add(at.size.asked);
     let scans = scans(at.alloc, Lie::Kept, count, &mut Draws::new())?;
     let grown = (at.size.count / POINTS_OF_SCAN) as usize;
-    let longest = longest_from(at, scans.as_slice(), grown)?;
+    let longest = longest_from(at, robot, scans.as_slice(), grown)?;
     told(at.alloc, longest)
 }
 
@@ -69,23 +74,16 @@ fn told(alloc: Global, longest: Longest) -> Result<Told, Stop> {
 // The longest of each step, from so many scans on.
 fn longest_from<L: Ledger, R: Clock>(
     at: &mut Bench<'_, L, R>,
+    robot: &mut Robot,
     scans: &[Scan],
     from: usize,
 ) -> Result<Longest, Stop> {
-    let mut robot = Robot::new(at.alloc, LARGE, false)?;
-    let (before, looked_at) = scans.split_at(from.min(scans.len()));
-    let _unlooked = longest_of(at, &mut robot, before)?;
-    longest_of(at, &mut robot, looked_at)
-}
-
-fn longest_of<L: Ledger, R: Clock>(
-    at: &mut Bench<'_, L, R>,
-    robot: &mut Robot,
-    scans: &[Scan],
-) -> Result<Longest, Stop> {
     let mut longest = Longest::none();
-    for scan in scans {
-        longest = longest.max(step_times(at, robot, scan)?);
+    for (number, scan) in scans.iter().enumerate() {
+        let times = step_times(at, robot, scan)?;
+        if from <= number {
+            longest = longest.max(times);
+        }
     }
     Ok(longest)
 }
@@ -96,22 +94,14 @@ fn step_times<L: Ledger, R: Clock>(
     robot: &mut Robot,
     scan: &Scan,
 ) -> Result<Longest, Stop> {
-    let begun = Instant::now(at.rt)?;
+    let begun = Instant::now(at.rt);
     let update = taking_in(at, robot, scan)?;
-    let Some(job) = robot.detach(at.alloc)? else {
-        let together = begun.elapsed(at.rt)?.as_micros();
-        return Ok(Longest {
-            update,
-            detach: together.saturating_sub(update),
-            together,
-            ..Longest::none()
-        });
+    let job = robot.detach(at.alloc)?;
+    let detached = at.micros(begun)?;
+    let (ready, together) = match job {
+        None => (detached, detached),
+        Some(job) => swapped(at, robot, job, begun)?,
     };
-    let detached = begun.elapsed(at.rt)?.as_micros();
-    let built = robot.build(at.alloc, job)?;
-    let ready = begun.elapsed(at.rt)?.as_micros();
-    robot.swap(at.alloc, built, &mut at.steps)?;
-    let together = begun.elapsed(at.rt)?.as_micros();
     Ok(Longest {
         update,
         detach: detached.saturating_sub(update),
@@ -119,4 +109,18 @@ fn step_times<L: Ledger, R: Clock>(
         swap: together.saturating_sub(ready),
         together,
     })
+}
+
+// The microseconds until the detached subtree was rebuilt, and until it was put back.
+fn swapped<L: Ledger, R: Clock>(
+    at: &mut Bench<'_, L, R>,
+    robot: &mut Robot,
+    job: Job,
+    begun: io::Result<Instant>,
+) -> Result<(u128, u128), Stop> {
+    let built = robot.build(at.alloc, job)?;
+    let ready = at.micros(begun)?;
+    robot.swap(at.alloc, built, &mut at.steps)?;
+    let together = at.micros(begun)?;
+    Ok((ready, together))
 }

@@ -1,9 +1,9 @@
 //! How long an update of one point takes while a detached subtree waits that has met so many operations.
 use crate::bench::Bench;
-use crate::course::{Lie, POINTS_OF_SCAN, Scan, points, scans};
+use crate::course::{Lie, POINTS_OF_SCAN, Scan, points};
 use crate::draws::Draws;
 use crate::growing::{Growing, grow, taking_in};
-use crate::robot::{LARGE, Robot};
+use crate::robot::Robot;
 use crate::stop::Stop;
 use crate::told::Told;
 use crate::words::Look;
@@ -25,11 +25,14 @@ const TRIES: u32 = 200;
 /// one point follow.
 pub fn update_waiting<L: Ledger, R: Clock + Threads + Sync>(
     at: &mut Bench<'_, L, R>,
+    robot: &mut Robot,
 ) -> Result<Told, Stop> {
     let mut draws = Draws::new();
-    let mut robot = detached(at, &mut draws)?;
-    log(at, &mut robot, &mut draws)?;
-    let (all, longest) = add_singly(at, &mut robot, &mut draws)?;
+    grow(at, robot, Lie::Kept, Look::Nothing, &mut draws)?;
+    // Nobody rebuilds it.
+    drop(robot.detach(at.alloc)?);
+    log(at, robot, &mut draws)?;
+    let (all, longest) = add_singly(at, robot, &mut draws)?;
     told(at.alloc, all, longest, robot.logged())
 }
 
@@ -39,17 +42,6 @@ fn told(alloc: Global, all: u128, longest: u128, logged: u32) -> Result<Told, St
         "all {all} us, longest {longest} us, {logged} operations logged"
     )?;
     Ok(Told { figures, sum: None })
-}
-
-fn detached<L: Ledger, R: Threads + Sync>(
-    at: &mut Bench<'_, L, R>,
-    draws: &mut Draws,
-) -> Result<Robot, Stop> {
-    let scans = scans(at.alloc, Lie::Kept, at.size.count, draws)?;
-    let mut robot = Robot::new(at.alloc, LARGE, false)?;
-    grow(at, &mut robot, Look::Nothing, scans.as_slice())?;
-    let _job = robot.detach(at.alloc)?;
-    Ok(robot)
 }
 
 // Adds points until the detached subtree has met as many operations as are asked for.

@@ -61,6 +61,17 @@ impl Times {
         Ok(())
     }
 
+    /// The nanoseconds of all steps of a kind.
+    pub fn all(&self, kind: Kind) -> u64 {
+        let mut all: u64 = 0;
+        for step in self.steps.as_slice() {
+            if step.kind == kind {
+                all = all.saturating_add(step.nanos);
+            }
+        }
+        all
+    }
+
     fn of(&self, alloc: Global, kind: Kind) -> Result<Vec<u64>, NoMemory> {
         let mut nanos = Vec::new(alloc);
         for step in self.steps.as_slice() {
@@ -84,11 +95,10 @@ fn not_above(sorted: &[u64], thousandths: usize) -> u64 {
     sorted.get(place).copied().unwrap_or(0)
 }
 
-/// How many steps there were, and nanoseconds of them all, of the median, the 99th percentile, the 99.9th, and the longest.
+/// How many steps there were, and nanoseconds of the median, the 99th percentile, the 99.9th, and the longest.
 #[derive(Clone, Copy)]
 pub struct Figures {
     pub steps: usize,
-    pub all: u64,
     median: u64,
     p99: u64,
     p999: u64,
@@ -99,7 +109,6 @@ impl Figures {
     fn of(sorted: &[u64]) -> Figures {
         Figures {
             steps: sorted.len(),
-            all: total(sorted),
             median: not_above(sorted, 500),
             p99: not_above(sorted, 990),
             p999: not_above(sorted, 999),
@@ -108,19 +117,11 @@ impl Figures {
     }
 }
 
-fn total(nanos: &[u64]) -> u64 {
-    let mut all: u64 = 0;
-    for nanos in nanos {
-        all = all.saturating_add(*nanos);
-    }
-    all
-}
-
 /// In microseconds.
 impl Display for Figures {
     fn fmt<W: Write>(&self, f: &mut Formatter<W>) -> Result<(), Error> {
         write!(f, "{}", self.steps)?;
-        for nanos in [self.median, self.p99, self.p999, self.longest] {
+        for nanos in &[self.median, self.p99, self.p999, self.longest] {
             write!(f, " {}.{}", nanos / 1_000, nanos % 1_000 / 100)?;
         }
         Ok(())
