@@ -6,7 +6,7 @@ use crate::growing::grow;
 use crate::grown::Grown;
 use crate::stop::Stop;
 use crate::told::Told;
-use crate::words::{Look, Way};
+use crate::words::Way;
 use kd_tree::Tree;
 use map_fold::Choice;
 use std::alloc::Global;
@@ -27,7 +27,7 @@ pub fn forget<L: Ledger, R: Clock + Threads + Sync>(
         Way::Cut => (Lie::Road, Choice::within(&road_box(half))),
         Way::Mixed => (Lie::Mixed(count), Choice::below(half)),
     };
-    grow(at, map, lie, Look::Nothing, &mut Draws::new())?;
+    grow(at, map, lie, &mut Draws::new())?;
     let nodes = touched(&map.tree, &older);
     let micros = delete(at, map, &older)?;
     told(at.alloc, micros, nodes, map.tree.counts().live)

@@ -22,33 +22,32 @@ pub trait Growing {
     fn take_in<L: Ledger, R>(&mut self, at: &mut Bench<'_, L, R>, scan: &Scan) -> Result<(), Stop>;
 }
 
-/// A map takes in scans that lie so; of a map that the robot leaves behind, the slab that is left after each tenth is deleted.
+/// How long a map takes to take in scans that lie so.
 pub fn timed<M: Growing, L: Ledger, R: Clock + Threads + Sync>(
     at: &mut Bench<'_, L, R>,
     map: &mut M,
     lie: Lie,
     look: Look,
 ) -> Result<Told, Stop> {
-    let (micros, sum) = grow(at, map, lie, look, &mut Draws::new())?;
-    Told::left(at.alloc, micros, sum, map.tree())
+    let scans = scans(at.alloc, lie, at.size.count, &mut Draws::new())?;
+    let begun = Instant::now(at.rt);
+    let sum = take_in_all(at, map, look, scans.as_slice())?;
+    at.told(begun, sum, map.tree())
 }
 
-/// The map takes in scans that lie so, of as many points as are asked for. The microseconds that it took, and the checksum of what was
-/// looked at before each scan.
-pub fn grow<M: Growing, L: Ledger, R: Clock + Threads + Sync>(
+/// A map takes in scans that lie so, of as many points as are asked for.
+pub fn grow<M: Growing, L: Ledger, R: Threads + Sync>(
     at: &mut Bench<'_, L, R>,
     map: &mut M,
     lie: Lie,
-    look: Look,
     draws: &mut Draws,
-) -> Result<(u128, u64), Stop> {
+) -> Result<(), Stop> {
     let scans = scans(at.alloc, lie, at.size.count, draws)?;
-    let begun = Instant::now(at.rt);
-    let sum = take_in_all(at, map, look, scans.as_slice())?;
-    let micros = at.micros(begun)?;
-    Ok((micros, sum))
+    let _sum = take_in_all(at, map, Look::Nothing, scans.as_slice())?;
+    Ok(())
 }
 
+// The checksum of what was looked at before each scan.
 fn take_in_all<M: Growing, L: Ledger, R: Threads + Sync>(
     at: &mut Bench<'_, L, R>,
     map: &mut M,

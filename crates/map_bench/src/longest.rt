@@ -6,9 +6,7 @@ use crate::growing::taking_in;
 use crate::robot::Robot;
 use crate::stop::Stop;
 use crate::told::Told;
-use rebuild_core::Job;
 use std::alloc::Global;
-use std::io;
 use std::sync::ledger::Ledger;
 use std::time::{Clock, Instant};
 
@@ -96,12 +94,12 @@ fn step_times<L: Ledger, R: Clock>(
 ) -> Result<Longest, Stop> {
     let begun = Instant::now(at.rt);
     let update = taking_in(at, robot, scan)?;
-    let job = robot.detach(at.alloc)?;
+    robot.detach(at.alloc)?;
     let detached = at.micros(begun)?;
-    let (ready, together) = match job {
-        None => (detached, detached),
-        Some(job) => swapped(at, robot, job, begun)?,
-    };
+    robot.build(at.alloc)?;
+    let ready = at.micros(begun)?;
+    robot.swap(at.alloc, &mut at.steps)?;
+    let together = at.micros(begun)?;
     Ok(Longest {
         update,
         detach: detached.saturating_sub(update),
@@ -109,18 +107,4 @@ fn step_times<L: Ledger, R: Clock>(
         swap: together.saturating_sub(ready),
         together,
     })
-}
-
-// The microseconds until the detached subtree was rebuilt, and until it was put back.
-fn swapped<L: Ledger, R: Clock>(
-    at: &mut Bench<'_, L, R>,
-    robot: &mut Robot,
-    job: Job,
-    begun: io::Result<Instant>,
-) -> Result<(u128, u128), Stop> {
-    let built = robot.build(at.alloc, job)?;
-    let ready = at.micros(begun)?;
-    robot.swap(at.alloc, built, &mut at.steps)?;
-    let together = at.micros(begun)?;
-    Ok((ready, together))
 }

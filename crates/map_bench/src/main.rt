@@ -58,8 +58,6 @@ use crate::told::Told;
 use crate::words::{Size, Work};
 use crate::works::worked;
 use kd_tree::Steps;
-use std::env;
-use std::io;
 use std::marker::Brand;
 use std::process::ExitCode;
 use std::rt::Env;
@@ -67,6 +65,7 @@ use std::sync::Wait;
 use std::sync::ledger::{Blank, Ledger};
 use std::thread::Threads;
 use std::time::Clock;
+use std::{env, io};
 
 fn main(rt: HostRuntime) -> ExitCode {
     match measure(&rt) {
@@ -92,8 +91,9 @@ fn do_asked<R: AllocGlobal + Print + Eprint + Clock + Threads + Wait + Sync>(
     let [_, name, count, asked] = words else {
         return Err(Stop::Words);
     };
-    let work = Work::named(name)?;
-    let size = Size::of(count, asked)?;
+    let (Some(work), Some(size)) = (Work::named(name), Size::of(count, asked)) else {
+        return Err(Stop::Words);
+    };
     let told = measured::<Brand, R>(rt, work, size, Blank::new(1))?;
     print(rt, name, count, asked, &told)?;
     Ok(())

@@ -7,7 +7,7 @@ use crate::grown::{Grown, delete};
 use crate::stop::Stop;
 use crate::sums::{with, with_answers, with_groups, with_lists, with_numbers};
 use crate::told::Told;
-use crate::words::{Ask, Look};
+use crate::words::Ask;
 use batch_near::nearest_each;
 use kd_search::nearest;
 use kd_tree::Tree;
@@ -24,14 +24,27 @@ const LISTED: u32 = 256;
 /// A tree is built of so many points by medians, and then asked.
 pub fn on_built<L: Ledger, R: Clock + Threads + Sync>(
     at: &mut Bench<'_, L, R>,
+    tree: &mut Tree,
     ask: Ask,
 ) -> Result<Told, Stop> {
     let mut draws = Draws::new();
-    let (mut tree, micros) = built(at, &mut draws)?;
+    let micros = build(at, tree, &mut draws)?;
     match ask {
-        Ask::Nothing => Told::left(at.alloc, micros, 0, &tree),
-        _ => asked(at, &mut tree, ask, &mut draws),
+        Ask::Nothing => Told::left(at.alloc, micros, 0, tree),
+        _ => asked(at, tree, ask, &mut draws),
     }
+}
+
+// The microseconds that the tree took to be built.
+fn build<L: Ledger, R: Clock>(
+    at: &mut Bench<'_, L, R>,
+    tree: &mut Tree,
+    draws: &mut Draws,
+) -> Result<u128, Stop> {
+    let items = items(at.alloc, at.size.count, draws)?;
+    let begun = Instant::now(at.rt);
+    *tree = Tree::build(at.alloc, items.as_slice(), &mut at.steps)?;
+    at.micros(begun)
 }
 
 fn asked<L: Ledger, R: Clock + Threads + Sync>(
@@ -47,25 +60,13 @@ fn asked<L: Ledger, R: Clock + Threads + Sync>(
     }
 }
 
-// The tree, and the microseconds that it took to be built.
-fn built<L: Ledger, R: Clock>(
-    at: &mut Bench<'_, L, R>,
-    draws: &mut Draws,
-) -> Result<(Tree, u128), Stop> {
-    let items = items(at.alloc, at.size.count, draws)?;
-    let begun = Instant::now(at.rt);
-    let tree = Tree::build(at.alloc, items.as_slice(), &mut at.steps)?;
-    let micros = at.micros(begun)?;
-    Ok((tree, micros))
-}
-
 /// A tree grows by scans, slabs are deleted from it, and it is asked.
 pub fn on_grown<L: Ledger, R: Clock + Threads + Sync>(
     at: &mut Bench<'_, L, R>,
     map: &mut Grown,
 ) -> Result<Told, Stop> {
     let mut draws = Draws::new();
-    grow(at, map, Lie::Left, Look::Nothing, &mut draws)?;
+    grow(at, map, Lie::Left, &mut draws)?;
     on_places(at, &map.tree, Ask::Nearest, &mut draws)
 }
 
@@ -92,6 +93,7 @@ fn sum_up<L: Ledger, R: Clock>(
     at.told(begun, sum, tree)
 }
 
+// The answers are kept until all are there.
 fn keep<L: Ledger, R: Clock + Threads + Sync>(
     at: &Bench<'_, L, R>,
     tree: &Tree,
@@ -100,11 +102,12 @@ fn keep<L: Ledger, R: Clock + Threads + Sync>(
 ) -> Result<Told, Stop> {
     let begun = Instant::now(at.rt);
     let lists = match ask {
-        Ask::AtOnce => nearest_each(at.rt, at.alloc, tree, 5, places, None)?,
-        _ => kept(at.alloc, tree, places)?,
-    };
-    let micros = at.micros(begun)?;
-    Told::left(at.alloc, micros, with_lists(0, &lists), tree)
+        Ask::AtOnce => nearest_each(at.rt, at.alloc, tree, 5, places, None),
+        _ => kept(at.alloc, tree, places),
+    }?;
+    let took = at.micros(begun);
+    let sum = with_lists(0, &lists);
+    Told::left(at.alloc, took?, sum, tree)
 }
 
 fn kept(alloc: Global, tree: &Tree, places: &Points) -> Result<HitLists, NoMemory> {
@@ -132,9 +135,9 @@ fn crowded<L: Ledger, R: Clock>(at: &Bench<'_, L, R>, tree: &Tree, ask: Ask) -> 
     let reach = at.size.asked;
     let begun = Instant::now(at.rt);
     let sum = match ask {
-        Ask::Clusters => clusters_sum(at.alloc, tree, reach)?,
-        _ => lonely_sum(at.alloc, tree, reach)?,
-    };
+        Ask::Clusters => clusters_sum(at.alloc, tree, reach),
+        _ => lonely_sum(at.alloc, tree, reach),
+    }?;
     let micros = at.micros(begun)?;
     Told::timed(at.alloc, micros, sum)
 }

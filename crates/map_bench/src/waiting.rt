@@ -2,12 +2,10 @@
 use crate::bench::Bench;
 use crate::course::{Lie, POINTS_OF_SCAN, Scan, points};
 use crate::draws::Draws;
-use crate::growing::{Growing, grow, taking_in};
+use crate::growing::{grow, taking_in};
 use crate::robot::Robot;
 use crate::stop::Stop;
 use crate::told::Told;
-use crate::words::Look;
-use map_fold::NoMemory;
 use std::alloc::Global;
 use std::sync::ledger::Ledger;
 use std::thread::Threads;
@@ -28,12 +26,11 @@ pub fn update_waiting<L: Ledger, R: Clock + Threads + Sync>(
     robot: &mut Robot,
 ) -> Result<Told, Stop> {
     let mut draws = Draws::new();
-    grow(at, robot, Lie::Kept, Look::Nothing, &mut draws)?;
-    // Nobody rebuilds it.
-    drop(robot.detach(at.alloc)?);
+    grow(at, robot, Lie::Kept, &mut draws)?;
+    robot.detach(at.alloc)?;
+    robot.leave();
     log(at, robot, &mut draws)?;
-    let (all, longest) = add_singly(at, robot, &mut draws)?;
-    told(at.alloc, all, longest, robot.logged())
+    add_singly(at, robot, &mut draws)
 }
 
 // The microseconds of all updates and of the longest, and how many operations the subtree had met in the end.
@@ -45,7 +42,7 @@ fn told(alloc: Global, all: u128, longest: u128, logged: u32) -> Result<Told, St
 }
 
 // Adds points until the detached subtree has met as many operations as are asked for.
-fn log<L: Ledger, R>(
+fn log<L: Ledger, R: Clock>(
     at: &mut Bench<'_, L, R>,
     robot: &mut Robot,
     draws: &mut Draws,
@@ -54,38 +51,34 @@ fn log<L: Ledger, R>(
         if robot.logged() >= at.size.asked {
             break;
         }
-        let scan = some(at, POINTS_AT_ONCE, draws)?;
-        robot.take_in(at, &scan)?;
+        add(at, robot, POINTS_AT_ONCE, draws)?;
     }
     Ok(())
 }
 
-// So many points that are seen behind the last of the scans.
-fn some<L: Ledger, R>(
-    at: &Bench<'_, L, R>,
-    count: u32,
-    draws: &mut Draws,
-) -> Result<Scan, NoMemory> {
-    let scan = at.size.count / POINTS_OF_SCAN;
-    Ok(Scan {
-        points: points(at.alloc, Lie::Kept, scan, 0..count, draws)?,
-        left: None,
-    })
-}
-
-// The microseconds of all updates, and of the longest.
 fn add_singly<L: Ledger, R: Clock>(
     at: &mut Bench<'_, L, R>,
     robot: &mut Robot,
     draws: &mut Draws,
-) -> Result<(u128, u128), Stop> {
+) -> Result<Told, Stop> {
     let mut all: u128 = 0;
     let mut longest = 0;
     for _ in 0..UPDATES {
-        let scan = some(at, 1, draws)?;
-        let micros = taking_in(at, robot, &scan)?;
+        let micros = add(at, robot, 1, draws)?;
         all = all.saturating_add(micros);
         longest = micros.max(longest);
     }
-    Ok((all, longest))
+    told(at.alloc, all, longest, robot.logged())
+}
+
+// The microseconds in which so many points are added that are seen behind the last of the scans.
+fn add<L: Ledger, R: Clock>(
+    at: &mut Bench<'_, L, R>,
+    robot: &mut Robot,
+    count: u32,
+    draws: &mut Draws,
+) -> Result<u128, Stop> {
+    let scan = at.size.count / POINTS_OF_SCAN;
+    let points = points(at.alloc, Lie::Kept, scan, 0..count, draws)?;
+    taking_in(at, robot, &Scan { points, left: None })
 }

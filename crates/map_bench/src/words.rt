@@ -3,7 +3,6 @@ ghost use Rattle.std.specs.Prelude.{◌≤◌};
 ghost use Rattle.map_fold.specs.declared.limits.TheConstants.{MAX_POINTS};
 
 use crate::course::Lie;
-use crate::stop::Stop;
 use crate::threads::company::Sharing;
 use map_fold::MAX_POINTS;
 
@@ -73,13 +72,13 @@ const WORKS: [(&str, Work); 27] = [
 ];
 
 impl Work {
-    pub fn named(word: &str) -> Result<Work, Stop> {
+    pub fn named(word: &str) -> Option<Work> {
         for (name, work) in &WORKS {
             if *name == word {
-                return Ok(*work);
+                return Some(*work);
             }
         }
-        Err(Stop::Words)
+        None
     }
 }
 
@@ -136,10 +135,10 @@ pub struct Size {
 }
 
 impl Size {
-    pub fn of(count: &str, asked: &str) -> Result<Size, Stop> {
+    pub fn of(count: &str, asked: &str) -> Option<Size> {
         match (count.parse::<u32>(), asked.parse::<u32>()) {
-            (Ok(count), Ok(asked)) if count <= MAX_POINTS => Ok(Size { count, asked }),
-            _ => Err(Stop::Words),
+            (Ok(count), Ok(asked)) if count <= MAX_POINTS => Some(Size { count, asked }),
+            _ => None,
         }
     }
 }

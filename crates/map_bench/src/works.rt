@@ -12,6 +12,7 @@ use crate::threads::side_by_side;
 use crate::told::Told;
 use crate::waiting::update_waiting;
 use crate::words::{Look, OnState, OnTree, Work};
+use kd_tree::Tree;
 use std::sync::Wait;
 use std::sync::ledger::Ledger;
 use std::thread::Threads;
@@ -23,7 +24,7 @@ pub fn worked<L: Ledger, R: Clock + Threads + Wait + Sync>(
     work: Work,
 ) -> Result<Told, Stop> {
     match work {
-        Work::Built(ask) => on_built(at, ask),
+        Work::Built(ask) => on_built(at, &mut Tree::empty(), ask),
         Work::Tree(work) => on_tree(at, work),
         Work::State(work) => on_state(at, work),
         Work::Threads(sharing) => side_by_side(at.rt, at.alloc, sharing, at.size),

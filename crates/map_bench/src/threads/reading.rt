@@ -52,9 +52,9 @@ fn ask_each<L: MapName, R: Clock>(
         if plan.is_over() {
             break;
         }
-        let begun = Instant::now(rt)?;
+        let begun = Instant::now(rt);
         let _reply = pass.nearest(alloc, 5, place, None)?;
-        times.push(Kind::Query, begun.elapsed(rt)?)?;
+        times.end(rt, Kind::Query, begun)?;
     }
     Ok(())
 }

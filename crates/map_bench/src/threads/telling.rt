@@ -46,7 +46,9 @@ fn put_lines(alloc: Global, times: &Times, text: &mut String) -> Result<(), Stop
 fn speeds(alloc: Global, times: &Times, scans: u32) -> Result<String, Stop> {
     let queries = times.figures(alloc, Kind::Query)?;
     let whole = times.all(Kind::Whole);
-    let writing = times.all(Kind::Scan).saturating_add(times.all(Kind::Deletion));
+    let writing = times
+        .all(Kind::Scan)
+        .saturating_add(times.all(Kind::Deletion));
     let each_second = (queries.steps as u64).saturating_mul(1_000_000_000) / whole.max(1);
     let longest = queries.longest / 1_000;
     let each_scan = writing / u64::from(scans).max(1) / 1_000;

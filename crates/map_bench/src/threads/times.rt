@@ -1,8 +1,10 @@
 //! How long steps took.
+use crate::stop::Stop;
 use map_fold::NoMemory;
 use std::alloc::Global;
 use std::fmt::{Display, Error, Formatter, Write};
-use std::time::Duration;
+use std::io;
+use std::time::{Clock, Duration, Instant};
 
 /// What took so long.
 #[derive(Clone, Copy, PartialEq, Eq)]
@@ -46,6 +48,18 @@ impl Times {
     pub fn push(&mut self, kind: Kind, took: Duration) -> Result<(), NoMemory> {
         let nanos = u64::try_from(took.as_nanos()).unwrap_or(u64::MAX);
         self.steps.push(Step { kind, nanos })?;
+        Ok(())
+    }
+
+    /// One more step, which began then, has ended. A clock that failed at its beginning is told of here.
+    pub fn end<R: Clock>(
+        &mut self,
+        rt: &R,
+        kind: Kind,
+        begun: io::Result<Instant>,
+    ) -> Result<(), Stop> {
+        let took = begun?.elapsed(rt)?;
+        self.push(kind, took)?;
         Ok(())
     }
 

@@ -36,10 +36,9 @@ fn take_in_all<L: MapName, R: Wait + Clock>(
     }
     times.clear();
     stage.plan.begin();
-    let begun = Instant::now(rt)?;
+    let begun = Instant::now(rt);
     take_in_beside(rt, stage, pass, times)?;
-    times.push(Kind::Whole, begun.elapsed(rt)?)?;
-    Ok(())
+    times.end(rt, Kind::Whole, begun)
 }
 
 fn take_in_beside<L: MapName, R: Wait + Clock>(
@@ -94,11 +93,10 @@ fn update<L: MapName, R: Wait + Clock>(
     update: Update,
     times: &mut Times,
 ) -> Result<(), Stop> {
-    let begun = Instant::now(rt)?;
+    let begun = Instant::now(rt);
     stage.shared.update(rt, stage.alloc, pass, update)?;
-    let took = begun.elapsed(rt)?;
+    times.end(rt, kind, begun)?;
     stage.first.ring();
     stage.second.ring();
-    times.push(kind, took)?;
     Ok(())
 }
