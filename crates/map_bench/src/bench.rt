@@ -4,6 +4,7 @@ use crate::told::Told;
 use crate::words::Size;
 use kd_tree::{Steps, Tree};
 use std::alloc::Global;
+use std::io;
 use std::sync::ledger::Ledger;
 use std::time::{Clock, Instant};
 
@@ -17,9 +18,14 @@ pub struct Bench<'a, L: Ledger, R> {
 }
 
 impl<'a, L: Ledger, R: Clock> Bench<'a, L, R> {
+    /// The microseconds since then. A clock that failed at the beginning is told of here.
+    pub fn micros(&self, begun: io::Result<Instant>) -> Result<u128, Stop> {
+        Ok(begun?.elapsed(self.rt)?.as_micros())
+    }
+
     /// What is told of a work that began then, had this checksum so far, and left this tree.
-    pub fn told(&self, begun: &Instant, sum: u64, tree: &Tree) -> Result<Told, Stop> {
-        let micros = begun.elapsed(self.rt)?.as_micros();
+    pub fn told(&self, begun: io::Result<Instant>, sum: u64, tree: &Tree) -> Result<Told, Stop> {
+        let micros = self.micros(begun)?;
         Told::left(self.alloc, micros, sum, tree)
     }
 }

@@ -177,11 +177,17 @@ pub fn places(
     Ok(places)
 }
 
-/// Cubes of a metre with these lower corners.
-pub fn cubes(alloc: Global, places: &Points) -> Result<Cuboids, NoMemory> {
+/// Cubes of a metre with such places as their lower corners.
+pub fn cubes(
+    alloc: Global,
+    count: u32,
+    points: u32,
+    draws: &mut Draws,
+) -> Result<Cuboids, NoMemory> {
+    let scans = (points / POINTS_OF_SCAN).max(1);
     let mut cubes = Cuboids::new(alloc);
-    for place in places.as_slice() {
-        cubes.push(cube(place))?;
+    for place in 0..count {
+        cubes.push(cube(&draws.point(place % scans)))?;
     }
     Ok(cubes)
 }

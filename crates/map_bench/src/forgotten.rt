@@ -1,21 +1,23 @@
 //! Forgetting the older half of points that came along a road, or all over it.
 use crate::bench::Bench;
-use crate::course::{Lie, road_box, scans};
+use crate::course::{Lie, road_box};
 use crate::draws::Draws;
 use crate::growing::grow;
 use crate::grown::Grown;
 use crate::stop::Stop;
 use crate::told::Told;
-use crate::words::{Look, Way};
+use crate::words::Way;
 use kd_tree::Tree;
 use map_fold::Choice;
+use std::alloc::Global;
 use std::sync::ledger::Ledger;
 use std::thread::Threads;
 use std::time::{Clock, Instant};
 
-/// The older half of so many points is forgotten by one mark, in a tree that grew by scans of them.
+/// The older half of so many points is forgotten by one mark, in a tree that grows by scans of them.
 pub fn forget<L: Ledger, R: Clock + Threads + Sync>(
     at: &mut Bench<'_, L, R>,
+    map: &mut Grown,
     way: Way,
 ) -> Result<Told, Stop> {
     let count = at.size.count;
@@ -25,25 +27,26 @@ pub fn forget<L: Ledger, R: Clock + Threads + Sync>(
         Way::Cut => (Lie::Road, Choice::within(&road_box(half))),
         Way::Mixed => (Lie::Mixed(count), Choice::below(half)),
     };
-    let scans = scans(at.alloc, lie, count, &mut Draws::new())?;
-    let mut map = Grown::new(at.alloc, false);
-    grow(at, &mut map, Look::Nothing, scans.as_slice())?;
-    deleted(at, map, &older)
+    grow(at, map, lie, &mut Draws::new())?;
+    let nodes = touched(&map.tree, &older);
+    let micros = delete(at, map, &older)?;
+    told(at.alloc, micros, nodes, map.tree.counts().live)
+}
+
+// The microseconds in which what is chosen is deleted.
+fn delete<L: Ledger, R: Clock>(
+    at: &mut Bench<'_, L, R>,
+    map: &mut Grown,
+    choice: &Choice,
+) -> Result<u128, Stop> {
+    let begun = Instant::now(at.rt);
+    map.delete(at.alloc, choice, &mut at.steps)?;
+    at.micros(begun)
 }
 
 // Told are the nodes that were entered, and the tops of the subtrees that were labelled.
-fn deleted<L: Ledger, R: Clock>(
-    at: &mut Bench<'_, L, R>,
-    map: Grown,
-    choice: &Choice,
-) -> Result<Told, Stop> {
-    let mut map = map;
-    let nodes = touched(&map.tree, choice);
-    let begun = Instant::now(at.rt)?;
-    map.delete(at.alloc, choice, &mut at.steps)?;
-    let micros = begun.elapsed(at.rt)?.as_micros();
-    let left = map.tree.counts().live;
-    let figures = format!(in at.alloc; "{micros} us, {nodes} nodes touched, {left} points left")?;
+fn told(alloc: Global, micros: u128, nodes: u32, left: u32) -> Result<Told, Stop> {
+    let figures = format!(in alloc; "{micros} us, {nodes} nodes touched, {left} points left")?;
     Ok(Told { figures, sum: None })
 }
 

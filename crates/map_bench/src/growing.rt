@@ -2,8 +2,6 @@
 use crate::bench::Bench;
 use crate::course::{Lie, Scan, scans};
 use crate::draws::Draws;
-use crate::grown::{Grown, LARGE};
-use crate::robot::Robot;
 use crate::stop::Stop;
 use crate::sums::{with, with_answers, with_lists};
 use crate::told::Told;
@@ -24,50 +22,33 @@ pub trait Growing {
     fn take_in<L: Ledger, R>(&mut self, at: &mut Bench<'_, L, R>, scan: &Scan) -> Result<(), Stop>;
 }
 
-/// A tree grows by scans; after each tenth the slab that is left is deleted.
-pub fn growing_tree<L: Ledger, R: Clock + Threads + Sync>(
+/// How long a map takes to take in scans that lie so.
+pub fn timed<M: Growing, L: Ledger, R: Clock + Threads + Sync>(
     at: &mut Bench<'_, L, R>,
-    look: Look,
-) -> Result<Told, Stop> {
-    let map = Grown::new(at.alloc, matches!(look, Look::Held));
-    timed(at, map, Lie::Left, look)
-}
-
-/// A state thins such scans. It holds its last version, and rebuilds uneven subtrees in its updates.
-pub fn growing_state<L: Ledger, R: Clock + Threads + Sync>(
-    at: &mut Bench<'_, L, R>,
-    look: Look,
-) -> Result<Told, Stop> {
-    let map = Robot::new(at.alloc, LARGE, true)?;
-    timed(at, map, Lie::Left, look)
-}
-
-/// So many points are added in as few updates as may be, which lie as badly as they may: no update rebuilds the tree more than once.
-/// Subtrees from as many nodes on as are asked for aren't rebuilt.
-pub fn lying<L: Ledger, R: Clock + Threads + Sync>(
-    at: &mut Bench<'_, L, R>,
-    lie: Lie,
-) -> Result<Told, Stop> {
-    let map = Robot::new(at.alloc, at.size.asked, false)?;
-    timed(at, map, lie, Look::Nothing)
-}
-
-// The map takes in scans that lie so.
-fn timed<M: Growing + Drop, L: Ledger, R: Clock + Threads + Sync>(
-    at: &mut Bench<'_, L, R>,
-    map: M,
+    map: &mut M,
     lie: Lie,
     look: Look,
 ) -> Result<Told, Stop> {
-    let mut map = map;
     let scans = scans(at.alloc, lie, at.size.count, &mut Draws::new())?;
-    let begun = Instant::now(at.rt)?;
-    let sum = grow(at, &mut map, look, scans.as_slice())?;
-    at.told(&begun, sum, map.tree())
+    let begun = Instant::now(at.rt);
+    let sum = take_in_all(at, map, look, scans.as_slice())?;
+    at.told(begun, sum, map.tree())
 }
 
-/// The map takes these scans in. The checksum of what was looked at before.
+/// A map takes in scans that lie so, of as many points as are asked for.
 pub fn grow<M: Growing, L: Ledger, R: Threads + Sync>(
+    at: &mut Bench<'_, L, R>,
+    map: &mut M,
+    lie: Lie,
+    draws: &mut Draws,
+) -> Result<(), Stop> {
+    let scans = scans(at.alloc, lie, at.size.count, draws)?;
+    let _sum = take_in_all(at, map, Look::Nothing, scans.as_slice())?;
+    Ok(())
+}
+
+// The checksum of what was looked at before each scan.
+fn take_in_all<M: Growing, L: Ledger, R: Threads + Sync>(
     at: &mut Bench<'_, L, R>,
     map: &mut M,
     look: Look,
@@ -105,7 +86,7 @@ pub fn taking_in<M: Growing, L: Ledger, R: Clock>(
     map: &mut M,
     scan: &Scan,
 ) -> Result<u128, Stop> {
-    let begun = Instant::now(at.rt)?;
+    let begun = Instant::now(at.rt);
     map.take_in(at, scan)?;
-    Ok(begun.elapsed(at.rt)?.as_micros())
+    at.micros(begun)
 }

@@ -41,6 +41,28 @@ impl Grown {
         }
     }
 
+    // The version before a scan, where it is held.
+    fn held<L: Ledger>(&self, alloc: Global, steps: &mut Steps<L>) -> Result<Tree, NoMemory> {
+        if self.holds {
+            self.tree.copy(alloc, steps)
+        } else {
+            Ok(Tree::empty())
+        }
+    }
+
+    fn change<L: Ledger>(
+        &mut self,
+        alloc: Global,
+        scan: &Scan,
+        steps: &mut Steps<L>,
+    ) -> Result<(), NoMemory> {
+        self.put_all(alloc, &scan.points, steps)?;
+        match &scan.left {
+            None => Ok(()),
+            Some(left) => self.delete(alloc, &Choice::within(left), steps),
+        }
+    }
+
     // Where too few numbers are left for all of them, none is put.
     fn put_all<L: Ledger>(
         &mut self,
@@ -91,17 +113,10 @@ impl Growing for Grown {
     }
 
     fn take_in<L: Ledger, R>(&mut self, at: &mut Bench<'_, L, R>, scan: &Scan) -> Result<(), Stop> {
-        let held = if self.holds {
-            self.tree.copy(at.alloc, &mut at.steps)?
-        } else {
-            Tree::empty()
-        };
-        self.put_all(at.alloc, &scan.points, &mut at.steps)?;
-        if let Some(left) = &scan.left {
-            self.delete(at.alloc, &Choice::within(left), &mut at.steps)?;
-        }
+        let held = self.held(at.alloc, &mut at.steps)?;
+        let done = self.change(at.alloc, scan, &mut at.steps);
         // A version that is dropped gives its nodes' memory to the next scan.
         self.scratch.take_in(held);
-        Ok(())
+        Ok(done?)
     }
 }

@@ -3,7 +3,7 @@ use crate::bench::Bench;
 use crate::course::{Lie, POINTS_OF_SCAN, Scan, scans};
 use crate::draws::Draws;
 use crate::growing::taking_in;
-use crate::robot::{LARGE, Robot};
+use crate::robot::Robot;
 use crate::stop::Stop;
 use crate::told::Told;
 use std::alloc::Global;
@@ -44,11 +44,14 @@ impl Longest {
 }
 
 /// A map grows to so many points, and then by so many more, whose scans are looked at.
-pub fn longest_steps<L: Ledger, R: Clock>(at: &mut Bench<'_, L, R>) -> Result<Told, Stop> {
+pub fn longest_steps<L: Ledger, R: Clock>(
+    at: &mut Bench<'_, L, R>,
+    robot: &mut Robot,
+) -> Result<Told, Stop> {
     let count = at.size.count.saturating_add(at.size.asked);
     let scans = scans(at.alloc, Lie::Kept, count, &mut Draws::new())?;
     let grown = (at.size.count / POINTS_OF_SCAN) as usize;
-    let longest = longest_from(at, scans.as_slice(), grown)?;
+    let longest = longest_from(at, robot, scans.as_slice(), grown)?;
     told(at.alloc, longest)
 }
 
@@ -69,23 +72,16 @@ fn told(alloc: Global, longest: Longest) -> Result<Told, Stop> {
 // The longest of each step, from so many scans on.
 fn longest_from<L: Ledger, R: Clock>(
     at: &mut Bench<'_, L, R>,
+    robot: &mut Robot,
     scans: &[Scan],
     from: usize,
 ) -> Result<Longest, Stop> {
-    let mut robot = Robot::new(at.alloc, LARGE, false)?;
-    let (before, looked_at) = scans.split_at(from.min(scans.len()));
-    let _unlooked = longest_of(at, &mut robot, before)?;
-    longest_of(at, &mut robot, looked_at)
-}
-
-fn longest_of<L: Ledger, R: Clock>(
-    at: &mut Bench<'_, L, R>,
-    robot: &mut Robot,
-    scans: &[Scan],
-) -> Result<Longest, Stop> {
     let mut longest = Longest::none();
-    for scan in scans {
-        longest = longest.max(step_times(at, robot, scan)?);
+    for (number, scan) in scans.iter().enumerate() {
+        let times = step_times(at, robot, scan)?;
+        if from <= number {
+            longest = longest.max(times);
+        }
     }
     Ok(longest)
 }
@@ -96,22 +92,14 @@ fn step_times<L: Ledger, R: Clock>(
     robot: &mut Robot,
     scan: &Scan,
 ) -> Result<Longest, Stop> {
-    let begun = Instant::now(at.rt)?;
+    let begun = Instant::now(at.rt);
     let update = taking_in(at, robot, scan)?;
-    let Some(job) = robot.detach(at.alloc)? else {
-        let together = begun.elapsed(at.rt)?.as_micros();
-        return Ok(Longest {
-            update,
-            detach: together.saturating_sub(update),
-            together,
-            ..Longest::none()
-        });
-    };
-    let detached = begun.elapsed(at.rt)?.as_micros();
-    let built = robot.build(at.alloc, job)?;
-    let ready = begun.elapsed(at.rt)?.as_micros();
-    robot.swap(at.alloc, built, &mut at.steps)?;
-    let together = begun.elapsed(at.rt)?.as_micros();
+    robot.detach(at.alloc)?;
+    let detached = at.micros(begun)?;
+    robot.build(at.alloc)?;
+    let ready = at.micros(begun)?;
+    robot.swap(at.alloc, &mut at.steps)?;
+    let together = at.micros(begun)?;
     Ok(Longest {
         update,
         detach: detached.saturating_sub(update),

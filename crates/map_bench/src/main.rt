@@ -50,19 +50,14 @@ mod threads;
 mod told;
 mod waiting;
 mod words;
+mod works;
 
 use crate::bench::Bench;
-use crate::forgotten::forget;
-use crate::growing::{growing_state, growing_tree, lying};
-use crate::longest::longest_steps;
-use crate::searches::{on_built, on_grown};
 use crate::stop::Stop;
-use crate::threads::side_by_side;
 use crate::told::Told;
-use crate::waiting::update_waiting;
 use crate::words::{Size, Work};
+use crate::works::worked;
 use kd_tree::Steps;
-use std::env;
 use std::marker::Brand;
 use std::process::ExitCode;
 use std::rt::Env;
@@ -70,6 +65,7 @@ use std::sync::Wait;
 use std::sync::ledger::{Blank, Ledger};
 use std::thread::Threads;
 use std::time::Clock;
+use std::{env, io};
 
 fn main(rt: HostRuntime) -> ExitCode {
     match measure(&rt) {
@@ -84,23 +80,42 @@ fn measure<R: AllocGlobal + Env + Print + Eprint + Clock + Threads + Wait + Sync
     rt: &R,
 ) -> Result<(), Stop> {
     let words = Vec::from_iter(rt.alloc(), env::args(rt)?)?;
-    let [_, name, count, asked] = words.as_slice() else {
+    do_asked(rt, words.as_slice())
+}
+
+// Does the work that the words ask for.
+fn do_asked<R: AllocGlobal + Print + Eprint + Clock + Threads + Wait + Sync>(
+    rt: &R,
+    words: &[String],
+) -> Result<(), Stop> {
+    let [_, name, count, asked] = words else {
         return Err(Stop::Words);
     };
-    let work = Work::named(name)?;
-    let size = Size::of(count, asked)?;
-    let Told { figures, sum } = worked::<Brand, R>(rt, work, size, Blank::new(1))?;
-    let Some(sum) = sum else {
-        println!(rt; "{figures}")?;
-        return Ok(());
+    let (Some(work), Some(size)) = (Work::named(name), Size::of(count, asked)) else {
+        return Err(Stop::Words);
     };
-    eprintln!(rt; "{figures}")?;
-    println!(rt; "{name} {count} {asked} sum {sum}")?;
+    let told = measured::<Brand, R>(rt, work, size, Blank::new(1))?;
+    print(rt, name, count, asked, &told)?;
     Ok(())
 }
 
-// What is told of a work.
-fn worked<L: Ledger, R: AllocGlobal + Clock + Threads + Wait + Sync>(
+fn print<R: Print + Eprint>(
+    rt: &R,
+    name: &str,
+    count: &str,
+    asked: &str,
+    told: &Told,
+) -> io::Result<()> {
+    let figures = told.figures.as_str();
+    let Some(sum) = told.sum else {
+        return println!(rt; "{figures}");
+    };
+    eprintln!(rt; "{figures}")?;
+    println!(rt; "{name} {count} {asked} sum {sum}")
+}
+
+// What is told of a work of this size.
+fn measured<L: Ledger, R: AllocGlobal + Clock + Threads + Wait + Sync>(
     rt: &R,
     work: Work,
     size: Size,
@@ -108,23 +123,11 @@ fn worked<L: Ledger, R: AllocGlobal + Clock + Threads + Wait + Sync>(
 ) -> Result<Told, Stop>
     requires blank { IsBlankOf L.name L.parts blank }
 {
-    let steps: Steps<L> = Steps::new(blank);
-    let alloc = rt.alloc();
-    let at = &mut Bench {
+    let mut bench: Bench<'_, L, R> = Bench {
         rt,
-        alloc,
+        alloc: rt.alloc(),
         size,
-        steps,
+        steps: Steps::new(blank),
     };
-    match work {
-        Work::Built(ask) => on_built(at, ask),
-        Work::After => on_grown(at),
-        Work::Tree(look) => growing_tree(at, look),
-        Work::State(look) => growing_state(at, look),
-        Work::Lying(lie) => lying(at, lie),
-        Work::Forgotten(way) => forget(at, way),
-        Work::Longest => longest_steps(at),
-        Work::Waiting => update_waiting(at),
-        Work::Threads(sharing) => side_by_side(rt, alloc, sharing, size),
-    }
+    worked(&mut bench, work)
 }

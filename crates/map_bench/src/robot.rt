@@ -27,12 +27,20 @@ pub struct Robot {
     state: MapState,
     // Whether of a scan's points those are kept that are nearest to the centres of their voxels. Else all are.
     thins: bool,
+    // The detached subtree, until it is rebuilt, and then until it is swapped in.
+    job: Option<Job>,
+    built: Option<Built>,
 }
 
 impl Robot {
     pub fn new(alloc: Global, large: u32, thins: bool) -> Result<Robot, Stop> {
         let state = MapState::new(alloc, settings(large))?;
-        Ok(Robot { state, thins })
+        Ok(Robot {
+            state,
+            thins,
+            job: None,
+            built: None,
+        })
     }
 
     fn update<L: Ledger>(
@@ -46,8 +54,14 @@ impl Robot {
     }
 
     /// Detaches a subtree that is to be rebuilt, if there is one.
-    pub fn detach(&mut self, alloc: Global) -> Result<Option<Job>, Stop> {
-        Ok(self.state.detach(alloc, 1)?)
+    pub fn detach(&mut self, alloc: Global) -> Result<(), Stop> {
+        self.job = self.state.detach(alloc, 1)?;
+        Ok(())
+    }
+
+    /// Leaves the detached subtree as it is.
+    pub fn leave(&mut self) {
+        self.job = None;
     }
 
     /// How many operations the detached subtree has met since, if there is one.
@@ -58,21 +72,25 @@ impl Robot {
         }
     }
 
-    /// Rebuilds a detached subtree.
-    pub fn build(&self, alloc: Global, job: Job) -> Result<Built, Stop> {
+    /// Rebuilds it.
+    pub fn build(&mut self, alloc: Global) -> Result<(), Stop> {
+        let Some(job) = self.job.take() else {
+            return Ok(());
+        };
         match job.build(alloc, self.state.settings().large()) {
-            Ok(built) => Ok(built),
+            Ok(built) => {
+                self.built = Some(built);
+                Ok(())
+            }
             Err(_left) => Err(Stop::NoMemory),
         }
     }
 
-    /// Puts it back.
-    pub fn swap<L: Ledger>(
-        &mut self,
-        alloc: Global,
-        built: Built,
-        steps: &mut Steps<L>,
-    ) -> Result<(), Stop> {
+    /// Swaps it in.
+    pub fn swap<L: Ledger>(&mut self, alloc: Global, steps: &mut Steps<L>) -> Result<(), Stop> {
+        let Some(built) = self.built.take() else {
+            return Ok(());
+        };
         match self.state.swap(alloc, built, true, steps) {
             Ok(()) => Ok(()),
             Err(_left) => Err(Stop::NoMemory),

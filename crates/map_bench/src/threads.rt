@@ -70,8 +70,7 @@ fn on_map<L: MapName + Send + Sync, R: Threads + Wait + Clock + Sync>(
     done
 }
 
-// The last pass is the writer's, which tells the others to end whether all of them could begin or not. Where no thread can be made,
-// the writer is first, the others find that all is over, and a worker ends at once.
+// The last pass is the writer's, which tells the others to end whether all of them could begin or not.
 fn run<L: MapName + Send + Sync, R: Threads + Wait + Clock + Sync>(
     rt: &R,
     alloc: Global,
@@ -80,12 +79,23 @@ fn run<L: MapName + Send + Sync, R: Threads + Wait + Clock + Sync>(
     passes: Vec<Pass<L>>,
 ) -> Result<Times, Stop> {
     let mut passes = passes;
-    let Some(mut writer) = passes.pop() else {
-        return Ok(Times::new(alloc));
-    };
+    match passes.pop() {
+        None => Ok(Times::new(alloc)),
+        Some(mut writer) => run_with(rt, alloc, shared, plan, &mut writer, passes),
+    }
+}
+
+fn run_with<L: MapName + Send + Sync, R: Threads + Wait + Clock + Sync>(
+    rt: &R,
+    alloc: Global,
+    shared: &Shared<L>,
+    plan: &Plan,
+    writer: &mut Pass<L>,
+    readers: Vec<Pass<L>>,
+) -> Result<Times, Stop> {
     let (first, one) = pair(alloc)?;
     let (second, two) = pair(alloc)?;
-    let roles = roles(alloc, plan, one, two, passes)?;
+    let roles = roles(alloc, plan, one, two, readers)?;
     let stage = Stage {
         alloc,
         shared,
@@ -93,16 +103,34 @@ fn run<L: MapName + Send + Sync, R: Threads + Wait + Clock + Sync>(
         first: &first,
         second: &second,
     };
+    play_beside(rt, &stage, writer, roles)
+}
+
+// Where no thread can be made, the writer is first, the others find that all is over, and a worker ends at once.
+fn play_beside<L: MapName + Send + Sync, R: Threads + Wait + Clock + Sync>(
+    rt: &R,
+    stage: &Stage<'_, L>,
+    writer: &mut Pass<L>,
+    roles: Vec<Role<Pass<L>>>,
+) -> Result<Times, Stop> {
     let (others, written) = join(
         rt,
-        || play_all(rt, &stage, roles),
-        || write(rt, &stage, &mut writer),
+        || play_all(rt, stage, roles),
+        || write(rt, stage, writer),
     );
     let mut all = written?;
-    for times in others? {
-        all.add(&times?)?;
-    }
+    add_all(&mut all, others?.as_slice())?;
     Ok(all)
+}
+
+fn add_all(all: &mut Times, others: &[Result<Times, Stop>]) -> Result<(), Stop> {
+    for times in others {
+        match times {
+            Ok(times) => all.add(times)?,
+            Err(stop) => return Err(*stop),
+        }
+    }
+    Ok(())
 }
 
 // Where memory runs out, some roles may not have been played.

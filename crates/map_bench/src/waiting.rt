@@ -1,13 +1,11 @@
 //! How long an update of one point takes while a detached subtree waits that has met so many operations.
 use crate::bench::Bench;
-use crate::course::{Lie, POINTS_OF_SCAN, Scan, points, scans};
+use crate::course::{Lie, POINTS_OF_SCAN, Scan, points};
 use crate::draws::Draws;
-use crate::growing::{Growing, grow, taking_in};
-use crate::robot::{LARGE, Robot};
+use crate::growing::{grow, taking_in};
+use crate::robot::Robot;
 use crate::stop::Stop;
 use crate::told::Told;
-use crate::words::Look;
-use map_fold::NoMemory;
 use std::alloc::Global;
 use std::sync::ledger::Ledger;
 use std::thread::Threads;
@@ -25,12 +23,14 @@ const TRIES: u32 = 200;
 /// one point follow.
 pub fn update_waiting<L: Ledger, R: Clock + Threads + Sync>(
     at: &mut Bench<'_, L, R>,
+    robot: &mut Robot,
 ) -> Result<Told, Stop> {
     let mut draws = Draws::new();
-    let mut robot = detached(at, &mut draws)?;
-    log(at, &mut robot, &mut draws)?;
-    let (all, longest) = add_singly(at, &mut robot, &mut draws)?;
-    told(at.alloc, all, longest, robot.logged())
+    grow(at, robot, Lie::Kept, &mut draws)?;
+    robot.detach(at.alloc)?;
+    robot.leave();
+    log(at, robot, &mut draws)?;
+    add_singly(at, robot, &mut draws)
 }
 
 // The microseconds of all updates and of the longest, and how many operations the subtree had met in the end.
@@ -41,19 +41,8 @@ fn told(alloc: Global, all: u128, longest: u128, logged: u32) -> Result<Told, St
     Ok(Told { figures, sum: None })
 }
 
-fn detached<L: Ledger, R: Threads + Sync>(
-    at: &mut Bench<'_, L, R>,
-    draws: &mut Draws,
-) -> Result<Robot, Stop> {
-    let scans = scans(at.alloc, Lie::Kept, at.size.count, draws)?;
-    let mut robot = Robot::new(at.alloc, LARGE, false)?;
-    grow(at, &mut robot, Look::Nothing, scans.as_slice())?;
-    let _job = robot.detach(at.alloc)?;
-    Ok(robot)
-}
-
 // Adds points until the detached subtree has met as many operations as are asked for.
-fn log<L: Ledger, R>(
+fn log<L: Ledger, R: Clock>(
     at: &mut Bench<'_, L, R>,
     robot: &mut Robot,
     draws: &mut Draws,
@@ -62,38 +51,34 @@ fn log<L: Ledger, R>(
         if robot.logged() >= at.size.asked {
             break;
         }
-        let scan = some(at, POINTS_AT_ONCE, draws)?;
-        robot.take_in(at, &scan)?;
+        add(at, robot, POINTS_AT_ONCE, draws)?;
     }
     Ok(())
 }
 
-// So many points that are seen behind the last of the scans.
-fn some<L: Ledger, R>(
-    at: &Bench<'_, L, R>,
-    count: u32,
-    draws: &mut Draws,
-) -> Result<Scan, NoMemory> {
-    let scan = at.size.count / POINTS_OF_SCAN;
-    Ok(Scan {
-        points: points(at.alloc, Lie::Kept, scan, 0..count, draws)?,
-        left: None,
-    })
-}
-
-// The microseconds of all updates, and of the longest.
 fn add_singly<L: Ledger, R: Clock>(
     at: &mut Bench<'_, L, R>,
     robot: &mut Robot,
     draws: &mut Draws,
-) -> Result<(u128, u128), Stop> {
+) -> Result<Told, Stop> {
     let mut all: u128 = 0;
     let mut longest = 0;
     for _ in 0..UPDATES {
-        let scan = some(at, 1, draws)?;
-        let micros = taking_in(at, robot, &scan)?;
+        let micros = add(at, robot, 1, draws)?;
         all = all.saturating_add(micros);
         longest = micros.max(longest);
     }
-    Ok((all, longest))
+    told(at.alloc, all, longest, robot.logged())
+}
+
+// The microseconds in which so many points are added that are seen behind the last of the scans.
+fn add<L: Ledger, R: Clock>(
+    at: &mut Bench<'_, L, R>,
+    robot: &mut Robot,
+    count: u32,
+    draws: &mut Draws,
+) -> Result<u128, Stop> {
+    let scan = at.size.count / POINTS_OF_SCAN;
+    let points = points(at.alloc, Lie::Kept, scan, 0..count, draws)?;
+    taking_in(at, robot, &Scan { points, left: None })
 }

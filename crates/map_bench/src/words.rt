@@ -3,7 +3,6 @@ ghost use Rattle.std.specs.Prelude.{◌≤◌};
 ghost use Rattle.map_fold.specs.declared.limits.TheConstants.{MAX_POINTS};
 
 use crate::course::Lie;
-use crate::stop::Stop;
 use crate::threads::company::Sharing;
 use map_fold::MAX_POINTS;
 
@@ -12,54 +11,74 @@ use map_fold::MAX_POINTS;
 pub enum Work {
     /// A tree that was built.
     Built(Ask),
-    /// Searches of a tree that grew.
-    After,
-    /// A tree that grows.
-    Tree(Look),
-    /// A state that thins.
-    State(Look),
-    /// A state that takes in as many points at once as may be.
-    Lying(Lie),
-    Forgotten(Way),
-    Longest,
-    Waiting,
+    /// A tree that grows by scans.
+    Tree(OnTree),
+    /// The state of a map.
+    State(OnState),
     /// A map that threads share.
     Threads(Sharing),
 }
 
+/// What is done with a tree that grows by scans.
+#[derive(Clone, Copy)]
+pub enum OnTree {
+    /// It grows, and that is all.
+    Grow(Look),
+    /// It is asked for the 5 nearest of so many places, once it has grown.
+    Ask,
+    Forget(Way),
+}
+
+/// What is done with the state of a map.
+#[derive(Clone, Copy)]
+pub enum OnState {
+    /// It thins scans.
+    Thin(Look),
+    /// It takes in as many points at once as may be.
+    Add(Lie),
+    Longest,
+    Waiting,
+}
+
+// The works by their names.
+const WORKS: [(&str, Work); 27] = [
+    ("build", Work::Built(Ask::Nothing)),
+    ("ask", Work::Built(Ask::Nearest)),
+    ("singly", Work::Built(Ask::Singly)),
+    ("nears", Work::Built(Ask::AtOnce)),
+    ("box", Work::Built(Ask::Cubes)),
+    ("clusters", Work::Built(Ask::Clusters)),
+    ("lonely", Work::Built(Ask::Lonely)),
+    ("after", Work::Tree(OnTree::Ask)),
+    ("scans", Work::Tree(OnTree::Grow(Look::Nothing))),
+    ("held", Work::Tree(OnTree::Grow(Look::Held))),
+    ("turn", Work::Tree(OnTree::Grow(Look::Singly))),
+    ("thin", Work::State(OnState::Thin(Look::Nothing))),
+    ("odometry", Work::State(OnState::Thin(Look::Singly))),
+    ("batches", Work::State(OnState::Thin(Look::AtOnce))),
+    ("drawn", Work::State(OnState::Add(Lie::Drawn))),
+    ("rising", Work::State(OnState::Add(Lie::Rising))),
+    ("equal", Work::State(OnState::Add(Lie::Equal))),
+    ("expire", Work::Tree(OnTree::Forget(Way::Expire))),
+    ("cut", Work::Tree(OnTree::Forget(Way::Cut))),
+    ("mixed", Work::Tree(OnTree::Forget(Way::Mixed))),
+    ("longest", Work::State(OnState::Longest)),
+    ("waiting", Work::State(OnState::Waiting)),
+    ("readers", Work::Threads(Sharing::Readers)),
+    ("paced", Work::Threads(Sharing::Paced)),
+    ("steady", Work::Threads(Sharing::Steady)),
+    ("inline", Work::Threads(Sharing::Inline)),
+    ("unhelped", Work::Threads(Sharing::Unhelped)),
+];
+
 impl Work {
-    pub fn named(word: &str) -> Result<Work, Stop> {
-        let work = match word {
-            "build" => Work::Built(Ask::Nothing),
-            "ask" => Work::Built(Ask::Nearest),
-            "singly" => Work::Built(Ask::Singly),
-            "nears" => Work::Built(Ask::AtOnce),
-            "box" => Work::Built(Ask::Cubes),
-            "clusters" => Work::Built(Ask::Clusters),
-            "lonely" => Work::Built(Ask::Lonely),
-            "after" => Work::After,
-            "scans" => Work::Tree(Look::Nothing),
-            "held" => Work::Tree(Look::Held),
-            "turn" => Work::Tree(Look::Singly),
-            "thin" => Work::State(Look::Nothing),
-            "odometry" => Work::State(Look::Singly),
-            "batches" => Work::State(Look::AtOnce),
-            "drawn" => Work::Lying(Lie::Drawn),
-            "rising" => Work::Lying(Lie::Rising),
-            "equal" => Work::Lying(Lie::Equal),
-            "expire" => Work::Forgotten(Way::Expire),
-            "cut" => Work::Forgotten(Way::Cut),
-            "mixed" => Work::Forgotten(Way::Mixed),
-            "longest" => Work::Longest,
-            "waiting" => Work::Waiting,
-            "readers" => Work::Threads(Sharing::Readers),
-            "paced" => Work::Threads(Sharing::Paced),
-            "steady" => Work::Threads(Sharing::Steady),
-            "inline" => Work::Threads(Sharing::Inline),
-            "unhelped" => Work::Threads(Sharing::Unhelped),
-            _ => return Err(Stop::Words),
-        };
-        Ok(work)
+    pub fn named(word: &str) -> Option<Work> {
+        for (name, work) in &WORKS {
+            if *name == word {
+                return Some(*work);
+            }
+        }
+        None
     }
 }
 
@@ -116,10 +135,10 @@ pub struct Size {
 }
 
 impl Size {
-    pub fn of(count: &str, asked: &str) -> Result<Size, Stop> {
+    pub fn of(count: &str, asked: &str) -> Option<Size> {
         match (count.parse::<u32>(), asked.parse::<u32>()) {
-            (Ok(count), Ok(asked)) if count <= MAX_POINTS => Ok(Size { count, asked }),
-            _ => Err(Stop::Words),
+            (Ok(count), Ok(asked)) if count <= MAX_POINTS => Some(Size { count, asked }),
+            _ => None,
         }
     }
 }

@@ -17,17 +17,27 @@ pub fn read<L: MapName, R: Wait + Clock>(
 ) -> Result<Times, Stop> {
     let mut pass = pass;
     let mut times = Times::new(stage.alloc);
+    ask_until_over(rt, stage, &mut pass, &mut times)?;
+    Ok(times)
+}
+
+fn ask_until_over<L: MapName, R: Wait + Clock>(
+    rt: &R,
+    stage: &Stage<'_, L>,
+    pass: &mut Pass<L>,
+    times: &mut Times,
+) -> Result<(), Stop> {
     for _ in rt.forever() {
         if stage.plan.is_over() {
-            return Ok(times);
+            break;
         }
         if stage.plan.is_on() {
-            ask_each(rt, stage.alloc, stage.plan, &mut pass, &mut times)?;
+            ask_each(rt, stage.alloc, stage.plan, pass, times)?;
         } else {
             sleep(rt, Duration::from_millis(1));
         }
     }
-    unreachable!()
+    Ok(())
 }
 
 // Asks at each place in turn.
@@ -42,9 +52,9 @@ fn ask_each<L: MapName, R: Clock>(
         if plan.is_over() {
             break;
         }
-        let begun = Instant::now(rt)?;
+        let begun = Instant::now(rt);
         let _reply = pass.nearest(alloc, 5, place, None)?;
-        times.push(Kind::Query, begun.elapsed(rt)?)?;
+        times.end(rt, Kind::Query, begun)?;
     }
     Ok(())
 }

@@ -1,8 +1,10 @@
 //! How long steps took.
+use crate::stop::Stop;
 use map_fold::NoMemory;
 use std::alloc::Global;
 use std::fmt::{Display, Error, Formatter, Write};
-use std::time::Duration;
+use std::io;
+use std::time::{Clock, Duration, Instant};
 
 /// What took so long.
 #[derive(Clone, Copy, PartialEq, Eq)]
@@ -49,6 +51,18 @@ impl Times {
         Ok(())
     }
 
+    /// One more step, which began then, has ended. A clock that failed at its beginning is told of here.
+    pub fn end<R: Clock>(
+        &mut self,
+        rt: &R,
+        kind: Kind,
+        begun: io::Result<Instant>,
+    ) -> Result<(), Stop> {
+        let took = begun?.elapsed(rt)?;
+        self.push(kind, took)?;
+        Ok(())
+    }
+
     /// Forgets all steps.
     pub fn clear(&mut self) {
         self.steps.clear();
@@ -59,6 +73,17 @@ impl Times {
         self.steps.extend_from_slice(other.steps.as_slice())?;
         self.sum = self.sum.wrapping_add(other.sum);
         Ok(())
+    }
+
+    /// The nanoseconds of all steps of a kind.
+    pub fn all(&self, kind: Kind) -> u64 {
+        let mut all: u64 = 0;
+        for step in self.steps.as_slice() {
+            if step.kind == kind {
+                all = all.saturating_add(step.nanos);
+            }
+        }
+        all
     }
 
     fn of(&self, alloc: Global, kind: Kind) -> Result<Vec<u64>, NoMemory> {
@@ -84,11 +109,10 @@ fn not_above(sorted: &[u64], thousandths: usize) -> u64 {
     sorted.get(place).copied().unwrap_or(0)
 }
 
-/// How many steps there were, and nanoseconds of them all, of the median, the 99th percentile, the 99.9th, and the longest.
+/// How many steps there were, and nanoseconds of the median, the 99th percentile, the 99.9th, and the longest.
 #[derive(Clone, Copy)]
 pub struct Figures {
     pub steps: usize,
-    pub all: u64,
     median: u64,
     p99: u64,
     p999: u64,
@@ -99,7 +123,6 @@ impl Figures {
     fn of(sorted: &[u64]) -> Figures {
         Figures {
             steps: sorted.len(),
-            all: total(sorted),
             median: not_above(sorted, 500),
             p99: not_above(sorted, 990),
             p999: not_above(sorted, 999),
@@ -108,19 +131,11 @@ impl Figures {
     }
 }
 
-fn total(nanos: &[u64]) -> u64 {
-    let mut all: u64 = 0;
-    for nanos in nanos {
-        all = all.saturating_add(*nanos);
-    }
-    all
-}
-
 /// In microseconds.
 impl Display for Figures {
     fn fmt<W: Write>(&self, f: &mut Formatter<W>) -> Result<(), Error> {
         write!(f, "{}", self.steps)?;
-        for nanos in [self.median, self.p99, self.p999, self.longest] {
+        for nanos in &[self.median, self.p99, self.p999, self.longest] {
             write!(f, " {}.{}", nanos / 1_000, nanos % 1_000 / 100)?;
         }
         Ok(())

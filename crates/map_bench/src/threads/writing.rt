@@ -17,9 +17,10 @@ pub fn write<L: MapName, R: Wait + Clock>(
     stage: &Stage<'_, L>,
     pass: &mut Pass<L>,
 ) -> Result<Times, Stop> {
-    let written = take_in_all(rt, stage, pass);
+    let mut times = Times::new(stage.alloc);
+    let written = take_in_all(rt, stage, pass, &mut times);
     stage.end();
-    let mut times = written?;
+    written?;
     times.sum = with_answers(0, stage.alloc, pass.version().tree(), &stage.plan.places)?;
     Ok(times)
 }
@@ -28,17 +29,16 @@ fn take_in_all<L: MapName, R: Wait + Clock>(
     rt: &R,
     stage: &Stage<'_, L>,
     pass: &mut Pass<L>,
-) -> Result<Times, Stop> {
-    let mut times = Times::new(stage.alloc);
+    times: &mut Times,
+) -> Result<(), Stop> {
     for scan in stage.plan.before.as_slice() {
-        take_in(rt, stage, pass, scan, &mut times)?;
+        take_in(rt, stage, pass, scan, times)?;
     }
     times.clear();
     stage.plan.begin();
-    let begun = Instant::now(rt)?;
-    take_in_beside(rt, stage, pass, &mut times)?;
-    times.push(Kind::Whole, begun.elapsed(rt)?)?;
-    Ok(times)
+    let begun = Instant::now(rt);
+    take_in_beside(rt, stage, pass, times)?;
+    times.end(rt, Kind::Whole, begun)
 }
 
 fn take_in_beside<L: MapName, R: Wait + Clock>(
@@ -93,11 +93,10 @@ fn update<L: MapName, R: Wait + Clock>(
     update: Update,
     times: &mut Times,
 ) -> Result<(), Stop> {
-    let begun = Instant::now(rt)?;
+    let begun = Instant::now(rt);
     stage.shared.update(rt, stage.alloc, pass, update)?;
-    let took = begun.elapsed(rt)?;
+    times.end(rt, kind, begun)?;
     stage.first.ring();
     stage.second.ring();
-    times.push(kind, took)?;
     Ok(())
 }

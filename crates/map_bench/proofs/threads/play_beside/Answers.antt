@@ -1,6 +1,6 @@
 use Rattle.published_map.proofs.Crossing.{pass_send, shared_sync}
 use Rattle.map_bench.proofs.Sent.{to_thread}
-use Rattle.map_bench.proofs.threads.run.Goals as goal
+use Rattle.map_bench.proofs.threads.play_beside.Goals as goal
 
 pub join-others-requires-send-F : goal.join-others-requires-send-F
 join-others-requires-send-F g c κs within =

@@ -1,7 +1,7 @@
 use Rattle.std.proofs.Common.{arith}
 use Rattle.map_fold.proofs.Numbered.{contents_length}
 use Rattle.kd_tree.proofs.Held.{are_kept, are_distinct}
-use Rattle.map_bench.proofs.searches.built.Goals as goal
+use Rattle.map_bench.proofs.searches.build.Goals as goal
 
 pub build-requires-clause-kept : goal.build-requires-clause-kept
 build-requires-clause-kept g c = rw c.as_slice.ensures (are_kept 0 c.args.at.now.size.count c.in_ok-items.items c.in_ok-items.ensures)

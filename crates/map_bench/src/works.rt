@@ -1,0 +1,80 @@
+//! Whose works are measured: each has its tree or its state here, which the works are lent.
+use crate::bench::Bench;
+use crate::course::Lie;
+use crate::forgotten::forget;
+use crate::growing::timed;
+use crate::grown::{self, Grown};
+use crate::longest::longest_steps;
+use crate::robot::{self, Robot};
+use crate::searches::{on_built, on_grown};
+use crate::stop::Stop;
+use crate::threads::side_by_side;
+use crate::told::Told;
+use crate::waiting::update_waiting;
+use crate::words::{Look, OnState, OnTree, Work};
+use kd_tree::Tree;
+use std::sync::Wait;
+use std::sync::ledger::Ledger;
+use std::thread::Threads;
+use std::time::Clock;
+
+/// What is told of a work.
+pub fn worked<L: Ledger, R: Clock + Threads + Wait + Sync>(
+    at: &mut Bench<'_, L, R>,
+    work: Work,
+) -> Result<Told, Stop> {
+    match work {
+        Work::Built(ask) => on_built(at, &mut Tree::empty(), ask),
+        Work::Tree(work) => on_tree(at, work),
+        Work::State(work) => on_state(at, work),
+        Work::Threads(sharing) => side_by_side(at.rt, at.alloc, sharing, at.size),
+    }
+}
+
+fn on_tree<L: Ledger, R: Clock + Threads + Sync>(
+    at: &mut Bench<'_, L, R>,
+    work: OnTree,
+) -> Result<Told, Stop> {
+    let holds = matches!(work, OnTree::Grow(Look::Held));
+    let mut map = Grown::new(at.alloc, holds);
+    on_this_tree(at, &mut map, work)
+}
+
+fn on_this_tree<L: Ledger, R: Clock + Threads + Sync>(
+    at: &mut Bench<'_, L, R>,
+    map: &mut Grown,
+    work: OnTree,
+) -> Result<Told, Stop> {
+    match work {
+        OnTree::Grow(look) => timed(at, map, Lie::Left, look),
+        OnTree::Ask => on_grown(at, map),
+        OnTree::Forget(way) => forget(at, map, way),
+    }
+}
+
+// One that thins rebuilds uneven subtrees in its updates.
+fn on_state<L: Ledger, R: Clock + Threads + Sync>(
+    at: &mut Bench<'_, L, R>,
+    work: OnState,
+) -> Result<Told, Stop> {
+    let (large, thins) = match work {
+        OnState::Thin(_) => (grown::LARGE, true),
+        OnState::Add(_) => (at.size.asked, false),
+        OnState::Longest | OnState::Waiting => (robot::LARGE, false),
+    };
+    let mut robot = Robot::new(at.alloc, large, thins)?;
+    on_this_state(at, &mut robot, work)
+}
+
+fn on_this_state<L: Ledger, R: Clock + Threads + Sync>(
+    at: &mut Bench<'_, L, R>,
+    robot: &mut Robot,
+    work: OnState,
+) -> Result<Told, Stop> {
+    match work {
+        OnState::Thin(look) => timed(at, robot, Lie::Left, look),
+        OnState::Add(lie) => timed(at, robot, lie, Look::Nothing),
+        OnState::Longest => longest_steps(at, robot),
+        OnState::Waiting => update_waiting(at, robot),
+    }
+}
