@@ -57,11 +57,12 @@ fn on_state<L: Ledger, R: Clock + Threads + Sync>(
     at: &mut Bench<'_, L, R>,
     work: OnState,
 ) -> Result<Told, Stop> {
-    let (large, thins) = match work {
-        OnState::Thin(_) => (grown::LARGE, true),
-        OnState::Add(_) => (at.size.asked, false),
-        OnState::Longest | OnState::Waiting => (robot::LARGE, false),
+    let large = match work {
+        OnState::Thin(_) => grown::LARGE,
+        OnState::Add(_) => at.size.asked,
+        OnState::Longest | OnState::Waiting => robot::LARGE,
     };
+    let thins = matches!(work, OnState::Thin(_));
     let mut robot = Robot::new(at.alloc, large, thins)?;
     on_this_state(at, &mut robot, work)
 }
