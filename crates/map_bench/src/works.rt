@@ -1,4 +1,4 @@
-//! Whose works are measured: each has its tree or its state here, which the works are lent.
+//! Which work is measured on what: the tree or the state is made here, and lent to the work.
 use crate::bench::Bench;
 use crate::course::Lie;
 use crate::forgotten::forget;
@@ -52,7 +52,6 @@ fn on_this_tree<L: Ledger, R: Clock + Threads + Sync>(
     }
 }
 
-// One that thins rebuilds uneven subtrees in its updates.
 fn on_state<L: Ledger, R: Clock + Threads + Sync>(
     at: &mut Bench<'_, L, R>,
     work: OnState,
