@@ -91,6 +91,7 @@ fn do_asked<R: AllocGlobal + Print + Eprint + Clock + Threads + Wait + Sync>(
     let [_, name, count, asked] = words else {
         return Err(Stop::Words);
     };
+    let (name, count, asked) = (name.as_str(), count.as_str(), asked.as_str());
     let (Some(work), Some(size)) = (Work::named(name), Size::of(count, asked)) else {
         return Err(Stop::Words);
     };

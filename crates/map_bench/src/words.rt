@@ -22,21 +22,25 @@ pub enum Work {
 /// What is done with a tree that grows by scans.
 #[derive(Clone, Copy)]
 pub enum OnTree {
-    /// It grows, and that is all.
+    /// It grows, and after each tenth scan the slab that is left is deleted.
     Grow(Look),
-    /// It is asked for the 5 nearest of so many places, once it has grown.
+    /// Once it has grown so, it is asked for the 5 nearest of so many places.
     Ask,
+    /// Once it has grown, the older half of its points is forgotten.
     Forget(Way),
 }
 
 /// What is done with the state of a map.
 #[derive(Clone, Copy)]
 pub enum OnState {
-    /// It thins scans.
+    /// It thins scans, holds its last version, and rebuilds uneven subtrees in its updates.
     Thin(Look),
-    /// It takes in as many points at once as may be.
+    /// It takes in as many points at once as may be, which lie as badly as they may: no update rebuilds the tree more than once.
+    /// Subtrees from as many nodes on as are asked for aren't rebuilt.
     Add(Lie),
+    /// It takes in scans, whose longest steps are told.
     Longest,
+    /// It takes updates of one point while a detached subtree waits.
     Waiting,
 }
 

@@ -1,4 +1,4 @@
-//! Whose works are measured: each has its tree or its state here, which the works are lent.
+//! Which work is measured on what: the tree or the state is made here, and lent to the work.
 use crate::bench::Bench;
 use crate::course::Lie;
 use crate::forgotten::forget;
@@ -52,16 +52,16 @@ fn on_this_tree<L: Ledger, R: Clock + Threads + Sync>(
     }
 }
 
-// One that thins rebuilds uneven subtrees in its updates.
 fn on_state<L: Ledger, R: Clock + Threads + Sync>(
     at: &mut Bench<'_, L, R>,
     work: OnState,
 ) -> Result<Told, Stop> {
-    let (large, thins) = match work {
-        OnState::Thin(_) => (grown::LARGE, true),
-        OnState::Add(_) => (at.size.asked, false),
-        OnState::Longest | OnState::Waiting => (robot::LARGE, false),
+    let large = match work {
+        OnState::Thin(_) => grown::LARGE,
+        OnState::Add(_) => at.size.asked,
+        OnState::Longest | OnState::Waiting => robot::LARGE,
     };
+    let thins = matches!(work, OnState::Thin(_));
     let mut robot = Robot::new(at.alloc, large, thins)?;
     on_this_state(at, &mut robot, work)
 }

@@ -13,11 +13,10 @@ use std::time::{Clock, Duration, Instant};
 pub fn read<L: MapName, R: Wait + Clock>(
     rt: &R,
     stage: &Stage<'_, L>,
-    pass: Pass<L>,
+    pass: &mut Pass<L>,
 ) -> Result<Times, Stop> {
-    let mut pass = pass;
     let mut times = Times::new(stage.alloc);
-    ask_until_over(rt, stage, &mut pass, &mut times)?;
+    ask_until_over(rt, stage, pass, &mut times)?;
     Ok(times)
 }
 

@@ -54,16 +54,31 @@ pub fn roles<L: MapName>(
     passes: Vec<Pass<L>>,
 ) -> Result<Vec<Role<Pass<L>>>, NoMemory> {
     let mut roles = Vec::new(alloc);
-    if plan.company.workers > 1 {
+    put_workers(&mut roles, plan.company.workers, one, two)?;
+    put_readers(&mut roles, passes)?;
+    Ok(roles)
+}
+
+fn put_workers<P: Drop>(
+    roles: &mut Vec<Role<P>>,
+    workers: u8,
+    one: Rest,
+    two: Rest,
+) -> Result<(), NoMemory> {
+    if workers > 1 {
         roles.push(Role::First(one))?;
     }
-    if plan.company.workers > 0 {
+    if workers > 0 {
         roles.push(Role::Second(two))?;
     }
+    Ok(())
+}
+
+fn put_readers<P: Drop>(roles: &mut Vec<Role<P>>, passes: Vec<P>) -> Result<(), NoMemory> {
     for pass in passes {
         roles.push(Role::Reader(pass))?;
     }
-    Ok(roles)
+    Ok(())
 }
 
 /// Plays a role to its end. How long its steps took.
@@ -75,7 +90,7 @@ pub fn play<L: MapName, R: Wait + Clock>(
     match role {
         Role::First(rest) => Ok(help(rt, stage, 1, rest)),
         Role::Second(rest) => Ok(help(rt, stage, 2, rest)),
-        Role::Reader(pass) => read(rt, stage, pass),
+        Role::Reader(mut pass) => read(rt, stage, &mut pass),
     }
 }
 
