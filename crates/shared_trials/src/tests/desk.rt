@@ -2,37 +2,24 @@
 ghost use Rattle.map_fold.specs.Ops.{Fit};
 ghost use Rattle.kd_tree.specs.Contents.{contents};
 
-use crate::tests::assertions::{holds, same};
-use crate::tests::trial::{Site, Trial, cuboid, deleted, row, tried, updated};
+use crate::tests::assertions::{found, holds, made, same};
+use crate::tests::trial::{Site, Trial, added, cuboid, deleted, tried, updated};
 use kd_search::nearest;
 use map_fold::Op;
 use point_geom::Point;
 use published_map::{Ended, MapName, Pass};
-use rebuild_core::{Built, Desk, Job, Late, LogAsk, MapState, SwapFault, SwapLeft};
+use rebuild_core::{Built, Desk, Job, Late, LogAsk, MapState, SwapFault, Version};
 use std::alloc::Global;
 use std::process::Abort;
 use std::sync::{Mutex, Wait};
-use std::test::Fail;
 
-fn detached<L: MapName, R: Wait>(at: &Site<'_, L, R>) -> Result<Job, Fail> {
-    match at.shared.detach(at.rt, at.alloc, 1)? {
-        Some(job) => Ok(job),
-        None => Err(Fail::new("nothing was detached")),
-    }
+fn detached<L: MapName, R: Wait + Abort>(at: &Site<'_, L, R>) -> Job {
+    let job = made(at.rt, at.shared.detach(at.rt, at.alloc, 1));
+    found(at.rt, job)
 }
 
-fn built(alloc: Global, job: Job) -> Result<Built, Fail> {
-    match job.build(alloc, 16) {
-        Ok(built) => Ok(built),
-        Err(_) => Err(Fail::new("nothing was built")),
-    }
-}
-
-fn left(answer: Result<(), SwapLeft>) -> Result<SwapLeft, Fail> {
-    match answer {
-        Ok(()) => Err(Fail::new("it was swapped in")),
-        Err(left) => Ok(left),
-    }
+fn built(rt: &impl Abort, alloc: Global, job: Job) -> Built {
+    found(rt, job.build(alloc, 16).ok())
 }
 
 // The points from 1 to 40 are rebuilt while more are added, of which 64 are few enough.
@@ -41,11 +28,11 @@ struct AddedMeanwhile {
 }
 
 // The value of the first ticket.
-fn first<L: MapName, R: Wait + Abort>(at: &Site<'_, L, R>) -> Result<Built, Fail> {
-    let job = detached(at)?;
+fn first<L: MapName, R: Wait + Abort>(at: &Site<'_, L, R>) -> Built {
+    let job = detached(at);
     same(at.rt, "the ticket", job.ticket(), 1);
     same(at.rt, "items", job.items().len(), 40);
-    built(at.alloc, job)
+    built(at.rt, at.alloc, job)
 }
 
 // The value, swapped in with all that it lacks done.
@@ -55,35 +42,41 @@ fn is_swapped<L: MapName, R: Wait + Abort>(at: &Site<'_, L, R>, built: Built) {
 }
 
 // The value with its 65 operations done.
-fn replayed(rt: &impl Abort, alloc: Global, built: Built, ops: &[Op]) -> Result<Built, Fail>
+fn replayed(rt: &impl Abort, alloc: Global, built: Built, ops: &[Op]) -> Built
     requires { Fit (contents built.tree) ops.now }
 {
     same(rt, "operations", ops.len(), 65);
-    match built.replay(alloc, 16, ops) {
-        Ok(built) => Ok(built),
-        Err(_) => Err(Fail::new("nothing was replayed")),
-    }
+    found(rt, built.replay(alloc, 16, ops).ok())
 }
 
 // Brings a value up to date that has 65 operations to do, and swaps it in.
-fn catch_up<L: MapName, R: Wait + Abort>(at: &Site<'_, L, R>, built: Built) -> Result<(), Fail> {
-    let SwapLeft { built, fault } = left(at.shared.swap(at.rt, at.alloc, built, false))?;
-    same(at.rt, "the fault", fault, SwapFault::Behind { left: 65 });
-    let Ok(ops) = at.shared.log_after(at.rt, at.alloc, &built) else {
-        return Err(Fail::new("the value is of the part"));
-    };
-    let built = replayed(at.rt, at.alloc, built, ops.as_slice())?;
+fn catch_up<L: MapName, R: Wait + Abort>(at: &Site<'_, L, R>, built: Built) {
+    let behind = SwapFault::Behind { left: 65 };
+    let built = refused(at, built, false, behind);
+    let ops = made(at.rt, at.shared.log_after(at.rt, at.alloc, &built));
+    let built = replayed(at.rt, at.alloc, built, ops.as_slice());
     is_swapped(at, built);
-    Ok(())
+}
+
+// The value, which isn't swapped in for this fault.
+fn refused<L: MapName, R: Wait + Abort>(
+    at: &Site<'_, L, R>,
+    built: Built,
+    force: bool,
+    fault: SwapFault,
+) -> Built {
+    let left = found(at.rt, at.shared.swap(at.rt, at.alloc, built, force).err());
+    same(at.rt, "the fault", left.fault, fault);
+    left.built
 }
 
 // A subtree that is detached afresh leaves the first value stale.
-fn detach_twice<L: MapName, R: Wait + Abort>(at: &Site<'_, L, R>) -> Result<(), Fail> {
-    let second = detached(at)?;
+fn detach_twice<L: MapName, R: Wait + Abort>(at: &Site<'_, L, R>) {
+    let second = detached(at);
     same(at.rt, "the second ticket", second.ticket(), 2);
-    let third = detached(at)?;
+    let third = detached(at);
     same(at.rt, "the third ticket", third.ticket(), 3);
-    let second = built(at.alloc, second)?;
+    let second = built(at.rt, at.alloc, second);
     let asked = at.shared.log_after(at.rt, at.alloc, &second).err();
     same(
         at.rt,
@@ -91,33 +84,27 @@ fn detach_twice<L: MapName, R: Wait + Abort>(at: &Site<'_, L, R>) -> Result<(), 
         asked,
         Some(LogAsk::Stale { ticket: 2 }),
     );
-    is_stale(at, second, 2)
+    is_stale(at, second, 2);
 }
 
 // The value is refused, though the swap is forced.
-fn is_stale<L: MapName, R: Wait + Abort>(
-    at: &Site<'_, L, R>,
-    built: Built,
-    ticket: u64,
-) -> Result<(), Fail> {
-    let SwapLeft { built: _, fault } = left(at.shared.swap(at.rt, at.alloc, built, true))?;
-    same(at.rt, "the fault", fault, SwapFault::Stale { ticket });
-    Ok(())
+fn is_stale<L: MapName, R: Wait + Abort>(at: &Site<'_, L, R>, built: Built, ticket: u64) {
+    let _built = refused(at, built, true, SwapFault::Stale { ticket });
 }
 
 impl<R: Wait + Abort> Trial<R> for AddedMeanwhile {
-    fn run<L: MapName>(&self, at: &Site<'_, L, R>, passes: &mut [Pass<L>]) -> Result<(), Fail> {
-        let is_balanced = at.shared.detach(at.rt, at.alloc, 1)?.is_none();
-        holds(at.rt, "nothing to detach", is_balanced);
-        updated(at, passes, 0, row(at.alloc, 1, 41)?)?;
-        let built = first(at)?;
-        updated(at, passes, 0, row(at.alloc, 41, self.last)?)?;
+    fn run<L: MapName>(&self, at: &Site<'_, L, R>, passes: &mut [Pass<L>]) {
+        let none = made(at.rt, at.shared.detach(at.rt, at.alloc, 1));
+        holds(at.rt, "nothing to detach", none.is_none());
+        added(at, passes, 1, 41);
+        let built = first(at);
+        added(at, passes, 41, self.last);
         if self.last < 106 {
             is_swapped(at, built);
-            return Ok(());
+        } else {
+            catch_up(at, built);
+            detach_twice(at);
         }
-        catch_up(at, built)?;
-        detach_twice(at)
     }
 
     // The third ticket's subtree is detached, and nothing is logged there, or nothing is detached.
@@ -131,15 +118,13 @@ impl<R: Wait + Abort> Trial<R> for AddedMeanwhile {
 }
 
 #[test]
-fn a_value_that_is_64_behind_is_swapped_in(rt: HostRuntime) -> Result<(), Fail> {
-    tried(&rt, rt.alloc(), 1, &AddedMeanwhile { last: 105 })
+fn a_value_that_is_64_behind_is_swapped_in(rt: HostRuntime) {
+    tried(&rt, rt.alloc(), 1, &AddedMeanwhile { last: 105 });
 }
 
 #[test]
-fn a_value_that_is_65_behind_catches_up_and_a_stale_one_is_refused(
-    rt: HostRuntime,
-) -> Result<(), Fail> {
-    tried(&rt, rt.alloc(), 1, &AddedMeanwhile { last: 106 })
+fn a_value_that_is_65_behind_catches_up_and_a_stale_one_is_refused(rt: HostRuntime) {
+    tried(&rt, rt.alloc(), 1, &AddedMeanwhile { last: 106 });
 }
 
 // So many points are live, and nothing is detached.
@@ -152,18 +137,17 @@ fn all_are_live(rt: &impl Abort, state: &MapState, live: u32) {
 struct ToldMeanwhile;
 
 impl<R: Wait + Abort> Trial<R> for ToldMeanwhile {
-    fn run<L: MapName>(&self, at: &Site<'_, L, R>, passes: &mut [Pass<L>]) -> Result<(), Fail> {
-        updated(at, passes, 0, row(at.alloc, 1, 41)?)?;
-        let built = first(at)?;
-        updated(at, passes, 0, row(at.alloc, 41, 106)?)?;
+    fn run<L: MapName>(&self, at: &Site<'_, L, R>, passes: &mut [Pass<L>]) {
+        added(at, passes, 1, 41);
+        let built = first(at);
+        added(at, passes, 41, 106);
         let late = at.shared.swap_or_log(at.rt, at.alloc, built, 64);
         let Err(Late::Behind { built, ops }) = late else {
-            return Err(Fail::new("it isn't told what it lacks"));
+            panic!(at.rt; "it isn't told what it lacks");
         };
-        let built = replayed(at.rt, at.alloc, built, ops.as_slice())?;
+        let built = replayed(at.rt, at.alloc, built, ops.as_slice());
         let done = at.shared.swap_or_log(at.rt, at.alloc, built, 0);
         holds(at.rt, "it is swapped in", done.is_ok());
-        Ok(())
     }
 
     fn end(&self, rt: &R, state: &MapState, _ended: &[Ended]) {
@@ -172,8 +156,8 @@ impl<R: Wait + Abort> Trial<R> for ToldMeanwhile {
 }
 
 #[test]
-fn one_call_swaps_a_value_in_or_tells_what_it_lacks(rt: HostRuntime) -> Result<(), Fail> {
-    tried(&rt, rt.alloc(), 1, &ToldMeanwhile)
+fn one_call_swaps_a_value_in_or_tells_what_it_lacks(rt: HostRuntime) {
+    tried(&rt, rt.alloc(), 1, &ToldMeanwhile);
 }
 
 // Another map lends its value of the first ticket, which holds other points.
@@ -183,26 +167,23 @@ struct Lent {
 }
 
 // The lent value is stale, and this map's own is swapped in after it.
-fn refuse<L: MapName, R: Wait + Abort>(at: &Site<'_, L, R>, lent: Built) -> Result<(), Fail> {
-    let own = first(at)?;
+fn refuse<L: MapName, R: Wait + Abort>(at: &Site<'_, L, R>, lent: Built) {
+    let own = first(at);
     let late = at.shared.swap_or_log(at.rt, at.alloc, lent, 64);
     let Err(Late::Stale { built }) = late else {
-        return Err(Fail::new("the lent value isn't stale"));
+        panic!(at.rt; "the lent value isn't stale");
     };
     same(at.rt, "its ticket", built.ticket(), 1);
-    is_stale(at, built, 1)?;
+    is_stale(at, built, 1);
     is_swapped(at, own);
-    Ok(())
 }
 
 impl<R: Wait + Abort> Trial<R> for Lent {
-    fn run<L: MapName>(&self, at: &Site<'_, L, R>, passes: &mut [Pass<L>]) -> Result<(), Fail> {
-        updated(at, passes, 0, row(at.alloc, 1, 41)?)?;
+    fn run<L: MapName>(&self, at: &Site<'_, L, R>, passes: &mut [Pass<L>]) {
+        added(at, passes, 1, 41);
         let mut built = self.built.lock(at.rt);
-        let Some(lent) = built.take() else {
-            return Err(Fail::new("nothing was lent"));
-        };
-        refuse(at, lent)
+        let lent = found(at.rt, built.take());
+        refuse(at, lent);
     }
 
     fn end(&self, rt: &R, state: &MapState, _ended: &[Ended]) {
@@ -213,10 +194,10 @@ impl<R: Wait + Abort> Trial<R> for Lent {
 struct Lender;
 
 impl<R: Wait + Abort> Trial<R> for Lender {
-    fn run<L: MapName>(&self, at: &Site<'_, L, R>, passes: &mut [Pass<L>]) -> Result<(), Fail> {
-        updated(at, passes, 0, row(at.alloc, 2, 42)?)?;
-        let built = Mutex::new(Some(first(at)?));
-        tried(at.rt, at.alloc, 1, &Lent { built })
+    fn run<L: MapName>(&self, at: &Site<'_, L, R>, passes: &mut [Pass<L>]) {
+        added(at, passes, 2, 42);
+        let built = Mutex::new(Some(first(at)));
+        tried(at.rt, at.alloc, 1, &Lent { built });
     }
 
     fn end(&self, rt: &R, state: &MapState, _ended: &[Ended]) {
@@ -225,44 +206,47 @@ impl<R: Wait + Abort> Trial<R> for Lender {
 }
 
 #[test]
-fn a_value_of_another_map_is_stale(rt: HostRuntime) -> Result<(), Fail> {
-    tried(&rt, rt.alloc(), 1, &Lender)
+fn a_value_of_another_map_is_stale(rt: HostRuntime) {
+    tried(&rt, rt.alloc(), 1, &Lender);
 }
 
 // A pass keeps a version while points are deleted and a built value is swapped in.
 struct KeptMeanwhile;
 
 // The second pass keeps the points from 1 to 40.
-fn assert_kept<L: MapName>(rt: &impl Abort, alloc: Global, passes: &[Pass<L>]) -> Result<(), Fail> {
-    let Some(pass) = passes.get(1) else {
-        return Err(Fail::new("no such pass"));
-    };
-    let version = pass.version();
+fn assert_kept(rt: &impl Abort, alloc: Global, version: &Version) {
     same(rt, "updates", version.len(), 1);
     same(rt, "live points", version.counts().live, 40);
-    let query = Point::new(0, 0, 0)?;
-    let hits = nearest(alloc, version.tree(), 9, &query, None)?;
+    let query = made(rt, Point::new(0, 0, 0));
+    let hits = made(rt, nearest(alloc, version.tree(), 9, &query, None));
     same(rt, "hits", hits.len(), 9);
     for (place, hit) in hits.as_slice().iter().enumerate() {
         same(rt, "the number in its place", hit.number as usize, place);
     }
-    Ok(())
+}
+
+// The second pass sees what there is.
+fn renew<L: MapName>(rt: &impl Abort, passes: &mut [Pass<L>]) {
+    let Some(pass) = passes.get_mut(1) else {
+        panic!(rt; "no such pass");
+    };
+    pass.renew();
 }
 
 impl<R: Wait + Abort> Trial<R> for KeptMeanwhile {
-    fn run<L: MapName>(&self, at: &Site<'_, L, R>, passes: &mut [Pass<L>]) -> Result<(), Fail> {
-        updated(at, passes, 0, row(at.alloc, 1, 41)?)?;
-        let Some(pass) = passes.get_mut(1) else {
-            return Err(Fail::new("no such pass"));
-        };
-        pass.renew();
-        let built = first(at)?;
-        let near = deleted(at.alloc, cuboid(10, 1, 1)?)?;
-        updated(at, passes, 0, near)?;
+    fn run<L: MapName>(&self, at: &Site<'_, L, R>, passes: &mut [Pass<L>]) {
+        added(at, passes, 1, 41);
+        renew(at.rt, passes);
+        let built = first(at);
+        let near = deleted(at.rt, at.alloc, cuboid(at.rt, 10, 1, 1));
+        updated(at, passes, 0, near);
         is_swapped(at, built);
         // The step after a swap is the one that drops what was before it.
-        updated(at, passes, 0, row(at.alloc, 41, 42)?)?;
-        assert_kept(at.rt, at.alloc, passes)
+        added(at, passes, 41, 42);
+        let Some(pass) = passes.get(1) else {
+            panic!(at.rt; "no such pass");
+        };
+        assert_kept(at.rt, at.alloc, pass.version());
     }
 
     fn end(&self, rt: &R, state: &MapState, _ended: &[Ended]) {
@@ -271,6 +255,6 @@ impl<R: Wait + Abort> Trial<R> for KeptMeanwhile {
 }
 
 #[test]
-fn a_swap_leaves_a_version_that_a_pass_keeps(rt: HostRuntime) -> Result<(), Fail> {
-    tried(&rt, rt.alloc(), 2, &KeptMeanwhile)
+fn a_swap_leaves_a_version_that_a_pass_keeps(rt: HostRuntime) {
+    tried(&rt, rt.alloc(), 2, &KeptMeanwhile);
 }

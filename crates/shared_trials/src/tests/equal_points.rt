@@ -1,8 +1,8 @@
 //! A map that is settled behind its lock.
 ghost use Rattle.std.specs.Prelude.{◌≤◌};
 
-use crate::tests::assertions::{holds, same};
-use crate::tests::trial::{Site, Trial, row, tried, updated};
+use crate::tests::assertions::{holds, made, same};
+use crate::tests::trial::{Site, Trial, added, tried, updated};
 use map_fold::{NearReply, Points, Update};
 use point_geom::Point;
 use published_map::{Ended, MapName, Pass};
@@ -10,14 +10,14 @@ use rebuild_core::{MapState, Version};
 use std::alloc::Global;
 use std::process::Abort;
 use std::sync::Wait;
-use std::test::Fail;
 
-fn at_one_place(alloc: Global) -> Result<Points, Fail> {
+fn at_one_place(rt: &impl Abort, alloc: Global) -> Points {
+    let place = made(rt, Point::new(3, 3, 3));
     let mut points = Points::new(alloc);
     for _ in 0..5_000u32 {
-        points.push(Point::new(3, 3, 3)?)?;
+        made(rt, points.push(place));
     }
-    Ok(points)
+    points
 }
 
 // Whether a subtree from this size on is out of balance.
@@ -41,20 +41,19 @@ fn are_first(rt: &impl Abort, reply: &NearReply) {
 struct EqualPoints;
 
 impl<R: Wait + Abort> Trial<R> for EqualPoints {
-    fn run<L: MapName>(&self, at: &Site<'_, L, R>, passes: &mut [Pass<L>]) -> Result<(), Fail> {
-        let points = at_one_place(at.alloc)?;
-        let mark = updated(at, passes, 0, Update::Add(points))?;
+    fn run<L: MapName>(&self, at: &Site<'_, L, R>, passes: &mut [Pass<L>]) {
+        let points = at_one_place(at.rt, at.alloc);
+        let mark = updated(at, passes, 0, Update::Add(points));
         same(at.rt, "the mark", mark, 1);
-        at.shared.settle(at.rt, at.alloc)?;
+        made(at.rt, at.shared.settle(at.rt, at.alloc));
         let Some(pass) = passes.get_mut(0) else {
-            return Err(Fail::new("no such pass"));
+            panic!(at.rt; "no such pass");
         };
         pass.renew();
         holds(at.rt, "no breach", !is_breached(pass.version(), 10));
-        let query = Point::new(3, 3, 3)?;
-        let reply = pass.nearest(at.alloc, 2, &query, None)?;
+        let query = made(at.rt, Point::new(3, 3, 3));
+        let reply = made(at.rt, pass.nearest(at.alloc, 2, &query, None));
         are_first(at.rt, &reply);
-        Ok(())
     }
 
     fn end(&self, rt: &R, state: &MapState, ended: &[Ended]) {
@@ -69,16 +68,15 @@ impl<R: Wait + Abort> Trial<R> for EqualPoints {
 struct PointsInARow;
 
 impl<R: Wait + Abort> Trial<R> for PointsInARow {
-    fn run<L: MapName>(&self, at: &Site<'_, L, R>, passes: &mut [Pass<L>]) -> Result<(), Fail> {
-        updated(at, passes, 0, row(at.alloc, 1, 41)?)?;
+    fn run<L: MapName>(&self, at: &Site<'_, L, R>, passes: &mut [Pass<L>]) {
+        added(at, passes, 1, 41);
         let Some(pass) = passes.get_mut(0) else {
-            return Err(Fail::new("no such pass"));
+            panic!(at.rt; "no such pass");
         };
         holds(at.rt, "a breach", is_breached(pass.version(), 16));
-        at.shared.settle(at.rt, at.alloc)?;
+        made(at.rt, at.shared.settle(at.rt, at.alloc));
         pass.renew();
         holds(at.rt, "no breach", !is_breached(pass.version(), 16));
-        Ok(())
     }
 
     fn end(&self, rt: &R, state: &MapState, _ended: &[Ended]) {
@@ -88,7 +86,7 @@ impl<R: Wait + Abort> Trial<R> for PointsInARow {
 }
 
 #[test]
-fn settling_leaves_no_breach_behind_the_lock(rt: HostRuntime) -> Result<(), Fail> {
-    tried(&rt, rt.alloc(), 1, &EqualPoints)?;
-    tried(&rt, rt.alloc(), 1, &PointsInARow)
+fn settling_leaves_no_breach_behind_the_lock(rt: HostRuntime) {
+    tried(&rt, rt.alloc(), 1, &EqualPoints);
+    tried(&rt, rt.alloc(), 1, &PointsInARow);
 }

@@ -1,14 +1,13 @@
 //! What a pass sees of the others' updates.
 use crate::tests::assertions::same;
 use crate::tests::trial::{
-    Site, Trial, are_distinct, cuboid, deleted, in_box, near, row, tried, updated,
+    Site, Trial, added, are_distinct, cuboid, deleted, in_box, near, tried, updated,
 };
 use map_fold::{BoxReply, NearReply};
 use published_map::{Ended, MapName, Pass};
 use rebuild_core::MapState;
 use std::process::Abort;
 use std::sync::Wait;
-use std::test::Fail;
 
 // The point (1, 0, 0), alone.
 fn assert_found(rt: &impl Abort, reply: &NearReply) {
@@ -37,25 +36,25 @@ fn assert_boxed(rt: &impl Abort, reply: &BoxReply) {
 // One caller adds a point that the other deletes.
 struct TwoCallers;
 
+// The second caller deletes it, and no pass finds it then.
+fn deletes<L: MapName, R: Wait + Abort>(at: &Site<'_, L, R>, passes: &mut [Pass<L>]) {
+    let around = deleted(at.rt, at.alloc, cuboid(at.rt, 2, 1, 1));
+    let mark = updated(at, passes, 1, around);
+    same(at.rt, "the second mark", mark, 2);
+    // No clause says that a query enters the published version.
+    assert_empty(at.rt, &near(at, passes, 1, 1), 2);
+    assert_empty(at.rt, &near(at, passes, 0, 1), 2);
+}
+
 impl<R: Wait + Abort> Trial<R> for TwoCallers {
-    fn run<L: MapName>(&self, at: &Site<'_, L, R>, passes: &mut [Pass<L>]) -> Result<(), Fail> {
-        let point = row(at.alloc, 1, 2)?;
-        let mark = updated(at, passes, 0, point)?;
-        same(at.rt, "the first mark", mark, 1);
-        if !are_distinct(passes) {
-            return Err(Fail::new("a caller has two passes"));
-        }
+    fn run<L: MapName>(&self, at: &Site<'_, L, R>, passes: &mut [Pass<L>]) {
+        same(at.rt, "the first mark", added(at, passes, 1, 2), 1);
+        assert!(at.rt; are_distinct(passes));
         at.shared.meet(at.rt, passes);
-        assert_found(at.rt, &near(at.alloc, passes, 1, 1)?);
-        assert_found(at.rt, &near(at.alloc, passes, 1, 17)?);
-        assert_boxed(at.rt, &in_box(at.alloc, passes, 1)?);
-        let around = deleted(at.alloc, cuboid(2, 1, 1)?)?;
-        let mark = updated(at, passes, 1, around)?;
-        same(at.rt, "the second mark", mark, 2);
-        // No clause says that a query enters the published version.
-        assert_empty(at.rt, &near(at.alloc, passes, 1, 1)?, 2);
-        assert_empty(at.rt, &near(at.alloc, passes, 0, 1)?, 2);
-        Ok(())
+        assert_found(at.rt, &near(at, passes, 1, 1));
+        assert_found(at.rt, &near(at, passes, 1, 17));
+        assert_boxed(at.rt, &in_box(at, passes, 1));
+        deletes(at, passes);
     }
 
     fn end(&self, rt: &R, state: &MapState, ended: &[Ended]) {
@@ -70,31 +69,34 @@ impl<R: Wait + Abort> Trial<R> for TwoCallers {
 }
 
 #[test]
-fn a_pass_sees_what_the_other_caller_does(rt: HostRuntime) -> Result<(), Fail> {
-    tried(&rt, rt.alloc(), 2, &TwoCallers)
+fn a_pass_sees_what_the_other_caller_does(rt: HostRuntime) {
+    tried(&rt, rt.alloc(), 2, &TwoCallers);
 }
 
 // No update was seen before the first query.
 struct NewPass;
 
+// The second pass sees the first update only then.
+fn is_renewed<L: MapName>(rt: &impl Abort, passes: &mut [Pass<L>]) {
+    let Some(pass) = passes.get_mut(1) else {
+        panic!(rt; "no such pass");
+    };
+    same(rt, "no updates", pass.version().len(), 0);
+    pass.renew();
+    same(rt, "the caller", pass.caller(), 2);
+    same(rt, "updates", pass.version().len(), 1);
+    same(rt, "live points", pass.version().counts().live, 1);
+}
+
 impl<R: Wait + Abort> Trial<R> for NewPass {
-    fn run<L: MapName>(&self, at: &Site<'_, L, R>, passes: &mut [Pass<L>]) -> Result<(), Fail> {
-        let reply = near(at.alloc, passes, 1, 1)?;
-        assert_empty(at.rt, &reply, 0);
-        updated(at, passes, 0, row(at.alloc, 1, 2)?)?;
-        let Some(pass) = passes.get_mut(1) else {
-            return Err(Fail::new("no such pass"));
-        };
-        same(at.rt, "no updates", pass.version().len(), 0);
-        pass.renew();
-        same(at.rt, "the caller", pass.caller(), 2);
-        same(at.rt, "updates", pass.version().len(), 1);
-        same(at.rt, "live points", pass.version().counts().live, 1);
-        updated(at, passes, 0, row(at.alloc, 2, 3)?)?;
-        let reply = in_box(at.alloc, passes, 1)?;
+    fn run<L: MapName>(&self, at: &Site<'_, L, R>, passes: &mut [Pass<L>]) {
+        assert_empty(at.rt, &near(at, passes, 1, 1), 0);
+        added(at, passes, 1, 2);
+        is_renewed(at.rt, passes);
+        added(at, passes, 2, 3);
+        let reply = in_box(at, passes, 1);
         same(at.rt, "the mark", reply.mark, 2);
         same(at.rt, "the count", reply.count, 2);
-        Ok(())
     }
 
     fn end(&self, rt: &R, state: &MapState, _ended: &[Ended]) {
@@ -103,6 +105,6 @@ impl<R: Wait + Abort> Trial<R> for NewPass {
 }
 
 #[test]
-fn a_version_stays_until_it_is_renewed(rt: HostRuntime) -> Result<(), Fail> {
-    tried(&rt, rt.alloc(), 2, &NewPass)
+fn a_version_stays_until_it_is_renewed(rt: HostRuntime) {
+    tried(&rt, rt.alloc(), 2, &NewPass);
 }

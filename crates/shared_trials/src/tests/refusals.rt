@@ -5,26 +5,24 @@ use published_map::{Ended, MapName, Pass};
 use rebuild_core::{MapState, StateFault};
 use std::process::Abort;
 use std::sync::Wait;
-use std::test::Fail;
 
 // An update for which there is no memory is made again.
 struct MadeAgain;
 
 impl<R: Wait + Abort> Trial<R> for MadeAgain {
-    fn run<L: MapName>(&self, at: &Site<'_, L, R>, passes: &mut [Pass<L>]) -> Result<(), Fail> {
+    fn run<L: MapName>(&self, at: &Site<'_, L, R>, passes: &mut [Pass<L>]) {
         let Some(pass) = passes.get_mut(0) else {
-            return Err(Fail::new("no such pass"));
+            panic!(at.rt; "no such pass");
         };
         for mark in 1..4u64 {
-            let update = row(at.alloc, 1, 9)?;
-            let again = row(at.alloc, 1, 9)?;
+            let update = row(at.rt, at.alloc, 1, 9);
+            let again = row(at.rt, at.alloc, 1, 9);
             let done = match at.shared.update(at.rt, at.alloc, pass, update) {
                 Err(StateFault::NoMemory) => at.shared.update(at.rt, at.alloc, pass, again),
                 done => done,
             };
             same(at.rt, "the mark", done.ok(), Some(mark));
         }
-        Ok(())
     }
 
     fn end(&self, rt: &R, state: &MapState, _ended: &[Ended]) {
@@ -34,6 +32,6 @@ impl<R: Wait + Abort> Trial<R> for MadeAgain {
 }
 
 #[test]
-fn an_update_that_wanted_memory_gets_its_mark_later(rt: HostRuntime) -> Result<(), Fail> {
-    tried(&rt, rt.alloc(), 1, &MadeAgain)
+fn an_update_that_wanted_memory_gets_its_mark_later(rt: HostRuntime) {
+    tried(&rt, rt.alloc(), 1, &MadeAgain);
 }

@@ -3,7 +3,7 @@ ghost use Rattle.std.specs.Prelude.{◌≡◌, ◌≤◌, IfErr};
 ghost use Rattle.kd_tree.specs.Counter.{IsBlankOf};
 ghost use Rattle.rebuild_core.specs.Desk.{IsSwapCause};
 
-use crate::tests::assertions::{holds, same};
+use crate::tests::assertions::{holds, made, same};
 use crate::tests::unbalanced::{add, with_forty, with_two_breaches};
 use kd_tree::Steps;
 use map_fold::{NoMemory, Ops, Points};
@@ -16,7 +16,6 @@ use std::process::Abort;
 use std::sync::atomic::{AtomicU64, Ordering};
 use std::sync::ledger::{Blank, Ledger};
 use std::sync::{Mutex, Wait};
-use std::test::Fail;
 use std::thread::join;
 
 // Done, or why not.
@@ -47,24 +46,24 @@ impl Gate for StopGate {
 }
 
 // Lets a worker do its rounds up to that in which it builds the job of this ticket. Answers the tickets of the jobs.
-fn work_up_to<D: Desk>(
-    rt: &impl Wait,
+fn work_up_to<D: Desk, R: Wait + Abort>(
+    rt: &R,
     alloc: Global,
     worker: u8,
     desk: &D,
     last: u64,
-) -> Result<u64, Fail>
+) -> u64
     requires worker_from { 1 ≤ worker }
     requires worker_to { worker ≤ 2 }
 {
-    let (bell, mut rest) = pair(alloc)?;
+    let (bell, mut rest) = made(rt, pair(alloc));
     let gate = StopGate {
         bell,
         last,
         tickets: AtomicU64::new(0),
     };
     work(rt, alloc, 16, worker, desk, &gate, &mut rest);
-    Ok(gate.tickets.load(Ordering::SeqCst))
+    gate.tickets.load(Ordering::SeqCst)
 }
 
 // The ticket of the part in the slot.
@@ -88,63 +87,62 @@ fn left_by<R: Wait + Abort>(
     desk: CountDesk,
     (last, jobs, asked): (u64, u64, u32),
     tickets: (Option<u64>, Option<u64>),
-) -> Result<MapState, Fail> {
-    let done = work_up_to(rt, alloc, 1, &desk, last)?;
+) -> MapState {
+    let done = work_up_to(rt, alloc, 1, &desk, last);
     same(rt, "the jobs", done, jobs);
     let (state, calls) = desk.finish(rt);
     same(rt, "calls", calls, asked);
     have_tickets(rt, &state, &[(1, tickets.0), (2, tickets.1)]);
-    Ok(state)
+    state
 }
 
 #[test]
-fn a_ring_before_the_sleep_is_not_lost(rt: HostRuntime) -> Result<(), Fail> {
+fn a_ring_before_the_sleep_is_not_lost(rt: HostRuntime) {
     let alloc = rt.alloc();
     // Each swap is refused, so the worker goes to sleep behind each build, before which it was rung for.
-    let desk = CountDesk::new(with_forty(alloc)?, vec![in alloc; 3, 6]?);
-    left_by(&rt, alloc, desk, (2, 12, 6), (Some(2), None))?;
-    Ok(())
+    let refused = made(&rt, vec![in alloc; 3, 6]);
+    let desk = CountDesk::new(with_forty(&rt, alloc), refused);
+    left_by(&rt, alloc, desk, (2, 12, 6), (Some(2), None));
 }
 
 #[test]
-fn a_part_whose_swap_was_refused_is_detached_afresh(rt: HostRuntime) -> Result<(), Fail> {
+fn a_part_whose_swap_was_refused_is_detached_afresh(rt: HostRuntime) {
     let alloc = rt.alloc();
-    let desk = CountDesk::new(with_forty(alloc)?, vec![in alloc; 3]?);
-    let mut state = left_by(&rt, alloc, desk, (1, 1, 3), (Some(1), None))?;
-    let is_detached = state.detach(alloc, 1)?.is_some();
-    holds(&rt, "it is detached", is_detached);
+    let refused = made(&rt, vec![in alloc; 3]);
+    let desk = CountDesk::new(with_forty(&rt, alloc), refused);
+    let mut state = left_by(&rt, alloc, desk, (1, 1, 3), (Some(1), None));
+    let job = made(&rt, state.detach(alloc, 1));
+    holds(&rt, "it is detached", job.is_some());
     have_tickets(&rt, &state, &[(1, Some(2))]);
-    Ok(())
 }
 
 #[test]
-fn both_jobs_of_a_round_are_done_in_order(rt: HostRuntime) -> Result<(), Fail> {
+fn both_jobs_of_a_round_are_done_in_order(rt: HostRuntime) {
     let alloc = rt.alloc();
-    let desk = CountDesk::new(with_two_breaches(alloc)?, Vec::new(alloc));
-    let state = left_by(&rt, alloc, desk, (1, 12, 4), (None, None))?;
+    let desk = CountDesk::new(with_two_breaches(&rt, alloc), Vec::new(alloc));
+    let state = left_by(&rt, alloc, desk, (1, 12, 4), (None, None));
     let is_balanced = state.version().tree().first_breach(16).is_none();
     holds(&rt, "nothing is to be rebuilt", is_balanced);
-    Ok(())
 }
 
 #[test]
-fn want_of_memory_for_a_job_leaves_the_other(rt: HostRuntime) -> Result<(), Fail> {
+fn want_of_memory_for_a_job_leaves_the_other(rt: HostRuntime) {
     let alloc = rt.alloc();
-    let desk = CountDesk::new(with_two_breaches(alloc)?, vec![in alloc; 3]?);
-    left_by(&rt, alloc, desk, (1, 12, 4), (Some(1), None))?;
-    Ok(())
+    let refused = made(&rt, vec![in alloc; 3]);
+    let desk = CountDesk::new(with_two_breaches(&rt, alloc), refused);
+    left_by(&rt, alloc, desk, (1, 12, 4), (Some(1), None));
 }
 
 #[test]
-fn the_second_worker_has_the_third_and_fourth_slots(rt: HostRuntime) -> Result<(), Fail> {
+fn the_second_worker_has_the_third_and_fourth_slots(rt: HostRuntime) {
     let alloc = rt.alloc();
-    let desk = CountDesk::new(with_two_breaches(alloc)?, vec![in alloc; 3, 4]?);
-    let done = work_up_to(&rt, alloc, 2, &desk, 1)?;
+    let refused = made(&rt, vec![in alloc; 3, 4]);
+    let desk = CountDesk::new(with_two_breaches(&rt, alloc), refused);
+    let done = work_up_to(&rt, alloc, 2, &desk, 1);
     same(&rt, "the jobs", done, 12);
     let (state, _) = desk.finish(&rt);
     let tickets = [(1, None), (2, None), (3, Some(1)), (4, Some(2))];
     have_tickets(&rt, &state, &tickets);
-    Ok(())
 }
 
 // A map whose callers add 65 points before each swap that isn't forced.
@@ -222,16 +220,16 @@ impl Busy {
 }
 
 #[test]
-fn a_swap_is_forced_after_eight_tries(rt: HostRuntime) -> Result<(), Fail> {
+fn a_swap_is_forced_after_eight_tries(rt: HostRuntime) {
     let alloc = rt.alloc();
     let desk = BusyDesk {
         busy: Mutex::new(Busy {
-            state: with_forty(alloc)?,
+            state: with_forty(&rt, alloc),
             unforced: 0,
             most_left: 0,
         }),
     };
-    let done = work_up_to(&rt, alloc, 1, &desk, 1)?;
+    let done = work_up_to(&rt, alloc, 1, &desk, 1);
     same(&rt, "the jobs", done, 1);
     let busy = desk.busy.into_inner();
     same(&rt, "swaps that were not forced", busy.unforced, 8);
@@ -240,15 +238,14 @@ fn a_swap_is_forced_after_eight_tries(rt: HostRuntime) -> Result<(), Fail> {
     have_tickets(&rt, &busy.state, &[(1, None)]);
     let live = busy.state.version().counts().live;
     same(&rt, "live points", live, 40 + 8 * 65);
-    Ok(())
 }
 
 #[test]
-fn a_worker_builds_beside_a_caller_until_it_is_told_to_end(rt: HostRuntime) -> Result<(), Fail> {
+fn a_worker_builds_beside_a_caller_until_it_is_told_to_end(rt: HostRuntime) {
     let alloc = rt.alloc();
-    let desk = CountDesk::new(with_forty(alloc)?, Vec::new(alloc));
+    let desk = CountDesk::new(with_forty(&rt, alloc), Vec::new(alloc));
     let gate = HoldGate::new(0, 1, 100_000_000);
-    let (bell, mut rest) = pair(alloc)?;
+    let (bell, mut rest) = made(&rt, pair(alloc));
     join(
         &rt,
         || {
@@ -263,5 +260,4 @@ fn a_worker_builds_beside_a_caller_until_it_is_told_to_end(rt: HostRuntime) -> R
     // It may have looked for jobs once more before it was told.
     holds(&rt, "the calls", calls == 3 || calls == 5);
     have_tickets(&rt, &state, &[(1, None)]);
-    Ok(())
 }

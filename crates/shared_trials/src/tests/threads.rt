@@ -2,7 +2,7 @@
 ghost use Rattle.std.specs.Prelude.{◌≤◌};
 ghost use Rattle.published_map.specs.Held.{IsOpenedAs};
 
-use crate::tests::assertions::{holds, same};
+use crate::tests::assertions::{holds, made, same};
 use crate::tests::trial::{Site, are_distinct};
 use map_fold::{Points, Settings, Update};
 use point_geom::Point;
@@ -13,7 +13,6 @@ use std::marker::Brand;
 use std::process::Abort;
 use std::sync::Wait;
 use std::sync::ledger::Blank;
-use std::test::Fail;
 use std::thread::{Threads, join};
 
 // How many updates each caller makes, and as many reads.
@@ -114,29 +113,30 @@ fn shared_by_two<L: MapName + Send + Sync, R: Threads + Wait + Abort + Sync>(
     alloc: Global,
     blank: Blank,
     opened: Opened,
-) -> Result<(), Fail>
+)
     requires opened { IsOpenedAs L.name L.parts L.callers L.marks L.voxel blank opened }
 {
-    let (shared, passes) = Shared::<L>::start(rt, alloc, blank, opened)?;
+    let Ok((shared, passes)) = Shared::<L>::start(rt, alloc, blank, opened) else {
+        panic!(rt; "no memory");
+    };
     let mut passes = passes;
     let done = each(rt, alloc, &shared, passes.as_mut_slice());
-    if !done || !are_distinct(passes.as_slice()) {
-        shared.close(rt);
-        return Err(Fail::new("a call was refused"));
-    }
-    let (state, ended) = shared.finish(rt, alloc, passes)?;
+    holds(rt, "no call was refused", done);
+    assert!(rt; are_distinct(passes.as_slice()));
+    let (state, ended) = made(rt, shared.finish(rt, alloc, passes));
     same(rt, "updates", state.version().len(), 50_000);
     same(rt, "live points", state.version().counts().live, 50_000);
     same(rt, "callers", ended.len(), 2);
     for told in ended.as_slice() {
         same(rt, "a caller's updates", told.updates, TURNS);
     }
-    Ok(())
 }
 
 #[test]
-fn two_threads_make_a_hundred_thousand_updates_and_reads(rt: HostRuntime) -> Result<(), Fail> {
+fn two_threads_make_a_hundred_thousand_updates_and_reads(rt: HostRuntime) {
     let alloc = rt.alloc();
-    let opened = Opened::new(alloc, Settings::new(200, LARGE), 2)?;
-    shared_by_two::<Brand, HostRuntime>(&rt, alloc, Blank::new(2), opened)
+    let Ok(opened) = Opened::new(alloc, Settings::new(200, LARGE), 2) else {
+        panic!(rt; "no memory");
+    };
+    shared_by_two::<Brand, HostRuntime>(&rt, alloc, Blank::new(2), opened);
 }

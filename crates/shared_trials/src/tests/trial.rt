@@ -4,15 +4,16 @@ ghost use Rattle.kd_search.specs.Query.{IsQuery};
 ghost use Rattle.published_map.specs.Marks.{callers_of, times_listed, IsDistinct};
 ghost use Rattle.published_map.specs.Held.{IsOpenedAs};
 
+use crate::tests::assertions::made;
 use map_fold::{BoxReply, Cuboids, NearReply, Points, Settings, Update};
 use point_geom::{Corner, Cuboid, Point};
 use published_map::{Ended, MapName, Opened, Pass, Shared};
 use rebuild_core::MapState;
 use std::alloc::Global;
 use std::marker::Brand;
+use std::process::Abort;
 use std::sync::Wait;
 use std::sync::ledger::Blank;
-use std::test::Fail;
 
 /// A map that callers share, and what their calls are handed.
 #[derive(Drop)]
@@ -24,7 +25,7 @@ pub struct Site<'a, L: MapName, R> {
 
 /// What callers do with a map, and what is left of it when they have ended.
 pub trait Trial<R> {
-    fn run<L: MapName>(&self, at: &Site<'_, L, R>, passes: &mut [Pass<L>]) -> Result<(), Fail>
+    fn run<L: MapName>(&self, at: &Site<'_, L, R>, passes: &mut [Pass<L>])
         requires all { length passes.old ≡ L.callers }
         requires parts { L.callers ≡ L.parts };
 
@@ -32,46 +33,37 @@ pub trait Trial<R> {
 }
 
 // Tries it on a map of so many callers.
-pub fn tried<T: Trial<R>, R: Wait>(
-    rt: &R,
-    alloc: Global,
-    callers: u8,
-    trial: &T,
-) -> Result<(), Fail>
+pub fn tried<T: Trial<R>, R: Wait + Abort>(rt: &R, alloc: Global, callers: u8, trial: &T)
     requires callers_from { 1 ≤ callers }
     requires callers_to { callers ≤ 8 }
 {
-    let opened = Opened::new(alloc, Settings::new(200, 16), callers)?;
-    tried_on::<Brand, T, R>(rt, alloc, Blank::new(u64::from(callers)), opened, trial)
+    let Ok(opened) = Opened::new(alloc, Settings::new(200, 16), callers) else {
+        panic!(rt; "no memory");
+    };
+    tried_on::<Brand, T, R>(rt, alloc, Blank::new(u64::from(callers)), opened, trial);
 }
 
-fn tried_on<L: MapName, T: Trial<R>, R: Wait>(
+fn tried_on<L: MapName, T: Trial<R>, R: Wait + Abort>(
     rt: &R,
     alloc: Global,
     blank: Blank,
     opened: Opened,
     trial: &T,
-) -> Result<(), Fail>
+)
     requires opened { IsOpenedAs L.name L.parts L.callers L.marks L.voxel blank opened }
 {
-    let (shared, passes) = Shared::<L>::start(rt, alloc, blank, opened)?;
+    let Ok((shared, passes)) = Shared::<L>::start(rt, alloc, blank, opened) else {
+        panic!(rt; "no memory");
+    };
     let mut passes = passes;
-    let done = {
+    {
         let shared = &shared;
         let at = Site { rt, alloc, shared };
-        trial.run(&at, passes.as_mut_slice())
-    };
-    if let Err(fail) = done {
-        shared.close(rt);
-        return Err(fail);
+        trial.run(&at, passes.as_mut_slice());
     }
-    if !are_distinct(passes.as_slice()) {
-        shared.close(rt);
-        return Err(Fail::new("a caller has two passes"));
-    }
-    let (state, ended) = shared.finish(rt, alloc, passes)?;
+    assert!(rt; are_distinct(passes.as_slice()));
+    let (state, ended) = made(rt, shared.finish(rt, alloc, passes));
     trial.end(rt, &state, ended.as_slice());
-    Ok(())
 }
 
 // Whether no caller comes twice.
@@ -94,65 +86,78 @@ fn is_absent<L: MapName>(caller: u8, passes: &[Pass<L>]) -> bool
 }
 
 // The mark of an update of this pass's caller.
-pub fn updated<L: MapName, R: Wait>(
+pub fn updated<L: MapName, R: Wait + Abort>(
     at: &Site<'_, L, R>,
     passes: &mut [Pass<L>],
     place: usize,
     update: Update,
-) -> Result<u64, Fail> {
+) -> u64 {
     let Some(pass) = passes.get_mut(place) else {
-        return Err(Fail::new("no such pass"));
+        panic!(at.rt; "no such pass");
     };
-    match at.shared.update(at.rt, at.alloc, pass, update) {
-        Ok(mark) => Ok(mark),
-        Err(_) => Err(Fail::new("the update was refused")),
-    }
+    made(at.rt, at.shared.update(at.rt, at.alloc, pass, update))
 }
 
-pub fn near<L: MapName>(
-    alloc: Global,
+// The first caller adds the points (x, 0, 0), from the first on and before the last.
+pub fn added<L: MapName, R: Wait + Abort>(
+    at: &Site<'_, L, R>,
+    passes: &mut [Pass<L>],
+    first: i64,
+    last: i64,
+) -> u64 {
+    let points = row(at.rt, at.alloc, first, last);
+    updated(at, passes, 0, points)
+}
+
+pub fn near<L: MapName, R: Abort>(
+    at: &Site<'_, L, R>,
     passes: &mut [Pass<L>],
     place: usize,
     k: u32,
-) -> Result<NearReply, Fail>
+) -> NearReply
     requires query { IsQuery k None }
 {
     let Some(pass) = passes.get_mut(place) else {
-        return Err(Fail::new("no such pass"));
+        panic!(at.rt; "no such pass");
     };
-    let reply = pass.nearest(alloc, k, &Point::new(0, 0, 0)?, None)?;
-    Ok(reply)
+    let query = made(at.rt, Point::new(0, 0, 0));
+    made(at.rt, pass.nearest(at.alloc, k, &query, None))
 }
 
 // The first 5 of the box from (0, 0, 0) to (9, 9, 9).
-pub fn in_box<L: MapName>(
-    alloc: Global,
+pub fn in_box<L: MapName, R: Abort>(
+    at: &Site<'_, L, R>,
     passes: &mut [Pass<L>],
     place: usize,
-) -> Result<BoxReply, Fail> {
+) -> BoxReply {
     let Some(pass) = passes.get_mut(place) else {
-        return Err(Fail::new("no such pass"));
+        panic!(at.rt; "no such pass");
     };
-    let reply = pass.in_cuboid(alloc, &cuboid(9, 9, 9)?, 5)?;
-    Ok(reply)
+    let cuboid = cuboid(at.rt, 9, 9, 9);
+    made(at.rt, pass.in_cuboid(at.alloc, &cuboid, 5))
 }
 
-pub fn cuboid(x: i64, y: i64, z: i64) -> Result<Cuboid, Fail> {
+pub fn cuboid(rt: &impl Abort, x: i64, y: i64, z: i64) -> Cuboid {
     let lo = Corner { x: 0, y: 0, z: 0 };
-    Ok(Cuboid::new(lo, Corner { x, y, z })?)
+    made(rt, Cuboid::new(lo, Corner { x, y, z }))
 }
 
 // The points (x, 0, 0), from the first on and before the last.
-pub fn row(alloc: Global, first: i64, last: i64) -> Result<Update, Fail> {
+pub fn row(rt: &impl Abort, alloc: Global, first: i64, last: i64) -> Update {
     let mut points = Points::new(alloc);
     for x in first..last {
-        points.push(Point::new(x, 0, 0)?)?;
+        push(rt, &mut points, x);
     }
-    Ok(Update::Add(points))
+    Update::Add(points)
 }
 
-pub fn deleted(alloc: Global, within: Cuboid) -> Result<Update, Fail> {
+pub fn push(rt: &impl Abort, points: &mut Points, x: i64) {
+    let point = made(rt, Point::new(x, 0, 0));
+    made(rt, points.push(point));
+}
+
+pub fn deleted(rt: &impl Abort, alloc: Global, within: Cuboid) -> Update {
     let mut boxes = Cuboids::new(alloc);
-    boxes.push(within)?;
-    Ok(Update::Delete(boxes))
+    made(rt, boxes.push(within));
+    Update::Delete(boxes)
 }

@@ -1,36 +1,37 @@
 //! Maps of which something is to be rebuilt.
 ghost use Rattle.kd_tree.specs.Counter.{IsBlankOf};
 
+use crate::tests::assertions::made;
+use crate::tests::trial::push;
 use kd_tree::Steps;
 use map_fold::{Points, Settings, Update};
-use point_geom::Point;
 use rebuild_core::{MapState, StateFault};
 use std::alloc::Global;
 use std::marker::Brand;
+use std::process::Abort;
 use std::sync::ledger::{Blank, Ledger};
-use std::test::Fail;
 
 // A map of 40 points in a row, whose whole tree is to be rebuilt.
-pub fn with_forty(alloc: Global) -> Result<MapState, Fail> {
-    let mut state = MapState::new(alloc, Settings::new(200, 16))?;
+pub fn with_forty(rt: &impl Abort, alloc: Global) -> MapState {
+    let mut state = made(rt, MapState::new(alloc, Settings::new(200, 16)));
     let mut points = Points::new(alloc);
     for x in 1..41i64 {
-        points.push(Point::new(x, 0, 0)?)?;
+        push(rt, &mut points, x);
     }
-    add(alloc, &mut state, points)?;
-    Ok(state)
+    made(rt, add(alloc, &mut state, points));
+    state
 }
 
 // A map whose two sons, but not their father, are to be rebuilt.
-pub fn with_two_breaches(alloc: Global) -> Result<MapState, Fail> {
-    let mut state = with_forty(alloc)?;
-    state.settle(alloc)?;
+pub fn with_two_breaches(rt: &impl Abort, alloc: Global) -> MapState {
+    let mut state = with_forty(rt, alloc);
+    made(rt, state.settle(alloc));
     let mut points = Points::new(alloc);
     for x in [41, 42, 43, 44, 0, -1, -2, -3, -4] {
-        points.push(Point::new(x, 0, 0)?)?;
+        push(rt, &mut points, x);
     }
-    add(alloc, &mut state, points)?;
-    Ok(state)
+    made(rt, add(alloc, &mut state, points));
+    state
 }
 
 // The mark of an addition.
