@@ -1,12 +1,7 @@
-pub mod FewWords
 pub mod Passed
 pub mod InOrder
-pub mod Pieces
 pub mod Printed
 pub mod Placed
 pub mod Scans
-pub mod Digits
-pub mod Taken
 pub mod Turns
-pub mod OneAsk
 pub mod Ways

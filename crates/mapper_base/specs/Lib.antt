@@ -1,8 +1,4 @@
-pub mod Outside
-pub mod Memory
 pub mod Seen
-pub mod Asks
-pub mod CommandLine
 pub mod Generated
 pub mod Summary
 pub mod Endings

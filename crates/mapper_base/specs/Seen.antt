@@ -1,9 +1,8 @@
 -- What is seen of a run from outside: its words, what it read, and what it wrote.
-use Rattle.std.specs.Prelude.{ℕ, Bool, List, map, String}
+use Rattle.std.specs.Prelude.{ℕ, Bool, List}
 use Rattle.std.specs.declared.option.Option.{Option}
-use Rattle.std.specs.String.{string_bytes}
-use Rattle.mapper_base.specs.declared.outside.Source.{Ghosts as SourceOf}
-use Rattle.mapper_base.specs.declared.outside.Sink.{Ghosts as SinkOf}
+use Rattle.byte_streams.specs.declared.outside.Source.{Ghosts as SourceOf}
+use Rattle.byte_streams.specs.declared.outside.Sink.{Ghosts as SinkOf}
 
 -- what is seen of the log: the bytes left before and after, whether the last read was the end, and the counts of faults
 pub record LogSeen : Type 0 where
@@ -25,10 +24,6 @@ pub record RunSeen : Type 0 where
   pub words : List (List ℕ)
   pub log : LogSeen
   pub out : OutSeen
-
--- the bytes of each word
-abbrev pub texts : {A : Type 0} → List (String A) → List (List ℕ)
-texts words = map (λ w. string_bytes w) words
 
 -- what a source tells of the log, of before and after
 abbrev pub log_seen : {R : Type 0} → SourceOf R → R → R → LogSeen

@@ -2,11 +2,10 @@
 ghost use Rattle.std.specs.Prelude.{◌≡◌, ◌++◌, ◌∷◌, [], IfOk};
 ghost use Rattle.scan_log.specs.Faults.{fault_text};
 ghost use Rattle.mapper_base.specs.Endings.{note_of};
-ghost use Rattle.mapper_base.specs.Outside.{AppendsFront};
+ghost use Rattle.byte_streams.specs.Outside.{AppendsFront};
 
 use crate::ending::Ending;
-use crate::outside::Sink;
-use crate::writing::write_all;
+use byte_streams::{Sink, write_all};
 use itoa::Buffer;
 use scan_log::LogCause;
 use std::alloc::{AllocError, Global};

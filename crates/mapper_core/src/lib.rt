@@ -4,9 +4,7 @@
 mod callers;
 mod running;
 
+pub use byte_streams::{Failed, MemSink, MemSource, Sink, SinkFault, Source, SureSink, SureSource};
 pub use callers::{run_callers, threaded};
-pub use mapper_base::{
-    Failed, MemSink, MemSource, Replies, Sink, SinkFault, Source, Status, SureSink, SureSource,
-    made, serial,
-};
+pub use mapper_base::{Replies, Status, made, serial};
 pub use running::run;

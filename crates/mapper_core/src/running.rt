@@ -1,30 +1,25 @@
 //! The top call.
-ghost use Rattle.std.specs.Prelude.{◌≡◌, ℕ, Some, IfOk, IfErr};
+ghost use Rattle.std.specs.Prelude.{◌≡◌, ℕ, IfOk, IfErr};
 ghost use Rattle.scan_log.specs.Legal.{AreLegalLines};
-ghost use Rattle.scan_log.specs.Written.{script_text};
-ghost use Rattle.mapper_base.specs.Asks.{Asks, AskForLog, AskForRun, AskForScans, AskNothing, CanBeDone, IsOfLog};
+ghost use Rattle.byte_streams.specs.Outside.{NoFault};
+ghost use Rattle.mapper_words.specs.Asks.{AskForLog, AskForRun, AskForScans, AskNothing, Asks, CanBeDone, IsOfLog, texts};
 ghost use Rattle.mapper_base.specs.Causes.{Ended, Ends, HasNoText, IsTextOf, ReadsInLimit};
 ghost use Rattle.mapper_base.specs.Done.{IsChecked, IsDriven, IsScriptMade, IsTranscribed, IsTranscribedInOrder};
 ghost use Rattle.mapper_base.specs.Endings.{IsOrNoMemory};
-ghost use Rattle.mapper_base.specs.Generated.{generated};
 ghost use Rattle.mapper_base.specs.Inputs.{IfBad, IfOverLimit, IfSpelled};
-ghost use Rattle.mapper_base.specs.Outside.{NoFault};
-ghost use Rattle.mapper_base.specs.Prints.{AreSerialLines, IsVerdictLine};
-ghost use Rattle.mapper_base.specs.Seen.{log_seen, out_seen, run_seen, texts};
-ghost use Rattle.mapper_base.specs.Summary.{summary_of};
+ghost use Rattle.mapper_base.specs.Seen.{log_seen, out_seen, run_seen};
 
 use crate::callers::threaded_plain;
+use byte_streams::{Sink, SinkFault, Source, write_all};
 use map_fold::NoMemory;
-use mapper_base::{
-    Ask, Ending, Input, Sink, SinkFault, Source, Status, asked, behind, in_order, made, read_input,
-    read_script, summary, tell, transcript, verdict_line, write_all,
-};
+use mapper_base::{Ending, Status, read_script, tell, transcript};
+use mapper_words::{Ask, asked};
+use mapper_texts::{checked_text, driven_text, in_order_text, made_text};
 use rebuild_worker::Gate;
-use scan_log::{PlainScript, Script, write_script};
+use scan_log::{PlainScript, Script};
 use std::alloc::{AllocError, Global};
 use std::sync::Wait;
 use std::thread::Threads;
-use transcript_check::check;
 
 /// Reads a log to its end, runs it, and writes its transcript to out, or to notes a line of why not; or does the same of a
 /// generated script, for which no log is read. Nothing is written to out before the whole text stands, and a fault of notes
@@ -138,41 +133,6 @@ fn run_text<H: Threads + Wait + Sync, R: Source, G: Gate + Sync>(
     Ok(callers_text(rt, alloc, script, gate)?)
 }
 
-fn in_order_text<R: Source>(alloc: Global, log: &mut R) -> Result<Vec<u8>, Ending>
-    ensures text { IfOk result (λ v. IsTextOf Ask.Serial (log_seen R.Source log.old log.new) v.items) }
-    ensures cause { IfErr result (HasNoText Ask.Serial (log_seen R.Source log.old log.new)) }
-    ensures reads { ReadsInLimit Ask.Serial (log_seen R.Source log.old log.new) }
-{
-    let script = read_script(alloc, Ask::Serial, log)?;
-    Ok(serial_text(alloc, script)?)
-}
-
-fn made_text(alloc: Global, scans: u32) -> Result<Vec<u8>, NoMemory>
-    requires { CanBeDone (Ask.Make scans) }
-    ensures { IfOk result (λ v. v.items ≡ script_text (generated scans)) }
-{
-    let script = made(alloc, scans)?;
-    write_script(alloc, &script)
-}
-
-fn driven_text(alloc: Global, scans: u32) -> Result<Vec<u8>, NoMemory>
-    requires { CanBeDone (Ask.Drive scans) }
-    ensures { IfOk result (λ v. v.items ≡ summary_of scans (generated scans)) }
-{
-    let script = made(alloc, scans)?;
-    drive_text(alloc, scans, script)
-}
-
-fn checked_text<R: Source>(alloc: Global, length: u32, log: &mut R) -> Result<Vec<u8>, Ending>
-    requires { CanBeDone (Ask.Check length) }
-    ensures text { IfOk result (λ v. IsTextOf (Ask.Check length) (log_seen R.Source log.old log.new) v.items) }
-    ensures cause { IfErr result (HasNoText (Ask.Check length) (log_seen R.Source log.old log.new)) }
-    ensures reads { ReadsInLimit (Ask.Check length) (log_seen R.Source log.old log.new) }
-{
-    let input = read_input(alloc, Ask::Check(length), log)?;
-    Ok(check_text(alloc, &input, length)?)
-}
-
 // The lines of the replies where each caller runs on a thread of its own. The script is run as it is but for its poses, so that
 // its points stand only once beside the map.
 fn callers_text<H: Threads + Wait + Sync, G: Gate + Sync>(
@@ -186,30 +146,4 @@ fn callers_text<H: Threads + Wait + Sync, G: Gate + Sync>(
     let plain = PlainScript::of(alloc, script)?;
     let replies = threaded_plain(rt, alloc, &plain, gate)?;
     transcript(alloc, &plain, &replies)
-}
-
-// The lines of the replies in the log's order.
-fn serial_text(alloc: Global, script: Script) -> Result<Vec<u8>, NoMemory>
-    ensures { IfOk result (λ v. AreSerialLines script v.items) }
-{
-    let plain = PlainScript::of(alloc, script)?;
-    let replies = in_order(alloc, &plain)?;
-    transcript(alloc, &plain, &replies)
-}
-
-// The line of the sums of these replies.
-fn drive_text(alloc: Global, scans: u32, script: Script) -> Result<Vec<u8>, NoMemory>
-    ensures { IfOk result (λ v. v.items ≡ summary_of scans script) }
-{
-    let plain = PlainScript::of(alloc, script)?;
-    let replies = in_order(alloc, &plain)?;
-    summary(alloc, scans, &plain, replies.as_slice())
-}
-
-// The line of the verdict on what stands behind so many bytes.
-fn check_text(alloc: Global, input: &Input, length: u32) -> Result<Vec<u8>, NoMemory>
-    ensures { IfOk result (λ v. IsVerdictLine input.now.script length (Some input.now.bytes.items) v.items) }
-{
-    let verdict = check(alloc, &input.script, behind(input.bytes.as_slice(), length))?;
-    verdict_line(alloc, verdict)
 }

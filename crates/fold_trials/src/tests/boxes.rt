@@ -3,7 +3,6 @@ use crate::tests::assertions::same;
 use crate::tests::places::{Place, at, corner, cuboid};
 use point_geom::{Axis, Cuboid, CuboidError, Extent, centre_dist2, voxel};
 use std::process::Abort;
-use std::test::Fail;
 
 #[test]
 fn a_refused_box_names_its_first_fault(rt: HostRuntime) {
@@ -39,9 +38,9 @@ fn is_refused(rt: &impl Abort, lo: Place, hi: Place, fault: CuboidError) {
 }
 
 #[test]
-fn a_box_has_its_lower_side_and_not_its_upper(rt: HostRuntime) -> Result<(), Fail> {
-    let cube = cuboid((0, 0, 0), (9, 9, 9))?;
-    let empty = cuboid((5, 0, 0), (5, 9, 9))?;
+fn a_box_has_its_lower_side_and_not_its_upper(rt: HostRuntime) {
+    let cube = cuboid(&rt, (0, 0, 0), (9, 9, 9));
+    let empty = cuboid(&rt, (5, 0, 0), (5, 9, 9));
     // lo, hi, and whether the cube holds lo, meets and covers the extent; the empty box never does.
     for (lo, hi, seen) in [
         ((0, 0, 0), (8, 8, 8), (true, true, true)),
@@ -51,33 +50,25 @@ fn a_box_has_its_lower_side_and_not_its_upper(rt: HostRuntime) -> Result<(), Fai
         ((9, 0, 0), (12, 8, 8), (false, false, false)),
         ((-5, -5, -5), (20, 20, 20), (false, true, false)),
     ] {
-        sees(&rt, &cube, lo, hi, seen)?;
-        sees(&rt, &empty, lo, hi, (false, false, false))?;
+        sees(&rt, &cube, lo, hi, seen);
+        sees(&rt, &empty, lo, hi, (false, false, false));
     }
-    Ok(())
 }
 
 // Whether the box holds lo, meets and covers the extent from lo to hi.
-fn sees(
-    rt: &impl Abort,
-    cuboid: &Cuboid,
-    lo: Place,
-    hi: Place,
-    want: (bool, bool, bool),
-) -> Result<(), Fail> {
-    let low = at(lo)?;
-    let extent = extent(lo, hi)?;
+fn sees(rt: &impl Abort, cuboid: &Cuboid, lo: Place, hi: Place, want: (bool, bool, bool)) {
+    let low = at(rt, lo);
+    let extent = extent(rt, lo, hi);
     let seen = (
         cuboid.holds(&low),
         cuboid.meets(&extent),
         cuboid.covers(&extent),
     );
     same(rt, "what is held, met and covered", seen, want);
-    Ok(())
 }
 
-fn extent(one: Place, other: Place) -> Result<Extent, Fail> {
-    Ok(Extent::of(&at(one)?).join(&Extent::of(&at(other)?)))
+fn extent(rt: &impl Abort, one: Place, other: Place) -> Extent {
+    Extent::of(&at(rt, one)).join(&Extent::of(&at(rt, other)))
 }
 
 fn has_corners(rt: &impl Abort, cuboid: &Cuboid, lo: Place, hi: Place) {
@@ -86,7 +77,7 @@ fn has_corners(rt: &impl Abort, cuboid: &Cuboid, lo: Place, hi: Place) {
 }
 
 #[test]
-fn voxels_go_downwards_below_zero_too(rt: HostRuntime) -> Result<(), Fail> {
+fn voxels_go_downwards_below_zero_too(rt: HostRuntime) {
     for (x, lo, hi, centre) in [
         (-1, -200, 0, 119_204),
         (-200, -200, 0, 120_000),
@@ -94,30 +85,26 @@ fn voxels_go_downwards_below_zero_too(rt: HostRuntime) -> Result<(), Fail> {
         (0, 0, 200, 120_000),
         (199, 0, 200, 119_204),
     ] {
-        let p = at((x, 0, 0))?;
+        let p = at(&rt, (x, 0, 0));
         let cube = voxel(&p, 200);
         has_corners(&rt, &cube, (lo, 0, 0), (hi, 200, 200));
         same(&rt, "off the centre", centre_dist2(&p, &cube), centre);
     }
-    Ok(())
 }
 
 #[test]
-fn an_extent_is_as_far_as_its_nearest_point_and_reaches_to_its_farthest(
-    rt: HostRuntime,
-) -> Result<(), Fail> {
-    let extent = extent((5, 0, -7), (-5, 4, 7))?;
-    same(&rt, "the lower end", extent.lo(), at((-5, 0, -7))?);
-    same(&rt, "the upper end", extent.hi(), at((5, 4, 7))?);
+fn an_extent_is_as_far_as_its_nearest_point_and_reaches_to_its_farthest(rt: HostRuntime) {
+    let extent = extent(&rt, (5, 0, -7), (-5, 4, 7));
+    same(&rt, "the lower end", extent.lo(), at(&rt, (-5, 0, -7)));
+    same(&rt, "the upper end", extent.hi(), at(&rt, (5, 4, 7)));
     for (place, near, far) in [
         ((0, 2, 0), 0, 78),
         ((8, 8, 7), 25, 429),
         ((-6, -2, 9), 9, 413),
         ((5, 4, 7), 0, 312),
     ] {
-        let p = at(place)?;
+        let p = at(&rt, place);
         let found = (extent.dist2(&p), extent.far_dist2(&p));
         same(&rt, "how far", found, (near, far));
     }
-    Ok(())
 }

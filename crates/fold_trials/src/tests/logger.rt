@@ -1,84 +1,84 @@
 //! A logger with ample memory, up to its end.
-use crate::tests::assertions::{holds, same};
+use crate::tests::assertions::{holds, made, same};
 use crate::tests::places::at;
 use map_fold::{Choice, Op, Tag};
 use op_logger::{OpLog, PushFault};
 use point_geom::{Cuboid, Point};
 use std::alloc::Global;
 use std::process::Abort;
-use std::test::Fail;
 
 #[test]
-fn a_full_logger_takes_no_more_and_stays_as_it_was(rt: HostRuntime) -> Result<(), Fail> {
+fn a_full_logger_takes_no_more_and_stays_as_it_was(rt: HostRuntime) {
     let alloc = rt.alloc();
-    let mut log = full(&rt, alloc)?;
+    let mut log = full(&rt, alloc);
     let one_more = Op::Mark {
         choice: Choice::ALL,
         tag: Tag::DELETE,
     };
     same(&rt, "the answer", log.push(one_more), Err(PushFault::Full));
     same(&rt, "operations after it", log.len(), 65_536);
-    let copy = log.copy(alloc)?;
-    begins_with_all(&rt, alloc, &copy, &log)
+    let copy = made(&rt, log.copy(alloc));
+    begins_with_all(&rt, alloc, &copy, &log);
 }
 
-fn full(rt: &impl Abort, alloc: Global) -> Result<OpLog, Fail> {
-    let point = at((1, 2, 3))?;
+fn full(rt: &impl Abort, alloc: Global) -> OpLog {
+    let point = at(rt, (1, 2, 3));
     let mut log = OpLog::new(alloc);
     for number in 0..65_536 {
         let is_pushed = log.push(Op::Put { number, point }).is_ok();
         holds(rt, "it is pushed", is_pushed);
     }
     same(rt, "operations", (log.len(), log.room()), (65_536, 0));
-    Ok(log)
+    log
 }
 
-fn begins_with_all(rt: &impl Abort, alloc: Global, log: &OpLog, other: &OpLog) -> Result<(), Fail> {
-    let all = other.after(alloc, 0)?;
+fn begins_with_all(rt: &impl Abort, alloc: Global, log: &OpLog, other: &OpLog) {
+    let all = made(rt, other.after(alloc, 0));
     let is_begun = log.begins_with(all.as_slice());
     holds(rt, "it begins with all of the other", is_begun);
-    Ok(())
 }
 
 #[test]
-fn what_comes_after_and_what_comes_first(rt: HostRuntime) -> Result<(), Fail> {
+fn what_comes_after_and_what_comes_first(rt: HostRuntime) {
     let alloc = rt.alloc();
-    let ops = three(alloc, at((1, 2, 3))?)?;
+    let ops = three(&rt, alloc, at(&rt, (1, 2, 3)));
     let ops = ops.as_slice();
     let mut log = logged(&rt, alloc, ops);
-    has_after(&rt, alloc, &log, 1, part(ops, 1, 3)?)?;
-    begins(&rt, &log, part(ops, 0, 2)?, true);
-    begins(&rt, &log, part(ops, 0, 0)?, true);
-    begins(&rt, &log, part(ops, 1, 3)?, false);
+    has_after(&rt, alloc, &log, 1, part(&rt, ops, 1, 3));
+    begins(&rt, &log, part(&rt, ops, 0, 2), true);
+    begins(&rt, &log, part(&rt, ops, 0, 0), true);
+    begins(&rt, &log, part(&rt, ops, 1, 3), false);
     assert!(rt; log.len() == 3);
     log.cut(1);
-    has_after(&rt, alloc, &log, 0, part(ops, 0, 1)?)?;
-    begins(&rt, &log, part(ops, 0, 2)?, false);
+    has_after(&rt, alloc, &log, 0, part(&rt, ops, 0, 1));
+    begins(&rt, &log, part(&rt, ops, 0, 2), false);
     log.cut(0);
-    has_after(&rt, alloc, &log, 0, part(ops, 0, 0)?)
+    has_after(&rt, alloc, &log, 0, part(&rt, ops, 0, 0));
 }
 
 // Those from one place on and before another.
-fn part(ops: &[Op], from: usize, to: usize) -> Result<&[Op], Fail> {
+fn part<'a>(rt: &impl Abort, ops: &'a [Op], from: usize, to: usize) -> &'a [Op] {
     match ops.get(from..to) {
-        Some(part) => Ok(part),
-        None => Err(Fail::new("too few operations")),
+        Some(part) => part,
+        None => panic!(rt; "too few operations"),
     }
 }
 
-fn three(alloc: Global, point: Point) -> Result<Vec<Op>, Fail> {
+fn three(rt: &impl Abort, alloc: Global, point: Point) -> Vec<Op> {
+    let all = Choice::ALL;
     let choice = Choice::within(&Cuboid::unit(&point));
-    let mut ops = Vec::new(alloc);
-    ops.push(Op::Mark {
-        choice: Choice::ALL,
-        tag: Tag::SUSPEND,
-    })?;
-    ops.push(Op::Mark {
-        choice,
-        tag: Tag::RESTORE,
-    })?;
-    ops.push(Op::Put { number: 7, point })?;
-    Ok(ops)
+    let ops = [
+        Op::Mark {
+            choice: all,
+            tag: Tag::SUSPEND,
+        },
+        Op::Mark {
+            choice,
+            tag: Tag::RESTORE,
+        },
+        Op::Put { number: 7, point },
+    ];
+    made(rt, ops.to_vec(alloc))
 }
 
 fn logged(rt: &impl Abort, alloc: Global, ops: &[Op]) -> OpLog {
@@ -90,12 +90,11 @@ fn logged(rt: &impl Abort, alloc: Global, ops: &[Op]) -> OpLog {
 }
 
 // These come after the first n.
-fn has_after(rt: &impl Abort, alloc: Global, log: &OpLog, n: u32, want: &[Op]) -> Result<(), Fail> {
+fn has_after(rt: &impl Abort, alloc: Global, log: &OpLog, n: u32, want: &[Op]) {
     assert!(rt; n <= log.len());
-    let after = log.after(alloc, n)?;
+    let after = made(rt, log.after(alloc, n));
     let are_same = after.as_slice() == want;
     holds(rt, "those after the first", are_same);
-    Ok(())
 }
 
 // Whether these come first.

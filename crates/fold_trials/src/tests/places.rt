@@ -1,12 +1,13 @@
 //! Points and boxes by their numbers.
+use crate::tests::assertions::made;
 use point_geom::{Corner, Cuboid, Point};
-use std::test::Fail;
+use std::process::Abort;
 
 pub type Place = (i64, i64, i64);
 
-pub fn at(place: Place) -> Result<Point, Fail> {
+pub fn at(rt: &impl Abort, place: Place) -> Point {
     let (x, y, z) = place;
-    Ok(Point::new(x, y, z)?)
+    made(rt, Point::new(x, y, z))
 }
 
 pub fn corner(place: Place) -> Corner {
@@ -14,6 +15,6 @@ pub fn corner(place: Place) -> Corner {
     Corner { x, y, z }
 }
 
-pub fn cuboid(lo: Place, hi: Place) -> Result<Cuboid, Fail> {
-    Ok(Cuboid::new(corner(lo), corner(hi))?)
+pub fn cuboid(rt: &impl Abort, lo: Place, hi: Place) -> Cuboid {
+    made(rt, Cuboid::new(corner(lo), corner(hi)))
 }

@@ -3,7 +3,6 @@ use crate::tests::assertions::{holds, same};
 use crate::tests::places::at;
 use point_geom::{Axis, Extent, OutOfRange, Point};
 use std::process::Abort;
-use std::test::Fail;
 
 #[test]
 fn a_refused_point_names_its_first_axis(rt: HostRuntime) {
@@ -16,24 +15,22 @@ fn a_refused_point_names_its_first_axis(rt: HostRuntime) {
 }
 
 #[test]
-fn points_are_ordered_by_x_then_y_then_z(rt: HostRuntime) -> Result<(), Fail> {
-    let last = at((0, 0, 0))?;
+fn points_are_ordered_by_x_then_y_then_z(rt: HostRuntime) {
+    let last = at(&rt, (0, 0, 0));
     for place in [(-1, 9, 9), (0, -1, 9), (0, 0, -1)] {
-        let first = at(place)?;
+        let first = at(&rt, place);
         holds(&rt, "the order", first < last);
     }
-    Ok(())
 }
 
 #[test]
-fn then_by_their_intensity(rt: HostRuntime) -> Result<(), Fail> {
-    let p = at((1, -2, -3))?;
+fn then_by_their_intensity(rt: HostRuntime) {
+    let p = at(&rt, (1, -2, -3));
     let seen = p.with_intensity(65_535);
     is_seen(&rt, &p, &seen);
     holds(&rt, "it comes behind the darker", p < seen);
-    let higher = at((1, -2, -2))?;
+    let higher = at(&rt, (1, -2, -2));
     holds(&rt, "it comes before the higher", seen < higher);
-    Ok(())
 }
 
 // The second is the first, (1, -2, -3), with the greatest intensity.
@@ -47,12 +44,11 @@ fn is_seen(rt: &impl Abort, p: &Point, seen: &Point) {
 }
 
 #[test]
-fn the_axes_go_round(rt: HostRuntime) -> Result<(), Fail> {
-    let p = at((7, 8, 9))?;
+fn the_axes_go_round(rt: HostRuntime) {
+    let p = at(&rt, (7, 8, 9));
     let mut axis = Axis::X;
     for coordinate in [7, 8, 9, 7] {
         same(&rt, "the coordinate", p.on(axis), coordinate);
         axis = axis.next();
     }
-    Ok(())
 }

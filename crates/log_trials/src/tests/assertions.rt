@@ -1,4 +1,6 @@
-//! Assertions as functions: each is proved once, and a call adds next to nothing to the proof of a test.
+//! Assertions as functions: each is proved once, and a call adds next to nothing to the proof of a test. A test ends where one fails.
+ghost use Rattle.std.specs.Prelude.{◌≡◌, Ok};
+
 use std::fmt::Debug;
 use std::process::Abort;
 
@@ -13,4 +15,14 @@ pub fn holds(rt: &impl Abort, what: &str, fact: bool) {
 
 pub fn are_bytes(rt: &impl Abort, text: &[u8], want: &[u8]) {
     assert!(rt; text == want, "{text:?} is not {want:?}");
+}
+
+// What a call made, which wasn't refused.
+pub fn made<T: Drop, E: Debug + Drop>(rt: &impl Abort, answer: Result<T, E>) -> T
+    ensures { answer ≡ Ok result }
+{
+    match answer {
+        Ok(value) => value,
+        Err(why) => panic!(rt; "{why:?}"),
+    }
 }

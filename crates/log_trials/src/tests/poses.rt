@@ -1,32 +1,32 @@
 //! Poses, by hand.
-use crate::tests::assertions::same;
+use crate::tests::assertions::{made, same};
 use crate::tests::reading::{WIDE_HEADER, read};
 use crate::tests::written::{is_told, is_written_as};
 use map_fold::Update;
 use scan_log::{Command, PlainScript, Reply, Script};
 use std::alloc::Global;
-use std::test::Fail;
+use std::process::Abort;
 
 #[test]
-fn a_pose_is_written_as_it_was_read_and_told_by_its_place(rt: HostRuntime) -> Result<(), Fail> {
+fn a_pose_is_written_as_it_was_read_and_told_by_its_place(rt: HostRuntime) {
     let alloc = rt.alloc();
     let done = Reply::Done { mark: 3 };
     let pose = b"@7 pose 100 20 30 1 -2 3";
-    is_told(&rt, alloc, WIDE_HEADER, pose, done, b"@7 ok 3\n")?;
+    is_told(&rt, alloc, WIDE_HEADER, pose, done, b"@7 ok 3\n");
     let log = b"ikdmap 2 voxel 200 large 1500\n@7 pose 100 20 30 1 -2 3\n".as_slice();
-    let script = read(alloc, log)?;
+    let script = made(&rt, read(alloc, log));
     same(&rt, "commands", script.commands().len(), 1);
-    is_written_as(&rt, alloc, &script, log)
+    is_written_as(&rt, alloc, &script, log);
 }
 
 // What each command of the script that is run deletes.
-fn deletions(alloc: Global, script: &Script) -> Result<Vec<usize>, Fail> {
-    let plain = PlainScript::copied(alloc, script)?;
+fn deletions(rt: &impl Abort, alloc: Global, script: &Script) -> Vec<usize> {
+    let plain = made(rt, PlainScript::copied(alloc, script));
     let mut counts = Vec::new(alloc);
     for command in plain.commands() {
-        counts.push(deleted(command))?;
+        made(rt, counts.push(deleted(command)));
     }
-    Ok(counts)
+    counts
 }
 
 // How many boxes it deletes, or 9 where it is no deletion.
@@ -41,7 +41,7 @@ fn deleted(command: &Command) -> usize {
 }
 
 #[test]
-fn each_caller_has_a_region_of_its_own(rt: HostRuntime) -> Result<(), Fail> {
+fn each_caller_has_a_region_of_its_own(rt: HostRuntime) {
     let alloc = rt.alloc();
     let log = b"ikdmap 2 voxel 200 large 1500\n\
                 @1 pose 100 20 30 0 0 0\n\
@@ -53,8 +53,7 @@ fn each_caller_has_a_region_of_its_own(rt: HostRuntime) -> Result<(), Fail> {
                 @2 pose 100 20 31 120 0 0\n\
                 sync\n"
         .as_slice();
-    let script = read(alloc, log)?;
-    let counts = deletions(alloc, &script)?;
+    let script = made(&rt, read(alloc, log));
+    let counts = deletions(&rt, alloc, &script);
     assert!(rt; counts.as_slice() == [0, 0, 1, 0, 3, 0, 1, 9].as_slice());
-    Ok(())
 }

@@ -1,10 +1,9 @@
 //! Transcripts that are legal, and no longer where a byte is another or is missing.
-use crate::tests::assertions::same;
+use crate::tests::assertions::{made, same};
 use crate::tests::reading::read;
 use scan_log::Script;
 use std::alloc::Global;
 use std::process::Abort;
-use std::test::Fail;
 use transcript_check::{Verdict, check};
 
 // Logs of one caller each, and the one legal transcript of each.
@@ -32,28 +31,25 @@ const LEGAL: &[(&'static str, &'static str)] = &[
 ];
 
 #[test]
-fn no_byte_may_be_another(rt: HostRuntime) -> Result<(), Fail> {
+fn no_byte_may_be_another(rt: HostRuntime) {
     let alloc = rt.alloc();
     for &(log, transcript) in LEGAL {
-        let script = read(alloc, log.as_bytes())?;
-        is_legal(&rt, alloc, &script, transcript)?;
-        with_others(&rt, alloc, &script, transcript.as_bytes())?;
+        let script = made(&rt, read(alloc, log.as_bytes()));
+        is_legal(&rt, alloc, &script, transcript);
+        with_others(&rt, alloc, &script, transcript.as_bytes());
     }
-    Ok(())
 }
 
-fn is_legal(rt: &impl Abort, alloc: Global, script: &Script, text: &str) -> Result<(), Fail> {
-    let found = check(alloc, script, text.as_bytes())?;
+fn is_legal(rt: &impl Abort, alloc: Global, script: &Script, text: &str) {
+    let found = made(rt, check(alloc, script, text.as_bytes()));
     same(rt, text, found, Verdict::Legal);
-    Ok(())
 }
 
 // With another byte at any place it isn't legal.
-fn with_others(rt: &impl Abort, alloc: Global, script: &Script, text: &[u8]) -> Result<(), Fail> {
+fn with_others(rt: &impl Abort, alloc: Global, script: &Script, text: &[u8]) {
     for place in 0..text.len() {
-        with_another(rt, alloc, script, text, place)?;
+        with_another(rt, alloc, script, text, place);
     }
-    Ok(())
 }
 
 // With another byte at the place it isn't legal.
@@ -63,34 +59,31 @@ fn with_another(
     script: &Script,
     text: &[u8],
     place: usize,
-) -> Result<(), Fail> {
-    let mut changed = text.to_vec(alloc)?;
+) {
+    let mut changed = made(rt, text.to_vec(alloc));
     if let Some(byte) = changed.get_mut(place) {
         *byte ^= 1;
     }
-    is_not_legal(rt, alloc, script, changed.as_slice())
+    is_not_legal(rt, alloc, script, changed.as_slice());
 }
 
-fn is_not_legal(rt: &impl Abort, alloc: Global, script: &Script, text: &[u8]) -> Result<(), Fail> {
-    let found = check(alloc, script, text)?;
+fn is_not_legal(rt: &impl Abort, alloc: Global, script: &Script, text: &[u8]) {
+    let found = made(rt, check(alloc, script, text));
     assert!(rt; found != Verdict::Legal, "{text:?}");
-    Ok(())
 }
 
 #[test]
-fn no_byte_may_be_missing(rt: HostRuntime) -> Result<(), Fail> {
+fn no_byte_may_be_missing(rt: HostRuntime) {
     let alloc = rt.alloc();
     for &(log, transcript) in LEGAL {
-        let script = read(alloc, log.as_bytes())?;
-        with_fewer(&rt, alloc, &script, transcript.as_bytes())?;
+        let script = made(&rt, read(alloc, log.as_bytes()));
+        with_fewer(&rt, alloc, &script, transcript.as_bytes());
     }
-    Ok(())
 }
 
 // No front of it is legal.
-fn with_fewer(rt: &impl Abort, alloc: Global, script: &Script, text: &[u8]) -> Result<(), Fail> {
+fn with_fewer(rt: &impl Abort, alloc: Global, script: &Script, text: &[u8]) {
     for len in 0..text.len() {
-        is_not_legal(rt, alloc, script, &text[..len])?;
+        is_not_legal(rt, alloc, script, &text[..len]);
     }
-    Ok(())
 }

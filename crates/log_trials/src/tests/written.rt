@@ -5,7 +5,7 @@ ghost use Rattle.scan_log.specs.declared.format.Format.TheVariants.{One, Two};
 ghost use Rattle.scan_log.specs.Scripts.{AreBoxes, AreScanned, IsCaller, IsCallerBox, IsCommand, IsUpdate, asked, submitted};
 ghost use Rattle.scan_log.specs.declared.fault.ParseFault.TheVariants.{NoMemory as want};
 
-use crate::tests::assertions::are_bytes;
+use crate::tests::assertions::{are_bytes, made};
 use crate::tests::reading::{HEADER, WIDE_HEADER, log_with, read, read_with};
 use map_fold::{
     BoxReply, Cuboids, Hit, Hits, Item, Items, Label, MAX_POINTS, NearReply, Points, Settings,
@@ -15,40 +15,43 @@ use point_geom::{Corner, Cuboid, Point};
 use scan_log::{Command, Format, ParseFault, Reply, Script, parse, reply_line, write_script};
 use std::alloc::Global;
 use std::process::Abort;
-use std::test::Fail;
 
 // The log of this one command.
-fn log_of(alloc: Global, format: Format, command: Command) -> Result<Vec<u8>, Fail>
+fn log_of(rt: &impl Abort, alloc: Global, format: Format, command: Command) -> Vec<u8>
     requires limits { IsCommand format command }
     requires room { submitted command ≤ 262144 }
     requires hits { asked command ≤ MAX_POINTS }
 {
     let mut script = Script::new(alloc, format, Settings::new(200, 1500));
-    script.push(command)?;
-    Ok(write_script(alloc, &script)?)
+    made(rt, script.push(command));
+    made(rt, write_script(alloc, &script))
 }
 
-fn points(alloc: Global) -> Result<Points, Fail>
-    ensures { IfOk result (AreScanned One) }
+fn points(rt: &impl Abort, alloc: Global) -> Points
+    ensures { AreScanned One result }
 {
+    let near = made(rt, Point::new(1, -2, 3));
+    let far = made(rt, Point::new(1_000_000_000, 0, -1_000_000_000));
     let mut points = Points::new(alloc);
-    points.push(Point::new(1, -2, 3)?)?;
-    points.push(Point::new(1_000_000_000, 0, -1_000_000_000)?)?;
-    Ok(points)
+    made(rt, points.push(near));
+    made(rt, points.push(far));
+    points
 }
 
 // Points with intensities.
-fn wide_points(alloc: Global) -> Result<Points, Fail>
-    ensures { IfOk result (AreScanned Two) }
+fn wide_points(rt: &impl Abort, alloc: Global) -> Points
+    ensures { AreScanned Two result }
 {
+    let near = made(rt, Point::new(1, -2, 3)).with_intensity(65_535);
+    let far = made(rt, Point::new(1_099_511_627_776, 0, 0)).with_intensity(7);
     let mut points = Points::new(alloc);
-    points.push(Point::new(1, -2, 3)?.with_intensity(65_535))?;
-    points.push(Point::new(1_099_511_627_776, 0, 0)?.with_intensity(7))?;
-    Ok(points)
+    made(rt, points.push(near));
+    made(rt, points.push(far));
+    points
 }
 
-fn cuboid() -> Result<Cuboid, Fail>
-    ensures { IfOk result (IsCallerBox One) }
+fn cuboid(rt: &impl Abort) -> Cuboid
+    ensures { IsCallerBox One result }
 {
     let lo = Corner { x: 4, y: -5, z: 6 };
     let hi = Corner {
@@ -56,16 +59,17 @@ fn cuboid() -> Result<Cuboid, Fail>
         y: -5,
         z: 7,
     };
-    Ok(Cuboid::new(lo, hi)?)
+    made(rt, Cuboid::new(lo, hi))
 }
 
-fn boxes(alloc: Global) -> Result<Cuboids, Fail>
-    ensures { IfOk result (AreBoxes One) }
+fn boxes(rt: &impl Abort, alloc: Global) -> Cuboids
+    ensures { AreBoxes One result }
 {
+    let point = made(rt, Point::new(1, -2, 3));
     let mut boxes = Cuboids::new(alloc);
-    boxes.push(Cuboid::unit(&Point::new(1, -2, 3)?))?;
-    boxes.push(cuboid()?)?;
-    Ok(boxes)
+    made(rt, boxes.push(Cuboid::unit(&point)));
+    made(rt, boxes.push(cuboid(rt)));
+    boxes
 }
 
 // The log of this one command is its header and this line.
@@ -75,7 +79,7 @@ fn is_written(
     format: Format,
     command: Command,
     line: &[u8],
-) -> Result<(), Fail>
+)
     requires limits { IsCommand format command }
     requires room { submitted command ≤ 262144 }
     requires hits { asked command ≤ MAX_POINTS }
@@ -84,10 +88,9 @@ fn is_written(
         Format::One => HEADER,
         Format::Two => WIDE_HEADER,
     };
-    let log = log_of(alloc, format, command)?;
-    let want = log_with(alloc, header, line)?;
+    let log = log_of(rt, alloc, format, command);
+    let want = log_with(rt, alloc, header, line);
     are_bytes(rt, log.as_slice(), want.as_slice());
-    Ok(())
 }
 
 // The line of this update has this word and these numbers.
@@ -99,54 +102,54 @@ fn update_is_written(
     update: Update,
     word: &str,
     numbers: &str,
-) -> Result<(), Fail>
+)
     requires caller { IsCaller caller }
     requires limits { IsUpdate format update }
     requires room { points_in update ≤ 262144 }
 {
-    let line = format!(in alloc; "@{caller} {word} {numbers}\n")?;
+    let line = made(rt, format!(in alloc; "@{caller} {word} {numbers}\n"));
     let change = Command::Change { caller, update };
-    is_written(rt, alloc, format, change, line.as_bytes())
+    is_written(rt, alloc, format, change, line.as_bytes());
 }
 
 #[test]
-fn an_update_has_one_line_with_all_its_numbers(rt: HostRuntime) -> Result<(), Fail> {
+fn an_update_has_one_line_with_all_its_numbers(rt: HostRuntime) {
     let alloc = rt.alloc();
-    points_are_written(&rt, alloc)?;
-    wide_numbers_are_written(&rt, alloc)?;
-    boxes_are_written(&rt, alloc)
+    points_are_written(&rt, alloc);
+    wide_numbers_are_written(&rt, alloc);
+    boxes_are_written(&rt, alloc);
 }
 
-fn points_are_written(rt: &impl Abort, alloc: Global) -> Result<(), Fail> {
+fn points_are_written(rt: &impl Abort, alloc: Global) {
     let numbers = "1 -2 3 1000000000 0 -1000000000";
-    let update = Update::Add(points(alloc)?);
-    update_is_written(rt, alloc, Format::One, 1, update, "add", numbers)?;
-    let update = Update::Thin(points(alloc)?);
-    update_is_written(rt, alloc, Format::One, 2, update, "thin", numbers)
+    let update = Update::Add(points(rt, alloc));
+    update_is_written(rt, alloc, Format::One, 1, update, "add", numbers);
+    let update = Update::Thin(points(rt, alloc));
+    update_is_written(rt, alloc, Format::One, 2, update, "thin", numbers);
 }
 
-fn wide_numbers_are_written(rt: &impl Abort, alloc: Global) -> Result<(), Fail> {
-    let update = Update::Add(wide_points(alloc)?);
+fn wide_numbers_are_written(rt: &impl Abort, alloc: Global) {
+    let update = Update::Add(wide_points(rt, alloc));
     let numbers = "1 -2 3 65535 1099511627776 0 0 7";
-    update_is_written(rt, alloc, Format::Two, 1, update, "add", numbers)?;
+    update_is_written(rt, alloc, Format::Two, 1, update, "add", numbers);
     let update = Update::Expire(4_194_304);
-    update_is_written(rt, alloc, Format::Two, 4, update, "expire", "4194304")
+    update_is_written(rt, alloc, Format::Two, 4, update, "expire", "4194304");
 }
 
-fn boxes_are_written(rt: &impl Abort, alloc: Global) -> Result<(), Fail> {
+fn boxes_are_written(rt: &impl Abort, alloc: Global) {
     let numbers = "1 -2 3 2 -1 4 4 -5 6 1000000001 -5 7";
-    let update = Update::Delete(boxes(alloc)?);
-    update_is_written(rt, alloc, Format::One, 3, update, "delete", numbers)?;
-    let update = Update::Suspend(boxes(alloc)?);
-    update_is_written(rt, alloc, Format::One, 4, update, "suspend", numbers)?;
-    let update = Update::Restore(boxes(alloc)?);
-    update_is_written(rt, alloc, Format::One, 5, update, "restore", numbers)
+    let update = Update::Delete(boxes(rt, alloc));
+    update_is_written(rt, alloc, Format::One, 3, update, "delete", numbers);
+    let update = Update::Suspend(boxes(rt, alloc));
+    update_is_written(rt, alloc, Format::One, 4, update, "suspend", numbers);
+    let update = Update::Restore(boxes(rt, alloc));
+    update_is_written(rt, alloc, Format::One, 5, update, "restore", numbers);
 }
 
 #[test]
-fn a_search_has_its_distance_where_one_is_given(rt: HostRuntime) -> Result<(), Fail> {
+fn a_search_has_its_distance_where_one_is_given(rt: HostRuntime) {
     let alloc = rt.alloc();
-    let point = Point::new(1, -2, 3)?;
+    let point = made(&rt, Point::new(1, -2, 3));
     let (caller, k) = (8, 256);
     let near = Command::Near {
         caller,
@@ -154,7 +157,7 @@ fn a_search_has_its_distance_where_one_is_given(rt: HostRuntime) -> Result<(), F
         point,
         within: None,
     };
-    is_written(&rt, alloc, Format::One, near, b"@8 near 256 1 -2 3\n")?;
+    is_written(&rt, alloc, Format::One, near, b"@8 near 256 1 -2 3\n");
     let within = Command::Near {
         caller,
         k,
@@ -162,11 +165,11 @@ fn a_search_has_its_distance_where_one_is_given(rt: HostRuntime) -> Result<(), F
         within: Some(4_398_046_511_104),
     };
     let line = b"@8 near 256 1 -2 3 within 4398046511104\n";
-    is_written(&rt, alloc, Format::Two, within, line)?;
-    let cuboid = cuboid()?;
+    is_written(&rt, alloc, Format::Two, within, line);
+    let cuboid = cuboid(&rt);
     let inside = Command::Inside { caller, k, cuboid };
     let line = b"@8 box 256 4 -5 6 1000000001 -5 7\n";
-    is_written(&rt, alloc, Format::One, inside, line)
+    is_written(&rt, alloc, Format::One, inside, line);
 }
 
 // What is written is read as an equal script, or memory runs out.
@@ -179,45 +182,34 @@ fn again(alloc: Global, script: &Script) -> Result<Script, ParseFault>
 }
 
 #[test]
-fn what_is_written_is_read_as_the_same_script(rt: HostRuntime) -> Result<(), Fail> {
+fn what_is_written_is_read_as_the_same_script(rt: HostRuntime) {
     let alloc = rt.alloc();
     is_written_twice(
         &rt,
         alloc,
         b"# by hand\nikdmap 1 voxel 200 large 1500\n\n@1 erase 1 2 3\nsync\n@8 near 2 0 0 0 within 7",
         b"ikdmap 1 voxel 200 large 1500\n@1 delete 1 2 3 2 3 4\nsync\n@8 near 2 0 0 0 within 7\n",
-    )?;
+    );
     is_written_twice(
         &rt,
         alloc,
         b"ikdmap 2 voxel 200 large 1500\n@1 add 1 2 3 4 -5 0 6 65535\n#\n@2 erase 1 2 3",
         b"ikdmap 2 voxel 200 large 1500\n@1 add 1 2 3 4 -5 0 6 65535\n@2 delete 1 2 3 2 3 4\n",
-    )
+    );
 }
 
 // The log by hand is written as this one, and so is what is read of that.
-fn is_written_twice(
-    rt: &impl Abort,
-    alloc: Global,
-    by_hand: &[u8],
-    written: &[u8],
-) -> Result<(), Fail> {
-    let script = read(alloc, by_hand)?;
-    is_written_as(rt, alloc, &script, written)?;
-    let script = again(alloc, &script)?;
-    is_written_as(rt, alloc, &script, written)
+fn is_written_twice(rt: &impl Abort, alloc: Global, by_hand: &[u8], written: &[u8]) {
+    let script = made(rt, read(alloc, by_hand));
+    is_written_as(rt, alloc, &script, written);
+    let script = made(rt, again(alloc, &script));
+    is_written_as(rt, alloc, &script, written);
 }
 
 // The script is written as this log.
-pub fn is_written_as(
-    rt: &impl Abort,
-    alloc: Global,
-    script: &Script,
-    log: &[u8],
-) -> Result<(), Fail> {
-    let written = write_script(alloc, script)?;
+pub fn is_written_as(rt: &impl Abort, alloc: Global, script: &Script, log: &[u8]) {
+    let written = made(rt, write_script(alloc, script));
     are_bytes(rt, written.as_slice(), log);
-    Ok(())
 }
 
 // The line of this reply is this text, where this line behind this header asks for it, or at the end where none does.
@@ -228,12 +220,12 @@ fn has_line(
     asked: &[u8],
     reply: &Reply,
     want: &[u8],
-) -> Result<(), Fail> {
-    let script = read_with(alloc, header, asked)?;
+) {
+    let script = read_with(rt, alloc, header, asked);
+    let command = script.commands().first();
     let mut line = Vec::new(alloc);
-    reply_line(&mut line, script.format(), script.commands().first(), reply)?;
+    made(rt, reply_line(&mut line, script.format(), command, reply));
     are_bytes(rt, line.as_slice(), want);
-    Ok(())
 }
 
 // The same of a reply that is told once.
@@ -244,8 +236,8 @@ pub fn is_told(
     asked: &[u8],
     reply: Reply,
     want: &[u8],
-) -> Result<(), Fail> {
-    has_line(rt, alloc, header, asked, &reply, want)
+) {
+    has_line(rt, alloc, header, asked, &reply, want);
 }
 
 // The same in version 1, where no point has an intensity, and in version 2.
@@ -256,85 +248,88 @@ fn is_told_in_both(
     reply: &Reply,
     plain: &[u8],
     wide: &[u8],
-) -> Result<(), Fail> {
-    has_line(rt, alloc, HEADER, asked, reply, plain)?;
-    has_line(rt, alloc, WIDE_HEADER, asked, reply, wide)
+) {
+    has_line(rt, alloc, HEADER, asked, reply, plain);
+    has_line(rt, alloc, WIDE_HEADER, asked, reply, wide);
 }
 
 #[test]
-fn an_update_is_told_by_its_place(rt: HostRuntime) -> Result<(), Fail> {
+fn an_update_is_told_by_its_place(rt: HostRuntime) {
     let reply = Reply::Done { mark: 65_536 };
     let want = b"@8 ok 65536\n";
-    is_told(&rt, rt.alloc(), HEADER, b"@8 add 1 2 3", reply, want)
+    is_told(&rt, rt.alloc(), HEADER, b"@8 add 1 2 3", reply, want);
 }
 
 #[test]
-fn each_hit_is_told_with_its_distance(rt: HostRuntime) -> Result<(), Fail> {
+fn each_hit_is_told_with_its_distance(rt: HostRuntime) {
     let alloc = rt.alloc();
-    let point = Point::new(1, -2, 3)?;
+    let point = made(&rt, Point::new(1, -2, 3));
     let near = b"@7 near 2 1 -2 3";
-    let hits = two_hits(alloc, point.with_intensity(65_535))?;
+    let hits = two_hits(&rt, alloc, point.with_intensity(65_535));
     let reply = Reply::Near(NearReply { mark: 9, hits });
     let plain = b"@7 near 9 | 5 1 -2 3 0 | 0 1 -2 3 12000000000000000000\n";
     let wide = b"@7 near 9 | 5 1 -2 3 65535 0 | 0 1 -2 3 65535 12000000000000000000\n";
-    is_told_in_both(&rt, alloc, near, &reply, plain, wide)
+    is_told_in_both(&rt, alloc, near, &reply, plain, wide);
 }
 
-fn two_hits(alloc: Global, point: Point) -> Result<Hits, Fail> {
+fn two_hits(rt: &impl Abort, alloc: Global, point: Point) -> Hits {
     let mut hits = Hits::new(alloc);
     for &(number, dist2) in &[(5, 0), (0, 12_000_000_000_000_000_000)] {
-        hits.push(Hit {
+        let hit = Hit {
             number,
             point,
             dist2,
-        })?;
+        };
+        made(rt, hits.push(hit));
     }
-    Ok(hits)
+    hits
 }
 
 #[test]
-fn what_is_found_in_a_box_is_told_after_its_number(rt: HostRuntime) -> Result<(), Fail> {
+fn what_is_found_in_a_box_is_told_after_its_number(rt: HostRuntime) {
     let alloc = rt.alloc();
     let inside = b"@2 box 1 4 -5 6 1000000001 -5 7";
-    let reply = Reply::Inside(found(alloc, 4_194_303)?);
+    let reply = Reply::Inside(found(&rt, alloc, 4_194_303));
     let plain = b"@2 box 9 7 | 4194303 1 -2 3\n";
     let wide = b"@2 box 9 7 | 4194303 1 -2 3 4\n";
-    is_told_in_both(&rt, alloc, inside, &reply, plain, wide)
+    is_told_in_both(&rt, alloc, inside, &reply, plain, wide);
 }
 
 #[test]
-fn a_reply_of_another_kind_has_no_line(rt: HostRuntime) -> Result<(), Fail> {
+fn a_reply_of_another_kind_has_no_line(rt: HostRuntime) {
     let alloc = rt.alloc();
     let done = Reply::Done { mark: 1 };
     let boxed = b"@2 box 1 4 -5 6 1000000001 -5 7";
-    is_told(&rt, alloc, WIDE_HEADER, boxed, done, b"")?;
+    is_told(&rt, alloc, WIDE_HEADER, boxed, done, b"");
     // A box is no ball.
-    let inside = Reply::Inside(found(alloc, 6)?);
-    is_told(&rt, alloc, WIDE_HEADER, b"@2 ball 1 5 0 0 0", inside, b"")
+    let inside = Reply::Inside(found(&rt, alloc, 6));
+    is_told(&rt, alloc, WIDE_HEADER, b"@2 ball 1 5 0 0 0", inside, b"");
 }
 
 // Seven points, of which this one is listed.
-pub fn found(alloc: Global, number: u32) -> Result<BoxReply, Fail> {
-    let mut items = Items::new(alloc);
-    items.push(Item {
+pub fn found(rt: &impl Abort, alloc: Global, number: u32) -> BoxReply {
+    let point = made(rt, Point::new(1, -2, 3)).with_intensity(4);
+    let item = Item {
         number,
-        point: Point::new(1, -2, 3)?.with_intensity(4),
+        point,
         label: Label::Live,
-    })?;
-    Ok(BoxReply {
+    };
+    let mut items = Items::new(alloc);
+    made(rt, items.push(item));
+    BoxReply {
         mark: 9,
         count: 7,
         items,
-    })
+    }
 }
 
 #[test]
-fn a_barrier_and_the_end_tell_how_many_are_held(rt: HostRuntime) -> Result<(), Fail> {
+fn a_barrier_and_the_end_tell_how_many_are_held(rt: HostRuntime) {
     let alloc = rt.alloc();
     let want = b"sync 3 live 2 suspended 1\n";
-    is_told(&rt, alloc, WIDE_HEADER, b"sync", totals(), want)?;
+    is_told(&rt, alloc, WIDE_HEADER, b"sync", totals(), want);
     let want = b"end 3 live 2 suspended 1\n";
-    is_told(&rt, alloc, HEADER, b"", totals(), want)
+    is_told(&rt, alloc, HEADER, b"", totals(), want);
 }
 
 fn totals() -> Reply {

@@ -1,13 +1,12 @@
 //! Runs of several callers, and what gates show of their threads.
-use crate::tests::assertions::{are_bytes, holds, same};
+use crate::tests::assertions::{are_bytes, holds, made, same};
 use crate::tests::runs::ran;
 use mapper_core::{Status, SureSink};
 use rebuild_worker::{Gate, HoldGate, MeetGate};
-use std::alloc::{AllocError, Global};
+use std::alloc::Global;
 use std::process::Abort;
 use std::sync::Wait;
 use std::sync::atomic::{AtomicBool, AtomicU64, Ordering};
-use std::test::Fail;
 use std::thread::{Threads, yield_now};
 
 // How long a gate waits.
@@ -61,10 +60,10 @@ const FORTY: &str = "ikdmap 1 voxel 200 large 16\n\
     31 0 0 32 0 0 33 0 0 34 0 0 35 0 0 36 0 0 37 0 0 38 0 0 39 0 0 40 0 0\n";
 
 // The log of these lines behind that front.
-fn after_forty(alloc: Global, rest: &str) -> Result<String, AllocError> {
-    let mut log = String::from_str(alloc, FORTY)?;
-    log.push_str(rest)?;
-    Ok(log)
+fn after_forty(rt: &impl Abort, alloc: Global, rest: &str) -> String {
+    let mut log = made(rt, String::from_str(alloc, FORTY));
+    made(rt, log.push_str(rest));
+    log
 }
 
 // The log is run to its end with this gate, and this is written.
@@ -73,57 +72,55 @@ fn done<R: Threads + Wait + Abort + Sync, G: Gate + Sync>(
     alloc: Global,
     log: &str,
     gate: &G,
-) -> Result<SureSink, AllocError> {
-    let (status, out) = ran(rt, alloc, log.as_bytes(), gate)?;
+) -> SureSink {
+    let (status, out) = ran(rt, alloc, log.as_bytes(), gate);
     same(rt, "the status", status, Status::Done);
-    Ok(out)
+    out
 }
 
 // A build of the forty points begins, and is held until both later commands are replied to.
 #[test]
-fn callers_go_on_while_a_build_is_held(rt: HostRuntime) -> Result<(), Fail> {
+fn callers_go_on_while_a_build_is_held(rt: HostRuntime) {
     let alloc = rt.alloc();
-    let log = after_forty(alloc, "@1 add 100 0 0\n@1 near 1 0 0 0\n")?;
+    let log = after_forty(&rt, alloc, "@1 add 100 0 0\n@1 near 1 0 0 0\n");
     let gate = HoldGate::new(0, 2, TURNS);
-    let out = done(&rt, alloc, log.as_str(), &gate)?;
+    let out = done(&rt, alloc, log.as_str(), &gate);
     holds(&rt, "the build was held", gate.held());
     let want = b"@1 ok 1\n@1 ok 2\n@1 near 2 | 0 1 0 0 1\nend 2 live 41 suspended 0\n";
     are_bytes(&rt, "the transcript", out.bytes(), want);
-    Ok(())
 }
 
 // Caller 1 goes on from its first query only once caller 2's update is replied to, and so reads it by the second.
 #[test]
-fn callers_run_beside_each_other(rt: HostRuntime) -> Result<(), Fail> {
+fn callers_run_beside_each_other(rt: HostRuntime) {
     let log = "ikdmap 1 voxel 200 large 1500\n\
                @1 near 1 0 0 0\n\
                @1 near 1 0 0 0\n\
                @1 add 100 0 0\n\
                @2 add 1 0 0\n";
     let gate = MeetGate::new(0, 3, TURNS);
-    let out = done(&rt, rt.alloc(), log, &gate)?;
+    let out = done(&rt, rt.alloc(), log, &gate);
     holds(&rt, "they met", gate.held());
     let rest = "@1 near 1 | 0 1 0 0 1\n@1 ok 2\n@2 ok 1\nend 2 live 2 suspended 0\n";
     holds(&rt, "the end", out.bytes().ends_with(rest.as_bytes()));
-    Ok(())
 }
 
 // After forty points and a barrier, where the tree is balanced, one build is held up until the last begins, and each command that
 // waits for a build sees it begin.
 #[test]
-fn neither_a_build_nor_a_barrier_waits_for_a_build(rt: HostRuntime) -> Result<(), Fail> {
+fn neither_a_build_nor_a_barrier_waits_for_a_build(rt: HostRuntime) {
     // Two workers build beside each other: each of these updates leaves one of the top's sons in breach.
     let rest = "sync\n\
                 @1 add 41 0 0 42 0 0 43 0 0 44 0 0\n\
                 @1 add 0 0 0 -1 0 0 -2 0 0 -3 0 0 -4 0 0\n";
     let want =
         b"@1 ok 1\nsync 1 live 40 suspended 0\n@1 ok 2\n@1 ok 3\nend 3 live 49 suspended 0\n";
-    none_waits(&rt, rt.alloc(), rest, 2, 3, want)?;
+    none_waits(&rt, rt.alloc(), rest, 2, 3, want);
     // The first build, of the whole tree, is held until the second begins. Nothing beside the whole tree can be built, so the
     // barrier has rebuilt it itself.
     let rest = "sync\n@1 add 41 0 0 42 0 0 43 0 0 44 0 0\n";
     let want = b"@1 ok 1\nsync 1 live 40 suspended 0\n@1 ok 2\nend 2 live 44 suspended 0\n";
-    none_waits(&rt, rt.alloc(), rest, 1, 2, want)
+    none_waits(&rt, rt.alloc(), rest, 1, 2, want);
 }
 
 // The build of the first ticket is held up until that of the last begins.
@@ -134,16 +131,15 @@ fn none_waits<R: Threads + Wait + Abort + Sync>(
     held: u64,
     last: u64,
     want: &[u8],
-) -> Result<(), Fail> {
-    let log = after_forty(alloc, rest)?;
+) {
+    let log = after_forty(rt, alloc, rest);
     let gate = TwoBuilds {
         held,
         begun: AtomicU64::new(0),
         missed: AtomicBool::new(false),
     };
-    let out = done(rt, alloc, log.as_str(), &gate)?;
+    let out = done(rt, alloc, log.as_str(), &gate);
     holds(rt, "none was missed", !gate.missed.load(Ordering::SeqCst));
     same(rt, "the last", gate.begun.load(Ordering::SeqCst), last);
     are_bytes(rt, "the transcript", out.bytes(), want);
-    Ok(())
 }

@@ -4,7 +4,7 @@ ghost use Rattle.std.specs.List.{AllByRecursion};
 ghost use Rattle.published_map.specs.Held.{IsOpenedAs};
 ghost use Rattle.mapper_core.specs.Meetings.{HasCaller};
 
-use crate::tests::assertions::same;
+use crate::tests::assertions::{made, same};
 use map_fold::NoMemory;
 use mapper_core::run_callers;
 use published_map::{Ended, MapName, Opened, Shared};
@@ -16,7 +16,6 @@ use std::marker::Brand;
 use std::process::Abort;
 use std::sync::Wait;
 use std::sync::ledger::Blank;
-use std::test::Fail;
 use std::thread::Threads;
 
 const LOG: &str = "ikdmap 1 voxel 200 large 16
@@ -61,14 +60,13 @@ fn ended_on<L: MapName + Send + Sync, R: Threads + Wait + Sync>(
 }
 
 #[test]
-fn the_passes_of_a_script_end_its_map(rt: HostRuntime) -> Result<(), Fail> {
+fn the_passes_of_a_script_end_its_map(rt: HostRuntime) {
     let alloc = rt.alloc();
-    let script = parse(alloc, LOG.as_bytes())?;
-    let (state, ended) = ended(&rt, alloc, &script)?;
+    let script = made(&rt, parse(alloc, LOG.as_bytes()));
+    let (state, ended) = made(&rt, ended(&rt, alloc, &script));
     have_ended(&rt, ended.as_slice());
     let counts = state.version().tree().counts();
     same(&rt, "points", (counts.live, counts.suspended), (19, 2));
-    Ok(())
 }
 
 // What is known of each caller.

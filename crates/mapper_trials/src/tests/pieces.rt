@@ -1,17 +1,16 @@
 //! Streams that move a byte at a time.
-use crate::tests::assertions::are_bytes;
+use crate::tests::assertions::{are_bytes, made};
 use crate::tests::runs::{ends, ran};
 use mapper_core::{MemSink, MemSource, Status};
 use rebuild_worker::FreeGate;
-use std::alloc::{AllocError, Global};
+use std::alloc::Global;
 use std::process::Abort;
 use std::sync::Wait;
-use std::test::Fail;
 use std::thread::Threads;
 
 // What these logs give stands in runs/, and is compared there.
 #[test]
-fn a_byte_at_a_time_gives_the_same(rt: HostRuntime) -> Result<(), Fail> {
+fn a_byte_at_a_time_gives_the_same(rt: HostRuntime) {
     for &(large, commands) in &[
         ("1500", "@1 add 1 2 3\n@1 near 1 0 0 0\n"),
         ("1500", ""),
@@ -47,9 +46,8 @@ fn a_byte_at_a_time_gives_the_same(rt: HostRuntime) -> Result<(), Fail> {
         ),
         ("1500", "@1 add 1 2 3"),
     ] {
-        is_alike(&rt, rt.alloc(), large, commands)?;
+        is_alike(&rt, rt.alloc(), large, commands);
     }
-    Ok(())
 }
 
 // The log of these commands gives the same either way.
@@ -58,12 +56,14 @@ fn is_alike<R: Threads + Wait + Abort + Sync>(
     alloc: Global,
     large: &str,
     commands: &str,
-) -> Result<(), Fail> {
-    let log = format!(in alloc; "ikdmap 1 voxel 200 large {large}\n{commands}")?;
-    let (_, whole) = ran(rt, alloc, log.as_bytes(), &FreeGate)?;
-    let out = in_bytes(rt, alloc, log.as_bytes())?;
+) {
+    let log = made(
+        rt,
+        format!(in alloc; "ikdmap 1 voxel 200 large {large}\n{commands}"),
+    );
+    let (_, whole) = ran(rt, alloc, log.as_bytes(), &FreeGate);
+    let out = in_bytes(rt, alloc, log.as_bytes());
     are_bytes(rt, commands, out.bytes(), whole.bytes());
-    Ok(())
 }
 
 // What is written where each byte moves alone.
@@ -71,9 +71,9 @@ fn in_bytes<R: Threads + Wait + Abort + Sync>(
     rt: &R,
     alloc: Global,
     log: &[u8],
-) -> Result<MemSink, AllocError> {
-    let mut source = MemSource::new(log.to_vec(alloc)?, 1, Vec::new(alloc));
+) -> MemSink {
+    let mut source = MemSource::new(made(rt, log.to_vec(alloc)), 1, Vec::new(alloc));
     let mut out = MemSink::new(alloc, 1, Vec::new(alloc));
-    ends(rt, alloc, "run", &mut source, &mut out, Status::Done, "")?;
-    Ok(out)
+    ends(rt, alloc, "run", &mut source, &mut out, Status::Done, "");
+    out
 }

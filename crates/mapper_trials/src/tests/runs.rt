@@ -1,8 +1,8 @@
 //! Runs, as their users see them.
-use crate::tests::assertions::{are_bytes, same};
+use crate::tests::assertions::{are_bytes, made, same};
 use mapper_core::{MemSink, MemSource, Sink, Source, Status, SureSink, SureSource, run};
 use rebuild_worker::{FreeGate, Gate};
-use std::alloc::{AllocError, Global};
+use std::alloc::Global;
 use std::process::Abort;
 use std::sync::Wait;
 use std::thread::Threads;
@@ -14,7 +14,7 @@ pub const SMALLEST_OUT: &'static [u8] =
     b"@1 ok 1\n@1 near 1 | 0 1 2 3 14\nend 1 live 1 suspended 0\n";
 
 // How the program ends that is given the words of this line, these streams and this gate.
-pub fn ended<R: Threads + Wait + Sync, I: Source, O: Sink, N: Sink, G: Gate + Sync>(
+pub fn ended<R: Threads + Wait + Abort + Sync, I: Source, O: Sink, N: Sink, G: Gate + Sync>(
     rt: &R,
     alloc: Global,
     line: &str,
@@ -22,31 +22,32 @@ pub fn ended<R: Threads + Wait + Sync, I: Source, O: Sink, N: Sink, G: Gate + Sy
     out: &mut O,
     notes: &mut N,
     gate: &G,
-) -> Result<Status, AllocError> {
-    let words = words_of(alloc, line)?;
-    Ok(run(rt, alloc, words.as_slice(), log, out, notes, gate))
+) -> Status {
+    let words = words_of(rt, alloc, line);
+    run(rt, alloc, words.as_slice(), log, out, notes, gate)
 }
 
-fn words_of(alloc: Global, line: &str) -> Result<Vec<String>, AllocError> {
+fn words_of(rt: &impl Abort, alloc: Global, line: &str) -> Vec<String> {
     let mut words = Vec::new(alloc);
     for word in line.split_whitespace() {
-        words.push(String::from_str(alloc, word)?)?;
+        let text = made(rt, String::from_str(alloc, word));
+        made(rt, words.push(text));
     }
-    Ok(words)
+    words
 }
 
 // How a log is run with this gate over streams that never fail, and what is written.
-pub fn ran<R: Threads + Wait + Sync, G: Gate + Sync>(
+pub fn ran<R: Threads + Wait + Abort + Sync, G: Gate + Sync>(
     rt: &R,
     alloc: Global,
     log: &[u8],
     gate: &G,
-) -> Result<(Status, SureSink), AllocError> {
-    let mut source = SureSource::new(log.to_vec(alloc)?);
+) -> (Status, SureSink) {
+    let mut source = SureSource::new(made(rt, log.to_vec(alloc)));
     let mut out = SureSink::new(alloc);
     let mut notes = SureSink::new(alloc);
-    let status = ended(rt, alloc, "run", &mut source, &mut out, &mut notes, gate)?;
-    Ok((status, out))
+    let status = ended(rt, alloc, "run", &mut source, &mut out, &mut notes, gate);
+    (status, out)
 }
 
 // How the program ends that is given the words of this line and these streams, and what it notes.
@@ -58,12 +59,11 @@ pub fn ends<R: Threads + Wait + Abort + Sync, I: Source, O: Sink>(
     out: &mut O,
     want: Status,
     note: &str,
-) -> Result<(), AllocError> {
+) {
     let mut notes = SureSink::new(alloc);
-    let status = ended(rt, alloc, line, log, out, &mut notes, &FreeGate)?;
+    let status = ended(rt, alloc, line, log, out, &mut notes, &FreeGate);
     same(rt, "the status", status, want);
     are_bytes(rt, "the notes", notes.bytes(), note.as_bytes());
-    Ok(())
 }
 
 // A source in memory that gives these bytes in these pieces, and fails at this call.
@@ -73,10 +73,10 @@ pub fn failing_source(
     bytes: &[u8],
     piece: usize,
     failing: u32,
-) -> Result<MemSource, AllocError> {
+) -> MemSource {
     assert!(rt; 1 <= piece);
-    let failing = [failing].to_vec(alloc)?;
-    Ok(MemSource::new(bytes.to_vec(alloc)?, piece, failing))
+    let failing = made(rt, [failing].to_vec(alloc));
+    MemSource::new(made(rt, bytes.to_vec(alloc)), piece, failing)
 }
 
 // A sink in memory that takes these pieces, and fails at this call.
@@ -85,8 +85,8 @@ pub fn failing_sink(
     alloc: Global,
     piece: usize,
     failing: u32,
-) -> Result<MemSink, AllocError> {
+) -> MemSink {
     assert!(rt; 1 <= piece);
-    let failing = [failing].to_vec(alloc)?;
-    Ok(MemSink::new(alloc, piece, failing))
+    let failing = made(rt, [failing].to_vec(alloc));
+    MemSink::new(alloc, piece, failing)
 }

@@ -1,12 +1,10 @@
 //! A script is run and kept: the program gives its own away, and so calls neither of these.
-use crate::tests::assertions::are_bytes;
-use map_fold::NoMemory;
+use crate::tests::assertions::{are_bytes, made};
 use mapper_core::{Replies, serial, threaded};
 use rebuild_worker::FreeGate;
 use scan_log::{Script, parse, reply_line};
 use std::alloc::Global;
 use std::process::Abort;
-use std::test::Fail;
 
 const POSES: &'static [u8] = b"ikdmap 2 voxel 200 large 16
 @1 add 0 0 0 1 -45 0 0 2
@@ -17,26 +15,26 @@ const POSES: &'static [u8] = b"ikdmap 2 voxel 200 large 16
 const POSES_OUT: &'static [u8] = b"@1 ok 1\n@1 ok 2\n@1 ok 3\nend 3 live 1 suspended 0\n";
 
 // The lines of the replies to a script.
-fn told(alloc: Global, script: &Script, replies: &Replies) -> Result<Vec<u8>, NoMemory> {
+fn told(rt: &impl Abort, alloc: Global, script: &Script, replies: &Replies) -> Vec<u8> {
     let mut out = Vec::new(alloc);
     let format = script.format();
     for (command, reply) in script.commands().iter().zip(replies.as_slice()) {
-        reply_line(&mut out, format, Some(command), reply)?;
+        made(rt, reply_line(&mut out, format, Some(command), reply));
     }
     if let Some(end) = replies.as_slice().last() {
-        reply_line(&mut out, format, None, end)?;
+        made(rt, reply_line(&mut out, format, None, end));
     }
-    Ok(out)
+    out
 }
 
 #[test]
-fn a_script_is_run_with_its_poses_and_kept(rt: HostRuntime) -> Result<(), Fail> {
+fn a_script_is_run_with_its_poses_and_kept(rt: HostRuntime) {
     let alloc = rt.alloc();
-    let script = parse(alloc, POSES)?;
-    are_told(&rt, alloc, &script, serial(alloc, &script)?)?;
-    let side_by_side = threaded(&rt, alloc, &script, &FreeGate)?;
-    are_told(&rt, alloc, &script, side_by_side)?;
-    Ok(())
+    let script = made(&rt, parse(alloc, POSES));
+    let in_order = made(&rt, serial(alloc, &script));
+    are_told(&rt, alloc, &script, in_order);
+    let side_by_side = made(&rt, threaded(&rt, alloc, &script, &FreeGate));
+    are_told(&rt, alloc, &script, side_by_side);
 }
 
 // The lines of these replies are those that stand above.
@@ -45,8 +43,7 @@ fn are_told(
     alloc: Global,
     script: &Script,
     replies: Replies,
-) -> Result<(), NoMemory> {
-    let out = told(alloc, script, &replies)?;
+) {
+    let out = told(rt, alloc, script, &replies);
     are_bytes(rt, "the transcript", out.as_slice(), POSES_OUT);
-    Ok(())
 }

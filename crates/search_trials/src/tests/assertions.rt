@@ -1,4 +1,6 @@
-//! Assertions as functions: each is proved once, and a call adds next to nothing to the proof of a test.
+//! Assertions as functions: each is proved once, and a call adds next to nothing to the proof of a test. A test ends where one fails.
+ghost use Rattle.std.specs.Prelude.{◌≡◌, Ok};
+
 use std::fmt::Debug;
 use std::process::Abort;
 
@@ -9,4 +11,14 @@ pub fn same<T: PartialEq + Debug + Drop>(rt: &impl Abort, what: &str, got: T, wa
 
 pub fn holds(rt: &impl Abort, what: &str, fact: bool) {
     assert!(rt; fact, "{what}");
+}
+
+// What a call made, which wasn't refused.
+pub fn made<T: Drop, E: Debug + Drop>(rt: &impl Abort, answer: Result<T, E>) -> T
+    ensures { answer ≡ Ok result }
+{
+    match answer {
+        Ok(value) => value,
+        Err(why) => panic!(rt; "{why:?}"),
+    }
 }

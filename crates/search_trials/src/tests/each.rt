@@ -2,7 +2,7 @@
 ghost use Rattle.std.specs.Prelude.{◌≤◌};
 ghost use Rattle.std.specs.Option.{ForSome};
 
-use crate::tests::assertions::same;
+use crate::tests::assertions::{made, same};
 use crate::tests::grown::restored;
 use batch_near::nearest_each;
 use kd_search::nearest;
@@ -11,7 +11,6 @@ use map_fold::Points;
 use point_geom::Point;
 use std::alloc::Global;
 use std::process::Abort;
-use std::test::Fail;
 use std::thread::Threads;
 
 fn drawn(state: u32) -> u32 {
@@ -19,7 +18,7 @@ fn drawn(state: u32) -> u32 {
 }
 
 // Points on a grid of a decimetre, so that some are equally far.
-fn cloud(alloc: Global, count: u32, seed: u32) -> Result<Vec<Point>, Fail> {
+fn cloud(rt: &impl Abort, alloc: Global, count: u32, seed: u32) -> Vec<Point> {
     let mut points = Vec::new(alloc);
     let mut state = seed;
     for _ in 0..count {
@@ -29,21 +28,21 @@ fn cloud(alloc: Global, count: u32, seed: u32) -> Result<Vec<Point>, Fail> {
         let y = (state / 65_536 % 64) as i64 * 100;
         state = drawn(state);
         let z = (state / 65_536 % 16) as i64 * 100;
-        points.push(Point::new(x, y, z)?)?;
+        let point = made(rt, Point::new(x, y, z));
+        made(rt, points.push(point));
     }
-    Ok(points)
+    points
 }
 
 #[test]
-fn each_list_is_what_a_single_search_finds(rt: HostRuntime) -> Result<(), Fail> {
+fn each_list_is_what_a_single_search_finds(rt: HostRuntime) {
     let alloc = rt.alloc();
-    let tree = restored(alloc, &cloud(alloc, 2_000, 1)?)?;
+    let tree = restored(&rt, alloc, &cloud(&rt, alloc, 2_000, 1));
     // How many queries, how many hits for each, and how far these may be.
     for (count, k, within) in [(300, 17, Some(300)), (0, 1, None)] {
-        let queries = Points::from(cloud(alloc, count, 7)?);
-        are_as_single(&rt, alloc, &tree, &queries, k, within)?;
+        let queries = Points::from(cloud(&rt, alloc, count, 7));
+        are_as_single(&rt, alloc, &tree, &queries, k, within);
     }
-    Ok(())
 }
 
 fn are_as_single<R: Threads + Sync + Abort>(
@@ -53,16 +52,15 @@ fn are_as_single<R: Threads + Sync + Abort>(
     queries: &Points,
     k: u32,
     within: Option<u64>,
-) -> Result<(), Fail>
+)
     requires k_to { k ≤ 256 }
     requires k_from { 1 ≤ k }
     requires within_to { ForSome within (λ r. r ≤ 4398046511104) }
 {
-    let lists = nearest_each(rt, alloc, tree, k, queries, within)?;
+    let lists = made(rt, nearest_each(rt, alloc, tree, k, queries, within));
     same(rt, "lists", lists.len(), queries.len());
     for (list, query) in lists.as_slice().iter().zip(queries.as_slice()) {
-        let want = nearest(alloc, tree, k, query, within)?;
+        let want = made(rt, nearest(alloc, tree, k, query, within));
         assert_eq!(rt; list.as_slice(), want.as_slice());
     }
-    Ok(())
 }

@@ -4,33 +4,33 @@ ghost use Rattle.node_labels.specs.Labels.{is_dropped};
 ghost use Rattle.kd_tree.specs.Contents.{AreDistinct, AreKept};
 ghost use Rattle.kd_tree.specs.Counter.{IsBlankOf};
 
+use crate::tests::assertions::made;
 use kd_tree::{MAX_NODES, Steps, Tree};
 use map_fold::{Item, Label, NoMemory, Tag};
 use point_geom::Point;
 use std::alloc::Global;
 use std::marker::Brand;
+use std::process::Abort;
 use std::sync::ledger::{Blank, Ledger};
-use std::test::Fail;
 
 // A tree of these points with this action done to all. Before it, every third is suspended.
-pub fn grown(alloc: Global, points: &[Point], tag: Tag) -> Result<Tree, Fail> {
-    let items = items_at(alloc, points)?;
-    Ok(built::<Brand>(alloc, &items, tag, Blank::new(1))?)
+pub fn grown(rt: &impl Abort, alloc: Global, points: &[Point], tag: Tag) -> Tree {
+    assert!(rt; points.len() <= 100_000);
+    let items = made(rt, items_at(alloc, points));
+    made(rt, built::<Brand>(alloc, &items, tag, Blank::new(1)))
 }
 
 // All of them live.
-pub fn restored(alloc: Global, points: &[Point]) -> Result<Tree, Fail> {
-    grown(alloc, points, Tag::RESTORE)
+pub fn restored(rt: &impl Abort, alloc: Global, points: &[Point]) -> Tree {
+    grown(rt, alloc, points, Tag::RESTORE)
 }
 
-fn items_at(alloc: Global, points: &[Point]) -> Result<Vec<Item>, Fail>
+fn items_at(alloc: Global, points: &[Point]) -> Result<Vec<Item>, NoMemory>
+    requires { length points.now ≤ 100000 }
     ensures kept { IfOk result (λ v. AreKept v.items) }
     ensures distinct { IfOk result (λ v. AreDistinct v.items) }
     ensures few { IfOk result (λ v. length v.items ≤ MAX_NODES) }
 {
-    if points.len() > 100_000 {
-        return Err(Fail::new("many points"));
-    }
     let mut items = Vec::new(alloc);
     let mut number = 0;
     for point in points {

@@ -1,4 +1,4 @@
-use Rattle.mapper_base.proofs.Pieces.{front_either}
+use Rattle.byte_streams.proofs.Pieces.{front_either}
 use Rattle.mapper_base.proofs.notes.tell_line.Goals as goal
 
 pub returns : goal.returns

@@ -1,4 +1,4 @@
 use Rattle.search_trials.proofs.tests.grown.grown.Given as goal
 
 abbrev pub ghosts-built : goal.ghosts-built
-ghosts-built a = record { name = a.blank.name; parts = a.blank.parts }
+ghosts-built a b = record { name = b.blank.name; parts = b.blank.parts }

@@ -1,0 +1,4 @@
+pub mod FewWords
+pub mod Digits
+pub mod Taken
+pub mod OneAsk
