@@ -30,22 +30,24 @@ use Rattle.kd_tree.proofs.Held.{walk_few}
 use Rattle.kd_tree.proofs.Numbered.{by_number-filter, by_number-moved, by_number_moves, once_moved}
 use Rattle.kd_update.specs.Put.{RebuildsNoneOnRoute, goes_left, put_from}
 use Rattle.kd_update.specs.Scan.{AreLive, IsGrown, IsPiece, put_each}
-use Rattle.kd_update.specs.Update.{IsBalancedBelow}
-use Rattle.kd_update.specs.Several.{AreLargeAt, AreWatched, IsUpdatedClear}
-use Rattle.kd_update.specs.Watch.{IsWatched, goes_to, handed, is_keep}
+use Rattle.kd_mark.specs.Update.{IsBalancedBelow}
+use Rattle.kd_mark.specs.Several.{AreLargeAt, AreWatched, IsUpdatedClear}
+use Rattle.kd_mark.specs.Watch.{IsWatched, handed, is_keep}
+use Rattle.kd_update.specs.Watch.{goes_to}
 use Rattle.node_labels.specs.declared.tag.Tag.{Tag}
 use Rattle.map_fold.specs.declared.op.Op.TheVariants.{Mark}
 use Rattle.kd_update.specs.Crossing.{AreMet, IsCrossed, IsMet, IsWholeGrown, going, logged_scan, puts_of}
 use Rattle.kd_update.proofs.Criteria.{apart}
 use Rattle.kd_update.proofs.Grown.{GoBeside, IsLive, IsStep, distinct_back, distinct_front, grown_built, grown_moved, grown_none, grown_put, new_first, step_grown}
 use Rattle.kd_update.proofs.Joins.{grown_held, put_new}
-use Rattle.kd_update.proofs.Refresh.{head}
+use Rattle.kd_mark.proofs.Refresh.{head}
 use Rattle.kd_update.proofs.Route.{nodes-put, route_none}
-use Rattle.kd_update.proofs.Large.{large_after}
+use Rattle.kd_mark.proofs.Large.{large_after}
 use Rattle.kd_update.proofs.Logged.{handed_puts}
-use Rattle.kd_update.proofs.Several.{clear_balanced, balanced_clear, balanced_here, passed_by, some_of}
-use Rattle.kd_update.proofs.Trees.{at_pushed, pushed_nodes, walk-tagged_keep}
-use Rattle.kd_update.proofs.Watched.{at-tagged, at_son, watched_handed, watched_same, watched_son}
+use Rattle.kd_mark.proofs.Several.{clear_balanced, balanced_clear, balanced_here, passed_by}
+use Rattle.kd_update.proofs.Several.{some_of}
+use Rattle.kd_mark.proofs.Trees.{at_pushed, pushed_nodes, walk-tagged_keep}
+use Rattle.kd_mark.proofs.WatchedMark.{at-tagged, at_son, watched_handed, watched_same, watched_son}
 
 -- lists
 

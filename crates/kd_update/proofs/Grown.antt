@@ -23,13 +23,14 @@ use Rattle.kd_tree.proofs.Held.{walk_kept, walk_few}
 use Rattle.kd_tree.proofs.Left.{all_left, left_all}
 use Rattle.kd_tree.proofs.Medians.{built_nodes, built_levels, built_walk}
 use Rattle.kd_tree.proofs.Numbered.{counted_in, once_moved}
-use Rattle.kd_update.specs.Refresh.{AreAmong, IsRefresh, RefreshesIfDue}
-use Rattle.kd_update.specs.Update.{IsBalancedBelow}
+use Rattle.kd_mark.specs.Refresh.{AreAmong, IsRefresh, RefreshesIfDue}
+use Rattle.kd_mark.specs.Update.{IsBalancedBelow}
 use Rattle.kd_update.specs.Put.{goes_left, put_from}
 use Rattle.kd_update.specs.Scan.{AreLive, IsGrown, IsParted, IsPiece, numbers_in}
-use Rattle.kd_update.proofs.Trees.{among_same, among_append, among_fork, at_pushed, swapped}
-use Rattle.kd_update.proofs.Refresh.{head, left_among, refreshed_refresh}
-use Rattle.kd_update.proofs.Update.{criteria_balanced, balanced_sons}
+use Rattle.kd_mark.proofs.Trees.{among_same, among_append, among_fork, at_pushed}
+use Rattle.kd_update.proofs.Trees.{swapped}
+use Rattle.kd_mark.proofs.Refresh.{head, left_among, refreshed_refresh}
+use Rattle.kd_mark.proofs.Update.{criteria_balanced, balanced_sons}
 use Rattle.kd_update.proofs.Criteria.{IsApart, apart}
 use Rattle.kd_update.proofs.Route.{le_of_true, le_of_false, walk-put, nodes-put, levels-put, numbers-put}
 

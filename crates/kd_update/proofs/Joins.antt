@@ -17,10 +17,11 @@ use Rattle.kd_tree.specs.Contents.{AreDistinct, by_number, contents, insert_item
 use Rattle.kd_tree.proofs.Contents.{times_contents}
 use Rattle.kd_tree.proofs.Held.{are_distinct}
 use Rattle.kd_tree.proofs.Numbered.{by_number-moved, by_number_moves, counted_in, insert-put, numbered_from, once_moved}
-use Rattle.kd_update.specs.Refresh.{AreAmong}
-use Rattle.kd_update.specs.Update.{IsBalancedBelow}
+use Rattle.kd_mark.specs.Refresh.{AreAmong}
+use Rattle.kd_mark.specs.Update.{IsBalancedBelow}
 use Rattle.kd_update.specs.Scan.{AreLive, IsGrown, IsPiece, IsPut, MayJoin, live_from, numbers_in, put_each}
-use Rattle.kd_update.proofs.Trees.{among_same, among_then}
+use Rattle.kd_mark.proofs.Trees.{among_same}
+use Rattle.kd_update.proofs.Trees.{among_then}
 use Rattle.kd_update.proofs.Grown.{IsLive, all_first, all_last, distinct_front, live_of, new_first}
 
 -- items put one after the other

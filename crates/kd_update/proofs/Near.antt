@@ -1,4 +1,4 @@
--- A node's sons by side.
+-- A node with another son on one side.
 use Rattle.std.proofs.Common.{◌≡◌, ◌<◌, ◌∙◌, Some}
 use Rattle.kd_tree.specs.Shape.{Shape, fork, nodes}
 use Rattle.kd_tree.specs.Sound.{IsTopSound}
@@ -6,14 +6,11 @@ use Rattle.kd_tree.specs.Parts.{joined, pushed, with_son, son}
 use Rattle.kd_tree.specs.declared.change.Fork.{Fork}
 use Rattle.kd_tree.specs.declared.path.Side.{Side}
 use Rattle.kd_tree.specs.declared.path.Side.TheVariants.{Left, Right}
-use Rattle.kd_update.specs.Refresh.{IsRefresh}
-use Rattle.kd_update.proofs.Trees.{pushed_smaller}
-use Rattle.kd_update.proofs.Refresh.{head, refresh_same, refresh_sound}
-use Rattle.kd_update.proofs.Update.{sons_alike}
-
--- the son on this side
-abbrev pub near : Side → Fork → Shape
-near side f = son side f.left f.right
+use Rattle.kd_mark.specs.Refresh.{IsRefresh}
+use Rattle.kd_mark.proofs.Trees.{pushed_smaller}
+use Rattle.kd_mark.proofs.Refresh.{head, refresh_same, refresh_sound}
+use Rattle.kd_mark.proofs.Update.{sons_alike}
+use Rattle.kd_mark.proofs.Near.{near}
 
 -- the node with another son there
 abbrev pub with_near : Side → Fork → Shape → Shape

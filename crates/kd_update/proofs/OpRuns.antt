@@ -16,13 +16,14 @@ use Rattle.kd_tree.specs.Contents.{AreDistinct, by_number, contents}
 use Rattle.kd_tree.specs.Sound.{IsSound}
 use Rattle.kd_tree.proofs.Held.{by_number-contents, contents_distinct, contents_few}
 use Rattle.kd_tree.proofs.Numbered.{by_number_moves, once_moved}
-use Rattle.kd_update.specs.Refresh.{AreAmong}
-use Rattle.kd_update.specs.Update.{IsBalancedBelow}
+use Rattle.kd_mark.specs.Refresh.{AreAmong}
+use Rattle.kd_mark.specs.Update.{IsBalancedBelow}
 use Rattle.kd_update.specs.Scan.{IsGrown, IsPiece, MayJoin, numbers_in, put_each}
 use Rattle.kd_update.specs.Replay.{ArePuts, IsPerformed, IsRun, is_put, items_put}
 use Rattle.kd_update.proofs.Grown.{IsLive}
 use Rattle.kd_update.proofs.Route.{at_most_one}
-use Rattle.kd_update.proofs.Trees.{among_same, among_then}
+use Rattle.kd_mark.proofs.Trees.{among_same}
+use Rattle.kd_update.proofs.Trees.{among_then}
 use Rattle.kd_update.proofs.Joins.{join_grown, join_piece, put_new}
 
 -- operations one after the other

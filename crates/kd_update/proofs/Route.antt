@@ -26,14 +26,16 @@ use Rattle.kd_tree.specs.declared.path.Side.TheVariants.{Left, Right}
 use Rattle.kd_tree.proofs.Actions.{tagged_nodes, tagged_levels, tagged_numbers, times-tagged, pushed_sound, sound_once}
 use Rattle.kd_tree.proofs.Numbered.{by_number_moves, by_number-moved, counted_in, insert-put}
 use Rattle.kd_tree.proofs.Contents.{relabelled-keep, times_walk, once_walk, parts_alike}
-use Rattle.kd_update.specs.Refresh.{AreAmong, IsNotDue, IsRefresh}
+use Rattle.kd_mark.specs.Refresh.{AreAmong, IsNotDue, IsRefresh}
 use Rattle.kd_update.specs.Made.{entered_put}
 use Rattle.kd_update.specs.Put.{goes_left, put_under, put_from, side_of, RebuildsNoneOnRoute}
-use Rattle.kd_update.specs.Several.{large_at}
+use Rattle.kd_mark.specs.Several.{large_at}
 use Rattle.kd_tree.proofs.Left.{all_left, left_all}
-use Rattle.kd_update.proofs.Trees.{forked, at_pushed, walk-tagged_keep, among_same, among_left, among_right}
-use Rattle.kd_update.proofs.Refresh.{head, refresh_contents, tops_alike}
-use Rattle.kd_update.proofs.Near.{near, with_near}
+use Rattle.kd_mark.proofs.Trees.{forked, at_pushed, walk-tagged_keep, among_same}
+use Rattle.kd_update.proofs.Trees.{among_left, among_right}
+use Rattle.kd_mark.proofs.Refresh.{head, refresh_contents, tops_alike}
+use Rattle.kd_mark.proofs.Near.{near}
+use Rattle.kd_update.proofs.Near.{with_near}
 
 -- a put after an action on all
 pub put-tagged : (n : ℕ) (p : Place) (axis : Axis) (a : Tag) (t : Shape) → put_under n p axis keep_tag (tagged a t) ≡ put_under n p axis a t

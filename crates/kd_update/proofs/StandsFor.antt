@@ -22,15 +22,16 @@ use Rattle.kd_tree.specs.declared.path.Side.TheVariants.{Left, Right}
 use Rattle.kd_tree.proofs.Contents.{walk-composed, by_number-mark, times_walk, once_walk}
 use Rattle.kd_tree.proofs.Held.{contents_few}
 use Rattle.kd_tree.proofs.Numbered.{by_number_moves, by_number-moved}
-use Rattle.kd_update.specs.Refresh.{IsNotDue, RefreshesIfDue}
-use Rattle.kd_update.specs.Watch.{IsLargeAt}
-use Rattle.kd_update.specs.Several.{AreLargeAt, AreSameAt}
+use Rattle.kd_mark.specs.Refresh.{IsNotDue, RefreshesIfDue}
+use Rattle.kd_mark.specs.Watch.{IsLargeAt}
+use Rattle.kd_mark.specs.Several.{AreLargeAt, AreSameAt}
 use Rattle.kd_update.specs.Replace.{StandsFor, HasRoomAt, IsNoLarger, IsReplaced, RebuildsNoneAbove}
 use Rattle.kd_tree.proofs.Left.{all_left, left_all}
-use Rattle.kd_update.proofs.Trees.{among_left, among_right, nodes_below}
-use Rattle.kd_update.proofs.Refresh.{refresh_contents, refreshed_refresh}
-use Rattle.kd_update.proofs.Several.{balanced_outside, refreshed_outside}
-use Rattle.kd_update.proofs.Large.{large_nodes, large_same}
+use Rattle.kd_mark.proofs.Trees.{nodes_below}
+use Rattle.kd_update.proofs.Trees.{among_left, among_right}
+use Rattle.kd_mark.proofs.Refresh.{refresh_contents, refreshed_refresh}
+use Rattle.kd_mark.proofs.Several.{balanced_outside, refreshed_outside}
+use Rattle.kd_mark.proofs.Large.{large_nodes, large_same}
 
 -- what is left under an action, by number, is what it leaves of the contents
 numbered-walk : (a : Tag) (t : Shape) → by_number (walk a t) ≡ mark (contents t) everything a

@@ -9,11 +9,12 @@ use Rattle.kd_tree.specs.Shape.{Shape, leaf, fork, nodes}
 use Rattle.kd_tree.specs.Walk.{tagged}
 use Rattle.kd_tree.specs.declared.path.Side.{Side}
 use Rattle.kd_tree.specs.Parts.{son}
-use Rattle.kd_update.specs.declared.watch.Watch.{Watch}
+use Rattle.kd_mark.specs.declared.watch.Watch.{Watch}
 use Rattle.kd_update.specs.Put.{goes_left}
 use Rattle.kd_update.specs.Scan.{IsGrown}
-use Rattle.kd_update.specs.Several.{IsBalancedClear}
-use Rattle.kd_update.specs.Watch.{goes_to, handed}
+use Rattle.kd_mark.specs.Several.{IsBalancedClear}
+use Rattle.kd_mark.specs.Watch.{handed}
+use Rattle.kd_update.specs.Watch.{goes_to}
 use Rattle.op_logger.specs.declared.log.TheConstants.{MAX_LOGGED}
 
 -- the items put one after the other, as operations
@@ -67,9 +68,3 @@ HaveRoomAtOnce n (w ∷ ws) = (length w.log + n + 2 ≤ MAX_LOGGED) × HaveRoomA
 abbrev pub with_scan : List Item → Shape → List Watch → List Watch
 with_scan is t [] = []
 with_scan is t (w ∷ ws) = record w { log = w.log ++ logged_scan w.path is t } ∷ with_scan is t ws
-
--- no log has more than so many operations more than it had
-abbrev pub AreMore : ℕ → List Watch → List Watch → Type 0
-AreMore n [] vs = Unit {0}
-AreMore n (w ∷ ws) [] = Unit {0}
-AreMore n (w ∷ ws) (v ∷ vs) = (length v.log ≤ length w.log + n) × AreMore n ws vs

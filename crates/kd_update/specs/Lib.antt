@@ -1,14 +1,8 @@
-pub mod Refresh
-pub mod Update
-pub mod Reach
-pub mod Mark
 pub mod Put
 pub mod Made
 pub mod Scan
 pub mod Watch
-pub mod Several
 pub mod Watches
-pub mod Ways
 pub mod Replace
 pub mod Replay
 pub mod Crossing

@@ -6,10 +6,10 @@ use Rattle.kd_tree.specs.Parts.{at, replaced_at}
 use Rattle.kd_tree.specs.Apart.{AreApart}
 use Rattle.kd_tree.specs.declared.path.Side.{Side}
 use Rattle.kd_tree.specs.declared.path.Side.TheVariants.{Left, Right}
-use Rattle.kd_update.specs.Refresh.{AreAmong, IsNotDue}
-use Rattle.kd_update.specs.Update.{IsBalancedBelow}
-use Rattle.kd_update.specs.Watch.{IsLargeAt}
-use Rattle.kd_update.specs.Several.{IsBalancedClear}
+use Rattle.kd_mark.specs.Refresh.{AreAmong, IsNotDue}
+use Rattle.kd_mark.specs.Update.{IsBalancedBelow}
+use Rattle.kd_mark.specs.Watch.{IsLargeAt}
+use Rattle.kd_mark.specs.Several.{IsBalancedClear}
 use Rattle.kd_tree.specs.declared.limits.TheConstants.{MAX_LEVELS, MAX_NODES}
 
 -- a subtree stands at the path, and the other tree holds what the subtree by itself holds

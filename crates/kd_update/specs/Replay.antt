@@ -7,8 +7,8 @@ use Rattle.map_fold.specs.Contents.{live_at}
 use Rattle.map_fold.specs.Ops.{numbers_put, replay}
 use Rattle.kd_tree.specs.Shape.{Shape, levels, nodes, numbers}
 use Rattle.kd_tree.specs.Contents.{contents}
-use Rattle.kd_update.specs.Refresh.{AreAmong}
-use Rattle.kd_update.specs.Update.{IsBalancedBelow}
+use Rattle.kd_mark.specs.Refresh.{AreAmong}
+use Rattle.kd_mark.specs.Update.{IsBalancedBelow}
 use Rattle.kd_tree.specs.declared.limits.TheConstants.{MAX_NODES}
 
 -- The second tree is the first with the operations done: each point that they put adds a level and a node at most, and it stays balanced.

@@ -8,8 +8,8 @@ use Rattle.map_fold.specs.Contents.{live_at, put}
 use Rattle.kd_tree.specs.Shape.{Shape, leaf, fork, levels, nodes, numbers}
 use Rattle.kd_tree.specs.Walk.{walk}
 use Rattle.kd_tree.specs.Contents.{AreDistinct, contents}
-use Rattle.kd_update.specs.Refresh.{AreAmong}
-use Rattle.kd_update.specs.Update.{IsBalancedBelow}
+use Rattle.kd_mark.specs.Refresh.{AreAmong}
+use Rattle.kd_mark.specs.Update.{IsBalancedBelow}
 use Rattle.kd_update.specs.Put.{goes_left}
 use Rattle.kd_tree.specs.declared.limits.TheConstants.{MAX_NODES}
 

@@ -1,42 +1,11 @@
--- Several watches at once.
-use Rattle.std.specs.Prelude.{◌≡◌, ℕ, ◌+◌, ◌≤◌, List, [], ◌∷◌, ◌++◌, length}
+-- What is logged for several watches of a point that is put.
+use Rattle.std.specs.Prelude.{ℕ, List, [], ◌∷◌, ◌++◌}
 use Rattle.point_geom.specs.Place.{Place}
-use Rattle.map_fold.specs.declared.choice.Choice.{Choice}
-use Rattle.node_labels.specs.declared.tag.Tag.{Tag}
-use Rattle.map_fold.specs.Ops.{Extends}
 use Rattle.kd_tree.specs.Shape.{Shape}
-use Rattle.kd_tree.specs.declared.path.Side.{Side}
-use Rattle.kd_update.specs.declared.watch.Watch.{Watch}
-use Rattle.kd_update.specs.Watch.{logged_mark, logged_put}
-use Rattle.kd_update.specs.Crossing.{AreMore}
-use Rattle.op_logger.specs.declared.log.TheConstants.{MAX_LOGGED}
-
--- the paths of the watches
-abbrev pub paths_in : List Watch → List (List Side)
-paths_in [] = []
-paths_in (w ∷ ws) = w.path ∷ paths_in ws
-
--- each log has room for two operations more
-abbrev pub HaveRoom : List Watch → Type 0
-HaveRoom [] = Unit {0}
-HaveRoom (w ∷ ws) = (length w.log + 2 ≤ MAX_LOGGED) × HaveRoom ws
-
--- the same watches, each log with what the action in the box does to its subtree
-abbrev pub with_marks : Choice → Tag → Shape → List Watch → List Watch
-with_marks c a t [] = []
-with_marks c a t (w ∷ ws) = record w { log = w.log ++ logged_mark c a w.path t } ∷ with_marks c a t ws
+use Rattle.kd_mark.specs.declared.watch.Watch.{Watch}
+use Rattle.kd_update.specs.Watch.{logged_put}
 
 -- the same watches, each log with what the point that is put does to its subtree
 abbrev pub with_puts : ℕ → Place → Shape → List Watch → List Watch
 with_puts n p t [] = []
 with_puts n p t (w ∷ ws) = record w { log = w.log ++ logged_put n p w.path t } ∷ with_puts n p t ws
-
--- the same watches in the same order: the paths are the same, and each log begins with what it was
-abbrev pub AreExtended : List Watch → List Watch → Type 0
-AreExtended [] vs = vs ≡ []
-AreExtended (w ∷ ws) [] = ⊥
-AreExtended (w ∷ ws) (v ∷ vs) = (v.path ≡ w.path) × Extends w.log v.log × AreExtended ws vs
-
--- no log has more than two operations more than it had
-abbrev pub AreFewMore : List Watch → List Watch → Type 0
-AreFewMore ws vs = AreMore 2 ws vs

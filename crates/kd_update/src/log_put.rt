@@ -3,13 +3,13 @@ ghost use Rattle.std.specs.Prelude.{◌≡◌, ◌+◌, ◌≤◌, ◌++◌, len
 ghost use Rattle.map_fold.specs.Ops.{Extends};
 ghost use Rattle.kd_tree.specs.Walk.{tagged};
 ghost use Rattle.kd_update.specs.Watch.{logged_put};
-ghost use Rattle.kd_update.specs.Watches.{AreExtended, AreFewMore, HaveRoom, with_puts};
+ghost use Rattle.kd_mark.specs.Watches.{AreExtended, AreFewMore, HaveRoom};
+ghost use Rattle.kd_update.specs.Watches.{with_puts};
 
+use crate::Watches;
 use crate::insert::goes_left;
-use crate::log_mark::note_owed;
 use crate::sides::goes_to;
-use crate::watch::note;
-use crate::{Watch, Watches};
+use kd_mark::{Watch, note, note_owed};
 use kd_tree::{Side, Tree};
 use map_fold::{NoMemory, Op, Tag};
 use op_logger::{MAX_LOGGED, OpLog};

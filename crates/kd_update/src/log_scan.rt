@@ -2,14 +2,13 @@
 ghost use Rattle.std.specs.Prelude.{◌≡◌, ◌+◌, ◌≤◌, true, false, [], ◌++◌, length, OnOk};
 ghost use Rattle.map_fold.specs.Ops.{Extends};
 ghost use Rattle.kd_tree.specs.Walk.{tagged};
-ghost use Rattle.kd_update.specs.Watches.{AreExtended};
-ghost use Rattle.kd_update.specs.Crossing.{AreMore, HaveRoomAtOnce, going, logged_scan, puts_of, with_scan};
+ghost use Rattle.kd_mark.specs.Watches.{AreExtended, AreMore};
+ghost use Rattle.kd_update.specs.Crossing.{HaveRoomAtOnce, going, logged_scan, puts_of, with_scan};
 
+use crate::Watches;
 use crate::insert::goes_left;
-use crate::log_mark::note_owed;
 use crate::sides::goes_to;
-use crate::watch::note;
-use crate::{Watch, Watches};
+use kd_mark::{Watch, note, note_owed};
 use kd_tree::{Side, Tree};
 use map_fold::{Item, NoMemory, Op, Tag};
 use op_logger::{MAX_LOGGED, OpLog};

@@ -3,17 +3,15 @@ ghost use Rattle.std.specs.Prelude.{◌≡◌, ◌+◌, ◌*◌, ◌≤◌, IfOk
 ghost use Rattle.map_fold.specs.Contents.{chosen_by, mark};
 ghost use Rattle.kd_tree.specs.Shape.{numbers};
 ghost use Rattle.kd_tree.specs.Contents.{contents};
-ghost use Rattle.kd_update.specs.Refresh.{AreAmong, IsRefresh};
-ghost use Rattle.kd_update.specs.Made.{entered_mark};
-ghost use Rattle.kd_update.specs.Mark.{RebuildsNoneEntered, marked_shape};
-ghost use Rattle.kd_update.specs.Several.{AreLargeAt, AreWatched, IsBalancedClear};
-ghost use Rattle.kd_update.specs.Watch.{IsWatched, logged_mark};
-ghost use Rattle.kd_update.specs.Watches.{AreExtended, AreFewMore, HaveRoom, paths_in, with_marks};
+ghost use Rattle.kd_mark.specs.Refresh.{AreAmong, IsRefresh};
+ghost use Rattle.kd_mark.specs.Made.{entered_mark};
+ghost use Rattle.kd_mark.specs.Mark.{RebuildsNoneEntered, marked_shape};
+ghost use Rattle.kd_mark.specs.Several.{AreLargeAt, AreWatched, IsBalancedClear};
+ghost use Rattle.kd_mark.specs.Watch.{IsWatched, logged_mark};
+ghost use Rattle.kd_mark.specs.Watches.{AreExtended, AreFewMore, HaveRoom, paths_in, with_marks};
 
 use crate::Watches;
-use crate::log_mark::log_marks;
-use crate::mark::{marked, marked_within};
-use crate::ways::Watched;
+use kd_mark::{Watched, log_each_mark, marked, marked_within};
 use kd_tree::{Steps, Tree};
 use map_fold::{Choice, NoMemory, Tag};
 use std::alloc::Global;
@@ -60,4 +58,14 @@ pub fn marked_watched<L: Ledger>(
     log_marks(&tree, watches, choice, tag)?;
     let ways = Watched::of(watches.as_slice());
     marked_within(alloc, tree, large, choice, tag, &ways, steps)
+}
+
+// Each watch's log with what the action does to its subtree.
+fn log_marks(tree: &Tree, watches: &mut Watches, choice: &Choice, tag: Tag) -> Result<(), NoMemory>
+    requires { HaveRoom watches.old }
+    ensures logged { OnOk result (watches.new ≡ with_marks choice.now tag tree.now watches.old) }
+    ensures begins { AreExtended watches.old watches.new }
+    ensures few { AreFewMore watches.old watches.new }
+{
+    log_each_mark(tree, watches.items.as_mut_slice(), choice, tag)
 }

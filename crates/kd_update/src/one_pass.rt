@@ -3,13 +3,12 @@
 //! bounds of a tree allow it.
 ghost use Rattle.std.specs.Prelude.{◌+◌, ◌<◌, max, length, IfOk};
 ghost use Rattle.kd_tree.specs.Shape.{nodes};
-ghost use Rattle.kd_update.specs.Update.{IsBalancedBelow};
+ghost use Rattle.kd_mark.specs.Update.{IsBalancedBelow};
 ghost use Rattle.kd_update.specs.Scan.{IsGrown, IsPiece};
 
 use crate::insert::put_below;
 use crate::part_items::parted;
-use crate::rebuild::rejoined;
-use crate::ways::Unwatched;
+use kd_mark::{Unwatched, rejoined};
 use kd_tree::{OpenNode, Scratch, Steps, Tree};
 use map_fold::{Item, NoMemory};
 use point_geom::Axis;

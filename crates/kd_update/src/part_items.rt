@@ -5,7 +5,7 @@ ghost use Rattle.kd_update.specs.Put.{goes_left};
 ghost use Rattle.kd_update.specs.Scan.{IsParted};
 
 use crate::insert::goes_left;
-use crate::rebuild::LEAST;
+use kd_mark::LEAST;
 use kd_tree::{MAX_NODES, Tree};
 use map_fold::Item;
 use point_geom::{Axis, Point};

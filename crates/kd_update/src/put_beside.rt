@@ -3,15 +3,14 @@
 ghost use Rattle.std.specs.Prelude.{ℕ, IfOk};
 ghost use Rattle.kd_tree.specs.Apart.{AreAllApart};
 ghost use Rattle.kd_update.specs.Scan.{IsPiece};
-ghost use Rattle.kd_update.specs.Several.{AreLargeAt};
+ghost use Rattle.kd_mark.specs.Several.{AreLargeAt};
 ghost use Rattle.kd_update.specs.Crossing.{IsCrossed, IsWholeGrown};
-ghost use Rattle.kd_update.specs.Ways.{paths_of};
+ghost use Rattle.kd_mark.specs.Ways.{paths_of};
 
 use crate::insert::put_below;
 use crate::one_pass::put_at_once;
 use crate::part_items::moved_left;
-use crate::rebuild::{NEVER, joined};
-use crate::ways::{Unwatched, Watched, Ways};
+use kd_mark::{NEVER, Unwatched, Watched, Ways, joined};
 use kd_tree::{OpenNode, Scratch, Side, Steps, Tree};
 use map_fold::{Item, NoMemory};
 use point_geom::Axis;

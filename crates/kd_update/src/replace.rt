@@ -5,13 +5,13 @@ ghost use Rattle.kd_tree.specs.Contents.{contents};
 ghost use Rattle.kd_tree.specs.Criteria.{AllMeetCriteria};
 ghost use Rattle.kd_tree.specs.Parts.{at, replaced_at};
 ghost use Rattle.kd_tree.specs.Apart.{IsClear};
-ghost use Rattle.kd_update.specs.Refresh.{AreAmong};
-ghost use Rattle.kd_update.specs.Update.{IsBalancedBelow};
-ghost use Rattle.kd_update.specs.Several.{AreLargeAt, AreSameAt, IsBalancedClear};
+ghost use Rattle.kd_mark.specs.Refresh.{AreAmong};
+ghost use Rattle.kd_mark.specs.Update.{IsBalancedBelow};
+ghost use Rattle.kd_mark.specs.Several.{AreLargeAt, AreSameAt, IsBalancedClear};
 ghost use Rattle.kd_update.specs.Replace.{HasRoomAt, RebuildsNoneAbove, IsNoLarger, IsReplaced, StandsFor};
 
 use crate::Replaced;
-use crate::rebuild::{rebuilt, refreshed};
+use kd_mark::{rebuilt, refreshed};
 use kd_tree::{MAX_LEVELS, MAX_NODES, Path, Side, Steps, Tree};
 use map_fold::NoMemory;
 use std::alloc::Global;

@@ -4,12 +4,13 @@ ghost use Rattle.map_fold.specs.Ops.{Fit, numbers_put, perform, replay};
 ghost use Rattle.kd_tree.specs.Shape.{levels, nodes, numbers};
 ghost use Rattle.kd_tree.specs.Contents.{contents};
 ghost use Rattle.kd_tree.specs.Counter.{IsBlankOf};
-ghost use Rattle.kd_update.specs.Refresh.{AreAmong};
-ghost use Rattle.kd_update.specs.Update.{IsBalancedBelow};
+ghost use Rattle.kd_mark.specs.Refresh.{AreAmong};
+ghost use Rattle.kd_mark.specs.Update.{IsBalancedBelow};
 ghost use Rattle.kd_update.specs.Replay.{IsPerformed, IsRun};
 
 use crate::runs::{most_at_once, put_run};
-use crate::{marked, put, roomy};
+use crate::{put, roomy};
+use kd_mark::marked;
 use kd_tree::{Scratch, Steps, Tree};
 use map_fold::{NoMemory, Op};
 use std::alloc::Global;

@@ -2,10 +2,10 @@
 ghost use Rattle.std.specs.Prelude.{◌≡◌, ◌+◌, ◌<◌, ◌≤◌, IfOk, length};
 ghost use Rattle.kd_tree.specs.Shape.{levels, nodes, numbers};
 ghost use Rattle.kd_tree.specs.Contents.{contents};
-ghost use Rattle.kd_update.specs.Refresh.{AreAmong, IsRefresh};
-ghost use Rattle.kd_update.specs.Update.{KeepsBalance};
+ghost use Rattle.kd_mark.specs.Refresh.{AreAmong, IsRefresh};
+ghost use Rattle.kd_mark.specs.Update.{KeepsBalance};
 
-use crate::rebuild::rebuilt;
+use kd_mark::rebuilt;
 use kd_tree::{MAX_LEVELS, MAX_NODES, Steps, Tree};
 use map_fold::NoMemory;
 use std::alloc::Global;

@@ -2,14 +2,14 @@
 ghost use Rattle.std.specs.Prelude.{◌≡◌, ℕ, ◌+◌, ◌<◌, ◌≤◌, max, [], ◌∷◌, ◌++◌, length, IfOk};
 ghost use Rattle.kd_tree.specs.Shape.{levels, nodes, numbers};
 ghost use Rattle.kd_tree.specs.Contents.{contents};
-ghost use Rattle.kd_update.specs.Refresh.{AreAmong};
-ghost use Rattle.kd_update.specs.Update.{IsBalancedBelow};
+ghost use Rattle.kd_mark.specs.Refresh.{AreAmong};
+ghost use Rattle.kd_mark.specs.Update.{IsBalancedBelow};
 ghost use Rattle.kd_update.specs.Scan.{IsPut, MayJoin, numbers_in, put_each};
 
 use crate::insert::put_below;
 use crate::one_pass::put_at_once;
 use crate::roomy;
-use crate::ways::Unwatched;
+use kd_mark::Unwatched;
 use kd_tree::{Block, MAX_LEVELS, MAX_NODES, Scratch, Steps, Tree};
 use map_fold::{Item, NoMemory};
 use point_geom::Axis;

@@ -4,17 +4,17 @@ ghost use Rattle.std.specs.Prelude.{◌≡◌, ◌+◌, ◌<◌, ◌≤◌, max,
 ghost use Rattle.kd_tree.specs.Shape.{levels, nodes, numbers};
 ghost use Rattle.kd_tree.specs.Contents.{contents};
 ghost use Rattle.kd_tree.specs.Apart.{AreAllApart};
-ghost use Rattle.kd_update.specs.Refresh.{AreAmong};
+ghost use Rattle.kd_mark.specs.Refresh.{AreAmong};
 ghost use Rattle.kd_update.specs.Scan.{MayJoin, numbers_in, put_each};
-ghost use Rattle.kd_update.specs.Several.{AreLargeAt, AreWatched, IsBalancedClear};
-ghost use Rattle.kd_update.specs.Watch.{IsWatched};
-ghost use Rattle.kd_update.specs.Watches.{AreExtended, paths_in};
-ghost use Rattle.kd_update.specs.Crossing.{AreMore, HaveRoomAtOnce, logged_scan, with_scan};
+ghost use Rattle.kd_mark.specs.Several.{AreLargeAt, AreWatched, IsBalancedClear};
+ghost use Rattle.kd_mark.specs.Watch.{IsWatched};
+ghost use Rattle.kd_mark.specs.Watches.{AreExtended, AreMore, paths_in};
+ghost use Rattle.kd_update.specs.Crossing.{HaveRoomAtOnce, logged_scan, with_scan};
 
 use crate::Watches;
 use crate::log_scan::log_scans;
 use crate::put_beside::put_beside;
-use crate::ways::Watched;
+use kd_mark::Watched;
 use kd_tree::{MAX_NODES, Scratch, Steps, Tree};
 use map_fold::{Item, NoMemory};
 use point_geom::Axis;

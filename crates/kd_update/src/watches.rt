@@ -2,7 +2,7 @@
 ghost use Rattle.std.specs.Prelude.{◌≡◌, ◌==◌, ◌<◌, ◌≤◌, [], ◌∷◌, ◌++◌, length, slice_index_or, OnOk, OnErr};
 ghost use Rattle.std.specs.List.{remove};
 
-use crate::Watch;
+use kd_mark::Watch;
 use map_fold::NoMemory;
 use std::alloc::Global;
 use std::marker::Model;
@@ -15,7 +15,7 @@ pub struct Watches {
 
 impl Model for Watches {
     ghost use Rattle.std.specs.Prelude.{List, ◌≤◌, length};
-    ghost use Rattle.kd_update.specs.declared.watch.Watch.{Watch};
+    ghost use Rattle.kd_mark.specs.declared.watch.Watch.{Watch};
 
     ghost Value = { List Watch };
 

@@ -2,9 +2,9 @@
 use Rattle.std.proofs.Common.{◌≡◌, ℕ, ◌<◌, List, [], ◌∷◌, refl, sym, subst, ◌∙◌}
 use Rattle.std.specs.Prelude.{All}
 use Rattle.kd_tree.specs.Shape.{numbers}
-use Rattle.kd_update.specs.Several.{IsBalancedClear}
-use Rattle.kd_update.specs.Update.{IsBalancedBelow}
-use Rattle.kd_update.proofs.Several.{clear_balanced, balanced_clear}
+use Rattle.kd_mark.specs.Several.{IsBalancedClear}
+use Rattle.kd_mark.specs.Update.{IsBalancedBelow}
+use Rattle.kd_mark.proofs.Several.{clear_balanced, balanced_clear}
 use Rattle.map_update.specs.Draft.{IsDraft, IsDraftLeft, watches_of}
 use Rattle.map_update.specs.declared.work.Work.{Work}
 use Rattle.map_update.specs.Parts.{PartAt, paths}

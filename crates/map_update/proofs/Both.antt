@@ -25,7 +25,7 @@ use Rattle.kd_tree.proofs.Numbered.{by_number-filter, by_number-moved, by_number
 use Rattle.kd_search.specs.Best.{best_from, best_inside, best_of}
 use Rattle.kd_search.proofs.Boxed.{count-by_number, inside-append}
 use Rattle.kd_search.proofs.Least.{best-by_number, best_from-append, best_from-none}
-use Rattle.kd_update.specs.Refresh.{AreAmong}
+use Rattle.kd_mark.specs.Refresh.{AreAmong}
 use Rattle.kd_update.specs.Scan.{AreLive, MayJoin, numbers_in, put_each}
 use Rattle.kd_update.proofs.Grown.{IsLive, live_of}
 

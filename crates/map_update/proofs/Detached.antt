@@ -13,8 +13,8 @@ use Rattle.kd_tree.specs.Contents.{contents}
 use Rattle.kd_tree.specs.Parts.{at}
 use Rattle.kd_tree.specs.Apart.{AreAllApart, IsClear}
 use Rattle.kd_tree.specs.declared.path.Side.{Side}
-use Rattle.kd_update.specs.Watch.{IsWatched}
-use Rattle.kd_update.specs.Several.{AreLargeAt, AreSameAt, AreWatched}
+use Rattle.kd_mark.specs.Watch.{IsWatched}
+use Rattle.kd_mark.specs.Several.{AreLargeAt, AreSameAt, AreWatched}
 use Rattle.map_update.specs.Parts.{AreEachLawful, AreInSlots, AreLawfulParts, AreLeft, HaveLogRoom, HaveOwnTickets, IsLawfulPart, IsNewTicket, PartAt, paths}
 
 -- one part

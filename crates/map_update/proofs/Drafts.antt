@@ -9,7 +9,7 @@ use Rattle.map_fold.specs.declared.op.Op.{Op}
 use Rattle.map_fold.specs.declared.op.Op.TheVariants.{Mark, Put}
 use Rattle.map_fold.specs.declared.update.Update.TheVariants.{Add}
 use Rattle.kd_tree.specs.Shape.{Shape}
-use Rattle.kd_update.specs.Refresh.{AreAmong}
+use Rattle.kd_mark.specs.Refresh.{AreAmong}
 use Rattle.map_update.specs.Single.{RebuildsNothing, entered_nodes, only_mark, only_op}
 
 all_among : (P : ℕ → Type 0) (ns ms : List ℕ) → AreAmong ns ms → All P ms → All P ns

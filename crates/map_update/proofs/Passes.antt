@@ -7,13 +7,13 @@ use Rattle.map_fold.specs.Contents.{live_at}
 use Rattle.map_fold.specs.declared.item.Item.{Item}
 use Rattle.kd_tree.specs.Shape.{Shape, levels, nodes, numbers}
 use Rattle.kd_tree.specs.Apart.{AreAllApart}
-use Rattle.kd_update.specs.declared.watch.Watch.{Watch}
-use Rattle.kd_update.specs.Crossing.{AreMore, HaveRoomAtOnce, logged_scan, with_scan}
-use Rattle.kd_update.specs.Refresh.{AreAmong}
+use Rattle.kd_mark.specs.declared.watch.Watch.{Watch}
+use Rattle.kd_mark.specs.Watches.{AreMore, AreExtended, paths_in}
+use Rattle.kd_update.specs.Crossing.{HaveRoomAtOnce, logged_scan, with_scan}
+use Rattle.kd_mark.specs.Refresh.{AreAmong}
 use Rattle.kd_update.specs.Scan.{live_from, numbers_in}
-use Rattle.kd_update.specs.Several.{AreWatched, IsBalancedClear}
-use Rattle.kd_update.specs.Watch.{IsWatched}
-use Rattle.kd_update.specs.Watches.{AreExtended, paths_in}
+use Rattle.kd_mark.specs.Several.{AreWatched, IsBalancedClear}
+use Rattle.kd_mark.specs.Watch.{IsWatched}
 use Rattle.kd_update.proofs.Crossing.{logged_scan_few, scan_puts}
 use Rattle.map_update.specs.Draft.{AreStill, IsDraft, IsDraftLeft, IsWorked, watch_of, watches_of}
 use Rattle.map_update.specs.Parts.{PartAt}

@@ -9,12 +9,13 @@ use Rattle.map_fold.specs.declared.op.Op.{Op}
 use Rattle.map_fold.specs.declared.op.Op.TheVariants.{Mark, Put}
 use Rattle.kd_tree.specs.Shape.{Shape, levels, nodes}
 use Rattle.kd_tree.specs.declared.path.Side.{Side}
-use Rattle.kd_update.specs.declared.watch.Watch.{Watch}
-use Rattle.kd_update.specs.Mark.{RebuildsNoneEntered, marked_shape}
+use Rattle.kd_mark.specs.declared.watch.Watch.{Watch}
+use Rattle.kd_mark.specs.Mark.{RebuildsNoneEntered, marked_shape}
 use Rattle.kd_update.specs.Put.{RebuildsNoneOnRoute, put_shape}
-use Rattle.kd_update.specs.Refresh.{IsRefresh}
-use Rattle.kd_update.specs.Watches.{AreExtended, AreFewMore, HaveRoom, paths_in, with_marks, with_puts}
-use Rattle.kd_update.proofs.InBox.{levels-marked, nodes-marked}
+use Rattle.kd_mark.specs.Refresh.{IsRefresh}
+use Rattle.kd_mark.specs.Watches.{AreExtended, AreFewMore, HaveRoom, paths_in, with_marks}
+use Rattle.kd_update.specs.Watches.{with_puts}
+use Rattle.kd_mark.proofs.InBox.{levels-marked, nodes-marked}
 use Rattle.kd_update.proofs.Route.{levels-put, nodes-put}
 use Rattle.map_update.specs.Draft.{AreStill, HasRoomFor, HaveRoomFor, IsWorked, plain_work}
 use Rattle.map_update.specs.Single.{RebuildsNothing}

@@ -20,15 +20,18 @@ use Rattle.kd_tree.specs.Criteria.{AllMeetCriteria}
 use Rattle.kd_tree.specs.Parts.{at, replaced_at}
 use Rattle.kd_tree.specs.declared.path.Side.{Side}
 use Rattle.kd_tree.specs.declared.path.Side.TheVariants.{Left, Right}
-use Rattle.kd_update.specs.declared.watch.Watch.{Watch}
-use Rattle.kd_update.specs.Refresh.{AreAmong}
-use Rattle.kd_update.specs.Several.{AreLargeAt, AreSameAt, AreWatched, IsBalancedClear}
-use Rattle.kd_update.specs.Watch.{IsLargeAt, IsWatched, logged_mark, logged_put}
-use Rattle.kd_update.specs.Watches.{HaveRoom, paths_in, with_marks, with_puts}
-use Rattle.kd_update.proofs.Logged.{logged_mark_few, logged_put_few, mark_puts, put_puts}
+use Rattle.kd_mark.specs.declared.watch.Watch.{Watch}
+use Rattle.kd_mark.specs.Refresh.{AreAmong}
+use Rattle.kd_mark.specs.Several.{AreLargeAt, AreSameAt, AreWatched, IsBalancedClear}
+use Rattle.kd_mark.specs.Watch.{IsLargeAt, IsWatched, logged_mark}
+use Rattle.kd_update.specs.Watch.{logged_put}
+use Rattle.kd_mark.specs.Watches.{HaveRoom, paths_in, with_marks}
+use Rattle.kd_update.specs.Watches.{with_puts}
+use Rattle.kd_mark.proofs.Logged.{logged_mark_few}
+use Rattle.kd_update.proofs.Logged.{logged_put_few, mark_puts, put_puts}
 use Rattle.kd_update.proofs.Numbers.{left_few, unheld}
-use Rattle.kd_update.proofs.Several.{balanced_clear}
-use Rattle.kd_update.proofs.Update.{criteria_balanced}
+use Rattle.kd_mark.proofs.Several.{balanced_clear}
+use Rattle.kd_mark.proofs.Update.{criteria_balanced}
 use Rattle.map_update.specs.Draft.{IsDraft, IsDraftLeft, watch_of, watches_of}
 use Rattle.map_update.specs.Parts.{AreLawfulParts, AreLeft, HaveLogRoom, PartAt, paths}
 use Rattle.map_update.specs.declared.work.Work.{Work}

@@ -4,9 +4,10 @@ use Rattle.map_fold.specs.declared.memory.NoMemory.{NoMemory}
 use Rattle.map_fold.specs.declared.op.Op.{Op}
 use Rattle.map_fold.specs.declared.op.Op.TheVariants.{Mark, Put}
 use Rattle.kd_tree.specs.Shape.{Shape, levels, nodes, numbers}
-use Rattle.kd_update.specs.declared.watch.Watch.{Watch}
-use Rattle.kd_update.specs.Several.{IsBalancedClear}
-use Rattle.kd_update.specs.Watches.{HaveRoom, paths_in, with_marks, with_puts}
+use Rattle.kd_mark.specs.declared.watch.Watch.{Watch}
+use Rattle.kd_mark.specs.Several.{IsBalancedClear}
+use Rattle.kd_mark.specs.Watches.{HaveRoom, paths_in, with_marks}
+use Rattle.kd_update.specs.Watches.{with_puts}
 use Rattle.map_update.specs.Parts.{AreLawfulParts, AreLeft, PartAt, paths}
 use Rattle.map_update.specs.Single.{RebuildsNothing, entered_nodes, unrebuilt}
 use Rattle.map_update.specs.declared.work.Work.{Work}

@@ -9,7 +9,7 @@ use Rattle.kd_tree.specs.Shape.{Shape}
 use Rattle.kd_tree.specs.Contents.{contents}
 use Rattle.kd_tree.specs.Apart.{AreAllApart}
 use Rattle.kd_tree.specs.declared.path.Side.{Side}
-use Rattle.kd_update.specs.Watch.{IsLargeAt}
+use Rattle.kd_mark.specs.Watch.{IsLargeAt}
 use Rattle.op_logger.specs.declared.log.TheConstants.{MAX_LOGGED}
 
 -- a detached subtree: its slot, where it stands, its ticket, what it held when it was detached, and the operations since

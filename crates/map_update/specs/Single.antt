@@ -9,8 +9,9 @@ use Rattle.map_fold.specs.declared.op.Op.TheVariants.{Mark, Put}
 use Rattle.map_fold.specs.declared.update.Update.{Update}
 use Rattle.map_fold.specs.declared.update.Update.TheVariants.{Add, Thin, Delete, Suspend, Restore, Expire}
 use Rattle.kd_tree.specs.Shape.{Shape, levels, nodes}
-use Rattle.kd_update.specs.Made.{entered_mark, entered_put}
-use Rattle.kd_update.specs.Mark.{RebuildsNoneEntered, marked_shape}
+use Rattle.kd_mark.specs.Made.{entered_mark}
+use Rattle.kd_update.specs.Made.{entered_put}
+use Rattle.kd_mark.specs.Mark.{RebuildsNoneEntered, marked_shape}
 use Rattle.kd_update.specs.Put.{RebuildsNoneOnRoute, put_shape}
 use Rattle.kd_tree.specs.declared.limits.TheConstants.{MAX_LEVELS, MAX_NODES}
 

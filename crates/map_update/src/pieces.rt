@@ -8,8 +8,9 @@ ghost use Rattle.map_update.specs.Parts.{PartAt};
 ghost use Rattle.map_update.specs.Pieces.{MayPass};
 
 use crate::work::{Work, Worked};
+use kd_mark::Watch;
 use kd_tree::{MAX_NODES, Scratch, Steps};
-use kd_update::{Watch, put_all, put_all_watched};
+use kd_update::{put_all, put_all_watched};
 use map_fold::Item;
 use std::alloc::Global;
 use std::sync::ledger::Ledger;

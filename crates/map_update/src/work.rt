@@ -6,12 +6,13 @@ ghost use Rattle.map_fold.specs.declared.op.Op.TheVariants.{Mark, Put};
 ghost use Rattle.kd_tree.specs.Shape.{levels, nodes};
 ghost use Rattle.kd_tree.specs.Walk.{times};
 ghost use Rattle.kd_tree.specs.Contents.{contents};
-ghost use Rattle.kd_update.specs.Watches.{HaveRoom, paths_in};
+ghost use Rattle.kd_mark.specs.Watches.{HaveRoom, paths_in};
 ghost use Rattle.map_update.specs.Draft.{DoesPlainly, IsDraft, IsDraftLeft, IsWork, IsWorked, KeepsDraft, MakesFew};
 ghost use Rattle.map_update.specs.Parts.{PartAt};
 
+use kd_mark::{Watch, rebuilt};
 use kd_tree::{MAX_LEVELS, MAX_NODES, Path, Steps, Tree};
-use kd_update::{Replaced, Watch, Watches, marked_watched, put_watched, rebuilt, replaced};
+use kd_update::{Replaced, Watches, marked_watched, put_watched, replaced};
 use map_fold::{Choice, NoMemory, Tag};
 use point_geom::Point;
 use std::alloc::Global;

@@ -1,7 +1,7 @@
 -- Trees in balance.
 use Rattle.std.proofs.Common.{ℕ, ◌<◌, arith}
 use Rattle.kd_tree.specs.Shape.{Shape, leaf, fork, nodes}
-use Rattle.kd_update.specs.Update.{IsBalancedBelow}
+use Rattle.kd_mark.specs.Update.{IsBalancedBelow}
 
 -- a tree of few nodes
 pub small_balanced : (large : ℕ) (t : Shape) → nodes t < 10 → IsBalancedBelow large t

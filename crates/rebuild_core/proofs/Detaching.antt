@@ -12,7 +12,7 @@ use Rattle.kd_tree.specs.Parts.{at}
 use Rattle.kd_tree.specs.Apart.{AllClearMeetCriteria, AreAllApart, AreApart, IsClear, IsFirstFree}
 use Rattle.kd_tree.specs.declared.path.Side.{Side}
 use Rattle.kd_tree.proofs.Held.{are_contents}
-use Rattle.kd_update.specs.Watch.{IsLargeAt}
+use Rattle.kd_mark.specs.Watch.{IsLargeAt}
 use Rattle.rebuild_core.specs.Detach.{IsDetachedAt, IsNoneToDetach, with_part}
 use Rattle.rebuild_core.specs.Lawful.{IsLawful, StateAt}
 use Rattle.map_update.specs.Parts.{AreEachLawful, AreInSlots, HaveOwnTickets, IsLawfulPart, IsNewTicket, PartAt, part_in, paths}

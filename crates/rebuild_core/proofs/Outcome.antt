@@ -5,8 +5,8 @@ use Rattle.map_fold.specs.declared.op.Op.{Op}
 use Rattle.map_fold.specs.declared.update.Update.{Update}
 use Rattle.map_fold.specs.declared.update.Update.TheVariants.{Thin}
 use Rattle.kd_tree.specs.Shape.{Shape}
-use Rattle.kd_update.specs.declared.watch.Watch.{Watch}
-use Rattle.kd_update.specs.Watches.{HaveRoom}
+use Rattle.kd_mark.specs.declared.watch.Watch.{Watch}
+use Rattle.kd_mark.specs.Watches.{HaveRoom}
 use Rattle.map_update.specs.Draft.{watches_of}
 use Rattle.rebuild_core.specs.Lawful.{StateAt}
 use Rattle.map_update.specs.Maps.{map_of}

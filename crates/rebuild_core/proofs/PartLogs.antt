@@ -10,7 +10,7 @@ use Rattle.map_fold.specs.declared.op.Op.{Op}
 use Rattle.map_fold.specs.declared.memory.NoMemory.{NoMemory}
 use Rattle.kd_tree.specs.Apart.{AreApart, IsClear}
 use Rattle.kd_tree.specs.declared.path.Side.{Side}
-use Rattle.kd_update.specs.declared.watch.Watch.{Watch}
+use Rattle.kd_mark.specs.declared.watch.Watch.{Watch}
 use Rattle.map_update.specs.Draft.{watch_of, watches_of}
 use Rattle.rebuild_core.specs.Logs.{AddsLogs, IsUnnamed, LogPlan, planned_parts, relogged, with_log}
 use Rattle.map_update.specs.Parts.{AreLeft, AreOwn, IsNewTicket, IsPlaceOf, PartAt, paths}

@@ -11,8 +11,8 @@ use Rattle.map_fold.specs.Ops.{Fit, numbers_put, replay}
 use Rattle.map_fold.proofs.Replays.{fit_append, fit_second, numbers_put-append, replay-append}
 use Rattle.kd_tree.specs.Shape.{Shape, numbers}
 use Rattle.kd_tree.specs.Contents.{contents}
-use Rattle.kd_update.specs.Refresh.{AreAmong}
-use Rattle.kd_update.proofs.Trees.{among_append, among_same}
+use Rattle.kd_mark.specs.Refresh.{AreAmong}
+use Rattle.kd_mark.proofs.Trees.{among_append, among_same}
 use Rattle.rebuild_core.specs.Built.{AreNumbersOf, BuiltAt, IsLawfulBuilt, IsPartOf, undone}
 use Rattle.rebuild_core.specs.Lawful.{IsLawful, StateAt}
 use Rattle.map_update.specs.Parts.{AreEachLawful, IsLawfulPart, PartAt, part_of}

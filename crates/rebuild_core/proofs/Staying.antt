@@ -6,10 +6,11 @@ use Rattle.map_fold.specs.declared.op.Op.{Op}
 use Rattle.map_fold.specs.declared.op.Op.TheVariants.{Mark, Put}
 use Rattle.map_fold.specs.declared.update.Update.{Update}
 use Rattle.kd_tree.specs.Shape.{Shape, levels, nodes, numbers}
-use Rattle.kd_update.specs.declared.watch.Watch.{Watch}
-use Rattle.kd_update.specs.Several.{IsBalancedClear}
-use Rattle.kd_update.specs.Watch.{logged_mark, logged_put}
-use Rattle.kd_update.specs.Watches.{HaveRoom, paths_in}
+use Rattle.kd_mark.specs.declared.watch.Watch.{Watch}
+use Rattle.kd_mark.specs.Several.{IsBalancedClear}
+use Rattle.kd_mark.specs.Watch.{logged_mark}
+use Rattle.kd_update.specs.Watch.{logged_put}
+use Rattle.kd_mark.specs.Watches.{HaveRoom, paths_in}
 use Rattle.map_update.specs.Draft.{HasRoomFor, HaveRoomFor, IsDraft, IsDraftLeft, plain_work, watches_of, with_op}
 use Rattle.rebuild_core.specs.Lawful.{IsLawful, StateAt}
 use Rattle.rebuild_core.specs.Logs.{LogPlan, planned_parts}

@@ -12,11 +12,11 @@ use Rattle.kd_tree.specs.Sound.{IsSound}
 use Rattle.kd_tree.specs.Contents.{contents}
 use Rattle.kd_tree.specs.Criteria.{AllMeetCriteria}
 use Rattle.kd_tree.specs.Apart.{AreAllApart, IsClear}
-use Rattle.kd_update.specs.Refresh.{AreAmong}
+use Rattle.kd_mark.specs.Refresh.{AreAmong}
 use Rattle.kd_update.specs.Replace.{HasRoomAt, StandsFor}
-use Rattle.kd_update.specs.Several.{AreLargeAt, AreSameAt, IsBalancedClear}
-use Rattle.kd_update.proofs.Several.{balanced_clear}
-use Rattle.kd_update.proofs.Update.{criteria_balanced}
+use Rattle.kd_mark.specs.Several.{AreLargeAt, AreSameAt, IsBalancedClear}
+use Rattle.kd_mark.proofs.Several.{balanced_clear}
+use Rattle.kd_mark.proofs.Update.{criteria_balanced}
 use Rattle.rebuild_core.specs.Built.{BuiltAt, IsLawfulBuilt, IsPartOf, IsTreeOf, undone}
 use Rattle.rebuild_core.specs.Lawful.{IsLawful, StateAt}
 use Rattle.rebuild_core.specs.Logs.{LogPlan, planned_parts}

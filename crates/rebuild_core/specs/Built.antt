@@ -6,7 +6,7 @@ use Rattle.map_fold.specs.Ops.{Fit, numbers_put, replay}
 use Rattle.kd_tree.specs.Shape.{Shape, numbers}
 use Rattle.kd_tree.specs.Contents.{contents}
 use Rattle.kd_tree.specs.Criteria.{AllMeetCriteria}
-use Rattle.kd_update.specs.Refresh.{AreAmong}
+use Rattle.kd_mark.specs.Refresh.{AreAmong}
 use Rattle.map_update.specs.Parts.{PartAt, part_of}
 use Rattle.op_logger.specs.declared.log.TheConstants.{MAX_LOGGED}
 

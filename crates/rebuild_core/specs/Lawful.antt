@@ -4,7 +4,7 @@ use Rattle.map_fold.specs.Sizes.{Sizes, AreSizes}
 use Rattle.map_fold.specs.Fold.{fold}
 use Rattle.kd_tree.specs.Shape.{Shape, leaf, numbers}
 use Rattle.kd_tree.specs.Sound.{IsSound}
-use Rattle.kd_update.specs.Several.{IsBalancedClear}
+use Rattle.kd_mark.specs.Several.{IsBalancedClear}
 use Rattle.map_fold.specs.declared.entry.Entry.{Entry}
 use Rattle.rebuild_core.specs.History.{AreEntries, updates}
 use Rattle.map_update.specs.Maps.{map_of}

@@ -5,7 +5,8 @@ use Rattle.map_fold.specs.declared.op.Op.{Op}
 use Rattle.map_fold.specs.declared.op.Op.TheVariants.{Mark, Put}
 use Rattle.map_fold.specs.declared.update.Update.{Update}
 use Rattle.kd_tree.specs.Shape.{Shape, levels, nodes}
-use Rattle.kd_update.specs.Watch.{logged_mark, logged_put}
+use Rattle.kd_mark.specs.Watch.{logged_mark}
+use Rattle.kd_update.specs.Watch.{logged_put}
 use Rattle.map_update.specs.Single.{most_ops}
 use Rattle.rebuild_core.specs.Lawful.{StateAt}
 use Rattle.map_update.specs.Parts.{PartAt}

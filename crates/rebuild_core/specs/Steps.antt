@@ -6,7 +6,7 @@ use Rattle.map_fold.specs.declared.update.Update.{Update}
 use Rattle.kd_tree.specs.Shape.{Shape, numbers}
 use Rattle.kd_tree.specs.Contents.{contents}
 use Rattle.kd_tree.specs.Criteria.{AllMeetCriteria}
-use Rattle.kd_update.specs.Several.{IsBalancedClear}
+use Rattle.kd_mark.specs.Several.{IsBalancedClear}
 use Rattle.map_fold.specs.declared.entry.Entry.{Entry}
 use Rattle.rebuild_core.specs.declared.fault.StateFault.{StateFault}
 use Rattle.rebuild_core.specs.declared.fault.StateFault.TheVariants.{TooManyUpdates, TooManyPoints, NoMemory}

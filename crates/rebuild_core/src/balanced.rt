@@ -1,7 +1,7 @@
 //! Whether trees are in balance.
 ghost use Rattle.std.specs.Prelude.{◌≡◌, ◌↔◌, true};
 ghost use Rattle.kd_tree.specs.Criteria.{IsBalanced};
-ghost use Rattle.kd_update.specs.Update.{IsBalancedBelow};
+ghost use Rattle.kd_mark.specs.Update.{IsBalancedBelow};
 
 use kd_tree::Tree;
 

@@ -5,15 +5,16 @@ ghost use Rattle.kd_tree.specs.Shape.{levels, nodes, numbers};
 ghost use Rattle.kd_tree.specs.Contents.{contents};
 ghost use Rattle.kd_tree.specs.Criteria.{AllMeetCriteria};
 ghost use Rattle.kd_tree.specs.Counter.{IsBlankOf};
-ghost use Rattle.kd_update.specs.Refresh.{AreAmong};
-ghost use Rattle.kd_update.specs.Update.{IsBalancedBelow};
+ghost use Rattle.kd_mark.specs.Refresh.{AreAmong};
+ghost use Rattle.kd_mark.specs.Update.{IsBalancedBelow};
 ghost use Rattle.rebuild_core.specs.Built.{AreNumbersOf, IsLawfulBuilt, IsReplayOf};
 
 use crate::Job;
 use crate::balanced::is_balanced;
 use crate::holding::twin_by;
+use kd_mark::rebuilt;
 use kd_tree::{Steps, Tree};
-use kd_update::{rebuilt, replayed};
+use kd_update::replayed;
 use map_fold::{Item, NoMemory, Op};
 use std::alloc::Global;
 use std::marker::{Brand, Model};
@@ -31,7 +32,7 @@ pub struct Built {
 
 impl Model for Built {
     ghost use Rattle.rebuild_core.specs.Built.{BuiltAt, IsLawfulBuilt};
-    ghost use Rattle.kd_update.specs.Update.{IsBalancedBelow};
+    ghost use Rattle.kd_mark.specs.Update.{IsBalancedBelow};
 
     ghost Value = { BuiltAt };
 

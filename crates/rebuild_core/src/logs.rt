@@ -1,13 +1,14 @@
 //! What a step makes of the logs of detached subtrees.
 ghost use Rattle.std.specs.Prelude.{◌≡◌, ◌↔◌, true, false, List, [], ◌∷◌, IfSome, IsNone, IfOk, OnOk};
-ghost use Rattle.kd_update.specs.declared.watch.Watch.{Watch};
+ghost use Rattle.kd_mark.specs.declared.watch.Watch.{Watch};
 ghost use Rattle.map_update.specs.Draft.{watches_of};
 ghost use Rattle.rebuild_core.specs.Logs.{AddsLogs, planned_parts, relogged};
 ghost use Rattle.map_update.specs.Parts.{AreLeft, AreOwn, PartAt, without};
 
 use crate::part::{Part, place_of};
+use kd_mark::Watch;
 use kd_tree::Path;
-use kd_update::{Watch, Watches};
+use kd_update::Watches;
 use map_fold::NoMemory;
 use op_logger::OpLog;
 use std::alloc::Global;

@@ -5,8 +5,9 @@ ghost use Rattle.map_update.specs.Draft.{watches_of};
 ghost use Rattle.map_update.specs.Parts.{IsNewTicket, IsPlaceOf, part_in, part_of, paths, without};
 
 use crate::Holding;
+use kd_mark::Watch;
 use kd_tree::Path;
-use kd_update::{Watch, Watches};
+use kd_update::Watches;
 use map_fold::NoMemory;
 use op_logger::OpLog;
 use std::alloc::Global;

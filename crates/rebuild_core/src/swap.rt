@@ -1,7 +1,7 @@
 //! Built subtrees, swapped in.
 ghost use Rattle.std.specs.Prelude.{◌≡◌, ◌+◌, ◌≤◌, length, IfErr, IfOk, OnErr, OnOk};
 ghost use Rattle.kd_tree.specs.Parts.{replaced_at};
-ghost use Rattle.kd_update.specs.Update.{IsBalancedBelow};
+ghost use Rattle.kd_mark.specs.Update.{IsBalancedBelow};
 ghost use Rattle.rebuild_core.specs.Built.{BuiltAt, IsTreeOf};
 ghost use Rattle.map_update.specs.Parts.{AreItemsOf};
 ghost use Rattle.rebuild_core.specs.Swap.{IsLate, IsLeftUnrebuilt, IsNear, IsUnrebuiltSwap, IsSwapFault, IsSwapPlan, IsSwapStep, MakesPath, MaySwap};

@@ -3,7 +3,7 @@ ghost use Rattle.std.specs.Prelude.{◌≡◌, true, IfOk};
 ghost use Rattle.kd_tree.specs.Apart.{IsClear};
 ghost use Rattle.kd_tree.specs.Contents.{contents};
 ghost use Rattle.kd_tree.specs.Counter.{IsBlankOf};
-ghost use Rattle.kd_update.specs.Several.{AreLargeAt};
+ghost use Rattle.kd_mark.specs.Several.{AreLargeAt};
 
 use crate::tests::assertions::{found, holds, made, same};
 use crate::tests::lists::holds_all;

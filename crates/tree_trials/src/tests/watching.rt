@@ -2,15 +2,16 @@
 ghost use Rattle.std.specs.Prelude.{◌≡◌, ◌<◌, true};
 ghost use Rattle.kd_tree.specs.Shape.{levels, nodes};
 ghost use Rattle.kd_tree.specs.Counter.{IsBlankOf};
-ghost use Rattle.kd_update.specs.Several.{AreLargeAt};
-ghost use Rattle.kd_update.specs.Watch.{IsLargeAt};
-ghost use Rattle.kd_update.specs.Watches.{HaveRoom, paths_in};
+ghost use Rattle.kd_mark.specs.Several.{AreLargeAt};
+ghost use Rattle.kd_mark.specs.Watch.{IsLargeAt};
+ghost use Rattle.kd_mark.specs.Watches.{HaveRoom, paths_in};
 
 use crate::tests::assertions::made;
 use crate::tests::draw::Action;
 use crate::tests::numbered::Numbered;
+use kd_mark::Watch;
 use kd_tree::{MAX_LEVELS, MAX_NODES, Path, Steps, Tree};
-use kd_update::{Watch, Watches, marked_watched, put_watched};
+use kd_update::{Watches, marked_watched, put_watched};
 use map_fold::MAX_POINTS;
 use op_logger::OpLog;
 use point_geom::Point;

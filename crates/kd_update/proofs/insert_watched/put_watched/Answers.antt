@@ -6,14 +6,17 @@ use Rattle.std.proofs.lemmas.Result.{IfOk-weaker}
 use Rattle.point_geom.specs.declared.axis.Axis.TheVariants.{X}
 use Rattle.kd_tree.specs.declared.path.Side.{Side}
 use Rattle.kd_update.specs.Put.{RebuildsNoneOnRoute, put_shape}
-use Rattle.kd_update.specs.Several.{AreLargeAt, AreWatched, IsUpdatedClear}
-use Rattle.kd_update.specs.Watch.{IsWatched, logged_put}
-use Rattle.kd_update.specs.declared.watch.Watch.{Watch}
-use Rattle.kd_update.specs.Watches.{paths_in, with_puts}
-use Rattle.kd_update.specs.Ways.{paths_of}
+use Rattle.kd_mark.specs.Several.{AreLargeAt, AreWatched, IsUpdatedClear}
+use Rattle.kd_mark.specs.Watch.{IsWatched}
+use Rattle.kd_update.specs.Watch.{logged_put}
+use Rattle.kd_mark.specs.declared.watch.Watch.{Watch}
+use Rattle.kd_mark.specs.Watches.{paths_in}
+use Rattle.kd_update.specs.Watches.{with_puts}
+use Rattle.kd_mark.specs.Ways.{paths_of}
 use Rattle.kd_update.proofs.Route.{put_contents, put_numbers}
-use Rattle.kd_update.proofs.ManyLogs.{extended_itself, more_itself, watched_before}
-use Rattle.kd_update.proofs.Several.{balanced_unwatched, all_watched-put, large_all_put, large_all_same}
+use Rattle.kd_mark.proofs.ManyLogs.{extended_itself, more_itself, watched_before}
+use Rattle.kd_mark.proofs.Several.{large_all_same}
+use Rattle.kd_update.proofs.Several.{balanced_unwatched, all_watched-put, large_all_put}
 use Rattle.kd_update.proofs.insert_watched.put_watched.Goals as goal
 use Rattle.kd_update.proofs.insert_watched.put_watched.Goals.{After-of-ways, After-put_below}
 

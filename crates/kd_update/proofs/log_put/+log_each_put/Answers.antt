@@ -1,9 +1,9 @@
 use Rattle.std.proofs.Common.{subst, arith}
 use Rattle.node_labels.specs.Labels.{keep_tag}
 use Rattle.kd_tree.specs.Walk.{tagged}
-use Rattle.kd_update.specs.Watches.{HaveRoom}
+use Rattle.kd_mark.specs.Watches.{HaveRoom}
 use Rattle.kd_update.proofs.Logged.{logged_put_few}
-use Rattle.kd_update.proofs.ManyLogs.{extended_itself, extended_front, more_front, more_itself}
+use Rattle.kd_mark.proofs.ManyLogs.{extended_itself, extended_front, more_front, more_itself}
 use Rattle.kd_update.proofs.log_put.+log_each_put.Goals as goal
 
 pub log_put-requires : goal.log_put-requires

@@ -1,8 +1,10 @@
 use Rattle.std.proofs.Common.{◌≡◌, Bool, true, false, [], ◌++◌, length, sym, ap, ◌∙◌, subst, arith, append-nil, refl, OnOk, cond}
 use Rattle.kd_tree.specs.Shape.{Head}
 use Rattle.kd_tree.specs.Walk.{tagged}
-use Rattle.kd_update.specs.Watch.{goes_to, handed, logged_put}
-use Rattle.kd_update.proofs.Logged.{ahead_put, ahead_put_none, ahead_put_root, few_first, few_rest, logged_all, logged_none, room_first, room_rest}
+use Rattle.kd_mark.specs.Watch.{handed}
+use Rattle.kd_update.specs.Watch.{goes_to, logged_put}
+use Rattle.kd_mark.proofs.Logged.{few_first, few_rest, logged_all, logged_none, room_first, room_rest}
+use Rattle.kd_update.proofs.Logged.{ahead_put, ahead_put_none, ahead_put_root}
 use Rattle.std.proofs.lemmas.Result.{on_ok_weaker}
 use Rattle.kd_update.proofs.log_put.+log_put.Goals as goal
 use Rattle.kd_update.proofs.log_put.+log_put.Goals.{After-goes_to-goes_on}

@@ -2,11 +2,11 @@ use Rattle.std.proofs.Common.{◌+◌, ◌∷◌, List, ap, length, sym, subst, 
 use Rattle.node_labels.specs.Labels.{keep_tag}
 use Rattle.map_fold.specs.declared.item.Item.{Item}
 use Rattle.kd_tree.specs.Walk.{tagged}
-use Rattle.kd_update.specs.declared.watch.Watch.{Watch}
-use Rattle.kd_update.specs.Watches.{AreExtended}
-use Rattle.kd_update.specs.Crossing.{AreMore, HaveRoomAtOnce}
+use Rattle.kd_mark.specs.declared.watch.Watch.{Watch}
+use Rattle.kd_mark.specs.Watches.{AreExtended, AreMore}
+use Rattle.kd_update.specs.Crossing.{HaveRoomAtOnce}
 use Rattle.kd_update.proofs.Crossing.{logged_scan_few}
-use Rattle.kd_update.proofs.ManyLogs.{extended_itself, extended_front, more_front, more_itself}
+use Rattle.kd_mark.proofs.ManyLogs.{extended_itself, extended_front, more_front, more_itself}
 use Rattle.kd_update.proofs.log_scan.+log_each_scan.Goals as goal
 
 pub returns-in_err-items_there-clause-begins : goal.returns-in_err-items_there-clause-begins

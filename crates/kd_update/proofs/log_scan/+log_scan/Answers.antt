@@ -3,9 +3,9 @@ use Rattle.map_fold.specs.declared.item.Item.{Item}
 use Rattle.map_fold.proofs.Replays.{extends_itself, extends_on}
 use Rattle.kd_tree.specs.Shape.{Head}
 use Rattle.kd_tree.specs.Walk.{tagged}
-use Rattle.kd_update.specs.Watch.{handed}
+use Rattle.kd_mark.specs.Watch.{handed}
 use Rattle.kd_update.specs.Crossing.{logged_scan, puts_of}
-use Rattle.kd_update.proofs.Logged.{few_rest, logged_all, logged_none, room_rest}
+use Rattle.kd_mark.proofs.Logged.{few_rest, logged_all, logged_none, room_rest}
 use Rattle.kd_update.proofs.Crossing.{ahead_scan, ahead_scan_leaf, ahead_scan_none, ahead_scan_root}
 use Rattle.std.proofs.lemmas.Result.{on_ok_weaker}
 use Rattle.kd_update.proofs.log_scan.+log_scan.Goals as goal

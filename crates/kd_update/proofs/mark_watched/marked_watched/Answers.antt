@@ -4,16 +4,17 @@ use Rattle.std.proofs.lemmas.Bool.{eqb-true}
 use Rattle.std.proofs.lemmas.List.{nil_from_length}
 use Rattle.std.proofs.lemmas.Result.{IfOk-weaker}
 use Rattle.kd_tree.specs.declared.path.Side.{Side}
-use Rattle.kd_update.specs.Mark.{RebuildsNoneEntered, marked_shape}
-use Rattle.kd_update.specs.Several.{AreLargeAt, AreWatched, IsUpdatedClear}
-use Rattle.kd_update.specs.Watch.{IsWatched, logged_mark}
-use Rattle.kd_update.specs.declared.watch.Watch.{Watch}
-use Rattle.kd_update.specs.Watches.{paths_in, with_marks}
-use Rattle.kd_update.specs.Ways.{paths_of}
-use Rattle.kd_update.proofs.InBox.{marked_contents, marked_numbers}
-use Rattle.kd_update.proofs.Made.{made_few}
-use Rattle.kd_update.proofs.ManyLogs.{extended_itself, more_itself, watched_before}
-use Rattle.kd_update.proofs.Several.{balanced_unwatched, all_watched-mark, large_all_marked, large_all_same}
+use Rattle.kd_mark.specs.Mark.{RebuildsNoneEntered, marked_shape}
+use Rattle.kd_mark.specs.Several.{AreLargeAt, AreWatched, IsUpdatedClear}
+use Rattle.kd_mark.specs.Watch.{IsWatched, logged_mark}
+use Rattle.kd_mark.specs.declared.watch.Watch.{Watch}
+use Rattle.kd_mark.specs.Watches.{paths_in, with_marks}
+use Rattle.kd_mark.specs.Ways.{paths_of}
+use Rattle.kd_mark.proofs.InBox.{marked_contents, marked_numbers}
+use Rattle.kd_mark.proofs.Made.{made_few}
+use Rattle.kd_mark.proofs.ManyLogs.{extended_itself, more_itself, watched_before}
+use Rattle.kd_mark.proofs.Several.{large_all_marked, large_all_same}
+use Rattle.kd_update.proofs.Several.{balanced_unwatched, all_watched-mark}
 use Rattle.kd_update.proofs.mark_watched.marked_watched.Goals as goal
 use Rattle.kd_update.proofs.mark_watched.marked_watched.Goals.{After-marked_within, After-of-ways}
 

@@ -4,7 +4,7 @@ use Rattle.map_fold.specs.declared.item.Item.{Item}
 use Rattle.map_fold.specs.Fold.{MapAt, add_points}
 use Rattle.kd_tree.specs.Shape.{nodes, numbers}
 use Rattle.kd_tree.specs.Contents.{contents}
-use Rattle.kd_update.specs.Refresh.{AreAmong}
+use Rattle.kd_mark.specs.Refresh.{AreAmong}
 use Rattle.kd_update.specs.Scan.{MayJoin, numbers_in, put_each}
 use Rattle.kd_update.proofs.Joins.{add_points-put_each, join_next, live_from-length}
 use Rattle.kd_update.proofs.numbered.put_points.Goals as goal

@@ -5,11 +5,11 @@ use Rattle.std.proofs.lemmas.List.Elements.{All-head}
 use Rattle.map_fold.specs.declared.item.Item.{Item}
 use Rattle.kd_tree.specs.Shape.{Shape}
 use Rattle.kd_tree.specs.Parts.{fork_in, fork_of}
-use Rattle.kd_update.specs.Update.{IsBalancedBelow}
+use Rattle.kd_mark.specs.Update.{IsBalancedBelow}
 use Rattle.kd_update.specs.Scan.{AreLive, IsGrown, IsParted}
-use Rattle.kd_update.proofs.Trees.{pushed_smaller}
+use Rattle.kd_mark.proofs.Trees.{pushed_smaller}
 use Rattle.kd_update.proofs.Grown.{IsLive, IsStep, alone, grown_moved, grown_none, grown_put, live_of, piece_moved, piece_new, step_at, step_pieces, step_sound, step_grown, step_balanced}
-use Rattle.kd_update.proofs.Several.{balanced_free}
+use Rattle.kd_mark.proofs.Several.{balanced_free}
 use Rattle.kd_update.proofs.one_pass.+put_at_once.Goals as goal
 use Rattle.kd_update.proofs.one_pass.+put_at_once.Goals.{After-split_at_mut-lefts}
 

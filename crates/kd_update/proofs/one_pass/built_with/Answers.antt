@@ -3,10 +3,10 @@ use Rattle.std.proofs.lemmas.Result.{IfOk-weaker}
 use Rattle.node_labels.specs.Labels.{keep_tag}
 use Rattle.kd_tree.proofs.Held.{walk_few}
 use Rattle.kd_update.specs.Scan.{IsGrown}
-use Rattle.kd_update.specs.Update.{IsBalancedBelow}
+use Rattle.kd_mark.specs.Update.{IsBalancedBelow}
 use Rattle.kd_update.proofs.Grown.{grown_built, live_kept}
-use Rattle.kd_update.proofs.Results.{ok_both}
-use Rattle.kd_update.proofs.Update.{criteria_balanced}
+use Rattle.kd_mark.proofs.Results.{ok_both}
+use Rattle.kd_mark.proofs.Update.{criteria_balanced}
 use Rattle.kd_update.proofs.one_pass.built_with.Goals as goal
 
 pub rebuilt_with-requires-clause-kept : goal.rebuilt_with-requires-clause-kept

@@ -6,15 +6,16 @@ use Rattle.kd_tree.specs.Apart.{AreAllApart}
 use Rattle.kd_tree.specs.Parts.{fork_in, fork_of}
 use Rattle.kd_tree.specs.declared.path.Side.{Side}
 use Rattle.kd_tree.specs.declared.path.Side.TheVariants.{Left, Right}
-use Rattle.kd_update.specs.Several.{AreLargeAt}
+use Rattle.kd_mark.specs.Several.{AreLargeAt}
 use Rattle.kd_update.specs.Crossing.{IsCrossed}
-use Rattle.kd_update.specs.Ways.{paths_of}
+use Rattle.kd_mark.specs.Ways.{paths_of}
 use Rattle.kd_update.proofs.Grown.{IsStep, step_pieces, step_sound}
 use Rattle.kd_update.proofs.Lists.{some_items}
-use Rattle.kd_update.proofs.Results.{ok_both}
-use Rattle.kd_update.proofs.Several.{none_on, passed_by}
-use Rattle.kd_update.proofs.Trees.{pushed_smaller}
-use Rattle.kd_update.proofs.WayLists.{none_of, some_of}
+use Rattle.kd_mark.proofs.Results.{ok_both}
+use Rattle.kd_mark.proofs.Several.{passed_by}
+use Rattle.kd_update.proofs.Several.{none_on}
+use Rattle.kd_mark.proofs.Trees.{pushed_smaller}
+use Rattle.kd_mark.proofs.WayLists.{none_of, some_of}
 use Rattle.kd_update.proofs.Crossing.{apart_on, crossed_free, crossed_here, crossed_none, crossed_step, step_from}
 use Rattle.kd_update.proofs.put_beside.+put_beside.Goals as goal
 use Rattle.kd_update.proofs.put_beside.+put_beside.Goals.{After-split_at_mut-lefts}

@@ -7,9 +7,9 @@ use Rattle.kd_tree.specs.Shape.{nodes}
 use Rattle.kd_tree.specs.Parts.{fork_in, fork_of}
 use Rattle.kd_update.specs.Scan.{AreLive}
 use Rattle.kd_update.specs.Crossing.{IsWholeGrown}
-use Rattle.kd_update.proofs.Trees.{pushed_smaller}
+use Rattle.kd_mark.proofs.Trees.{pushed_smaller}
 use Rattle.kd_update.proofs.Grown.{IsLive, IsStep, alone, live_of, step_pieces, step_sound}
-use Rattle.kd_update.proofs.Results.{ok_three}
+use Rattle.kd_mark.proofs.Results.{ok_three}
 use Rattle.kd_update.proofs.Crossing.{step_from, whole_built, whole_none, whole_put, whole_step}
 use Rattle.kd_update.proofs.put_beside.+put_within.Goals as goal
 use Rattle.kd_update.proofs.put_beside.+put_within.Goals.{After-split_at_mut-lefts}

@@ -3,7 +3,7 @@ use Rattle.std.proofs.lemmas.Result.{IfOk-weaker}
 use Rattle.kd_tree.specs.Shape.{Shape}
 use Rattle.kd_tree.specs.Parts.{replaced_at, with_son}
 use Rattle.kd_tree.specs.declared.path.Side.{Side}
-use Rattle.kd_update.specs.Refresh.{IsNotDue, RefreshesIfDue}
+use Rattle.kd_mark.specs.Refresh.{IsNotDue, RefreshesIfDue}
 use Rattle.kd_update.specs.Replace.{HasRoomAt, IsReplaced, RebuildsNoneAbove, StandsFor}
 use Rattle.kd_update.proofs.StandsFor.{replaced_root, son_calm, son_replaced, son_room, son_sound, son_stands, son_there}
 use Rattle.kd_update.proofs.replace.+replaced_along.Goals as goal

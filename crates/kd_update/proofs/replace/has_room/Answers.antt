@@ -1,5 +1,5 @@
 use Rattle.std.proofs.Common.{arith, leb-true, le-leb}
-use Rattle.kd_update.proofs.Large.{at_nodes}
+use Rattle.kd_mark.proofs.Large.{at_nodes}
 use Rattle.kd_update.proofs.StandsFor.{replaced_nodes}
 use Rattle.kd_update.proofs.replace.has_room.Goals as goal
 

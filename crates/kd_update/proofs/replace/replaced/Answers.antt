@@ -3,9 +3,9 @@ use Rattle.std.proofs.lemmas.List.Elements.{Contains-append_right}
 use Rattle.kd_tree.specs.Shape.{numbers}
 use Rattle.kd_tree.specs.declared.path.Side.{Side}
 use Rattle.kd_update.specs.Replace.{IsReplaced}
-use Rattle.kd_update.proofs.Several.{balanced_outside, large_all_same}
+use Rattle.kd_mark.proofs.Several.{balanced_outside, large_all_same}
 use Rattle.kd_update.proofs.StandsFor.{anew_no_larger, same_beside}
-use Rattle.kd_update.proofs.Update.{criteria_balanced}
+use Rattle.kd_mark.proofs.Update.{criteria_balanced}
 use Rattle.kd_update.proofs.replace.replaced.Goals as goal
 
 pub returns-then-not-has_room-clause-numbers : goal.returns-then-not-has_room-clause-numbers

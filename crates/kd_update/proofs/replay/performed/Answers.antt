@@ -5,11 +5,11 @@ use Rattle.node_labels.specs.Labels.{keep_tag}
 use Rattle.point_geom.specs.declared.axis.Axis.TheVariants.{X}
 use Rattle.kd_tree.specs.Shape.{levels, nodes, numbers}
 use Rattle.kd_tree.specs.Contents.{contents}
-use Rattle.kd_update.specs.Refresh.{AreAmong}
+use Rattle.kd_mark.specs.Refresh.{AreAmong}
 use Rattle.map_fold.specs.Ops.{Fit, IsUnheld}
-use Rattle.kd_update.proofs.InBox.{levels-marked, nodes-marked}
+use Rattle.kd_mark.proofs.InBox.{levels-marked, nodes-marked}
 use Rattle.kd_update.proofs.Route.{levels-put, nodes-put}
-use Rattle.kd_update.proofs.Trees.{among_same, among_append}
+use Rattle.kd_mark.proofs.Trees.{among_same, among_append}
 use Rattle.kd_tree.proofs.Contents.{unheld_free}
 use Rattle.kd_update.proofs.replay.performed.Goals as goal
 

@@ -1,6 +1,6 @@
 use Rattle.std.proofs.lemmas.Result.{IfOk-weaker}
-use Rattle.kd_update.specs.Update.{KeepsBalance}
-use Rattle.kd_update.proofs.Update.{criteria_balanced}
+use Rattle.kd_mark.specs.Update.{KeepsBalance}
+use Rattle.kd_mark.proofs.Update.{criteria_balanced}
 use Rattle.kd_update.proofs.room.roomy.Goals as goal
 
 pub returns-clause-balance : goal.returns-clause-balance

@@ -2,7 +2,7 @@ use Rattle.std.proofs.Common.{◌∙◌, List, sym, subst}
 use Rattle.map_fold.specs.declared.item.Item.{Item}
 use Rattle.kd_update.specs.Replay.{IsPerformed}
 use Rattle.kd_update.specs.Scan.{IsGrown, IsPiece}
-use Rattle.kd_update.proofs.Results.{ok_both}
+use Rattle.kd_mark.proofs.Results.{ok_both}
 use Rattle.kd_update.proofs.OpRuns.{run_join, run_performed, run_piece}
 use Rattle.kd_update.proofs.runs.put_run.Goals as goal
 

@@ -4,8 +4,8 @@ use Rattle.kd_tree.specs.Walk.{walk}
 use Rattle.kd_update.specs.Scan.{IsGrown, IsPut}
 use Rattle.kd_update.proofs.Grown.{grown_anew}
 use Rattle.kd_update.proofs.Joins.{contents_size, join_grown, walk_distinct}
-use Rattle.kd_update.proofs.Results.{ok_both}
-use Rattle.kd_update.proofs.Update.{criteria_balanced}
+use Rattle.kd_mark.proofs.Results.{ok_both}
+use Rattle.kd_mark.proofs.Update.{criteria_balanced}
 use Rattle.kd_update.proofs.scan.built_with_rest.Goals as goal
 
 pub rebuilt_with-requires-clause-few : goal.rebuilt_with-requires-clause-few

@@ -4,7 +4,7 @@ use Rattle.std.proofs.lemmas.Result.{IfOk-weaker}
 use Rattle.kd_update.specs.Scan.{IsPut}
 use Rattle.kd_update.proofs.Grown.{IsLive, grown_after, grown_put}
 use Rattle.kd_update.proofs.Joins.{join_grown, join_new}
-use Rattle.kd_update.proofs.Several.{balanced_free}
+use Rattle.kd_mark.proofs.Several.{balanced_free}
 use Rattle.kd_update.proofs.scan.put_one.Goals as goal
 
 pub put_below-requires-clause-new : goal.put_below-requires-clause-new

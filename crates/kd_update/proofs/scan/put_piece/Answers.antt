@@ -1,7 +1,7 @@
 use Rattle.std.proofs.Common.{◌∙◌, List, sym, subst, arith}
 use Rattle.map_fold.specs.declared.item.Item.{Item}
 use Rattle.kd_update.specs.Scan.{IsGrown, IsPiece, IsPut}
-use Rattle.kd_update.proofs.Results.{ok_both}
+use Rattle.kd_mark.proofs.Results.{ok_both}
 use Rattle.kd_update.proofs.Joins.{join_grown, join_piece}
 use Rattle.kd_update.proofs.scan.put_piece.Goals as goal
 

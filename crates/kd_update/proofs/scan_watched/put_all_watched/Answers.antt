@@ -5,13 +5,13 @@ use Rattle.map_fold.specs.declared.item.Item.{Item}
 use Rattle.kd_tree.specs.Apart.{AreAllApart}
 use Rattle.kd_tree.specs.declared.path.Side.{Side}
 use Rattle.kd_update.specs.Scan.{IsPiece}
-use Rattle.kd_update.specs.Several.{AreLargeAt}
-use Rattle.kd_update.specs.Watches.{paths_in}
+use Rattle.kd_mark.specs.Several.{AreLargeAt}
+use Rattle.kd_mark.specs.Watches.{paths_in}
 use Rattle.kd_update.specs.Crossing.{IsCrossed}
-use Rattle.kd_update.specs.Ways.{paths_of}
+use Rattle.kd_mark.specs.Ways.{paths_of}
 use Rattle.kd_update.proofs.Crossing.{all_large_scan, all_watched_scan, piece_comes}
 use Rattle.kd_update.proofs.Joins.{grown_held, grown_numbers, join_piece, walk_distinct}
-use Rattle.kd_update.proofs.ManyLogs.{watched_before}
+use Rattle.kd_mark.proofs.ManyLogs.{watched_before}
 use Rattle.kd_update.proofs.scan_watched.put_all_watched.Goals as goal
 use Rattle.kd_update.proofs.scan_watched.put_all_watched.Goals.{After-of-ways, After-put_beside}
 

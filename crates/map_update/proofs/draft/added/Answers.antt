@@ -9,7 +9,7 @@ use Rattle.map_fold.specs.Fold.{MapAt, add_points}
 use Rattle.kd_tree.specs.Shape.{numbers}
 use Rattle.kd_tree.specs.Contents.{contents}
 use Rattle.kd_update.specs.Scan.{MayJoin, live_from, put_each}
-use Rattle.kd_update.specs.Watches.{HaveRoom}
+use Rattle.kd_mark.specs.Watches.{HaveRoom}
 use Rattle.kd_update.proofs.Joins.{add_points-put_each, join_next, live_from-length}
 use Rattle.kd_update.proofs.Numbers.{held_below}
 use Rattle.map_update.specs.Draft.{HasRoomFor}

@@ -2,7 +2,7 @@ use Rattle.std.proofs.Common.{◌≡◌, ◌∷◌, ◌∙◌, ◌+◌, ap, arit
 use Rattle.map_fold.specs.declared.choice.Choice.{Choice}
 use Rattle.map_fold.proofs.Numbered.{drop-at, mark-within}
 use Rattle.map_fold.specs.declared.op.Op.TheVariants.{Mark}
-use Rattle.kd_update.specs.Watches.{HaveRoom}
+use Rattle.kd_mark.specs.Watches.{HaveRoom}
 use Rattle.map_update.specs.declared.work.Work.{Work}
 use Rattle.map_update.proofs.Detached.{left_itself, left_trans}
 use Rattle.map_update.proofs.Drafts.{first_box, only_box, unrebuilt_ticks}

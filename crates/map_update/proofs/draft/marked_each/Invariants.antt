@@ -1,7 +1,7 @@
 use Rattle.std.proofs.Common.{◌≡◌, ℕ, ◌+◌, ◌*◌, ◌≤◌, List, Some, drop}
 use Rattle.map_fold.specs.declared.op.Op.{Op}
 use Rattle.map_fold.specs.Fold.{mark_boxes}
-use Rattle.kd_update.specs.Watches.{HaveRoom}
+use Rattle.kd_mark.specs.Watches.{HaveRoom}
 use Rattle.map_update.specs.Draft.{IsDraft, IsDraftLeft, IsWorked, plain_work}
 use Rattle.map_update.specs.Maps.{map_of}
 use Rattle.map_update.specs.Parts.{PartAt}

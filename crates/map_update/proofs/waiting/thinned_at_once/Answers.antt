@@ -11,7 +11,7 @@ use Rattle.map_fold.proofs.Folds.{thin_next}
 use Rattle.map_fold.proofs.Numbered.{drop-at}
 use Rattle.kd_tree.specs.Contents.{contents}
 use Rattle.kd_tree.proofs.Held.{are_contents}
-use Rattle.kd_update.specs.Watches.{paths_in}
+use Rattle.kd_mark.specs.Watches.{paths_in}
 use Rattle.map_update.specs.declared.entrants.Entrant.{Entrant}
 use Rattle.map_update.specs.declared.waiting.Waiting.{Waiting}
 use Rattle.map_update.specs.declared.work.Work.{Work}

@@ -1,5 +1,5 @@
 use Rattle.std.proofs.Common.{◌≡◌, ◌++◌, drop}
-use Rattle.kd_update.specs.Watches.{paths_in}
+use Rattle.kd_mark.specs.Watches.{paths_in}
 use Rattle.map_update.proofs.work.paths_of.Given as goal
 
 abbrev pub invariant-loop-watch : goal.invariant-loop-watch

@@ -1,6 +1,6 @@
 use Rattle.std.proofs.lemmas.Result.{IfOk-weaker}
-use Rattle.kd_update.specs.Update.{IsBalancedBelow}
-use Rattle.kd_update.proofs.Update.{criteria_balanced}
+use Rattle.kd_mark.specs.Update.{IsBalancedBelow}
+use Rattle.kd_mark.proofs.Update.{criteria_balanced}
 use Rattle.rebuild_core.proofs.built.balanced_for.Goals as goal
 
 pub returns-clause-balance : goal.returns-clause-balance

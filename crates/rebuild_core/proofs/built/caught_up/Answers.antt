@@ -5,7 +5,7 @@ use Rattle.map_fold.specs.declared.item.Item.{Item}
 use Rattle.map_fold.specs.Ops.{numbers_put, replay}
 use Rattle.kd_tree.specs.Shape.{levels, nodes, numbers}
 use Rattle.kd_tree.specs.Contents.{contents}
-use Rattle.kd_update.specs.Refresh.{AreAmong}
+use Rattle.kd_mark.specs.Refresh.{AreAmong}
 use Rattle.rebuild_core.proofs.Replaying.{among_after}
 use Rattle.rebuild_core.proofs.built.caught_up.Goals as goal
 

@@ -1,5 +1,5 @@
 use Rattle.std.proofs.Common.{List, sym, subst}
-use Rattle.kd_update.specs.declared.watch.Watch.{Watch}
+use Rattle.kd_mark.specs.declared.watch.Watch.{Watch}
 use Rattle.map_update.specs.Draft.{IsDraftLeft}
 use Rattle.map_update.proofs.Working.{draft_anew}
 use Rattle.map_update.proofs.work.Work.roomy.Goals as goal

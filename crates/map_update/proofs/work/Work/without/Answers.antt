@@ -2,12 +2,12 @@ use Rattle.std.proofs.Common.{◌≡◌, ◌∷◌, ◌≤◌, List, ap, sym, �
 use Rattle.kd_tree.specs.Shape.{Shape, levels, nodes, numbers}
 use Rattle.kd_tree.specs.Apart.{IsClear}
 use Rattle.kd_tree.specs.declared.path.Side.{Side}
-use Rattle.kd_update.specs.declared.watch.Watch.{Watch}
-use Rattle.kd_update.specs.Refresh.{AreAmong}
-use Rattle.kd_update.specs.Several.{AreLargeAt, AreSameAt, IsBalancedClear}
-use Rattle.kd_update.specs.Watches.{paths_in}
+use Rattle.kd_mark.specs.declared.watch.Watch.{Watch}
+use Rattle.kd_mark.specs.Refresh.{AreAmong}
+use Rattle.kd_mark.specs.Several.{AreLargeAt, AreSameAt, IsBalancedClear}
+use Rattle.kd_mark.specs.Watches.{paths_in}
 use Rattle.kd_update.proofs.StandsFor.{replaced_nodes}
-use Rattle.kd_update.proofs.Update.{criteria_balanced}
+use Rattle.kd_mark.proofs.Update.{criteria_balanced}
 use Rattle.map_update.specs.Draft.{IsDraftLeft}
 use Rattle.map_update.proofs.Working.{among_part, at_numbers, draft_anew, draft_without, levels_kept, without_of}
 use Rattle.map_update.proofs.work.Work.without.Goals as goal

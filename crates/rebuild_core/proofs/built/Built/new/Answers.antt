@@ -1,6 +1,6 @@
 use Rattle.std.proofs.Common.{List, sym, subst}
 use Rattle.map_fold.specs.declared.op.Op.{Op}
-use Rattle.kd_update.proofs.Update.{criteria_balanced}
+use Rattle.kd_mark.proofs.Update.{criteria_balanced}
 use Rattle.rebuild_core.specs.Built.{IsLawfulBuilt}
 use Rattle.rebuild_core.proofs.built.Built.new.Goals as goal
 

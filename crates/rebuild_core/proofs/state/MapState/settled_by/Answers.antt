@@ -2,7 +2,7 @@ use Rattle.std.proofs.Common.{◌≡◌, ap, sym, ◌∙◌, subst}
 use Rattle.std.proofs.lemmas.Result.{IfOk-weaker}
 use Rattle.kd_tree.specs.Shape.{Shape, numbers}
 use Rattle.kd_tree.specs.Contents.{contents}
-use Rattle.kd_update.specs.Refresh.{AreAmong}
+use Rattle.kd_mark.specs.Refresh.{AreAmong}
 use Rattle.rebuild_core.specs.Lawful.{Stored}
 use Rattle.rebuild_core.specs.StateView.{state_of}
 use Rattle.rebuild_core.specs.Steps.{IsSettlePlan, PlannedAt, plan_with}

@@ -2,7 +2,7 @@ use Rattle.std.proofs.Common.{◌++◌, List, ap, length, subst, sym, ◌∙◌}
 use Rattle.map_fold.specs.declared.item.Item.{Item}
 use Rattle.kd_tree.specs.Shape.{numbers}
 use Rattle.kd_tree.specs.Contents.{contents}
-use Rattle.kd_update.specs.Refresh.{AreAmong}
+use Rattle.kd_mark.specs.Refresh.{AreAmong}
 use Rattle.kd_update.specs.Scan.{MayJoin, numbers_in}
 use Rattle.kd_update.proofs.Joins.{join_next, live_from-length}
 use Rattle.kd_update.proofs.Numbers.{below_points, held_below}

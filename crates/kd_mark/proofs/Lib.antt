@@ -1,0 +1,14 @@
+pub mod Criteria
+pub mod InBox
+pub mod Large
+pub mod Logged
+pub mod Made
+pub mod ManyLogs
+pub mod Near
+pub mod Refresh
+pub mod Results
+pub mod Several
+pub mod Trees
+pub mod Update
+pub mod WatchedMark
+pub mod WayLists

@@ -1,0 +1,25 @@
+use Rattle.std.proofs.Common.{subst, arith}
+use Rattle.node_labels.specs.Labels.{keep_tag}
+use Rattle.kd_tree.specs.Walk.{tagged}
+use Rattle.kd_mark.specs.Watches.{HaveRoom}
+use Rattle.kd_mark.proofs.Logged.{logged_mark_few}
+use Rattle.kd_mark.proofs.ManyLogs.{extended_itself, extended_front, more_front, more_itself}
+use Rattle.kd_mark.proofs.log_mark.+log_each_mark.Goals as goal
+
+pub log_mark-requires : goal.log_mark-requires
+log_mark-requires t c =
+    let room = subst HaveRoom c.in-Some.ensures.cases.0 c.requires in
+    omega (arith, room.0, logged_mark_few c.args.choice.now c.args.tag c.as_slice.result.now (tagged keep_tag c.args.tree.now))
+
+pub returns-in_err-log_mark-clause-begins : goal.returns-in_err-log_mark-clause-begins
+returns-in_err-log_mark-clause-begins t c = extended_front _ c.in-Some.rest.now _ _ _ c.in-Some.ensures.cases.0 c.log_mark.ensures.begins (extended_itself c.in-Some.rest.now)
+
+pub returns-in_err-log_mark-clause-few : goal.returns-in_err-log_mark-clause-few
+returns-in_err-log_mark-clause-few t c =
+    more_front 2 _ c.in-Some.rest.now _ _ c.log_mark.new.log c.in-Some.ensures.cases.0
+    (omega (arith, c.log_mark.ensures.few, logged_mark_few c.args.choice.now c.args.tag c.as_slice.result.now (tagged keep_tag c.args.tree.now))) (more_itself 2 c.in-Some.rest.now)
+
+pub returns-clause-few : goal.returns-clause-few
+returns-clause-few t c =
+    more_front 2 _ c.in-Some.rest.now _ _ c.log_mark.new.log c.in-Some.ensures.cases.0
+    (omega (arith, c.log_mark.ensures.few, logged_mark_few c.args.choice.now c.args.tag c.as_slice.result.now (tagged keep_tag c.args.tree.now))) c.log_each_mark.ensures.few

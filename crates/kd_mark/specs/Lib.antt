@@ -1,0 +1,9 @@
+pub mod Refresh
+pub mod Update
+pub mod Reach
+pub mod Mark
+pub mod Made
+pub mod Watch
+pub mod Several
+pub mod Watches
+pub mod Ways

@@ -1,0 +1,16 @@
+//! Actions done in boxes of a k-d tree, and subtrees rebuilt where they have lost their balance. Nothing here knows how a point is put.
+//! While such a subtree is rebuilt elsewhere, it is watched: what an action does to it is logged here.
+#![tactic(auto)]
+
+mod log_mark;
+mod mark;
+mod reach;
+mod rebuild;
+mod watch;
+mod ways;
+
+pub use log_mark::{log_each_mark, note_owed};
+pub use mark::{marked, marked_within};
+pub use rebuild::{LEAST, NEVER, joined, rebuilt, refreshed, rejoined};
+pub use watch::{Watch, note};
+pub use ways::{Unwatched, Watched, Ways, spared_from};

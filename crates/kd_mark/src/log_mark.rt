@@ -1,0 +1,100 @@
+//! What an action on chosen items does to watched subtrees, logged before it is done. Nothing here takes a node apart.
+ghost use Rattle.std.specs.Prelude.{◌≡◌, ◌+◌, ◌≤◌, ◌++◌, length, OnOk};
+ghost use Rattle.map_fold.specs.Ops.{Extends};
+ghost use Rattle.kd_tree.specs.Walk.{tagged};
+ghost use Rattle.kd_mark.specs.Watch.{handed, is_met, logged_mark};
+ghost use Rattle.kd_mark.specs.Watches.{AreExtended, AreFewMore, HaveRoom, with_marks};
+
+use crate::reach::{covers, meets, reach_of};
+use crate::watch::{Watch, note};
+use kd_tree::{Side, Tree};
+use map_fold::{Choice, NoMemory, Op, Tag};
+use op_logger::{MAX_LOGGED, OpLog};
+
+/// Puts at the end of each watch's log what the action on the chosen items does to its subtree. The action is done afterwards.
+pub fn log_each_mark(
+    tree: &Tree,
+    watches: &mut [Watch],
+    choice: &Choice,
+    tag: Tag,
+) -> Result<(), NoMemory>
+    requires { HaveRoom watches.old }
+    ensures logged { OnOk result (watches.new ≡ with_marks choice.now tag tree.now watches.old) }
+    ensures begins { AreExtended watches.old watches.new }
+    ensures few { AreFewMore watches.old watches.new }
+{
+    let Some((watch, rest)) = watches.split_first_mut() else {
+        return Ok(());
+    };
+    log_mark(
+        tree,
+        Tag::KEEP,
+        watch.path.as_slice(),
+        choice,
+        tag,
+        &mut watch.log,
+    )?;
+    log_each_mark(tree, rest, choice, tag)
+}
+
+// For the subtree at the sides. The tree owes the action `owed` before.
+fn log_mark(
+    tree: &Tree,
+    owed: Tag,
+    sides: &[Side],
+    choice: &Choice,
+    tag: Tag,
+    log: &mut OpLog,
+) -> Result<(), NoMemory>
+    requires { length log.old + length (logged_mark choice.now tag sides.now (tagged owed tree.now)) ≤ MAX_LOGGED }
+    ensures logged { OnOk result (log.new ≡ log.old ++ logged_mark choice.now tag sides.now (tagged owed tree.now)) }
+    ensures begins { Extends log.old log.new }
+    ensures few { length log.new ≤ length log.old + length (logged_mark choice.now tag sides.now (tagged owed tree.now)) }
+{
+    let Some((side, rest)) = sides.split_first() else {
+        if !is_met(choice, tree) {
+            return Ok(());
+        }
+        let choice = *choice;
+        return note(log, Op::Mark { choice, tag });
+    };
+    let Some(reach) = reach_of(tree) else {
+        return Ok(());
+    };
+    if !meets(choice, &reach) {
+        return Ok(());
+    }
+    if covers(choice, &reach) {
+        return Ok(());
+    }
+    let Some(top) = tree.top() else {
+        return Ok(());
+    };
+    let owed = top.pending.then(owed);
+    let next = top.son(*side);
+    note_owed(owed, rest, log)?;
+    log_mark(next, owed, rest, choice, tag, log)
+}
+
+/// Logs an action that is handed down to a son from which the path goes on, where that son is the watched root.
+pub fn note_owed(owed: Tag, rest: &[Side], log: &mut OpLog) -> Result<(), NoMemory>
+    requires { length log.old + length (handed rest.now owed) ≤ MAX_LOGGED }
+    ensures logged { OnOk result (log.new ≡ log.old ++ handed rest.now owed) }
+    ensures begins { Extends log.old log.new }
+    ensures few { length log.new ≤ length log.old + length (handed rest.now owed) }
+{
+    if !rest.is_empty() || owed == Tag::KEEP {
+        return Ok(());
+    }
+    let choice = Choice::ALL;
+    note(log, Op::Mark { choice, tag: owed })
+}
+
+fn is_met(choice: &Choice, tree: &Tree) -> bool
+    ensures { result ≡ is_met choice.now tree.now }
+{
+    match reach_of(tree) {
+        None => false,
+        Some(reach) => meets(choice, &reach),
+    }
+}

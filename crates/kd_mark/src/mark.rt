@@ -1,0 +1,94 @@
+//! Actions on chosen items, with watched subtrees left as they stand. What the choice covers is labelled at its top, and what it
+//! misses is left alone. Nothing here knows what is logged of watched subtrees.
+ghost use Rattle.std.specs.Prelude.{◌≡◌, ◌+◌, ◌*◌, ◌≤◌, IfOk};
+ghost use Rattle.map_fold.specs.Contents.{chosen_by, mark};
+ghost use Rattle.kd_tree.specs.Shape.{numbers};
+ghost use Rattle.kd_tree.specs.Contents.{contents};
+ghost use Rattle.kd_mark.specs.Refresh.{AreAmong, IsRefresh};
+ghost use Rattle.kd_mark.specs.Update.{IsBalancedBelow};
+ghost use Rattle.kd_mark.specs.Made.{entered_mark, made_mark};
+ghost use Rattle.kd_mark.specs.Mark.{RebuildsNoneEntered, marked_shape};
+ghost use Rattle.kd_mark.specs.Several.{AreLargeAt, IsUpdatedClear};
+
+use crate::reach::{covers, meets, reach_of};
+use crate::rebuild::rejoined;
+use crate::ways::{Unwatched, Ways, spared_from};
+use kd_tree::{OpenNode, Side, Steps, Tree};
+use map_fold::{Choice, NoMemory, Tag};
+use std::alloc::Global;
+use std::sync::ledger::Ledger;
+
+/// The tree after this action on each of its items that the choice chooses.
+///
+/// On the way out each node that was entered, and has from 10 nodes on and fewer than `large`, is rebuilt where it
+/// breaches a criterion. A node is entered where it is neither covered nor missed, and its father is entered. The choice
+/// covers a node where the box, if there is one, covers its extent, and its greatest number is below the bound, if there is one. It
+/// misses a node where the box doesn't meet its extent, or its least number isn't below the bound.
+/// Only these nodes and their sons are made. Where memory runs out, the tree is dropped.
+pub fn marked<L: Ledger>(
+    alloc: Global,
+    tree: Tree,
+    large: u32,
+    choice: &Choice,
+    tag: Tag,
+    steps: &mut Steps<L>,
+) -> Result<Tree, NoMemory>
+    ensures contents { IfOk result (λ t. contents t ≡ mark (contents tree) (chosen_by choice.now) tag) }
+    ensures numbers { IfOk result (λ t. AreAmong (numbers t) (numbers tree)) }
+    ensures balance { IsBalancedBelow large tree → IfOk result (λ t. IsBalancedBelow large t) }
+    // The unrebuilt result, with some subtrees rebuilt.
+    ensures refresh { IfOk result (λ t. IsRefresh (marked_shape choice.now tag tree) t) }
+    // Where no node that was entered is to be rebuilt, none is.
+    ensures unrebuilt { RebuildsNoneEntered large choice.now (marked_shape choice.now tag tree)
+        → IfOk result (λ t. t ≡ marked_shape choice.now tag tree) }
+    // Then at most so many nodes are made, whatever the call answers.
+    ensures ticks { RebuildsNoneEntered large choice.now (marked_shape choice.now tag tree)
+        → steps.new ≤ steps.old + 5 * entered_mark choice.now tree + 1 }
+{
+    let _size = tree.size();
+    marked_within(alloc, tree, large, choice, tag, &Unwatched, steps)
+}
+
+/// `marked`, by shape, where nothing is rebuilt above the ends of the ways, at them or below them.
+pub fn marked_within<L: Ledger, W: Ways>(
+    alloc: Global,
+    tree: Tree,
+    large: u32,
+    choice: &Choice,
+    tag: Tag,
+    ways: &W,
+    steps: &mut Steps<L>,
+) -> Result<Tree, NoMemory>
+    requires { AreLargeAt large (W.paths ways.now) tree }
+    ensures updated { let plain = marked_shape choice.now tag tree in
+        IfOk result (λ t. IsUpdatedClear large (W.paths ways.now) tree plain (RebuildsNoneEntered large choice.now plain) t) }
+    ensures ticks { RebuildsNoneEntered large choice.now (marked_shape choice.now tag tree)
+        → steps.new ≤ steps.old + made_mark choice.now tree }
+{
+    let _size = tree.size();
+    let Some(reach) = reach_of(&tree) else {
+        return Ok(tree);
+    };
+    if !meets(choice, &reach) {
+        return Ok(tree);
+    }
+    if covers(choice, &reach) {
+        return tree.tagged(alloc, tag, steps);
+    }
+    let Some(node) = tree.take_apart(alloc, steps)? else {
+        return Ok(Tree::empty());
+    };
+    let large = spared_from(ways, large);
+    let item = node.item.marked(choice, tag);
+    let lefts = ways.onward(Side::Left);
+    let left = marked_within(alloc, node.left, large, choice, tag, &lefts, steps)?;
+    let rights = ways.onward(Side::Right);
+    let right = marked_within(alloc, node.right, large, choice, tag, &rights, steps)?;
+    let node = OpenNode {
+        item,
+        left,
+        right,
+        ..node
+    };
+    rejoined(alloc, node, large, steps)
+}
