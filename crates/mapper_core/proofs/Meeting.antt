@@ -8,9 +8,9 @@ use mathlib.Core.List.{IsPrefix}
 use Rattle.map_fold.specs.declared.entry.Entry.{Entry}
 use Rattle.map_fold.specs.declared.update.Update.{Update}
 use Rattle.rebuild_core.specs.History.{updates}
-use Rattle.published_map.specs.Marks.{Seen, times_listed, IsDistinct, AllOf, callers_of, AllMet, AllGrown, AllMetNow, seen_by_new}
+use Rattle.shown_versions.specs.Marks.{Seen, times_listed, IsDistinct, AllOf, callers_of, AllMet, AllGrown, AllMetNow, seen_by_new}
+use Rattle.shown_versions.proofs.Counting.{grown_callers}
 use Rattle.published_map.proofs.Marking.{get_prefix}
-use Rattle.published_map.proofs.Counting.{grown_callers}
 use Rattle.scan_log.specs.Commands.{command_caller, command_update, is_by, is_for}
 use Rattle.scan_log.specs.declared.command.Command.{Command}
 use Rattle.scan_log.specs.declared.command.Command.TheVariants.{Sync}

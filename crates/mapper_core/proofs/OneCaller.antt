@@ -9,8 +9,8 @@ use Rattle.map_fold.specs.Fold.{MapAt, fold}
 use Rattle.kd_tree.specs.Contents.{contents}
 use Rattle.rebuild_core.specs.History.{updates, entry_by}
 use Rattle.rebuild_core.specs.Lawful.{VersionAt}
-use Rattle.published_map.specs.Marks.{Seen, Grown, Added, keep_if}
-use Rattle.published_map.specs.Versions.{IsVersionOf, held}
+use Rattle.shown_versions.specs.Marks.{Seen, Grown, Added, keep_if}
+use Rattle.shown_versions.specs.Versions.{IsVersionOf, held}
 use Rattle.published_map.proofs.Marking.{get_prefix, get_snoc}
 use Rattle.scan_log.specs.Commands.{command_update, is_by}
 use Rattle.scan_log.specs.declared.command.Command.{Command}

@@ -6,7 +6,7 @@ use Rattle.std.specs.declared.option.Option.{Option}
 use Rattle.scan_log.specs.Commands.{command_caller}
 use Rattle.scan_log.specs.declared.command.Command.{Command}
 use Rattle.scan_log.specs.declared.command.Command.TheVariants.{Change, Near, Nears, Inside, Ball, Lonely, Clusters, Pose, Sync}
-use Rattle.published_map.specs.Marks.{Seen}
+use Rattle.shown_versions.specs.Marks.{Seen}
 use Rattle.scan_log.specs.Scripts.{ScriptAt, points_of}
 use Rattle.scan_log.specs.Poses.{no_regions, plain_command, plain_from, plain_script, regions_after}
 use Rattle.local_region.specs.Regions.{RegionAt}

@@ -4,7 +4,7 @@ use Rattle.std.specs.List.{AllByRecursion}
 use Rattle.map_fold.specs.declared.entry.Entry.{Entry}
 use Rattle.map_fold.specs.declared.memory.NoMemory.{NoMemory}
 use Rattle.rebuild_core.specs.History.{updates}
-use Rattle.published_map.specs.Marks.{Seen, AllMet, AllOf, callers_of, seen_by_new}
+use Rattle.shown_versions.specs.Marks.{Seen, AllMet, AllOf, callers_of, seen_by_new}
 use Rattle.scan_log.specs.Commands.{IsBy, command_caller}
 use Rattle.scan_log.specs.declared.command.Command.{Command}
 use Rattle.scan_log.specs.declared.reply.Reply.{Reply}

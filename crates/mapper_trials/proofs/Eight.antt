@@ -6,7 +6,7 @@ use Rattle.scan_log.specs.declared.command.Command.TheVariants.{Change, Near, Ne
 use Rattle.scan_log.specs.declared.format.Format.{Format}
 use Rattle.scan_log.specs.Scripts.{IsCommand}
 use Rattle.scan_log.specs.Legal.{numbers_from}
-use Rattle.published_map.specs.Marks.{Seen, IsDistinct, callers_of}
+use Rattle.shown_versions.specs.Marks.{Seen, IsDistinct, callers_of}
 use Rattle.mapper_core.specs.Meetings.{HasCaller}
 use Rattle.mapper_core.proofs.Meeting.{distinct_counted}
 

@@ -1,7 +1,7 @@
 -- The passes of the callers from 1 on, one by one.
 use Rattle.std.proofs.Common.{◌≡◌, ℕ, ◌+◌, ◌<◌, ◌==◌, Bool, true, false, List, [], ◌∷◌, ◌++◌, length, Some, slice_get, ap, sym, ◌∙◌, refl, arith}
 use Rattle.std.proofs.lemmas.Bool.Decides.{nat_tests}
-use Rattle.published_map.specs.Marks.{Seen, seen_by_new}
+use Rattle.shown_versions.specs.Marks.{Seen, seen_by_new}
 use Rattle.published_map.proofs.Marking.{get_prefix, get_snoc}
 
 made_by : (xs ys : List Seen) (x : Seen) (n k : ℕ) → ys ≡ xs ++ x ∷ [] → x ≡ seen_by_new (n + 1) → length xs ≡ n → ((j : ℕ) → j < n → slice_get xs j ≡ Some (seen_by_new (j + 1)))

@@ -2,7 +2,7 @@
 use Rattle.std.proofs.Common.{◌≡◌, List, subst}
 use mathlib.Core.List.{IsPrefix}
 use Rattle.map_fold.specs.declared.entry.Entry.{Entry}
-use Rattle.published_map.proofs.Prefixes.{prefix_self, prefix_trans}
+use Rattle.shown_versions.proofs.Prefixes.{prefix_self, prefix_trans}
 
 -- what a seat knew begins what it got
 pub caught : (s v r w : List Entry) → IsPrefix s v → IsPrefix v r → r ≡ w → IsPrefix s w

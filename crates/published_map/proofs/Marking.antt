@@ -2,8 +2,8 @@
 use Rattle.std.proofs.Common.{◌≡◌, ℕ, zero, suc, ◌+◌, ◌<◌, ◌≤◌, List, [], ◌∷◌, ◌++◌, length, length-append, Some, slice_get, refl, ap, sym, ◌∙◌, subst, arith}
 use mathlib.Core.List.{IsPrefix}
 use Rattle.map_fold.specs.declared.entry.Entry.{Entry}
+use Rattle.shown_versions.specs.Marks.{at_places, AreOwnPlaces}
 use Rattle.published_map.specs.Held.{IsPass}
-use Rattle.published_map.specs.Marks.{at_places, AreOwnPlaces}
 
 -- what stands in a beginning stands in the whole, at the same place
 pub get_prefix : {A : Type 0} (xs ys : List A) (k : ℕ) (x : A) → IsPrefix xs ys → slice_get xs k ≡ Some x → slice_get ys k ≡ Some x

@@ -10,8 +10,8 @@ use Rattle.map_fold.specs.Fold.{fold, points_in}
 use Rattle.rebuild_core.specs.History.{updates}
 use Rattle.rebuild_core.specs.declared.fault.StateFault.{StateFault}
 use Rattle.rebuild_core.specs.declared.fault.StateFault.TheVariants.{TooManyUpdates, TooManyPoints, NoMemory}
-use Rattle.published_map.specs.Marks.{Seen, Grown, Added}
-use Rattle.published_map.specs.Versions.{held}
+use Rattle.shown_versions.specs.Marks.{Seen, Grown, Added}
+use Rattle.shown_versions.specs.Versions.{held}
 use Rattle.map_fold.specs.declared.limits.TheConstants.{MAX_POINTS}
 use Rattle.rebuild_core.specs.declared.plan.TheConstants.{MAX_UPDATES}
 

@@ -1,7 +1,7 @@
 -- What is said of a caller at the end.
 use Rattle.std.specs.Prelude.{length}
+use Rattle.shown_versions.specs.Marks.{Seen}
 use Rattle.published_map.specs.declared.ended.Ended.{Ended}
-use Rattle.published_map.specs.Marks.{Seen}
 
 -- its caller, how many updates it has made, and the length of what it has seen
 abbrev pub ended_of : Seen → Ended

@@ -5,7 +5,7 @@ use Rattle.std.specs.declared.sync.ledger.Blank.{Blank}
 use Rattle.logbook.specs.Pages.{Book}
 use Rattle.map_fold.specs.declared.entry.Entry.{Entry}
 use Rattle.map_fold.specs.declared.item.Item.{Item}
-use Rattle.published_map.specs.Marks.{AreOwnPlaces}
+use Rattle.shown_versions.specs.Marks.{AreOwnPlaces}
 use Rattle.rebuild_core.specs.declared.plan.TheConstants.{MAX_UPDATES}
 
 -- A pass keeps the history of one version, and its reader knows that or more. The marks are the places of its caller's entries.

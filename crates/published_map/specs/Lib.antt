@@ -1,9 +1,4 @@
-pub mod Versions
-pub mod Marks
 pub mod Answers
-pub mod Book
-pub mod Rules
-pub mod Names
 pub mod Turns
 pub mod Held
 pub mod Holds

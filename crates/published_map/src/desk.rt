@@ -4,12 +4,11 @@ ghost use Rattle.std.specs.Prelude.{◌≡◌, IfErr};
 ghost use Rattle.rebuild_core.specs.Desk.{IsSwapCause};
 ghost use Rattle.published_map.specs.Late.{IsLateCause, most_done};
 
-use crate::mark::Mark;
-use crate::name::MapName;
 use crate::shared::Shared;
 use map_fold::{NoMemory, Ops};
 use op_logger::MAX_LOGGED;
 use rebuild_core::{Built, Desk, Job, Late, LogAsk, SwapFault, SwapLeft, SwapOrLate, Swapped};
+use shown_versions::{MapName, Mark};
 use std::alloc::Global;
 use std::marker::Brand;
 use std::sync::ledger::Blank;

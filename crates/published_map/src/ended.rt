@@ -2,9 +2,9 @@
 ghost use Rattle.std.specs.Prelude.{◌≡◌, IfOk, map};
 ghost use Rattle.published_map.specs.Ends.{ended_of};
 
-use crate::name::MapName;
 use crate::pass::Pass;
 use map_fold::NoMemory;
+use shown_versions::MapName;
 use std::alloc::Global;
 
 /// What a caller did.

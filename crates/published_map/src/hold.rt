@@ -4,8 +4,7 @@ ghost use Rattle.std.specs.Prelude.{◌≡◌, ◌<◌, ◌++◌, [], ◌∷◌,
 ghost use Rattle.std.specs.Option.{option_map};
 ghost use Rattle.published_map.specs.Holds.{HoldAt, hold_of, with_hold};
 
-use crate::mark::Mark;
-use crate::name::MapName;
+use shown_versions::{MapName, Mark};
 use std::marker::Model;
 
 /// What the subtree held that was detached with this ticket. Contracts see the slot, the ticket and the items.

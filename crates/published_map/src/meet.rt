@@ -1,10 +1,10 @@
 //! All passes meet in one turn of the lock.
 ghost use Rattle.std.specs.Prelude.{◌≡◌, ◌+◌, length};
-ghost use Rattle.published_map.specs.Marks.{callers_of, made_by, IsDistinct, AllEnded, AllSeen, AllMade, AllGrown, AllMet, AllOf};
+ghost use Rattle.shown_versions.specs.Marks.{callers_of, made_by, IsDistinct, AllEnded, AllSeen, AllMade, AllGrown, AllMet, AllOf};
 
 use crate::locked::Locked;
-use crate::name::MapName;
 use crate::pass::Pass;
+use shown_versions::MapName;
 use std::sync::Wait;
 use std::sync::ledger::{Book, Share};
 

@@ -1,9 +1,9 @@
 //! Maps that aren't shared yet.
 ghost use Rattle.std.specs.Prelude.{◌≡◌, ◌≤◌, [], IfOk};
 
-use crate::mark::MarkList;
 use map_fold::{NoMemory, Settings};
 use rebuild_core::MapState;
+use shown_versions::MarkList;
 use std::alloc::Global;
 use std::marker::Model;
 

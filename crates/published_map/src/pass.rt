@@ -1,17 +1,15 @@
 //! What a caller holds.
 ghost use Rattle.std.specs.Prelude.{◌≡◌, ◌≤◌, [], length, IfOk, IsOk};
 ghost use Rattle.kd_search.specs.Query.{IsQuery};
+ghost use Rattle.shown_versions.specs.Marks.{Grown, IsMade, seen_by_new};
+ghost use Rattle.shown_versions.specs.Versions.{IsVersionOf};
 ghost use Rattle.published_map.specs.Answers.{box_reply, near_reply};
-ghost use Rattle.published_map.specs.Marks.{Grown, IsMade, seen_by_new};
-ghost use Rattle.published_map.specs.Versions.{IsVersionOf};
 
-use crate::kinds::{MapReader, look};
-use crate::name::MapName;
-use crate::shown::Shown;
 use kd_search::{count_in, in_cuboid, nearest};
 use map_fold::{BoxReply, MAX_FOUND, NearReply, NoMemory};
 use point_geom::{Cuboid, Point};
 use rebuild_core::Version;
+use shown_versions::{MapName, MapReader, Shown, look};
 use std::alloc::Global;
 use std::marker::Model;
 use std::sync::ledger::Share;
@@ -32,8 +30,8 @@ pub struct Pass<L: MapName> {
 
 impl<L: MapName> Model for Pass<L> {
     ghost use Rattle.left_right.specs.Sides.{view as seat_view};
+    ghost use Rattle.shown_versions.specs.Marks.{Seen, at_places};
     ghost use Rattle.published_map.specs.Held.{IsPass};
-    ghost use Rattle.published_map.specs.Marks.{Seen, at_places};
 
     ghost Value = { Seen };
 

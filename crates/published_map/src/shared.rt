@@ -1,20 +1,20 @@
 //! The map that callers share.
 ghost use Rattle.std.specs.Prelude.{◌≡◌, ◌+◌, ◌<◌, ℕ, length, slice_get, Some, IfOk, map};
 ghost use Rattle.rebuild_core.specs.Lawful.{IsLawful};
+ghost use Rattle.shown_versions.specs.Marks.{seen_by_new, callers_of, IsDistinct, AllMetNow, AllEnded};
 ghost use Rattle.published_map.specs.Answers.{Updated};
 ghost use Rattle.published_map.specs.Ends.{ended_of};
-ghost use Rattle.published_map.specs.Marks.{seen_by_new, callers_of, IsDistinct, AllMetNow, AllEnded};
 ghost use Rattle.published_map.specs.Held.{IsOpenedAs};
 
 use crate::ended::{Ended, ended_all};
 use crate::locked::Locked;
 use crate::meet::{meet, meet_last};
-use crate::name::MapName;
 use crate::opened::Opened;
 use crate::pass::Pass;
 use crate::start::{made_passes, opened_pair};
 use map_fold::{NoMemory, Update};
 use rebuild_core::{MapState, StateFault};
+use shown_versions::MapName;
 use std::alloc::Global;
 use std::sync::ledger::Blank;
 use std::sync::{Mutex, MutexGuard, Wait};

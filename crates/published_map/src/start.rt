@@ -1,16 +1,14 @@
 //! How sharing begins.
 ghost use Rattle.std.specs.Prelude.{◌≡◌, ◌+◌, ◌<◌, ◌≤◌, ℕ, [], length, slice_get, Some, IfOk};
 ghost use Rattle.left_right.specs.Sides.{view};
-ghost use Rattle.published_map.specs.Marks.{seen_by_new};
+ghost use Rattle.shown_versions.specs.Marks.{seen_by_new};
 
-use crate::kinds::{MapWriter, make_pair, place_reader};
-use crate::mark::{Mark, MarkList};
-use crate::name::MapName;
 use crate::pass::Pass;
-use crate::shown::Shown;
-use crate::story::ShownHistory;
 use map_fold::{Entry, NoMemory};
 use rebuild_core::MapState;
+use shown_versions::{
+    MapName, MapWriter, Mark, MarkList, Shown, ShownHistory, make_pair, place_reader,
+};
 use std::alloc::Global;
 use std::sync::Arc;
 use std::sync::ledger::Share;

@@ -4,16 +4,14 @@ ghost use mathlib.Core.List.{IsPrefix};
 ghost use Rattle.left_right.specs.Sides.{view};
 ghost use Rattle.rebuild_core.specs.Lawful.{IsLawful};
 ghost use Rattle.rebuild_core.specs.Steps.{entered};
-ghost use Rattle.published_map.specs.Rules.{IsPublishedAs};
+ghost use Rattle.shown_versions.specs.Rules.{IsPublishedAs};
 ghost use Rattle.published_map.specs.Turns.{history_after};
 
-use crate::kinds::{MapReader, MapWriter, look, show};
-use crate::mark::{Mark, MarkList};
-use crate::name::MapName;
-use crate::shown::Shown;
-use crate::story::ShownHistory;
 use map_fold::NoMemory;
 use rebuild_core::{MapState, Planned};
+use shown_versions::{
+    MapName, MapReader, MapWriter, Mark, MarkList, Shown, ShownHistory, look, show,
+};
 use std::sync::{Arc, Wait};
 
 // The planned version with a new mark.

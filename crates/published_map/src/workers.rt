@@ -9,13 +9,10 @@ ghost use Rattle.published_map.specs.Late.{IsLateCause};
 
 use crate::hold::{Hold, hold_of, keep_hold};
 use crate::locked::Locked;
-use crate::mark::Mark;
-use crate::name::MapName;
-use crate::shown::Shown;
-use crate::story::ShownHistory;
 use kd_tree::Steps;
 use map_fold::{NoMemory, Ops};
 use rebuild_core::{Built, Holding, Late, LogAsk, Snapshot, SwapOrLate, Version};
+use shown_versions::{MapName, Mark, Shown, ShownHistory};
 use std::alloc::Global;
 use std::sync::ledger::{Blank, Ledger};
 use std::sync::{Arc, Wait};

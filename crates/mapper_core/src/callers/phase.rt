@@ -5,7 +5,7 @@ ghost use Rattle.std.specs.Thread.{IsSync, IsSend};
 ghost use Rattle.scan_log.specs.declared.command.Command.TheVariants as command_of;
 ghost use Rattle.scan_log.specs.Plain.{IsPlain};
 ghost use Rattle.scan_log.specs.Scripts.{points_of};
-ghost use Rattle.published_map.specs.Marks.{callers_of, IsDistinct, AllMetNow};
+ghost use Rattle.shown_versions.specs.Marks.{callers_of, IsDistinct, AllMetNow};
 ghost use Rattle.mapper_core.specs.Mine.{Turned};
 ghost use Rattle.mapper_core.specs.Meetings.{AllTurned, AllParted, IsOfCallers, IsPutBehind, Standing, IsTotal};
 

@@ -1,7 +1,7 @@
 //! Shared maps, tried by their callers and by workers.
 ghost use Rattle.std.specs.Prelude.{◌≡◌, ◌≤◌, true, length, None};
 ghost use Rattle.kd_search.specs.Query.{IsQuery};
-ghost use Rattle.published_map.specs.Marks.{callers_of, times_listed, IsDistinct};
+ghost use Rattle.shown_versions.specs.Marks.{callers_of, times_listed, IsDistinct};
 ghost use Rattle.published_map.specs.Held.{IsOpenedAs};
 
 use crate::tests::assertions::made;

@@ -1,5 +1,5 @@
 use Rattle.std.proofs.Common.{◌≡◌, ◌∷◌, length, sym, ◌∙◌, ap, rules, arith}
-use Rattle.published_map.proofs.Counting.{places_length}
+use Rattle.shown_versions.proofs.Counting.{places_length}
 use Rattle.published_map.proofs.meet.+audit_from.Goals as goal
 
 pub returns-in-Some-clause-total : goal.returns-in-Some-clause-total

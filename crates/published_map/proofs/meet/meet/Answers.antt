@@ -1,8 +1,8 @@
 use Rattle.std.proofs.Common.{◌≡◌, List, length, sym, ◌∙◌, ap, subst, arith}
 use Rattle.map_fold.specs.declared.entry.Entry.{Entry}
 use Rattle.rebuild_core.specs.Lawful.{Stored}
-use Rattle.published_map.specs.Marks.{Seen, made_by, AllMet, AllOf, callers_of}
-use Rattle.published_map.proofs.Counting.{all_met_at}
+use Rattle.shown_versions.specs.Marks.{Seen, made_by, AllMet, AllOf, callers_of}
+use Rattle.shown_versions.proofs.Counting.{all_met_at}
 use Rattle.published_map.proofs.meet.meet.Goals as goal
 
 pub returns-clause-met : goal.returns-clause-met

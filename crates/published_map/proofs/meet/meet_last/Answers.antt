@@ -1,4 +1,4 @@
-use Rattle.published_map.proofs.Counting.{all_ended}
+use Rattle.shown_versions.proofs.Counting.{all_ended}
 use Rattle.published_map.proofs.meet.meet_last.Goals as goal
 
 pub returns-clause-ended : goal.returns-clause-ended

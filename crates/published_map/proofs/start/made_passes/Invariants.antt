@@ -1,5 +1,5 @@
 use Rattle.std.proofs.Common.{◌≡◌, ◌+◌, ◌<◌, ℕ, length, slice_get, Some}
-use Rattle.published_map.specs.Marks.{seen_by_new}
+use Rattle.shown_versions.specs.Marks.{seen_by_new}
 use Rattle.published_map.proofs.start.made_passes.Given as goal
 
 abbrev pub invariant-loop-index : goal.invariant-loop-index

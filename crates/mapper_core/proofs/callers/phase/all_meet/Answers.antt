@@ -1,5 +1,5 @@
 use Rattle.std.proofs.Common.{◌≡◌, length, sym, subst, arith}
-use Rattle.published_map.specs.Marks.{AllMetNow}
+use Rattle.shown_versions.specs.Marks.{AllMetNow}
 use Rattle.mapper_core.proofs.Meeting.{lent_back, grown_length}
 use Rattle.mapper_core.proofs.callers.phase.all_meet.Goals as goal
 

@@ -1,6 +1,6 @@
 use Rattle.std.proofs.Common.{◌≡◌, ℕ, ◌++◌, ◌+◌, ◌-◌, take-add, ◌∙◌, ap, length, take, drop, sym, subst, arith}
 use Rattle.std.specs.List.{AllByRecursion}
-use Rattle.published_map.specs.Marks.{IsDistinct}
+use Rattle.shown_versions.specs.Marks.{IsDistinct}
 use Rattle.scan_log.specs.Plain.{IsPlain}
 use Rattle.mapper_core.specs.Mine.{Ran, Turned}
 use Rattle.mapper_core.specs.Meetings.{IsOfCallers, AreReplies, Standing}

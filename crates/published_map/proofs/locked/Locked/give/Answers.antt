@@ -1,7 +1,7 @@
 use Rattle.std.proofs.Common.{◌≡◌, ℕ, List, refl, sym, ◌∙◌, ap, subst}
 use Rattle.map_fold.specs.declared.entry.Entry.{Entry}
 use Rattle.rebuild_core.specs.Lawful.{Stored}
-use Rattle.published_map.specs.Marks.{at_places, AreOwnPlaces}
+use Rattle.shown_versions.specs.Marks.{at_places, AreOwnPlaces}
 use Rattle.published_map.proofs.Marking.{marked_longer, pass_longer, places_longer}
 use Rattle.published_map.proofs.Hearing.{caught, begins}
 use Rattle.published_map.proofs.locked.Locked.give.Goals as goal

@@ -4,7 +4,7 @@ use Rattle.map_fold.specs.declared.entry.Entry.{Entry}
 use Rattle.rebuild_core.specs.History.{entry_by}
 use Rattle.rebuild_core.specs.Lawful.{StateAt, Stored}
 use Rattle.rebuild_core.specs.Steps.{entered, listed}
-use Rattle.published_map.specs.Marks.{Seen}
+use Rattle.shown_versions.specs.Marks.{Seen}
 use Rattle.published_map.proofs.Marking.{marked_after, pass_added}
 use Rattle.published_map.proofs.Hearing.{begins}
 use Rattle.published_map.proofs.Holding.{true_after}

@@ -2,7 +2,7 @@ use Rattle.std.proofs.Common.{◌≡◌, ℕ, List, [], length, refl, sym, ◌�
 use mathlib.Core.List.{IsPrefix}
 use Rattle.map_fold.specs.declared.entry.Entry.{Entry}
 use Rattle.left_right.specs.Sides.{view}
-use Rattle.published_map.specs.Marks.{AreOwnPlaces}
+use Rattle.shown_versions.specs.Marks.{AreOwnPlaces}
 use Rattle.published_map.proofs.pass.Pass.new.Goals as goal
 
 pub invariant_of-result : goal.invariant_of-result

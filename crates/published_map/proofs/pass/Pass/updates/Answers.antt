@@ -1,5 +1,5 @@
 use Rattle.std.proofs.Common.{◌≡◌, ◌∙◌, sym, length, rules}
-use Rattle.published_map.proofs.Counting.{places_length}
+use Rattle.shown_versions.proofs.Counting.{places_length}
 use Rattle.published_map.proofs.pass.Pass.updates.Goals as goal
 
 pub returns : goal.returns

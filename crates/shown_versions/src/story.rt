@@ -19,7 +19,7 @@ pub struct ShownHistory {
 impl Model for ShownHistory {
     ghost use Rattle.std.specs.Prelude.{◌++◌};
     ghost use Rattle.rebuild_core.specs.Steps.{listed};
-    ghost use Rattle.published_map.specs.Book.{Page, told};
+    ghost use Rattle.shown_versions.specs.Book.{Page, told};
 
     ghost Value = { Page };
 

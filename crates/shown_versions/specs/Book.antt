@@ -1,4 +1,4 @@
--- The book of marks: its pages, its rule, and what its step tells. Cited by private functions alone.
+-- The book of marks: its pages, and, cited by private functions alone, its rule and what its step tells.
 use Rattle.std.specs.Prelude.{ℕ, ◌≡◌, ◌==◌, true, List, [], ◌∷◌, ◌++◌, length, fold, MatchBool, Option, Some, None}
 use Rattle.logbook.specs.Pages.{Cell, Step, View, Book, Named}
 use Rattle.map_fold.specs.declared.entry.Entry.{Entry}

@@ -1,6 +1,6 @@
 //! What readers take.
 ghost use Rattle.std.specs.Prelude.{◌≡◌, IfOk};
-ghost use Rattle.published_map.specs.Versions.{IsVersionOf};
+ghost use Rattle.shown_versions.specs.Versions.{IsVersionOf};
 
 use crate::mark::Mark;
 use crate::name::MapName;
@@ -21,7 +21,7 @@ pub struct Shown<L: MapName> {
 impl<L: MapName> Model for Shown<L> {
     ghost use Rattle.std.specs.Prelude.{List};
     ghost use Rattle.map_fold.specs.declared.entry.Entry.{Entry};
-    ghost use Rattle.published_map.specs.Versions.{IsVersionOf};
+    ghost use Rattle.shown_versions.specs.Versions.{IsVersionOf};
 
     ghost Value = { List Entry };
 
@@ -31,6 +31,7 @@ impl<L: MapName> Model for Shown<L> {
 }
 
 impl<L: MapName> Shown<L> {
+    /// The version, under the mark of the history that it shows.
     pub fn new(version: Arc<Version>, mark: Mark<L>) -> Shown<L>
         requires { IsVersionOf L.voxel mark.history version.value }
         ensures { result ≡ mark.history }
@@ -49,12 +50,14 @@ impl<L: MapName> Shown<L> {
         })
     }
 
+    /// The mark of its history.
     pub fn mark(&self) -> &Mark<L>
         ensures { result.now.history ≡ self.now }
     {
         &self.mark
     }
 
+    /// The version, which holds what that history leaves.
     pub fn version(&self) -> &Version
         ensures { IsVersionOf L.voxel self.now result.now }
     {

@@ -1,8 +1,8 @@
 use Rattle.std.proofs.Common.{List, sym, subst}
 use mathlib.Core.List.{IsPrefix}
 use Rattle.map_fold.specs.declared.entry.Entry.{Entry}
-use Rattle.published_map.proofs.Keeping.{publishes}
-use Rattle.published_map.proofs.kinds.publish.Goals as goal
+use Rattle.shown_versions.proofs.Keeping.{publishes}
+use Rattle.shown_versions.proofs.kinds.publish.Goals as goal
 
 pub publish_as-requires : goal.publish_as-requires
 publish_as-requires g c next is =

@@ -5,7 +5,7 @@ use Rattle.std.proofs.lemmas.Bool.Decides.{nat_tests}
 use mathlib.Core.List.{IsPrefix}
 use prog.Atomic.{either}
 use Rattle.logbook.specs.Pages.{Cell, cell, keeps, no_nib, step, Moves, Goes}
-use Rattle.published_map.specs.Book.{Page, IsBookOf, Adds, blank, last_of}
+use Rattle.shown_versions.specs.Book.{Page, IsBookOf, Adds, blank, last_of}
 
 abbrev Log : Type 0
 Log = List Page

@@ -1,9 +1,9 @@
 use Rattle.std.proofs.Common.{◌≡◌, ap, subst, arith, length}
 use Rattle.std.proofs.lemmas.Bool.Decides.{nat_tests}
 use mathlib.Core.List.{IsPrefix}
-use Rattle.published_map.specs.Book.{last_of}
-use Rattle.published_map.proofs.Adding.{prefix_same}
-use Rattle.published_map.proofs.mark.Mark.is_same.Goals as goal
+use Rattle.shown_versions.specs.Book.{last_of}
+use Rattle.shown_versions.proofs.Adding.{prefix_same}
+use Rattle.shown_versions.proofs.mark.Mark.is_same.Goals as goal
 
 pub returns : goal.returns
 returns g c t =

@@ -14,11 +14,13 @@ use std::alloc::{AllocError, Global};
 use std::collections::LinkedList;
 use std::sync::Wait;
 
+/// A reader place. It knows the history of the version that it got last.
 pub type MapReader<L> = Reader<Shown<L>, LinkedList<Entry>, Follows>;
 
+/// The writer's place, which has both sides.
 pub type MapWriter<L> = Writer<Shown<L>, Shown<L>, LinkedList<Entry>, Follows>;
 
-/// The pair is made.
+/// The pair of sides is made, for so many readers.
 pub fn make_pair<L: MapName>(
     alloc: Global,
     first: Shown<L>,

@@ -15,7 +15,7 @@ pub struct MarkRule;
 impl Rule<ShownHistory, u64> for MarkRule {
     ghost use Rattle.std.specs.Prelude.{[]};
     ghost use base.Fml.{ftrue};
-    ghost use Rattle.published_map.specs.Book.{IsBookOf};
+    ghost use Rattle.shown_versions.specs.Book.{IsBookOf};
 
     ghost holds = { λ cells log. IsBookOf cells log };
 
@@ -43,7 +43,7 @@ impl Gain<ShownHistory, u64> for NoTrade {
 pub struct Append;
 
 impl Play<ShownHistory, u64> for Append {
-    ghost use Rattle.published_map.specs.Book.{Adds};
+    ghost use Rattle.shown_versions.specs.Book.{Adds};
 
     ghost then = { Adds };
 }
@@ -67,7 +67,7 @@ pub struct MarkList {
 impl Model for MarkList {
     ghost use Rattle.std.specs.Prelude.{◌≡◌, length};
     ghost use Rattle.logbook.specs.Pages.{Book};
-    ghost use Rattle.published_map.specs.Book.{book_name};
+    ghost use Rattle.shown_versions.specs.Book.{book_name};
 
     ghost Value = { Book };
 
@@ -77,6 +77,7 @@ impl Model for MarkList {
 }
 
 impl MarkList {
+    /// No marks yet, in a book of their own.
     pub fn new() -> MarkList {
         let (seen, mut first, _second) = Seen::open(Start::alone(), 0, 0);
         MarkList {
@@ -98,7 +99,7 @@ pub struct Mark<L: MapName> {
 
 impl<L: MapName> Model for Mark<L> {
     ghost use Rattle.std.specs.Prelude.{◌≡◌, length};
-    ghost use Rattle.published_map.specs.Book.{Page, last_of};
+    ghost use Rattle.shown_versions.specs.Book.{Page, last_of};
 
     ghost Value = { Page };
 
@@ -143,6 +144,7 @@ impl<L: MapName> Mark<L> {
         })
     }
 
+    /// The same number, with the same page.
     pub fn again(&self) -> Mark<L>
         ensures { result ≡ self.now }
     {

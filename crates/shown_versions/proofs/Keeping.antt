@@ -6,8 +6,8 @@ use lib.ListN.{get_elem?}
 use Rattle.crossbeam_utils.specs.Register.{Admits, Turns, TurnsAt}
 use Rattle.atomic_table.proofs.Lists.{at_set, at_snoc}
 use Rattle.map_fold.specs.declared.entry.Entry.{Entry}
-use Rattle.published_map.specs.Rules.{Keeps, Published, Entered}
-use Rattle.published_map.proofs.Prefixes.{prefix_self, prefix_trans}
+use Rattle.shown_versions.specs.Rules.{Keeps, Published, Entered}
+use Rattle.shown_versions.proofs.Prefixes.{prefix_self, prefix_trans}
 
 keeps_set : (h : List Entry) (views : List (List Entry)) (seat : ℕ) (w : List Entry) → Keeps h views → IsPrefix w h → Keeps h (set views seat w)
 keeps_set h views seat w k f j u e =

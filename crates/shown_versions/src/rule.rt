@@ -10,7 +10,7 @@ pub struct Follows;
 
 impl<L: MapName> Protocol<Shown<L>, LinkedList<Entry>> for Follows {
     ghost use Rattle.std.specs.Prelude.{[]};
-    ghost use Rattle.published_map.specs.Rules.{Keeps};
+    ghost use Rattle.shown_versions.specs.Rules.{Keeps};
 
     ghost holds = { Keeps };
 
@@ -20,7 +20,7 @@ impl<L: MapName> Protocol<Shown<L>, LinkedList<Entry>> for Follows {
 pub struct Publishes;
 
 impl<L: MapName> Outcome<Shown<L>, LinkedList<Entry>> for Publishes {
-    ghost use Rattle.published_map.specs.Rules.{Published};
+    ghost use Rattle.shown_versions.specs.Rules.{Published};
 
     ghost then = { Published };
 }
@@ -28,7 +28,7 @@ impl<L: MapName> Outcome<Shown<L>, LinkedList<Entry>> for Publishes {
 pub struct Enters;
 
 impl<L: MapName> Outcome<Shown<L>, LinkedList<Entry>> for Enters {
-    ghost use Rattle.published_map.specs.Rules.{Entered};
+    ghost use Rattle.shown_versions.specs.Rules.{Entered};
 
     ghost then = { Entered };
 }

@@ -20,7 +20,7 @@ pub trait MapName: Ledger {
 }
 
 impl MapName for Brand {
-    ghost use Rattle.published_map.specs.Names.{no_book};
+    ghost use Rattle.shown_versions.specs.Names.{no_book};
 
     ghost marks = { no_book };
 

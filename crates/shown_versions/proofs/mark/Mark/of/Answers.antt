@@ -1,6 +1,6 @@
 use Rattle.std.proofs.Common.{◌≡◌, sym, ◌∙◌, ap}
-use Rattle.published_map.proofs.Adding.{adds_moves}
-use Rattle.published_map.proofs.mark.Mark.of.Goals as goal
+use Rattle.shown_versions.proofs.Adding.{adds_moves}
+use Rattle.shown_versions.proofs.mark.Mark.of.Goals as goal
 
 pub compare_exchange-found-requires : goal.compare_exchange-found-requires
 compare_exchange-found-requires g c =

@@ -1,0 +1,5 @@
+pub mod Versions
+pub mod Marks
+pub mod Book
+pub mod Rules
+pub mod Names
