@@ -1,7 +1,3 @@
-pub mod AsBox
-pub mod Crossing
-pub mod Holding
-pub mod Made
 pub mod Pieces
 pub mod Steps
 pub mod Told

@@ -1,18 +1,15 @@
 -- What a call leaves in its handles, where their contents are known.
-use Rattle.std.proofs.Common.{◌≡◌, ap, refl, Bool, [], Some}
-use Rattle.rebuild_core.specs.Built.{BuiltAt, IsReplayOf, undone}
+use Rattle.std.proofs.Common.{◌≡◌, ap, refl, Bool, Some}
+use Rattle.rebuild_core.specs.Built.{undone}
 use Rattle.rebuild_core.specs.Detach.{IsLogAfter}
 use Rattle.rebuild_core.specs.Lawful.{StateAt}
 use Rattle.rebuild_core.specs.Swap.{IsSwapStep, MaySwap}
-use Rattle.map_c.specs.declared.content.Content.{Content}
-use Rattle.map_c.specs.declared.content.Content.TheVariants as content
-use Rattle.map_c.specs.Building.{IsLeft, IsReplayed, IsSwapped, built_in}
-use Rattle.map_c.specs.Done.{DoneAt}
+use Rattle.c_handles.specs.declared.content.Content.{Content}
+use Rattle.c_handles.specs.declared.content.Content.TheVariants as content
+use Rattle.c_handles.specs.Building.{built_in}
+use Rattle.c_handles.specs.Done.{DoneAt}
 use Rattle.map_c.specs.Maps.{map_in}
-
-pub replayed_in : (c : Content) (d : DoneAt) (b : BuiltAt) → c ≡ content.Built d → IsReplayOf d.built d.left b
-    → IsReplayed (Some c) (Some (content.Built (record { built = b; left = []; large = d.large })))
-replayed_in c d b e h = record { before = d; after = b; held = ap (λ x. built_in (Some x)) e; holds = refl; done = h }
+use Rattle.map_c.specs.Swapping.{IsLeft, IsSwapped}
 
 pub swapped_in : (force : Bool) (c v : Content) (s t : StateAt) (d : DoneAt) → c ≡ content.Map s → v ≡ content.Built d → MaySwap d.built force s → IsSwapStep d.built s t
     → IsSwapped force (Some c) (Some (content.Map t)) (Some v)

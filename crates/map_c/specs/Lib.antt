@@ -1,7 +1,2 @@
-pub mod Answers
-pub mod Building
-pub mod Done
-pub mod Forms
-pub mod Held
 pub mod Maps
-pub mod Status
+pub mod Swapping

@@ -1,13 +1,11 @@
 //! Questions to a map. What is asked of a handle that holds a view is answered of that.
 ghost use Rattle.std.specs.Prelude.{length};
-ghost use Rattle.map_c.specs.Answers.{AreTold, IsCount, IsCountRefusal, IsInside, IsInsideRefusal, IsNearest, IsNearestEach, IsNearestEachRefusal, IsNearestRefusal, IsTold};
+ghost use Rattle.c_handles.specs.Answers.{AreTold, IsCount, IsCountRefusal, IsInside, IsInsideRefusal, IsNearest, IsNearestEach, IsNearestEachRefusal, IsNearestRefusal, IsTold};
 
-use crate::forms::{Bounds, Hit, Item, Place, Totals};
-use crate::handle::Handle;
-use crate::listing::{count_in_box, list};
-use crate::refusal::{DONE, Refusal};
 use crate::searching::{search, search_each};
-use crate::showing::totals_of;
+use c_handles::{
+    Bounds, DONE, Handle, Hit, Item, Place, Refusal, Totals, count_in_box, list, totals_of,
+};
 use std::alloc::Global;
 
 /// Writes the k nearest live points, the nearest first, and how many they are.

@@ -3,21 +3,9 @@
 
 mod asking;
 mod building;
-mod content;
 mod detaching;
-mod done;
-mod forms;
-mod handle;
-mod held;
-mod listing;
 mod making;
-mod parts;
-mod reading;
-mod refusal;
 mod searching;
-mod showing;
 mod swapping;
 mod updating;
 mod views;
-mod work;
-mod writing;

@@ -1,19 +1,16 @@
 //! Built subtrees, swapped in.
 ghost use Rattle.std.specs.Prelude.{◌≡◌, ◌≢◌, ◌==◌, ◌⊎◌, IfErr, IfOk, None, OnErr, OnOk, Some, not};
 ghost use Rattle.kd_tree.specs.Counter.{IsBlankOf};
-ghost use Rattle.map_c.specs.Building.{IsBehind, IsLeft, IsStaleAs, IsSwapRefusal, IsSwapped};
-ghost use Rattle.map_c.specs.Status.{behind, code, done};
+ghost use Rattle.map_c.specs.Swapping.{IsBehind, IsLeft, IsStaleAs, IsSwapRefusal, IsSwapped};
+ghost use Rattle.c_handles.specs.Status.{behind, code, done};
 ghost use Rattle.map_fold.specs.Ops.{Fit};
 ghost use Rattle.kd_tree.specs.Contents.{contents};
 ghost use Rattle.rebuild_core.specs.Built.{IsStale};
 ghost use Rattle.rebuild_core.specs.Detach.{IsLogAfter};
 ghost use Rattle.rebuild_core.specs.Swap.{IsSwapFault, IsSwapStep, MaySwap};
-ghost use Rattle.map_c.specs.declared.refusal.Refusal.TheVariants as refused_as;
+ghost use Rattle.c_handles.specs.declared.refusal.Refusal.TheVariants as refused_as;
 
-use crate::content::Content;
-use crate::done::Done;
-use crate::handle::Handle;
-use crate::refusal::{DONE, Refusal};
+use c_handles::{Content, DONE, Done, Handle, Refusal};
 use kd_tree::Steps;
 use map_fold::Ops;
 use rebuild_core::{Built, LogAsk, MapState, SwapFault, SwapLeft};

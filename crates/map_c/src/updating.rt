@@ -3,15 +3,11 @@ ghost use Rattle.std.specs.Prelude.{◌≡◌, IfErr, OnOk, OnErr, Some};
 ghost use Rattle.map_fold.specs.declared.update.Update.TheVariants.{Add, Delete, Expire, Restore, Suspend, Thin};
 ghost use Rattle.kd_tree.specs.Counter.{IsBlankOf};
 ghost use Rattle.rebuild_core.specs.Steps.{HasRoom, IsFault, IsUpdateStep};
-ghost use Rattle.map_c.specs.Forms.{boxes_at, points_at};
+ghost use Rattle.c_handles.specs.Forms.{boxes_at, points_at};
 ghost use Rattle.map_c.specs.Maps.{IsAnswer, IsBoxesAnswer, IsUpdated, IsPointsAnswer, IsUpdateRefusal};
-ghost use Rattle.map_c.specs.Status.{code};
+ghost use Rattle.c_handles.specs.Status.{code};
 
-use crate::content::Content;
-use crate::forms::{Bounds, Point};
-use crate::handle::Handle;
-use crate::reading::{read_boxes, read_points};
-use crate::refusal::{Refusal, status_of};
+use c_handles::{Bounds, Content, Handle, Point, Refusal, read_boxes, read_points, status_of};
 use kd_tree::Steps;
 use map_fold::Update;
 use rebuild_core::{MapState, StateFault};

@@ -1,0 +1,5 @@
+pub mod AsBox
+pub mod Crossing
+pub mod Holding
+pub mod Made
+pub mod Replayed

@@ -1,0 +1,6 @@
+pub mod Answers
+pub mod Building
+pub mod Done
+pub mod Forms
+pub mod Held
+pub mod Status
