@@ -5,8 +5,8 @@ ghost use Rattle.mapper_base.specs.Causes.{NotRead, ReadsInLimit, Says};
 ghost use Rattle.mapper_base.specs.Seen.{log_seen};
 
 use crate::ending::Ending;
-use mapper_words::{Ask, MAX_LOG};
 use byte_streams::{ReadStop, Source, read_all};
+use mapper_words::{Ask, MAX_LOG};
 use scan_log::{ParseFault, Script, parse};
 use std::alloc::Global;
 

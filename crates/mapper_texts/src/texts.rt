@@ -10,7 +10,10 @@ ghost use Rattle.mapper_base.specs.Summary.{summary_of};
 
 use byte_streams::Source;
 use map_fold::NoMemory;
-use mapper_base::{Ending, Input, behind, in_order, made, read_input, read_script, summary, transcript, verdict_line};
+use mapper_base::{
+    Ending, Input, behind, in_order, made, read_input, read_script, summary, transcript,
+    verdict_line,
+};
 use mapper_words::Ask;
 use scan_log::{PlainScript, Script, write_script};
 use std::alloc::Global;

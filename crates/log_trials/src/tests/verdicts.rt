@@ -53,13 +53,7 @@ fn with_others(rt: &impl Abort, alloc: Global, script: &Script, text: &[u8]) {
 }
 
 // With another byte at the place it isn't legal.
-fn with_another(
-    rt: &impl Abort,
-    alloc: Global,
-    script: &Script,
-    text: &[u8],
-    place: usize,
-) {
+fn with_another(rt: &impl Abort, alloc: Global, script: &Script, text: &[u8], place: usize) {
     let mut changed = made(rt, text.to_vec(alloc));
     if let Some(byte) = changed.get_mut(place) {
         *byte ^= 1;

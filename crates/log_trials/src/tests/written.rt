@@ -73,13 +73,7 @@ fn boxes(rt: &impl Abort, alloc: Global) -> Cuboids
 }
 
 // The log of this one command is its header and this line.
-fn is_written(
-    rt: &impl Abort,
-    alloc: Global,
-    format: Format,
-    command: Command,
-    line: &[u8],
-)
+fn is_written(rt: &impl Abort, alloc: Global, format: Format, command: Command, line: &[u8])
     requires limits { IsCommand format command }
     requires room { submitted command ≤ 262144 }
     requires hits { asked command ≤ MAX_POINTS }

@@ -51,12 +51,7 @@ fn a_byte_at_a_time_gives_the_same(rt: HostRuntime) {
 }
 
 // The log of these commands gives the same either way.
-fn is_alike<R: Threads + Wait + Abort + Sync>(
-    rt: &R,
-    alloc: Global,
-    large: &str,
-    commands: &str,
-) {
+fn is_alike<R: Threads + Wait + Abort + Sync>(rt: &R, alloc: Global, large: &str, commands: &str) {
     let log = made(
         rt,
         format!(in alloc; "ikdmap 1 voxel 200 large {large}\n{commands}"),
@@ -67,11 +62,7 @@ fn is_alike<R: Threads + Wait + Abort + Sync>(
 }
 
 // What is written where each byte moves alone.
-fn in_bytes<R: Threads + Wait + Abort + Sync>(
-    rt: &R,
-    alloc: Global,
-    log: &[u8],
-) -> MemSink {
+fn in_bytes<R: Threads + Wait + Abort + Sync>(rt: &R, alloc: Global, log: &[u8]) -> MemSink {
     let mut source = MemSource::new(made(rt, log.to_vec(alloc)), 1, Vec::new(alloc));
     let mut out = MemSink::new(alloc, 1, Vec::new(alloc));
     ends(rt, alloc, "run", &mut source, &mut out, Status::Done, "");

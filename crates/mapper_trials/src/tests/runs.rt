@@ -80,12 +80,7 @@ pub fn failing_source(
 }
 
 // A sink in memory that takes these pieces, and fails at this call.
-pub fn failing_sink(
-    rt: &impl Abort,
-    alloc: Global,
-    piece: usize,
-    failing: u32,
-) -> MemSink {
+pub fn failing_sink(rt: &impl Abort, alloc: Global, piece: usize, failing: u32) -> MemSink {
     assert!(rt; 1 <= piece);
     let failing = made(rt, [failing].to_vec(alloc));
     MemSink::new(alloc, piece, failing)

@@ -38,12 +38,7 @@ fn a_script_is_run_with_its_poses_and_kept(rt: HostRuntime) {
 }
 
 // The lines of these replies are those that stand above.
-fn are_told(
-    rt: &impl Abort,
-    alloc: Global,
-    script: &Script,
-    replies: Replies,
-) {
+fn are_told(rt: &impl Abort, alloc: Global, script: &Script, replies: Replies) {
     let out = told(rt, alloc, script, &replies);
     are_bytes(rt, "the transcript", out.as_slice(), POSES_OUT);
 }
