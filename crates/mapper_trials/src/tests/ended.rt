@@ -69,6 +69,14 @@ fn the_passes_of_a_script_end_its_map(rt: HostRuntime) {
     same(&rt, "points", (counts.live, counts.suspended), (19, 2));
 }
 
+#[test]
+fn the_passes_of_a_script_without_commands_come_back(rt: HostRuntime) {
+    let alloc = rt.alloc();
+    let script = made(&rt, parse(alloc, b"ikdmap 1 voxel 200 large 16\n"));
+    let (_state, ended) = made(&rt, ended(&rt, alloc, &script));
+    assert_eq!(rt; ended.len(), 8);
+}
+
 // What is known of each caller.
 fn have_ended(rt: &impl Abort, ended: &[Ended]) {
     let mut updates = 0u32;
