@@ -1,9 +1,9 @@
 //! What lies under the lock.
-ghost use Rattle.std.specs.Prelude.{◌≡◌, None, IfErr, IfOk, OnErr};
+ghost use Rattle.std.specs.Prelude.{◌≡◌, ◌≤◌, None, IfErr, IfOk, OnErr, OnOk};
 ghost use mathlib.Core.List.{IsPrefix};
 ghost use Rattle.kd_tree.specs.Counter.{IsBlankOf};
 ghost use Rattle.rebuild_core.specs.Lawful.{IsLawful};
-ghost use Rattle.rebuild_core.specs.Steps.{IsFault, entered};
+ghost use Rattle.rebuild_core.specs.Steps.{HasRoom, IsFault, IsUpdatePlan, entered};
 ghost use Rattle.shown_versions.specs.Marks.{Added, Grown, IsMade};
 ghost use Rattle.published_map.specs.Answers.{Updated};
 
@@ -186,10 +186,7 @@ impl<L: MapName> Locked<L> {
         ensures pass { OnErr result (pass.new ≡ pass.old) }
     {
         let place = self.state.history().len() as u64;
-        let mut steps: Steps<C> = Steps::new(blank);
-        let planned = self
-            .state
-            .plan_update(alloc, pass.caller, update, &mut steps)?;
+        let planned = plan_uncounted::<C>(&mut self.state, alloc, pass.caller, update, blank)?;
         pass.marks.reserve(1)?;
         let (marks, state, writer) = (&mut self.marks, &mut self.state, &mut self.writer);
         let mark = take_step(rt, marks, state, writer, planned)?;
@@ -250,4 +247,26 @@ impl<L: MapName> Locked<L> {
         let _history = state.history();
         state
     }
+}
+
+// Plans an update, with a counter of nodes that nothing looks at.
+fn plan_uncounted<C: Ledger>(
+    state: &mut MapState,
+    alloc: Global,
+    caller: u8,
+    update: Update,
+    blank: Blank,
+) -> Result<Planned, StateFault>
+    requires blank { IsBlankOf C.name C.parts blank }
+    requires caller_from { 1 ≤ caller }
+    requires caller_to { caller ≤ 8 }
+    ensures same { state.new.state ≡ state.old.state }
+    ensures planned { IfOk result (IsUpdatePlan caller update state.old.state) }
+    ensures room { OnOk result (HasRoom update state.old.state) }
+    ensures spare { OnOk result (1 ≤ state.new.spare) }
+
+    ensures refused { IfErr result (IsFault update state.old.state) }
+{
+    let mut steps: Steps<C> = Steps::new(blank);
+    state.plan_update(alloc, caller, update, &mut steps)
 }

@@ -1,6 +1,7 @@
 //! Steps of a state: worked out by a plan, which may be refused, and then entered, which may not.
 ghost use Rattle.std.specs.Prelude.{◌≡◌, ◌+◌, ◌≤◌, length, IfOk, IfErr, OnOk, OnErr};
 ghost use Rattle.map_fold.specs.Fold.{points_in};
+ghost use Rattle.map_update.specs.Draft.{watches_of};
 ghost use Rattle.kd_tree.specs.Counter.{IsBlankOf};
 ghost use Rattle.rebuild_core.specs.Logs.{planned_parts};
 ghost use Rattle.rebuild_core.specs.Outcome.{IsLeftByUpdate, MakesNodes};
@@ -85,7 +86,34 @@ impl MapState {
         let mut scratch = self.lent(alloc);
         let draft = self.drafted(alloc, &update, &mut scratch, steps);
         self.returned(scratch);
-        let Drafted { tree, logs } = draft?;
+        let draft = draft?;
+        let planned = self.plan_of(alloc, caller, update, next, draft, steps)?;
+        Ok(planned)
+    }
+
+    // The plan of what was drafted of the update, and the memory that it needs.
+    fn plan_of<L: Ledger>(
+        &mut self,
+        alloc: Global,
+        caller: u8,
+        update: Update,
+        next: u32,
+        draft: Drafted,
+        steps: &mut Steps<L>,
+    ) -> Result<Planned, NoMemory>
+        requires caller_from { 1 ≤ caller }
+        requires caller_to { caller ≤ 8 }
+        requires room { HasRoom update self.old.state }
+        requires next { next ≡ self.old.state.next + points_in update }
+        requires drafted { IsDrafted update self.old.state draft }
+        ensures same { self.new.state ≡ self.old.state }
+        ensures planned { IfOk result (IsUpdatePlan caller update self.old.state) }
+        ensures spare { OnOk result (1 ≤ self.new.spare) }
+        ensures tree { IfOk result (λ p. p.tree ≡ draft.tree) }
+        ensures logs { IfOk result (λ p. p.logs ≡ draft.logs.items) }
+        ensures still { steps.new ≡ steps.old }
+    {
+        let Drafted { tree, logs } = draft;
         let _size = tree.size();
         let len = self.history.len() as u64;
         self.history.reserve(1)?;
@@ -137,15 +165,23 @@ impl MapState {
         ensures leaves { IfOk result (λ d. IsLeftByUpdate update.now self.now.state (planned_parts d.logs.items self.now.state.parts) d.tree) }
         ensures nodes { MakesNodes update.now self.now.state steps.old steps.new }
     {
-        let parts = self.parts.as_slice();
-        let tree = self.tree.copy(alloc, steps)?;
-        let watches = watched(alloc, parts)?;
-        let work = Work { tree, watches };
+        let copy = self.copied(alloc, steps)?;
         let (settings, next) = (&self.settings, self.next);
-        let work = changed(alloc, work, settings, next, update, scratch, steps)?;
+        let work = changed(alloc, copy, settings, next, update, scratch, steps)?;
         let Work { tree, watches } = work;
-        let logs = logs_of(alloc, parts, watches)?;
+        let logs = logs_of(alloc, self.parts.as_slice(), watches)?;
         Ok(Drafted { tree, logs })
+    }
+
+    // The tree and what is watched of it, copied to be worked on.
+    fn copied<L: Ledger>(&self, alloc: Global, steps: &mut Steps<L>) -> Result<Work, NoMemory>
+        ensures tree { IfOk result (λ w. w.tree ≡ self.now.state.tree) }
+        ensures watches { IfOk result (λ w. w.watches ≡ watches_of self.now.state.parts) }
+        ensures ticks { steps.new ≡ steps.old }
+    {
+        let tree = self.tree.copy(alloc, steps)?;
+        let watches = watched(alloc, self.parts.as_slice())?;
+        Ok(Work { tree, watches })
     }
 
     /// Rebuilds what breaches a criterion, however large, as `settled` does, and forgets all detached subtrees. What the map

@@ -3,7 +3,9 @@ ghost use Rattle.std.specs.Prelude.{◌≡◌, ◌≤◌, ◌+◌, true, length,
 ghost use Rattle.std.specs.List.{AllByRecursion};
 ghost use Rattle.scan_log.specs.Commands.{command_update, is_by};
 ghost use Rattle.scan_log.specs.declared.command.Command.TheVariants as command_of;
+ghost use Rattle.kd_tree.specs.Contents.{contents};
 ghost use Rattle.scan_log.specs.Plain.{IsPlain};
+ghost use Rattle.scan_log.specs.Transcript.{reply_on};
 ghost use Rattle.mapper_core.specs.Mine.{Tried, Turned};
 
 use super::alarm::{Bells, Signals};
@@ -12,7 +14,7 @@ use batch_near::nearest_each;
 use map_fold::{NearsReply, NoMemory, Update};
 use mapper_base::tree_reply;
 use published_map::{MapName, Pass, Shared};
-use rebuild_core::StateFault;
+use rebuild_core::{StateFault, Version};
 use rebuild_worker::Gate;
 use scan_log::{Command, MAX_COMMANDS, Reply};
 use std::alloc::Global;
@@ -43,8 +45,7 @@ fn change<L: MapName, R: Wait>(
     }
 }
 
-// Answers a command that makes no update, at the newest version. A list of places is searched by threads of their own.
-#[tactic(auto, using(crate::proofs::OneCaller::query_answered))]
+// Answers a command that makes no update, at the newest version.
 fn query<L: MapName, R: Threads + Sync>(
     rt: &R,
     alloc: Global,
@@ -57,16 +58,28 @@ fn query<L: MapName, R: Threads + Sync>(
 {
     pass.renew();
     let version = pass.version();
+    let reply = version_reply(rt, alloc, version, command)?;
+    Ok(Some(reply))
+}
+
+// The reply to a command at this version, which is all that it is handed: a later one can't come between a search and its mark. A
+// list of places is searched by threads of their own.
+fn version_reply<R: Threads + Sync>(
+    rt: &R,
+    alloc: Global,
+    version: &Version,
+    command: &Command,
+) -> Result<Reply, NoMemory>
+    requires { IsPlain command.now }
+    ensures { IfOk result (λ r. r ≡ reply_on (contents version.now.tree) command.now version.now.len) }
+{
     match command {
         Command::Nears { k, points, .. } => {
             let lists = nearest_each(rt, alloc, version.tree(), *k, points, None)?;
             let mark = version.len();
-            Ok(Some(Reply::Nears(NearsReply { mark, lists })))
+            Ok(Reply::Nears(NearsReply { mark, lists }))
         }
-        _ => {
-            let reply = tree_reply(alloc, version.tree(), version.len(), command)?;
-            Ok(Some(reply))
-        }
+        _ => tree_reply(alloc, version.tree(), version.len(), command),
     }
 }
 

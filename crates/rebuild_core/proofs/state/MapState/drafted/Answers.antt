@@ -1,39 +1,37 @@
-use Rattle.std.proofs.Common.{◌∙◌, ◌+◌, ap}
+use Rattle.std.proofs.Common.{◌∙◌, ◌+◌, ap, sym}
 use Rattle.map_fold.specs.Fold.{points_in}
+use Rattle.map_update.specs.Draft.{watches_of}
 use Rattle.rebuild_core.specs.Lawful.{StateAt, Stored}
 use Rattle.rebuild_core.specs.StateView.{state_of}
 use Rattle.map_update.specs.declared.work.Work.{Work}
 use Rattle.rebuild_core.proofs.OnePoint.{thinned_from, turned_copy}
 use Rattle.rebuild_core.proofs.Outcome.{makes_none, plan_makes}
-use Rattle.rebuild_core.proofs.Plans.{parts_few, plan_shape}
+use Rattle.rebuild_core.proofs.Plans.{plan_shape}
 use Rattle.rebuild_core.proofs.Staying.{plan_kept, plan_logged}
 use Rattle.rebuild_core.proofs.state.MapState.drafted.Goals as goal
 
-pub watched-requires : goal.watched-requires
-watched-requires g c = rw c.as_slice-parts.ensures.value (parts_few (state_of c.self.inside) c.self.invariant.0)
-
-pub returns-in_err-tree-clause-nodes : goal.returns-in_err-tree-clause-nodes
-returns-in_err-tree-clause-nodes g c = makes_none _ _ _ _ c.in_err-tree.ensures.ticks
-
-pub returns-in_err-watches-clause-nodes : goal.returns-in_err-watches-clause-nodes
-returns-in_err-watches-clause-nodes g c = makes_none _ _ _ _ c.in_ok-tree.ensures.ticks
+pub returns-in_err-copy-clause-nodes : goal.returns-in_err-copy-clause-nodes
+returns-in_err-copy-clause-nodes g c = makes_none _ _ _ _ c.in_err-copy.ensures.ticks
 
 pub returns-in_err-work-clause-nodes : goal.returns-in_err-work-clause-nodes
 returns-in_err-work-clause-nodes g c =
-    let seen = rw c.as_slice-parts.ensures.value at c.in_ok-watches.ensures in
-    plan_makes c.args.update.now (state_of c.self.inside) c.args.self.now.state c.in_ok-tree.tree c.copy.new._steps c.args.steps.now c.changed.new.steps c.in_ok-watches.watches (ap (λ (x : Stored). x.state) c.self.view_is) c.in_ok-tree.ensures.shape c.in_ok-tree.ensures.ticks seen
+    let is = ap (λ (x : Stored). x.state) c.self.view_is in
+    let copy = c.in_ok-copy.ensures in
+    plan_makes c.args.update.now (state_of c.self.inside) c.args.self.now.state c.in_ok-copy.copy.tree c.copied.new.steps c.args.steps.now c.changed.new.steps c.in_ok-copy.copy.watches is (copy.tree ∙ ap (λ (x : StateAt). x.tree) (sym is)) copy.ticks (copy.watches ∙ ap (λ (x : StateAt). watches_of x.parts) (sym is))
     c.in_err-work.ensures.ticks c.in_err-work.ensures.still
 
 pub returns-in_err-logs-clause-nodes : goal.returns-in_err-logs-clause-nodes
 returns-in_err-logs-clause-nodes g c =
-    let seen = rw c.as_slice-parts.ensures.value at c.in_ok-watches.ensures in
-    plan_makes c.args.update.now (state_of c.self.inside) c.args.self.now.state c.in_ok-tree.tree c.copy.new._steps c.args.steps.now c.changed.new.steps c.in_ok-watches.watches (ap (λ (x : Stored). x.state) c.self.view_is) c.in_ok-tree.ensures.shape c.in_ok-tree.ensures.ticks seen
+    let is = ap (λ (x : Stored). x.state) c.self.view_is in
+    let copy = c.in_ok-copy.ensures in
+    plan_makes c.args.update.now (state_of c.self.inside) c.args.self.now.state c.in_ok-copy.copy.tree c.copied.new.steps c.args.steps.now c.changed.new.steps c.in_ok-copy.copy.watches is (copy.tree ∙ ap (λ (x : StateAt). x.tree) (sym is)) copy.ticks (copy.watches ∙ ap (λ (x : StateAt). watches_of x.parts) (sym is))
     c.in_ok-work.ensures.ticks c.in_ok-work.ensures.still
 
 pub returns-clause-nodes : goal.returns-clause-nodes
 returns-clause-nodes g c =
-    let seen = rw c.as_slice-parts.ensures.value at c.in_ok-watches.ensures in
-    plan_makes c.args.update.now (state_of c.self.inside) c.args.self.now.state c.in_ok-tree.tree c.copy.new._steps c.args.steps.now c.changed.new.steps c.in_ok-watches.watches (ap (λ (x : Stored). x.state) c.self.view_is) c.in_ok-tree.ensures.shape c.in_ok-tree.ensures.ticks seen
+    let is = ap (λ (x : Stored). x.state) c.self.view_is in
+    let copy = c.in_ok-copy.ensures in
+    plan_makes c.args.update.now (state_of c.self.inside) c.args.self.now.state c.in_ok-copy.copy.tree c.copied.new.steps c.args.steps.now c.changed.new.steps c.in_ok-copy.copy.watches is (copy.tree ∙ ap (λ (x : StateAt). x.tree) (sym is)) copy.ticks (copy.watches ∙ ap (λ (x : StateAt). watches_of x.parts) (sym is))
     c.in_ok-work.ensures.ticks c.in_ok-work.ensures.still
 
 pub returns-clause-leaves : goal.returns-clause-leaves
@@ -41,15 +39,15 @@ returns-clause-leaves g c =
     let s = state_of c.self.inside in
     let z = c.args.self.now.state in
     let u = c.args.update.now in
-    let t = c.in_ok-tree.tree in
+    let t = c.in_ok-copy.copy.tree in
     let new = c.in_ok-work.work in
-    let ws = c.in_ok-watches.watches in
+    let ws = c.in_ok-copy.copy.watches in
     let logs = c.in_ok-logs.logs.items in
     let lawful = c.self.invariant.0 in
     let is = ap (λ (x : Stored). x.state) c.self.view_is in
-    let same = c.in_ok-tree.ensures.shape in
-    let seen = rw c.as_slice-parts.ensures.value at c.in_ok-watches.ensures in
-    let plans = rw c.as_slice-parts.ensures.value at c.in_ok-logs.ensures in
+    let same = c.in_ok-copy.ensures.tree ∙ ap (λ (x : StateAt). x.tree) (sym is) in
+    let seen = c.in_ok-copy.ensures.watches ∙ ap (λ (x : StateAt). watches_of x.parts) (sym is) in
+    let plans = rw c.as_slice.ensures.value at c.in_ok-logs.ensures in
     let work = c.in_ok-work.ensures in
     record {
       kept = plan_kept u s z t ws new logs (s.next + points_in u) lawful is same seen work.draft work.kept plans;

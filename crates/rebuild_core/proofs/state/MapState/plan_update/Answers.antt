@@ -1,61 +1,55 @@
-use Rattle.std.proofs.Common.{◌≡◌, ℕ, ◌+◌, ◌-◌, ◌<◌, ◌≤◌, IfOk, ap, ◌∙◌, arith, length, refl, slice_index_or, subst, sym}
+use Rattle.std.proofs.Common.{◌≡◌, ◌+◌, ◌≤◌, IfOk, List, ap, refl, subst, sym, ◌∙◌}
 use Rattle.map_fold.specs.Fold.{points_in}
-use Rattle.rebuild_core.specs.Lawful.{StateAt, Stored, VersionAt}
-use Rattle.rebuild_core.specs.Logs.{planned_parts}
+use Rattle.kd_tree.specs.Shape.{Shape}
+use Rattle.rebuild_core.specs.Lawful.{StateAt}
+use Rattle.rebuild_core.specs.Logs.{LogPlan, planned_parts}
 use Rattle.rebuild_core.specs.Outcome.{IsLeftByUpdate}
-use Rattle.rebuild_core.specs.StateView.{state_of}
-use Rattle.rebuild_core.specs.Steps.{IsDrafted}
+use Rattle.rebuild_core.specs.Steps.{HasRoom, IsDrafted, IsUpdatePlan}
 use Rattle.rebuild_core.specs.declared.plan.Drafted.{Drafted}
-use Rattle.rebuild_core.proofs.Histories.{entry_made}
 use Rattle.rebuild_core.proofs.Outcome.{makes_none, makes_on}
-use Rattle.rebuild_core.proofs.Plans.{planned}
 use Rattle.rebuild_core.proofs.state.MapState.plan_update.Goals as goal
 
 -- lending changes nothing that the state holds
 pub drafted-draft-requires : goal.drafted-draft-requires
 drafted-draft-requires g c = record { few = subst (λ (s : StateAt). s.next + points_in c.args.update ≤ 4194304) (sym c.lent-scratch.ensures.same) c.in_ok-next.ensures.room.points }
 
+pub plan_of-requires-clause-room : goal.plan_of-requires-clause-room
+plan_of-requires-clause-room g c = subst (HasRoom c.args.update) (sym (c.returned.ensures.same ∙ c.lent-scratch.ensures.same)) c.in_ok-next.ensures.room
+
+pub plan_of-requires-clause-next : goal.plan_of-requires-clause-next
+plan_of-requires-clause-next g c = c.in_ok-next.ensures.next ∙ ap (λ (x : StateAt). x.next + points_in c.args.update) (sym (c.returned.ensures.same ∙ c.lent-scratch.ensures.same))
+
+pub plan_of-requires-clause-drafted : goal.plan_of-requires-clause-drafted
+plan_of-requires-clause-drafted g c =
+    let u = c.args.update in
+    let d = c.in_ok-draft.draft in
+    let drafted : IsDrafted u c.lent-scratch.new.self.state d = subst (λ r. IfOk r (IsDrafted u c.lent-scratch.new.self.state)) c.in_ok-draft.was c.drafted-draft.ensures.drafted in
+    subst (λ (x : StateAt). IsDrafted u x d) (sym c.returned.ensures.same) drafted
+
 pub returns-clause-planned : goal.returns-clause-planned
 returns-clause-planned g c =
-    let s = state_of c.self.inside in
-    let z = c.args.self.now.state in
-    let u = c.args.update in
-    let d = c.in_ok-tree.field-0 in
-    let lent = c.lent-scratch.new.self.state in
-    let lawful = c.self.invariant.0 in
-    let room = c.in_ok-next.ensures.room in
-    let is : s ≡ z = ap (λ (x : Stored). x.state) c.self.view_is ∙ c.returned.ensures.same ∙ c.lent-scratch.ensures.same in
-    let asked : c.in_ok-next.next ≡ s.next + points_in u = c.in_ok-next.ensures.next ∙ ap (λ (x : StateAt). x.next + points_in u) (sym is) in
-    let small : length s.history < 1048576 = subst (λ (x : StateAt). length x.history < 1048576) (sym is) room.updates in
-    let few : c.in_ok-next.next ≤ 4194304 = omega (arith, c.in_ok-next.ensures.next, room.points) in
-    let V : ℕ → VersionAt = λ n. record { tree = d.tree; next = c.in_ok-next.next; len = n + 1 } in
-    let shown : c.in_ok-version.version.value ≡ V (length s.history) = c.in_ok-version.ensures.shown ∙ ap V (omega (arith, c.len-len.ensures, c.self.inside.history.ok)) in
-    let by =
-    entry_made c.args.caller (slice_index_or c.self.inside.made (c.args.caller - 1) 0) (c.args.caller - 1 + 1) u s.history (c.self.invariant.1.each (c.args.caller - 1) 0 (omega (arith, c.requires.caller_to, c.requires.caller_from))) (omega (arith, c.requires.caller_from)) in
-    let drafted : IsDrafted u lent d = subst (λ r. IfOk r (IsDrafted u lent)) c.in_ok-tree.was c.drafted-draft.ensures.drafted in
-    let made : IsDrafted u s d = subst (λ (x : StateAt). IsDrafted u x d) (c.lent-scratch.ensures.same ∙ sym is) drafted in
-    planned c.args.caller u s z d c.in_ok-next.next c.in_ok-version.version.value _ lawful c.requires.caller_from c.requires.caller_to small few asked c.size-size.ensures.sound made shown by is
+    subst (λ (x : StateAt). IsUpdatePlan c.args.caller c.args.update x c.in_ok-planned.planned) (c.returned.ensures.same ∙ c.lent-scratch.ensures.same) c.in_ok-planned.ensures.planned
 
 pub returns-clause-leaves : goal.returns-clause-leaves
 returns-clause-leaves g c =
     let u = c.args.update in
-    let d = c.in_ok-tree.field-0 in
+    let z = c.args.self.now.state in
+    let d = c.in_ok-draft.draft in
     let lent = c.lent-scratch.new.self.state in
     let left : IsLeftByUpdate u lent (planned_parts d.logs.items lent.parts) d.tree =
-    subst (λ r. IfOk r (λ (x : Drafted). IsLeftByUpdate u lent (planned_parts x.logs.items lent.parts) x.tree)) c.in_ok-tree.was c.drafted-draft.ensures.leaves in
-    subst (λ (x : StateAt). IsLeftByUpdate u x (planned_parts d.logs.items x.parts) d.tree) c.lent-scratch.ensures.same left
+    subst (λ r. IfOk r (λ (x : Drafted). IsLeftByUpdate u lent (planned_parts x.logs.items lent.parts) x.tree)) c.in_ok-draft.was c.drafted-draft.ensures.leaves in
+    let here : IsLeftByUpdate u z (planned_parts d.logs.items z.parts) d.tree = subst (λ (x : StateAt). IsLeftByUpdate u x (planned_parts d.logs.items x.parts) d.tree) c.lent-scratch.ensures.same left in
+    let tree : IsLeftByUpdate u z (planned_parts d.logs.items z.parts) c.in_ok-planned.planned.tree = subst (λ (t : Shape). IsLeftByUpdate u z (planned_parts d.logs.items z.parts) t) (sym c.in_ok-planned.ensures.tree) here in
+    subst (λ (logs : List LogPlan). IsLeftByUpdate u z (planned_parts logs z.parts) c.in_ok-planned.planned.tree) (sym c.in_ok-planned.ensures.logs) tree
 
 pub returns-in_err-next-clause-nodes : goal.returns-in_err-next-clause-nodes
 returns-in_err-next-clause-nodes g c = makes_none _ _ _ _ refl
 
-pub returns-in_err-tree-clause-nodes : goal.returns-in_err-tree-clause-nodes
-returns-in_err-tree-clause-nodes g c = makes_on _ _ _ _ _ _ c.lent-scratch.ensures.same refl c.drafted-draft.ensures.nodes
+pub returns-in_err-draft-clause-nodes : goal.returns-in_err-draft-clause-nodes
+returns-in_err-draft-clause-nodes g c = makes_on _ _ _ _ _ _ c.lent-scratch.ensures.same refl c.drafted-draft.ensures.nodes
 
-pub returns-in_err-reserve-clause-nodes : goal.returns-in_err-reserve-clause-nodes
-returns-in_err-reserve-clause-nodes g c = makes_on _ _ _ _ _ _ c.lent-scratch.ensures.same refl c.drafted-draft.ensures.nodes
-
-pub returns-in_err-version-clause-nodes : goal.returns-in_err-version-clause-nodes
-returns-in_err-version-clause-nodes g c = makes_on _ _ _ _ _ _ c.lent-scratch.ensures.same c.in_err-version.ensures.still c.drafted-draft.ensures.nodes
+pub returns-in_err-planned-clause-nodes : goal.returns-in_err-planned-clause-nodes
+returns-in_err-planned-clause-nodes g c = makes_on _ _ _ _ _ _ c.lent-scratch.ensures.same c.in_err-planned.ensures.still c.drafted-draft.ensures.nodes
 
 pub returns-clause-nodes : goal.returns-clause-nodes
-returns-clause-nodes g c = makes_on _ _ _ _ _ _ c.lent-scratch.ensures.same c.in_ok-version.ensures.still c.drafted-draft.ensures.nodes
+returns-clause-nodes g c = makes_on _ _ _ _ _ _ c.lent-scratch.ensures.same c.in_ok-planned.ensures.still c.drafted-draft.ensures.nodes
