@@ -51,13 +51,30 @@ fn show_step<L: MapName, R: Wait>(
 
     ensures same { OnErr result (state.new.state ≡ state.old.state) }
 {
+    publish(rt, writer, shown)?;
+    Ok(state.enter_step(planned))
+}
+
+// Publishes what goes on from what is published. Where memory runs out, that stays.
+fn publish<L: MapName, R: Wait>(
+    rt: &R,
+    writer: &mut MapWriter<L>,
+    shown: Shown<L>,
+) -> Result<(), NoMemory>
+    requires known { view writer.old.desk.place ≡ writer.old.desk.shown.value }
+    requires longer { IsPrefix writer.old.desk.shown.value shown }
+    ensures known { view writer.new.desk.place ≡ writer.new.desk.shown.value }
+    ensures shown { OnOk result (writer.new.desk.shown.value ≡ shown) }
+
+    ensures same { OnErr result (writer.new.desk.shown.value ≡ writer.old.desk.shown.value) }
+{
     let Ok(()) = writer.append(shown) else {
         return Err(NoMemory);
     };
     let Ok(()) = show(writer, rt) else {
         return Err(NoMemory);
     };
-    Ok(state.enter_step(planned))
+    Ok(())
 }
 
 /// Publishes a planned step and enters it, after which the history is so long. Where memory runs out, it does neither.
