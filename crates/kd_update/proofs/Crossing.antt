@@ -1,5 +1,5 @@
 -- Scans that are put while subtrees are watched.
-use Rattle.std.proofs.Common.{◌≡◌, ℕ, ◌+◌, ◌≤◌, Bool, true, false, not, cond, inl, refl, ap, ◌∙◌, sym, subst, arith, List, [], ◌∷◌, ◌++◌, Some, map, length, take, drop, length-append, append_assoc, All, IsPermutation, count_by, filter, ◌==◌}
+use Rattle.std.proofs.Common.{◌≡◌, ℕ, ◌+◌, ◌<◌, ◌≤◌, Bool, true, false, not, cond, inl, refl, ap, ◌∙◌, sym, subst, arith, List, [], ◌∷◌, ◌++◌, Some, map, length, take, drop, length-append, append_assoc, All, IsPermutation, count_by, filter, ◌==◌}
 use Rattle.std.proofs.lemmas.Bool.{cond_both}
 use Rattle.std.proofs.lemmas.List.{take-append-drop, append-nil}
 use Rattle.std.proofs.lemmas.List.Elements.{All-cons, All-head, All-nil, All-tail, All-filter, All-weaker, filter-append, recursion_from_All}
@@ -28,7 +28,8 @@ use Rattle.kd_tree.specs.declared.path.Side.TheVariants.{Left, Right}
 use Rattle.kd_tree.proofs.Apart.{clear_onward}
 use Rattle.kd_tree.proofs.Held.{walk_few}
 use Rattle.kd_tree.proofs.Numbered.{by_number-filter, by_number-moved, by_number_moves, once_moved}
-use Rattle.kd_update.specs.Put.{RebuildsNoneOnRoute, goes_left, put_from}
+use Rattle.kd_mark.specs.Refresh.{IsRefresh}
+use Rattle.kd_update.specs.Put.{goes_left, leaf_of, put_from, put_under}
 use Rattle.kd_update.specs.Scan.{AreLive, IsGrown, IsPiece, put_each}
 use Rattle.kd_mark.specs.Update.{IsBalancedBelow}
 use Rattle.kd_mark.specs.Several.{AreLargeAt, AreWatched, IsUpdatedClear}
@@ -38,10 +39,9 @@ use Rattle.node_labels.specs.declared.tag.Tag.{Tag}
 use Rattle.map_fold.specs.declared.op.Op.TheVariants.{Mark}
 use Rattle.kd_update.specs.Crossing.{AreMet, IsCrossed, IsMet, IsWholeGrown, going, logged_scan, puts_of}
 use Rattle.kd_update.proofs.Criteria.{apart}
-use Rattle.kd_update.proofs.Grown.{GoBeside, IsLive, IsStep, distinct_back, distinct_front, grown_built, grown_moved, grown_none, grown_put, new_first, step_grown}
+use Rattle.kd_update.proofs.Grown.{GoBeside, IsLive, IsStep, distinct_back, distinct_front, grown_first, grown_moved, grown_none, grown_put, live_of, new_first, step_grown}
 use Rattle.kd_update.proofs.Joins.{grown_held, put_new}
-use Rattle.kd_mark.proofs.Refresh.{head}
-use Rattle.kd_update.proofs.Route.{nodes-put, route_none}
+use Rattle.kd_mark.proofs.Refresh.{head, refresh_same}
 use Rattle.kd_mark.proofs.Large.{large_after}
 use Rattle.kd_update.proofs.Logged.{handed_puts}
 use Rattle.kd_mark.proofs.Several.{clear_balanced, balanced_clear, balanced_here, passed_by}
@@ -71,13 +71,16 @@ whole_none s = record { grown = grown_none s; many = omega arith }
 pub whole_moved : (s t : Shape) (is js : List Item) → IsPermutation is js → IsWholeGrown s js t → IsWholeGrown s is t
 whole_moved s t is js m k = record { grown = grown_moved s t is js m k.grown; many = omega (arith, k.many, length_permutation is js m) }
 
-pub whole_built : (large : ℕ) (s t : Shape) (is : List Item) → nodes s ≡ 0 → IsPiece large s is → IsBuilt (walk keep_tag s ++ is) t → IsPermutation (map (λ i. i.number) (walk keep_tag s ++ is)) (numbers t) → nodes t ≡ length (walk keep_tag s ++ is) → IsWholeGrown s is t
-whole_built large s t is none p b ns n = record { grown = grown_built large s t is p b ns; many = omega (arith, none, n, length-append (walk keep_tag s) is) }
+-- the first nodes of a tree
+pub whole_first : (s t : Shape) (is : List Item) → s ≡ leaf → AreLive is → length is < 4194304 → IsBuilt (walk keep_tag s ++ is) t → IsPermutation (map (λ i. i.number) (walk keep_tag s ++ is)) (numbers t) → nodes t ≡ length (walk keep_tag s ++ is) → IsWholeGrown leaf is t
+whole_first s t is none live short b ns n = record { grown = grown_first s t is none live short b ns; many = omega (arith, n, length-append (walk keep_tag s) is) }
 
-pub whole_put : (ps : List (List Side)) (i : Item) (axis : Axis) (s t : Shape) → i.label ≡ Live → IsUpdatedClear 0 ps s (put_from i.number i.point axis s) (RebuildsNoneOnRoute 0 i.point (put_from i.number i.point axis s)) t → IsWholeGrown s (i ∷ []) t
-whole_put ps i axis s t live u =
-    let p = put_from i.number i.point axis s in
-    record { grown = grown_put i axis s t live u.refresh; many = omega (arith, ap nodes (u.unrebuilt (route_none i.point p)), nodes-put i.number i.point axis keep_tag s) }
+pub whole_leaf : (i : Item) (axis : Axis) (t : Shape) → i.label ≡ Live → t ≡ leaf_of i axis → IsWholeGrown leaf (i ∷ []) t
+unfolding put_under
+whole_leaf i axis t live e =
+    let made = leaf_of i axis in
+    let own : IsRefresh (put_from i.number i.point axis leaf) made = subst (λ (j : Item). IsRefresh (leaf_of j axis) made) (live_of i live) (refresh_same made) in
+    subst (IsWholeGrown leaf (i ∷ [])) (sym e) (record { grown = grown_put i axis leaf made live own; many = omega arith })
 
 pub step_from : (s : Shape) (f : Fork) (n : ℕ) (is js xs ys : List Item) → Some f ≡ pushed s → IsSound s → IsPermutation is js
     → All (λ i. goes_left f.axis i.point f.item.point ≡ true) (take n js) → All (λ i. goes_left f.axis i.point f.item.point ≡ false) (drop n js) → xs ≡ take n js → ys ≡ drop n js → IsStep s is f xs ys

@@ -1,5 +1,5 @@
 -- Trees with more items than before, some subtrees rebuilt.
-use Rattle.std.proofs.Common.{◌≡◌, ℕ, ◌+◌, ◌≤◌, ◌≤ℤ◌, true, false, cond, inl, inr, refl, ap, sym, subst, arith, List, [], ◌∷◌, ◌++◌, Some, map, length, take, drop, length-append, append_assoc, All, Contains, IsPermutation, count_by, ◌==◌, eqb-true}
+use Rattle.std.proofs.Common.{◌≡◌, ℕ, ◌+◌, ◌<◌, ◌≤◌, ◌≤ℤ◌, true, false, cond, inl, inr, refl, ap, sym, subst, arith, List, [], ◌∷◌, ◌++◌, Some, map, length, take, drop, slice_index_or, length-append, append_assoc, All, Contains, IsPermutation, count_by, ◌==◌}
 use Rattle.std.proofs.lemmas.List.{map-append, take-append-drop, append-nil, get_or_append_left, get_or-append-add}
 use Rattle.std.proofs.lemmas.List.Elements.{All-append, All-weaker, Contains-append_left}
 use Rattle.std.proofs.lemmas.List.Sorted.{All-permutation, Contains-permutation, length_permutation, IsPermutation-refl, IsPermutation-sym, IsPermutation-trans, IsPermutation-append, IsPermutation-append_left, IsPermutation-append_right, IsPermutation-append_comm, IsPermutation-map}
@@ -137,14 +137,15 @@ grown_anew (fork h l r) t is live few some b ns =
     built_grown (fork h l r) t is live (omega (arith, built_levels t all 23 b (omega (arith, length-append (walk keep_tag (fork h l r)) is, few)))) b ns
 
 -- and fewer items than a pass puts where it had none
-pub grown_built : (large : ℕ) (s t : Shape) (is : List Item) → IsPiece large s is → IsBuilt (walk keep_tag s ++ is) t → IsPermutation (map (λ i. i.number) (walk keep_tag s ++ is)) (numbers t) → IsGrown s is t
-grown_built large leaf t is p b ns = built_grown leaf t is p.live (built_levels t is 22 b (omega (arith, p.short))) b ns
-grown_built large (fork h l r) t is p b ns = grown_anew (fork h l r) t is p.live (omega (arith, walk_few keep_tag (fork h l r), p.few)) (omega arith) b ns
+pub grown_first : (s t : Shape) (is : List Item) → s ≡ leaf → AreLive is → length is < 4194304 → IsBuilt (walk keep_tag s ++ is) t → IsPermutation (map (λ i. i.number) (walk keep_tag s ++ is)) (numbers t) → IsGrown leaf is t
+grown_first leaf t is none live short b ns = built_grown leaf t is live (built_levels t is 22 b (omega (arith, short))) b ns
+grown_first (fork h l r) t is none live short b ns = absurd (cc none)
 
--- a list whose rest is empty
-pub alone : (is rest : List Item) (i : Item) → is ≡ i ∷ rest → (length rest == 0) ≡ true → is ≡ i ∷ []
-alone is [] i e k = e
-alone is (j ∷ rest) i e k = absurd (let h = eqb-true (length (j ∷ rest)) 0 k in omega arith)
+-- a list of one item
+pub alone : (is : List Item) (i : Item) → length is ≡ 1 → i ≡ slice_index_or is 0 i → is ≡ i ∷ []
+alone [] i k e = absurd (omega (arith, k))
+alone (j ∷ []) i k e = ap (λ (x : Item). x ∷ []) (sym e)
+alone (j ∷ k ∷ is) i n e = absurd (omega (arith, n))
 
 -- pieces
 

@@ -2,14 +2,17 @@
 //! once, and a subtree that is due is rebuilt with its points at once, at the topmost node. Nothing here knows whether the
 //! bounds of a tree allow it.
 ghost use Rattle.std.specs.Prelude.{◌+◌, ◌<◌, max, length, IfOk};
-ghost use Rattle.kd_tree.specs.Shape.{nodes};
+ghost use Rattle.kd_tree.specs.Shape.{leaf, nodes};
+ghost use Rattle.kd_tree.specs.Contents.{AreDistinct};
+ghost use Rattle.kd_tree.specs.Criteria.{AllMeetCriteria};
 ghost use Rattle.kd_mark.specs.Update.{IsBalancedBelow};
-ghost use Rattle.kd_update.specs.Scan.{IsGrown, IsPiece};
+ghost use Rattle.kd_update.specs.Scan.{AreLive, IsGrown, IsPiece};
+ghost use Rattle.kd_update.specs.Crossing.{IsWholeGrown};
 
-use crate::insert::put_below;
+use crate::insert::leaf;
 use crate::part_items::parted;
-use kd_mark::{Unwatched, rejoined};
-use kd_tree::{OpenNode, Scratch, Steps, Tree};
+use kd_mark::rejoined;
+use kd_tree::{MAX_NODES, OpenNode, Scratch, Steps, Tree};
 use map_fold::{Item, NoMemory};
 use point_geom::Axis;
 use std::alloc::Global;
@@ -30,16 +33,12 @@ pub(crate) fn put_at_once<L: Ledger>(
     ensures grown { IfOk result (λ t. IsGrown tree items.old t) }
     ensures balance { IfOk result (λ t. IsBalancedBelow large tree → IsBalancedBelow large t) }
 {
-    let size = tree.size();
-    let Some((first, rest)) = items.split_first() else {
+    let _size = tree.size();
+    if items.is_empty() {
         return Ok(tree);
-    };
-    if size == 0 && rest.is_empty() {
-        let block = scratch.block();
-        return put_below(alloc, tree, large, *first, axis, &Unwatched, block, steps);
     }
     let Some(count) = parted(&tree, large, items) else {
-        return built_with(alloc, tree, large, items, scratch, steps);
+        return put_here(alloc, tree, large, items, axis, scratch, steps);
     };
     let Some(node) = tree.take_apart(alloc, steps)? else {
         return Ok(Tree::empty());
@@ -57,20 +56,44 @@ pub(crate) fn put_at_once<L: Ledger>(
     rejoined(alloc, node, large, steps)
 }
 
-// What is left of the tree and the items, built by medians. The tree is dropped.
-fn built_with<L: Ledger>(
+// The tree with the items, none of which goes on to a son. No large subtree is built.
+fn put_here<L: Ledger>(
     alloc: Global,
     tree: Tree,
     large: u32,
     items: &[Item],
+    axis: Axis,
     scratch: &mut Scratch,
     steps: &mut Steps<L>,
 ) -> Result<Tree, NoMemory>
     requires piece { IsPiece large tree items.now }
-    // No large subtree is built.
     requires small { nodes tree + length items.now < max 2 large }
     ensures grown { IfOk result (λ t. IsGrown tree items.now t) }
     ensures balance { IfOk result (λ t. IsBalancedBelow large t) }
 {
+    if tree.size() == 0 {
+        return put_first(alloc, items, axis, scratch, steps);
+    }
     tree.rebuilt_with(alloc, items, scratch, steps)
+}
+
+// The items alone: one is a leaf, and more are built by medians.
+pub(crate) fn put_first<L: Ledger>(
+    alloc: Global,
+    items: &[Item],
+    axis: Axis,
+    scratch: &mut Scratch,
+    steps: &mut Steps<L>,
+) -> Result<Tree, NoMemory>
+    requires live { AreLive items.now }
+    requires distinct { AreDistinct items.now }
+    requires short { length items.now < MAX_NODES }
+    ensures grown { IfOk result (λ t. IsWholeGrown leaf items.now t) }
+    ensures criteria { IfOk result (λ t. AllMeetCriteria 10 t) }
+{
+    if items.len() == 1 {
+        let block = scratch.block();
+        return leaf(alloc, items[0], axis, block, steps);
+    }
+    Tree::empty().rebuilt_with(alloc, items, scratch, steps)
 }

@@ -7,10 +7,9 @@ ghost use Rattle.kd_mark.specs.Several.{AreLargeAt};
 ghost use Rattle.kd_update.specs.Crossing.{IsCrossed, IsWholeGrown};
 ghost use Rattle.kd_mark.specs.Ways.{paths_of};
 
-use crate::insert::put_below;
-use crate::one_pass::put_at_once;
+use crate::one_pass::{put_at_once, put_first};
 use crate::part_items::moved_left;
-use kd_mark::{NEVER, Unwatched, Watched, Ways, joined};
+use kd_mark::{Watched, Ways, joined};
 use kd_tree::{OpenNode, Scratch, Side, Steps, Tree};
 use map_fold::{Item, NoMemory};
 use point_geom::Axis;
@@ -78,19 +77,12 @@ fn put_within<L: Ledger>(
     requires { (large : ℕ) × IsPiece large tree items.old }
     ensures { IfOk result (λ t. IsWholeGrown tree items.old t) }
 {
-    let size = tree.size();
-    let Some((first, rest)) = items.split_first() else {
+    let _size = tree.size();
+    if items.is_empty() {
         return Ok(tree);
-    };
-    if size == 0 {
-        if rest.is_empty() {
-            let block = scratch.block();
-            return put_below(alloc, tree, NEVER, *first, axis, &Unwatched, block, steps);
-        }
-        return tree.rebuilt_with(alloc, items, scratch, steps);
     }
     let Some(node) = tree.take_apart(alloc, steps)? else {
-        return Ok(Tree::empty());
+        return put_first(alloc, items, axis, scratch, steps);
     };
     let count = moved_left(items, node.axis, &node.item.point);
     let next = node.axis.next();
