@@ -85,3 +85,60 @@ returns-clause-unrebuilt g c = λ calm. IfOk-weaker c.put_below.result _ _ (λ t
 
 pub returns-clause-ticks : goal.returns-clause-ticks
 returns-clause-ticks g c = λ calm. let few = rw c.live-item.ensures at c.put_below.ensures.ticks in omega (arith, few calm)
+
+pub put-requires-clause-low : goal.put-requires-clause-low
+put-requires-clause-low g c = c.requires.low
+
+pub put-requires-clause-few : goal.put-requires-clause-few
+put-requires-clause-few g c = c.requires.few
+
+pub put-requires-clause-new : goal.put-requires-clause-new
+put-requires-clause-new g c = c.requires.new
+
+pub returns-then-is_empty-clause-contents : goal.returns-then-is_empty-clause-contents
+returns-then-is_empty-clause-contents g c = c.put.ensures.contents
+
+pub returns-then-is_empty-clause-numbers : goal.returns-then-is_empty-clause-numbers
+returns-then-is_empty-clause-numbers g c = c.put.ensures.numbers
+
+pub returns-then-is_empty-clause-refresh : goal.returns-then-is_empty-clause-refresh
+returns-then-is_empty-clause-refresh g c = c.put.ensures.refresh
+
+pub returns-then-is_empty-clause-unrebuilt : goal.returns-then-is_empty-clause-unrebuilt
+returns-then-is_empty-clause-unrebuilt g c = c.put.ensures.unrebuilt
+
+pub returns-then-is_empty-clause-ticks : goal.returns-then-is_empty-clause-ticks
+returns-then-is_empty-clause-ticks g c = c.put.ensures.ticks
+
+pub log_puts-requires : goal.log_puts-requires
+log_puts-requires g c = c.requires.room
+
+pub returns-in_err-log_puts-clause-begins : goal.returns-in_err-log_puts-clause-begins
+returns-in_err-log_puts-clause-begins g c = c.log_puts.ensures.begins
+
+pub returns-in_err-log_puts-clause-few : goal.returns-in_err-log_puts-clause-few
+returns-in_err-log_puts-clause-few g c = c.log_puts.ensures.few
+
+pub returns-in_err-log_puts-clause-ticks : goal.returns-in_err-log_puts-clause-ticks
+returns-in_err-log_puts-clause-ticks g c = λ calm. omega arith
+
+pub put_below-requires-clause-live : goal.put_below-requires-clause-live
+put_below-requires-clause-live g c = rw c.live-item.ensures refl
+
+pub put_below-requires-clause-low : goal.put_below-requires-clause-low
+put_below-requires-clause-low g c = c.requires.low
+
+pub put_below-requires-clause-few : goal.put_below-requires-clause-few
+put_below-requires-clause-few g c = c.requires.few
+
+pub put_below-requires-clause-new : goal.put_below-requires-clause-new
+put_below-requires-clause-new g c = rw c.live-item.ensures c.requires.new
+
+pub returns-clause-begins : goal.returns-clause-begins
+returns-clause-begins g c = c.log_puts.ensures.begins
+
+pub returns-clause-few : goal.returns-clause-few
+returns-clause-few g c = c.log_puts.ensures.few
+
+pub returns-clause-logged : goal.returns-clause-logged
+returns-clause-logged g c = IfOk-weaker c.put_below.result _ _ (λ t u. c.in_ok-log_puts.ensures.logged) c.put_below.ensures.updated

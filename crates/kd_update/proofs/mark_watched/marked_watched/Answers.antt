@@ -76,3 +76,36 @@ pub returns-then-is_empty-clause-watched : goal.returns-then-is_empty-clause-wat
 returns-then-is_empty-clause-watched g c =
     let none = nil_from_length c.args.watches.now (eqb-true _ 0 (sym c.is_empty.ensures ∙ c.if-is_empty.true)) in
     IfOk-weaker c.marked.result _ _ (λ t _. subst (λ (ws : List Watch). AreWatched (λ p. IsWatched p c.args.tree t (logged_mark c.args.choice.now c.args.tag p c.args.tree)) (paths_in ws)) (sym none) tt) c.marked.ensures.contents
+
+pub returns-then-is_empty-clause-contents : goal.returns-then-is_empty-clause-contents
+returns-then-is_empty-clause-contents g c = c.marked.ensures.contents
+
+pub returns-then-is_empty-clause-numbers : goal.returns-then-is_empty-clause-numbers
+returns-then-is_empty-clause-numbers g c = c.marked.ensures.numbers
+
+pub returns-then-is_empty-clause-refresh : goal.returns-then-is_empty-clause-refresh
+returns-then-is_empty-clause-refresh g c = c.marked.ensures.refresh
+
+pub returns-then-is_empty-clause-unrebuilt : goal.returns-then-is_empty-clause-unrebuilt
+returns-then-is_empty-clause-unrebuilt g c = c.marked.ensures.unrebuilt
+
+pub returns-then-is_empty-clause-ticks : goal.returns-then-is_empty-clause-ticks
+returns-then-is_empty-clause-ticks g c = c.marked.ensures.ticks
+
+pub log_marks-requires : goal.log_marks-requires
+log_marks-requires g c = c.requires.room
+
+pub returns-in_err-log_marks-clause-begins : goal.returns-in_err-log_marks-clause-begins
+returns-in_err-log_marks-clause-begins g c = c.log_marks.ensures.begins
+
+pub returns-in_err-log_marks-clause-few : goal.returns-in_err-log_marks-clause-few
+returns-in_err-log_marks-clause-few g c = c.log_marks.ensures.few
+
+pub returns-in_err-log_marks-clause-ticks : goal.returns-in_err-log_marks-clause-ticks
+returns-in_err-log_marks-clause-ticks g c = λ calm. omega arith
+
+pub returns-clause-begins : goal.returns-clause-begins
+returns-clause-begins g c = c.log_marks.ensures.begins
+
+pub returns-clause-few : goal.returns-clause-few
+returns-clause-few g c = c.log_marks.ensures.few
