@@ -57,3 +57,12 @@ returns-then-not-goes_on-clause-few t c = few_first _ _ _ _ _ (parts t (goal.at.
 
 pub returns-clause-few : goal.returns-clause-few
 returns-clause-few t c = few_rest _ _ _ _ _ _ (parts t (goal.at.returns-clause-few t c).After-goes_to-goes_on true c.if-not-goes_on.false) c.note_owed.ensures.few c.log_put.ensures.few
+
+pub returns-in_default-clause-begins : goal.returns-in_default-clause-begins
+returns-in_default-clause-begins t c = c.note.ensures.begins
+
+pub returns-in_err-note_owed-clause-begins : goal.returns-in_err-note_owed-clause-begins
+returns-in_err-note_owed-clause-begins t c = c.note_owed.ensures.begins
+
+pub returns-then-not-goes_on-clause-begins : goal.returns-then-not-goes_on-clause-begins
+returns-then-not-goes_on-clause-begins t c = c.note_owed.ensures.begins

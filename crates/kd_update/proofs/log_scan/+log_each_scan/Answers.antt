@@ -1,10 +1,11 @@
-use Rattle.std.proofs.Common.{◌+◌, ◌∷◌, List, ap, length, sym, subst, arith}
+use Rattle.std.proofs.Common.{◌≡◌, ◌+◌, ◌∷◌, List, ap, length, refl, sym, subst, arith}
+use Rattle.std.proofs.lemmas.List.{nil_from_length}
 use Rattle.node_labels.specs.Labels.{keep_tag}
 use Rattle.map_fold.specs.declared.item.Item.{Item}
 use Rattle.kd_tree.specs.Walk.{tagged}
 use Rattle.kd_mark.specs.declared.watch.Watch.{Watch}
 use Rattle.kd_mark.specs.Watches.{AreExtended, AreMore}
-use Rattle.kd_update.specs.Crossing.{HaveRoomAtOnce}
+use Rattle.kd_update.specs.Crossing.{HaveRoomAtOnce, with_scan}
 use Rattle.kd_update.proofs.Crossing.{logged_scan_few}
 use Rattle.kd_mark.proofs.ManyLogs.{extended_itself, extended_front, more_front, more_itself}
 use Rattle.kd_update.proofs.log_scan.+log_each_scan.Goals as goal
@@ -35,3 +36,15 @@ returns-clause-few t c =
 
 pub returns-clause-begins : goal.returns-clause-begins
 returns-clause-begins t c = extended_front _ c.in-Some.rest.now _ _ _ c.in-Some.ensures.cases.0 c.log_scan.ensures.begins c.log_each_scan.ensures.begins
+
+pub log_each_scan-requires : goal.log_each_scan-requires
+log_each_scan-requires t c = (omega (arith, c.in-Some.ensures.cases.1), (subst (HaveRoomAtOnce (length c.args.items.now)) c.in-Some.ensures.cases.0 c.requires).1)
+
+pub returns-in_default-clause-logged : goal.returns-in_default-clause-logged
+returns-in_default-clause-logged t c = subst (λ (ws : List Watch). ws ≡ with_scan c.args.items.now c.args.tree.now ws) (sym (nil_from_length c.args.watches.now c.in_default.ensures.cases)) refl
+
+pub returns-in_default-clause-begins : goal.returns-in_default-clause-begins
+returns-in_default-clause-begins t c = extended_itself c.args.watches.now
+
+pub returns-in_default-clause-few : goal.returns-in_default-clause-few
+returns-in_default-clause-few t c = more_itself (length c.args.items.now + 1) c.args.watches.now

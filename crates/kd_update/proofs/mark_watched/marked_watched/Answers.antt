@@ -109,3 +109,12 @@ returns-clause-begins g c = c.log_marks.ensures.begins
 
 pub returns-clause-few : goal.returns-clause-few
 returns-clause-few g c = c.log_marks.ensures.few
+
+pub returns-clause-logged : goal.returns-clause-logged
+returns-clause-logged g c = IfOk-weaker c.marked_within.result _ _ (λ t u. c.in_ok-log_marks.ensures.logged) c.marked_within.ensures.updated
+
+pub returns-clause-refresh : goal.returns-clause-refresh
+returns-clause-refresh g c = IfOk-weaker c.marked_within.result _ _ (λ t u. u.refresh) c.marked_within.ensures.updated
+
+pub returns-clause-unrebuilt : goal.returns-clause-unrebuilt
+returns-clause-unrebuilt g c = λ calm. IfOk-weaker c.marked_within.result _ _ (λ t u. u.unrebuilt calm) c.marked_within.ensures.updated

@@ -73,3 +73,9 @@ returns-in_default g t c =
     let ps = paths_of c.args.ways.now in
     let there = subst (AreLargeAt c.args.large ps) (c.in_ok-node.ensures.none.0 (rw c.in_default.is refl)) c.requires.there in
     absurd (some_of ps (sym c.is_empty.ensures ∙ c.if-is_empty.false) (none_on c.args.large ps there (sym c.is_here.ensures ∙ c.if-is_here.false)))
+
+pub put_at_once-requires : goal.put_at_once-requires
+put_at_once-requires g t c = c.requires.piece
+
+pub put_within-requires : goal.put_within-requires
+put_within-requires g t c = (c.args.large, c.requires.piece)
