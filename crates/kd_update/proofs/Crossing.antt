@@ -32,7 +32,7 @@ use Rattle.kd_mark.specs.Refresh.{IsRefresh}
 use Rattle.kd_update.specs.Put.{goes_left, leaf_of, put_from, put_under}
 use Rattle.kd_update.specs.Scan.{AreLive, IsGrown, IsPiece, put_each}
 use Rattle.kd_mark.specs.Update.{IsBalancedBelow}
-use Rattle.kd_mark.specs.Several.{AreLargeAt, AreWatched, IsUpdatedClear}
+use Rattle.kd_mark.specs.Several.{AreLargeAt, AreWatched}
 use Rattle.kd_mark.specs.Watch.{IsWatched, handed, is_keep}
 use Rattle.kd_update.specs.Watch.{goes_to}
 use Rattle.node_labels.specs.declared.tag.Tag.{Tag}

@@ -12,7 +12,7 @@ use Rattle.node_labels.specs.declared.label.Label.TheVariants.{Live}
 use Rattle.map_fold.specs.declared.item.Item.{Item}
 use Rattle.map_fold.specs.Contents.{live_at, relabelled, kept}
 use Rattle.kd_tree.specs.Shape.{Head, Shape, leaf, fork, levels, nodes, numbers}
-use Rattle.kd_tree.specs.Walk.{walk, times}
+use Rattle.kd_tree.specs.Walk.{walk}
 use Rattle.kd_tree.specs.Sound.{IsSound, IsSoundFork}
 use Rattle.kd_tree.specs.Contents.{AreDistinct, AreKept}
 use Rattle.kd_tree.specs.Build.{IsBuilt}
@@ -154,10 +154,6 @@ pub new_first : (xs is : List Item) (i : Item) → AreDistinct (xs ++ i ∷ is) 
 new_first xs is i d =
     let here = counted_in i i.number (i ∷ is) (inl refl) refl in
     omega (arith, here, d.once i.number, sum_by-append (λ (j : Item). cond (i.number == j.number) 1 0) xs (i ∷ is))
-
--- the number of an item isn't held
-pub piece_new : (large : ℕ) (s : Shape) (is rest : List Item) (i : Item) → is ≡ i ∷ rest → IsPiece large s is → times i.number keep_tag s ≡ 0
-piece_new large s is rest i e p = omega (arith, times_walk i.number keep_tag s, new_first (walk keep_tag s) rest i (subst (λ js. AreDistinct (walk keep_tag s ++ js)) e p.distinct))
 
 -- no more items may be put in a tree that is no larger
 piece_part : (large : ℕ) (s t : Shape) (is js : List Item) → IsPiece large s is → AreLive js → AreDistinct (walk keep_tag t ++ js) → length js ≤ length is → nodes t ≤ nodes s → levels t ≤ levels s → IsPiece large t js

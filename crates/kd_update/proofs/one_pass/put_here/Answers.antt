@@ -5,7 +5,6 @@ use Rattle.kd_tree.specs.Shape.{Shape, levels, nodes}
 use Rattle.kd_tree.specs.Walk.{walk}
 use Rattle.kd_tree.proofs.Held.{walk_few}
 use Rattle.kd_update.specs.Scan.{IsGrown}
-use Rattle.kd_mark.specs.Update.{IsBalancedBelow}
 use Rattle.kd_update.proofs.Grown.{grown_anew, live_kept}
 use Rattle.kd_update.proofs.Trees.{bare}
 use Rattle.kd_mark.proofs.Results.{ok_both}
