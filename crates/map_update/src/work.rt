@@ -3,7 +3,9 @@ ghost use Rattle.std.specs.Prelude.{◌≡◌, ℕ, ◌<◌, ◌≤◌, List, So
 ghost use Rattle.node_labels.specs.Labels.{keep_tag};
 ghost use Rattle.map_fold.specs.Contents.{chosen_by, mark, put};
 ghost use Rattle.map_fold.specs.declared.op.Op.TheVariants.{Mark, Put};
-ghost use Rattle.kd_tree.specs.Shape.{levels, nodes};
+ghost use Rattle.kd_tree.specs.Shape.{levels, nodes, numbers};
+ghost use Rattle.kd_tree.specs.Criteria.{AllMeetCriteria};
+ghost use Rattle.kd_mark.specs.Refresh.{AreAmong};
 ghost use Rattle.kd_tree.specs.Walk.{times};
 ghost use Rattle.kd_tree.specs.Contents.{contents};
 ghost use Rattle.kd_mark.specs.Watches.{HaveRoom, paths_in};
@@ -141,12 +143,11 @@ impl Work {
     {
         let Work { tree, mut watches } = self;
         let Watch { path, .. } = watches.remove(place);
+        let others = paths_of(alloc, watches.as_slice())?;
         let Some(node) = tree.subtree_at(&path) else {
             return Ok(Work { tree, watches });
         };
-        let node = node.copy(alloc, steps)?;
-        let with = rebuilt(alloc, node, steps)?;
-        let others = paths_of(alloc, watches.as_slice())?;
+        let with = rebuilt_copy(alloc, node, steps)?;
         let (path, others) = (&path, others.as_slice());
         let Replaced {
             tree,
@@ -160,6 +161,22 @@ impl Work {
         }
         Ok(Work { tree, watches })
     }
+}
+
+// What is left in the tree, rebuilt beside it.
+fn rebuilt_copy<L: Ledger>(
+    alloc: Global,
+    tree: &Tree,
+    steps: &mut Steps<L>,
+) -> Result<Tree, NoMemory>
+    ensures contents { IfOk result (λ t. contents t ≡ contents tree.now) }
+    ensures numbers { IfOk result (λ t. AreAmong (numbers t) (numbers tree.now)) }
+    ensures low { IfOk result (λ t. levels t ≤ levels tree.now) }
+    ensures few { IfOk result (λ t. nodes t ≤ nodes tree.now) }
+    ensures criteria { IfOk result (λ t. AllMeetCriteria 10 t) }
+{
+    let copy = tree.copy(alloc, steps)?;
+    rebuilt(alloc, copy, steps)
 }
 
 // Where the first watch stands whose log has no room for two operations.

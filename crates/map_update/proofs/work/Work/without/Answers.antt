@@ -1,5 +1,5 @@
 use Rattle.std.proofs.Common.{◌≡◌, ◌∷◌, ◌≤◌, List, ap, sym, ◌∙◌, refl, subst, arith}
-use Rattle.kd_tree.specs.Shape.{Shape, levels, nodes, numbers}
+use Rattle.kd_tree.specs.Shape.{levels, nodes, numbers}
 use Rattle.kd_tree.specs.Apart.{IsClear}
 use Rattle.kd_tree.specs.declared.path.Side.{Side}
 use Rattle.kd_mark.specs.declared.watch.Watch.{Watch}
@@ -39,7 +39,7 @@ returns-then-whole_rebuilt-clause-draft g c = λ next last ps d.
     let u = c.in_ok-tree.field-0.tree in
     let node = c.in-Some.node.now in
     let with = c.in_ok-with.with in
-    let of_node : AreAmong (numbers with) (numbers node) = subst (λ (s : Shape). AreAmong (numbers with) (numbers s)) c.in_ok-node.ensures.shape c.in_ok-with.ensures.numbers in
+    let of_node : AreAmong (numbers with) (numbers node) = c.in_ok-with.ensures.numbers in
     let among = among_part (numbers u) (numbers with) (numbers node) (numbers t) c.in_ok-tree.ensures.numbers of_node (at_numbers c.remove-path.result.path t node c.in-Some.ensures.some) in
     subst (λ (ws : List Watch). IsDraftLeft c.args.large next last ps (record { tree = u; watches = ws })) (sym c.new.ensures) (draft_anew c.args.large next last c.args.self u ps d among (c.in_ok-tree.ensures.criteria c.if-whole_rebuilt.true))
 
@@ -48,7 +48,7 @@ returns-then-whole_rebuilt-clause-low g c =
     let t = c.args.self.tree in
     let node = c.in-Some.node.now in
     let with = c.in_ok-with.with in
-    let low : levels with ≤ levels node = subst (λ (s : Shape). levels with ≤ levels s) c.in_ok-node.ensures.shape c.in_ok-with.ensures.refresh.low in
+    let low : levels with ≤ levels node = c.in_ok-with.ensures.low in
     omega (arith, c.in_ok-tree.ensures.size.low, levels_kept c.remove-path.result.path with t node c.in-Some.ensures.some low)
 
 pub returns-then-whole_rebuilt-clause-few : goal.returns-then-whole_rebuilt-clause-few
@@ -56,7 +56,7 @@ returns-then-whole_rebuilt-clause-few g c =
     let t = c.args.self.tree in
     let node = c.in-Some.node.now in
     let with = c.in_ok-with.with in
-    let few : nodes with ≤ nodes node = subst (λ (s : Shape). nodes with ≤ nodes s) c.in_ok-node.ensures.shape c.in_ok-with.ensures.refresh.few in
+    let few : nodes with ≤ nodes node = c.in_ok-with.ensures.few in
     omega (arith, c.in_ok-tree.ensures.size.few, replaced_nodes c.remove-path.result.path with t node c.in-Some.ensures.some, few)
 
 pub returns-clause-draft : goal.returns-clause-draft
@@ -68,7 +68,7 @@ returns-clause-draft g c = λ next last ps d.
     let ws = c.remove-path.new.self in
     let k = without_of c.args.large next last ps c.args.self c.args.place c.remove-path.result ws d c.requires.place c.remove-path.ensures.value c.remove-path.ensures.items in
     let others : c.as_slice-others.result.now ≡ paths_in ws = c.as_slice-others.ensures.value ∙ c.in_ok-others.ensures ∙ ap paths_in c.as_slice.ensures.value in
-    let of_node : AreAmong (numbers with) (numbers node) = subst (λ (s : Shape). AreAmong (numbers with) (numbers s)) c.in_ok-node.ensures.shape c.in_ok-with.ensures.numbers in
+    let of_node : AreAmong (numbers with) (numbers node) = c.in_ok-with.ensures.numbers in
     let among = among_part (numbers u) (numbers with) (numbers node) (numbers t) c.in_ok-tree.ensures.numbers of_node (at_numbers c.remove-path.result.path t node c.in-Some.ensures.some) in
     let outside = subst (λ (qs : List (List Side)). IsBalancedClear c.args.large (c.remove-path.result.path ∷ qs) t) (sym others) k.outside in
     let balanced = subst (λ (qs : List (List Side)). IsBalancedClear c.args.large qs u) others (c.in_ok-tree.ensures.balance outside (criteria_balanced c.args.large with c.in_ok-with.ensures.criteria)) in
@@ -80,7 +80,7 @@ returns-clause-low g c =
     let t = c.args.self.tree in
     let node = c.in-Some.node.now in
     let with = c.in_ok-with.with in
-    let low : levels with ≤ levels node = subst (λ (s : Shape). levels with ≤ levels s) c.in_ok-node.ensures.shape c.in_ok-with.ensures.refresh.low in
+    let low : levels with ≤ levels node = c.in_ok-with.ensures.low in
     omega (arith, c.in_ok-tree.ensures.size.low, levels_kept c.remove-path.result.path with t node c.in-Some.ensures.some low)
 
 pub returns-clause-few : goal.returns-clause-few
@@ -88,5 +88,5 @@ returns-clause-few g c =
     let t = c.args.self.tree in
     let node = c.in-Some.node.now in
     let with = c.in_ok-with.with in
-    let few : nodes with ≤ nodes node = subst (λ (s : Shape). nodes with ≤ nodes s) c.in_ok-node.ensures.shape c.in_ok-with.ensures.refresh.few in
+    let few : nodes with ≤ nodes node = c.in_ok-with.ensures.few in
     omega (arith, c.in_ok-tree.ensures.size.few, replaced_nodes c.remove-path.result.path with t node c.in-Some.ensures.some, few)
