@@ -1,4 +1,5 @@
-//! What the top call is made of beside its threads: the log, a run in the log's order, and what is written.
+//! What the top call is made of beside its threads: the log, a run in the log's order, and what is written. What takes no threads is
+//! put together in `texts`.
 #![tactic(auto)]
 
 mod answering;
@@ -11,6 +12,7 @@ mod on_tree;
 mod replying;
 mod status;
 mod summing;
+mod texts;
 mod verdicts;
 
 pub use ending::Ending;
@@ -21,4 +23,5 @@ pub use on_tree::tree_reply;
 pub use replying::{Replies, in_order, serial, transcript};
 pub use status::Status;
 pub use summing::summary;
+pub use texts::{checked_text, driven_text, in_order_text, made_text};
 pub use verdicts::verdict_line;

@@ -4,7 +4,7 @@ use Rattle.map_fold.specs.declared.item.Item.{Item}
 use Rattle.map_fold.specs.Contents.{AreContents}
 use Rattle.map_fold.proofs.Numbered.{contents_length}
 use Rattle.kd_tree.proofs.Held.{are_kept, are_distinct}
-use Rattle.search_trials.proofs.tests.grown.items_at.Goals as goal
+use Rattle.tree_trials.proofs.tests.grown.items_at.Goals as goal
 
 -- one more item at the end
 more : (low n : ℕ) (m : List Item) (i : Item) → low ≤ n → i.number ≡ n → is_dropped i.label ≡ false → AreContents low n m → AreContents low (n + 1) (m ++ i ∷ [])

@@ -1,6 +1,6 @@
 use Rattle.std.proofs.Common.{◌≡◌}
 use Rattle.map_fold.specs.Contents.{AreContents}
-use Rattle.search_trials.proofs.tests.grown.items_at.Given as goal
+use Rattle.tree_trials.proofs.tests.grown.items_at.Given as goal
 
 abbrev pub invariant-loop-point : goal.invariant-loop-point
 invariant-loop-point l = record {

@@ -1,5 +1,0 @@
-mod assertions;
-mod boxes;
-mod each;
-mod grown;
-mod swap;
