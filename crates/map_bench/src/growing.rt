@@ -87,6 +87,6 @@ pub fn taking_in<M: Growing, L: Ledger, R: Clock>(
     scan: &Scan,
 ) -> Result<u128, Stop> {
     let begun = Instant::now(at.rt);
-    map.take_in(at, scan)?;
-    at.micros(begun)
+    let done = map.take_in(at, scan);
+    at.micros_of(begun, done)
 }

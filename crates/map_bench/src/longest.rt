@@ -94,12 +94,10 @@ fn step_times<L: Ledger, R: Clock>(
 ) -> Result<Longest, Stop> {
     let begun = Instant::now(at.rt);
     let update = taking_in(at, robot, scan)?;
-    robot.detach(at.alloc)?;
-    let detached = at.micros(begun)?;
-    robot.build(at.alloc)?;
-    let ready = at.micros(begun)?;
-    robot.swap(at.alloc, &mut at.steps)?;
-    let together = at.micros(begun)?;
+    let detached = at.micros_of(begun, robot.detach(at.alloc))?;
+    let ready = at.micros_of(begun, robot.build(at.alloc))?;
+    let swapped = robot.swap(at.alloc, &mut at.steps);
+    let together = at.micros_of(begun, swapped)?;
     Ok(Longest {
         update,
         detach: detached.saturating_sub(update),

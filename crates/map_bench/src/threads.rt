@@ -13,7 +13,7 @@ pub mod writing;
 
 use self::company::{Company, Sharing};
 use self::plan::Plan;
-use self::roles::{Role, Stage, play, roles};
+use self::roles::{Role, Stage, cast, play};
 use self::telling::told;
 use self::times::Times;
 use self::writing::write;
@@ -22,7 +22,6 @@ use crate::stop::Stop;
 use crate::told::Told;
 use crate::words::Size;
 use published_map::{MapName, Opened, Pass, Shared};
-use rebuild_worker::pair;
 use std::alloc::{AllocError, Global};
 use std::marker::Brand;
 use std::sync::Wait;
@@ -38,9 +37,18 @@ pub fn side_by_side<R: Threads + Wait + Clock + Sync>(
     size: Size,
 ) -> Result<Told, Stop> {
     let company = Company::of(sharing, size.asked)?;
-    let plan = Plan::drawn(alloc, company, size.count)?;
-    let times = times_of(rt, alloc, company, &plan)?;
+    let times = planned(rt, alloc, company, size.count)?;
     told(alloc, sharing, company.scans, &times)
+}
+
+fn planned<R: Threads + Wait + Clock + Sync>(
+    rt: &R,
+    alloc: Global,
+    company: Company,
+    count: u32,
+) -> Result<Times, Stop> {
+    let plan = Plan::drawn(alloc, company, count)?;
+    times_of(rt, alloc, company, &plan)
 }
 
 fn times_of<R: Threads + Wait + Clock + Sync>(
@@ -79,31 +87,17 @@ fn run<L: MapName + Send + Sync, R: Threads + Wait + Clock + Sync>(
     passes: Vec<Pass<L>>,
 ) -> Result<Times, Stop> {
     let mut passes = passes;
-    match passes.pop() {
-        None => Ok(Times::new(alloc)),
-        Some(mut writer) => run_with(rt, alloc, shared, plan, &mut writer, passes),
-    }
-}
-
-fn run_with<L: MapName + Send + Sync, R: Threads + Wait + Clock + Sync>(
-    rt: &R,
-    alloc: Global,
-    shared: &Shared<L>,
-    plan: &Plan,
-    writer: &mut Pass<L>,
-    readers: Vec<Pass<L>>,
-) -> Result<Times, Stop> {
-    let (first, one) = pair(alloc)?;
-    let (second, two) = pair(alloc)?;
-    let roles = roles(alloc, plan, one, two, readers)?;
+    let Some(mut writer) = passes.pop() else {
+        return Ok(Times::new(alloc));
+    };
+    let (roles, bells) = cast(alloc, plan.company.workers, passes)?;
     let stage = Stage {
         alloc,
         shared,
         plan,
-        first: &first,
-        second: &second,
+        bells: bells.as_slice(),
     };
-    play_beside(rt, &stage, writer, roles)
+    play_beside(rt, &stage, &mut writer, roles)
 }
 
 // Where no thread can be made, the writer is first, the others find that all is over, and a worker ends at once.
@@ -118,6 +112,14 @@ fn play_beside<L: MapName + Send + Sync, R: Threads + Wait + Clock + Sync>(
         || play_all(rt, stage, roles),
         || write(rt, stage, writer),
     );
+    together(written, others)
+}
+
+// The times of all who could begin, unless one of them stopped.
+fn together(
+    written: Result<Times, Stop>,
+    others: Result<Vec<Result<Times, Stop>>, AllocError>,
+) -> Result<Times, Stop> {
     let mut all = written?;
     add_all(&mut all, others?.as_slice())?;
     Ok(all)

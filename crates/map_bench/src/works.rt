@@ -56,14 +56,18 @@ fn on_state<L: Ledger, R: Clock + Threads + Sync>(
     at: &mut Bench<'_, L, R>,
     work: OnState,
 ) -> Result<Told, Stop> {
-    let large = match work {
-        OnState::Thin(_) => grown::LARGE,
-        OnState::Add(_) => at.size.asked,
-        OnState::Longest | OnState::Waiting => robot::LARGE,
-    };
-    let thins = matches!(work, OnState::Thin(_));
+    let (large, thins) = kept_by(work, at.size.asked);
     let mut robot = Robot::new(at.alloc, large, thins)?;
     on_this_state(at, &mut robot, work)
+}
+
+// From how many nodes on subtrees are left alone, and whether scans are thinned.
+fn kept_by(work: OnState, asked: u32) -> (u32, bool) {
+    match work {
+        OnState::Thin(_) => (grown::LARGE, true),
+        OnState::Add(_) => (asked, false),
+        OnState::Longest | OnState::Waiting => (robot::LARGE, false),
+    }
 }
 
 fn on_this_state<L: Ledger, R: Clock + Threads + Sync>(

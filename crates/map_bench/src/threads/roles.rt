@@ -9,7 +9,7 @@ use crate::robot::LARGE;
 use crate::stop::Stop;
 use map_fold::NoMemory;
 use published_map::{MapName, Pass, Shared};
-use rebuild_worker::{Bell, FreeGate, Rest, work};
+use rebuild_worker::{Bell, FreeGate, Rest, pair, work};
 use std::alloc::Global;
 use std::sync::Wait;
 use std::time::Clock;
@@ -20,58 +20,60 @@ pub struct Stage<'a, L: MapName> {
     pub alloc: Global,
     pub shared: &'a Shared<L>,
     pub plan: &'a Plan,
-    /// The workers' bells. Nobody hears those for which there is no worker.
-    pub first: &'a Bell,
-    pub second: &'a Bell,
+    /// The workers' bells.
+    pub bells: &'a [Bell],
 }
 
 impl<'a, L: MapName> Stage<'a, L> {
+    /// Wakes the workers.
+    pub fn ring(&self) {
+        for bell in self.bells {
+            bell.ring();
+        }
+    }
+
     /// Tells the readers and the workers to end.
     pub fn end(&self) {
         self.plan.end();
-        self.first.stop();
-        self.second.stop();
+        for bell in self.bells {
+            bell.stop();
+        }
     }
 }
 
 /// What one thread does beside the writer, and with what.
 #[derive(Drop)]
 pub enum Role<P: Drop> {
-    /// The first worker's, and where it sleeps.
-    First(Rest),
-    /// The second worker's.
-    Second(Rest),
+    /// A worker's, from 1 to 2, and where it sleeps.
+    Worker(u8, Rest),
     /// A reader's, and its pass.
     Reader(P),
 }
 
-/// The roles of a plan, with the readers' passes. One worker alone is the second.
-pub fn roles<L: MapName>(
-    alloc: Global,
-    plan: &Plan,
-    one: Rest,
-    two: Rest,
-    passes: Vec<Pass<L>>,
-) -> Result<Vec<Role<Pass<L>>>, NoMemory> {
+// Roles, and the bells of the workers among them.
+type Cast<P> = (Vec<Role<P>>, Vec<Bell>);
+
+/// The roles of readers with these passes, and of up to 2 workers.
+pub fn cast<P: Drop>(alloc: Global, workers: u8, passes: Vec<P>) -> Result<Cast<P>, NoMemory> {
     let mut roles = Vec::new(alloc);
-    put_workers(&mut roles, plan.company.workers, one, two)?;
     put_readers(&mut roles, passes)?;
-    Ok(roles)
+    let bells = put_workers(alloc, workers, &mut roles)?;
+    Ok((roles, bells))
 }
 
+// One worker alone is the second.
 fn put_workers<P: Drop>(
-    roles: &mut Vec<Role<P>>,
+    alloc: Global,
     workers: u8,
-    one: Rest,
-    two: Rest,
-) -> Result<(), NoMemory> {
-    if workers > 1 {
-        roles.push(Role::First(one))?;
+    roles: &mut Vec<Role<P>>,
+) -> Result<Vec<Bell>, NoMemory> {
+    let mut bells = Vec::new(alloc);
+    for worker in 3_u8.saturating_sub(workers)..3 {
+        let (bell, rest) = pair(alloc)?;
+        bells.push(bell)?;
+        roles.push(Role::Worker(worker, rest))?;
     }
-    if workers > 0 {
-        roles.push(Role::Second(two))?;
-    }
-    Ok(())
+    Ok(bells)
 }
 
 fn put_readers<P: Drop>(roles: &mut Vec<Role<P>>, passes: Vec<P>) -> Result<(), NoMemory> {
@@ -88,8 +90,7 @@ pub fn play<L: MapName, R: Wait + Clock>(
     role: Role<Pass<L>>,
 ) -> Result<Times, Stop> {
     match role {
-        Role::First(rest) => Ok(help(rt, stage, 1, rest)),
-        Role::Second(rest) => Ok(help(rt, stage, 2, rest)),
+        Role::Worker(worker, rest) => Ok(help(rt, stage, worker.clamp(1, 2), rest)),
         Role::Reader(mut pass) => read(rt, stage, &mut pass),
     }
 }

@@ -134,10 +134,19 @@ impl Figures {
 /// In microseconds.
 impl Display for Figures {
     fn fmt<W: Write>(&self, f: &mut Formatter<W>) -> Result<(), Error> {
-        write!(f, "{}", self.steps)?;
-        for nanos in &[self.median, self.p99, self.p999, self.longest] {
-            write!(f, " {}.{}", nanos / 1_000, nanos % 1_000 / 100)?;
-        }
-        Ok(())
+        let steps = self.steps;
+        let (median, p99) = (Micros(self.median), Micros(self.p99));
+        let (p999, longest) = (Micros(self.p999), Micros(self.longest));
+        write!(f, "{steps} {median} {p99} {p999} {longest}")
+    }
+}
+
+// So many nanoseconds, told in microseconds.
+#[derive(Clone, Copy)]
+struct Micros(u64);
+
+impl Display for Micros {
+    fn fmt<W: Write>(&self, f: &mut Formatter<W>) -> Result<(), Error> {
+        write!(f, "{}.{}", self.0 / 1_000, self.0 % 1_000 / 100)
     }
 }

@@ -95,8 +95,7 @@ fn update<L: MapName, R: Wait + Clock>(
 ) -> Result<(), Stop> {
     let begun = Instant::now(rt);
     stage.shared.update(rt, stage.alloc, pass, update)?;
-    times.end(rt, kind, begun)?;
-    stage.first.ring();
-    stage.second.ring();
-    Ok(())
+    let done = times.end(rt, kind, begun);
+    stage.ring();
+    done
 }
