@@ -6,7 +6,12 @@ use kd_tree::{Steps, Tree};
 use std::alloc::Global;
 use std::io;
 use std::sync::ledger::Ledger;
-use std::time::{Clock, Instant};
+use std::time::{Clock, Duration, Instant};
+
+/// How long it is since then. A clock that failed at the beginning is told of here.
+pub fn since<R: Clock>(rt: &R, begun: io::Result<Instant>) -> io::Result<Duration> {
+    begun?.elapsed(rt)
+}
 
 /// The clock and the threads, memory, how much is asked for, and a counter of nodes that nothing looks at.
 #[derive(Drop)]
@@ -18,9 +23,9 @@ pub struct Bench<'a, L: Ledger, R> {
 }
 
 impl<'a, L: Ledger, R: Clock> Bench<'a, L, R> {
-    /// The microseconds since then. A clock that failed at the beginning is told of here.
+    /// The microseconds since then.
     pub fn micros(&self, begun: io::Result<Instant>) -> Result<u128, Stop> {
-        Ok(begun?.elapsed(self.rt)?.as_micros())
+        Ok(since(self.rt, begun)?.as_micros())
     }
 
     /// The same, where what was done since then went well.

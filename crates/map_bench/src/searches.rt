@@ -31,7 +31,9 @@ pub fn on_built<L: Ledger, R: Clock + Threads + Sync>(
     let micros = build(at, tree, &mut draws)?;
     match ask {
         Ask::Nothing => Told::left(at.alloc, micros, 0, tree),
-        _ => asked(at, tree, ask, &mut draws),
+        Ask::Clusters | Ask::Lonely => crowded(at, tree, ask),
+        Ask::Cubes => delete_cubes(at, tree, &mut draws),
+        Ask::Nearest | Ask::Singly | Ask::AtOnce => on_places(at, tree, ask, &mut draws),
     }
 }
 
@@ -45,19 +47,6 @@ fn build<L: Ledger, R: Clock>(
     let begun = Instant::now(at.rt);
     *tree = Tree::build(at.alloc, items.as_slice(), &mut at.steps)?;
     at.micros(begun)
-}
-
-fn asked<L: Ledger, R: Clock + Threads + Sync>(
-    at: &mut Bench<'_, L, R>,
-    tree: &mut Tree,
-    ask: Ask,
-    draws: &mut Draws,
-) -> Result<Told, Stop> {
-    match ask {
-        Ask::Clusters | Ask::Lonely => crowded(at, tree, ask),
-        Ask::Cubes => delete_cubes(at, tree, draws),
-        _ => on_places(at, tree, ask, draws),
-    }
 }
 
 /// A tree grows by scans, slabs are deleted from it, and it is asked.

@@ -57,8 +57,10 @@ fn on_state<L: Ledger, R: Clock + Threads + Sync>(
     work: OnState,
 ) -> Result<Told, Stop> {
     let (large, thins) = kept_by(work, at.size.asked);
-    let mut robot = Robot::new(at.alloc, large, thins)?;
-    on_this_state(at, &mut robot, work)
+    match Robot::new(at.alloc, large, thins) {
+        Ok(mut robot) => on_this_state(at, &mut robot, work),
+        Err(stop) => Err(stop),
+    }
 }
 
 // From how many nodes on subtrees are left alone, and whether scans are thinned.

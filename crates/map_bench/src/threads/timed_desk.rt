@@ -1,6 +1,7 @@
 //! A shared map whose workers are timed.
 use super::plan::Plan;
 use super::times::{Kind, Times};
+use crate::bench::since;
 use map_fold::{NoMemory, Ops};
 use rebuild_core::{Built, Desk, Job, Late, LogAsk, SwapLeft};
 use std::alloc::Global;
@@ -41,10 +42,7 @@ impl<'a, D: Desk, C: Clock> TimedDesk<'a, D, C> {
         if !self.plan.is_on() {
             return;
         }
-        let Ok(begun) = begun else {
-            return;
-        };
-        if let Ok(took) = begun.elapsed(self.clock) {
+        if let Ok(took) = since(self.clock, begun) {
             let _left_out = self.times.lock(rt).push(kind, took);
         }
     }

@@ -1,4 +1,5 @@
 //! How long steps took.
+use crate::bench::since;
 use crate::stop::Stop;
 use map_fold::NoMemory;
 use std::alloc::Global;
@@ -58,9 +59,8 @@ impl Times {
         kind: Kind,
         begun: io::Result<Instant>,
     ) -> Result<(), Stop> {
-        let took = begun?.elapsed(rt)?;
-        self.push(kind, took)?;
-        Ok(())
+        let took = since(rt, begun)?;
+        Ok(self.push(kind, took)?)
     }
 
     /// Forgets all steps.

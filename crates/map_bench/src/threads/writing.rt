@@ -1,6 +1,7 @@
 //! The writer.
 use super::roles::Stage;
 use super::times::{Kind, Times};
+use crate::bench::since;
 use crate::course::{Scan, deletion};
 use crate::stop::Stop;
 use crate::sums::with_answers;
@@ -49,12 +50,10 @@ fn take_in_beside<L: MapName, R: Wait + Clock>(
 ) -> Result<(), Stop> {
     for scan in stage.plan.beside.as_slice() {
         pause(rt, stage.plan.company.pause);
-        let begun = Instant::now(rt)?;
+        let begun = Instant::now(rt);
         take_in(rt, stage, pass, scan, times)?;
-        pause(
-            rt,
-            stage.plan.company.turn.saturating_sub(begun.elapsed(rt)?),
-        );
+        let took = since(rt, begun)?;
+        pause(rt, stage.plan.company.turn.saturating_sub(took));
     }
     Ok(())
 }
