@@ -133,6 +133,15 @@ fn all_are_live(rt: &impl Abort, state: &MapState, live: u32) {
     holds(rt, "nothing is detached", state.part(1).is_none());
 }
 
+// The value with all done that it is told it lacks.
+fn told<L: MapName, R: Wait + Abort>(at: &Site<'_, L, R>, built: Built) -> Built {
+    let late = at.shared.swap_or_log(at.rt, at.alloc, built, 64);
+    let Err(Late::Behind { built, ops }) = late else {
+        panic!(at.rt; "it isn't told what it lacks");
+    };
+    replayed(at.rt, at.alloc, built, ops.as_slice())
+}
+
 // In one call a value that is 65 behind is told what it lacks, and then it is swapped in.
 struct ToldMeanwhile;
 
@@ -141,11 +150,7 @@ impl<R: Wait + Abort> Trial<R> for ToldMeanwhile {
         added(at, passes, 1, 41);
         let built = first(at);
         added(at, passes, 41, 106);
-        let late = at.shared.swap_or_log(at.rt, at.alloc, built, 64);
-        let Err(Late::Behind { built, ops }) = late else {
-            panic!(at.rt; "it isn't told what it lacks");
-        };
-        let built = replayed(at.rt, at.alloc, built, ops.as_slice());
+        let built = told(at, built);
         let done = at.shared.swap_or_log(at.rt, at.alloc, built, 0);
         holds(at.rt, "it is swapped in", done.is_ok());
     }
@@ -227,10 +232,7 @@ fn assert_kept(rt: &impl Abort, alloc: Global, version: &Version) {
 
 // The second pass sees what there is.
 fn renew<L: MapName>(rt: &impl Abort, passes: &mut [Pass<L>]) {
-    let Some(pass) = passes.get_mut(1) else {
-        panic!(rt; "no such pass");
-    };
-    pass.renew();
+    found(rt, passes.get_mut(1)).renew();
 }
 
 impl<R: Wait + Abort> Trial<R> for KeptMeanwhile {
@@ -243,9 +245,7 @@ impl<R: Wait + Abort> Trial<R> for KeptMeanwhile {
         is_swapped(at, built);
         // The step after a swap is the one that drops what was before it.
         added(at, passes, 41, 42);
-        let Some(pass) = passes.get(1) else {
-            panic!(at.rt; "no such pass");
-        };
+        let pass = found(at.rt, passes.get(1));
         assert_kept(at.rt, at.alloc, pass.version());
     }
 

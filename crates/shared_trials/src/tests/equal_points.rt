@@ -1,7 +1,7 @@
 //! A map that is settled behind its lock.
 ghost use Rattle.std.specs.Prelude.{◌≤◌};
 
-use crate::tests::assertions::{holds, made, same};
+use crate::tests::assertions::{found, holds, made, same};
 use crate::tests::trial::{Site, Trial, added, tried, updated};
 use map_fold::{NearReply, Points, Update};
 use point_geom::Point;
@@ -46,9 +46,7 @@ impl<R: Wait + Abort> Trial<R> for EqualPoints {
         let mark = updated(at, passes, 0, Update::Add(points));
         same(at.rt, "the mark", mark, 1);
         made(at.rt, at.shared.settle(at.rt, at.alloc));
-        let Some(pass) = passes.get_mut(0) else {
-            panic!(at.rt; "no such pass");
-        };
+        let pass = found(at.rt, passes.get_mut(0));
         pass.renew();
         holds(at.rt, "no breach", !is_breached(pass.version(), 10));
         let query = made(at.rt, Point::new(3, 3, 3));
@@ -70,9 +68,7 @@ struct PointsInARow;
 impl<R: Wait + Abort> Trial<R> for PointsInARow {
     fn run<L: MapName>(&self, at: &Site<'_, L, R>, passes: &mut [Pass<L>]) {
         added(at, passes, 1, 41);
-        let Some(pass) = passes.get_mut(0) else {
-            panic!(at.rt; "no such pass");
-        };
+        let pass = found(at.rt, passes.get_mut(0));
         holds(at.rt, "a breach", is_breached(pass.version(), 16));
         made(at.rt, at.shared.settle(at.rt, at.alloc));
         pass.renew();

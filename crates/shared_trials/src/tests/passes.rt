@@ -1,5 +1,5 @@
 //! What a pass sees of the others' updates.
-use crate::tests::assertions::same;
+use crate::tests::assertions::{found, same};
 use crate::tests::trial::{
     Site, Trial, added, are_distinct, cuboid, deleted, in_box, near, tried, updated,
 };
@@ -10,7 +10,7 @@ use std::process::Abort;
 use std::sync::Wait;
 
 // The point (1, 0, 0), alone.
-fn assert_found(rt: &impl Abort, reply: &NearReply) {
+fn assert_found(rt: &impl Abort, reply: NearReply) {
     same(rt, "the mark", reply.mark, 1);
     same(rt, "hits", reply.hits.len(), 1);
     for hit in reply.hits.as_slice() {
@@ -19,12 +19,12 @@ fn assert_found(rt: &impl Abort, reply: &NearReply) {
     }
 }
 
-fn assert_empty(rt: &impl Abort, reply: &NearReply, mark: u64) {
+fn assert_empty(rt: &impl Abort, reply: NearReply, mark: u64) {
     same(rt, "the mark", reply.mark, mark);
     same(rt, "hits", reply.hits.len(), 0);
 }
 
-fn assert_boxed(rt: &impl Abort, reply: &BoxReply) {
+fn assert_boxed(rt: &impl Abort, reply: BoxReply) {
     same(rt, "the mark", reply.mark, 1);
     same(rt, "the count", reply.count, 1);
     same(rt, "items", reply.items.len(), 1);
@@ -42,8 +42,8 @@ fn deletes<L: MapName, R: Wait + Abort>(at: &Site<'_, L, R>, passes: &mut [Pass<
     let mark = updated(at, passes, 1, around);
     same(at.rt, "the second mark", mark, 2);
     // No clause says that a query enters the published version.
-    assert_empty(at.rt, &near(at, passes, 1, 1), 2);
-    assert_empty(at.rt, &near(at, passes, 0, 1), 2);
+    assert_empty(at.rt, near(at, passes, 1, 1), 2);
+    assert_empty(at.rt, near(at, passes, 0, 1), 2);
 }
 
 impl<R: Wait + Abort> Trial<R> for TwoCallers {
@@ -51,9 +51,9 @@ impl<R: Wait + Abort> Trial<R> for TwoCallers {
         same(at.rt, "the first mark", added(at, passes, 1, 2), 1);
         assert!(at.rt; are_distinct(passes));
         at.shared.meet(at.rt, passes);
-        assert_found(at.rt, &near(at, passes, 1, 1));
-        assert_found(at.rt, &near(at, passes, 1, 17));
-        assert_boxed(at.rt, &in_box(at, passes, 1));
+        assert_found(at.rt, near(at, passes, 1, 1));
+        assert_found(at.rt, near(at, passes, 1, 17));
+        assert_boxed(at.rt, in_box(at, passes, 1));
         deletes(at, passes);
     }
 
@@ -78,9 +78,7 @@ struct NewPass;
 
 // The second pass sees the first update only then.
 fn is_renewed<L: MapName>(rt: &impl Abort, passes: &mut [Pass<L>]) {
-    let Some(pass) = passes.get_mut(1) else {
-        panic!(rt; "no such pass");
-    };
+    let pass = found(rt, passes.get_mut(1));
     same(rt, "no updates", pass.version().len(), 0);
     pass.renew();
     same(rt, "the caller", pass.caller(), 2);
@@ -90,7 +88,7 @@ fn is_renewed<L: MapName>(rt: &impl Abort, passes: &mut [Pass<L>]) {
 
 impl<R: Wait + Abort> Trial<R> for NewPass {
     fn run<L: MapName>(&self, at: &Site<'_, L, R>, passes: &mut [Pass<L>]) {
-        assert_empty(at.rt, &near(at, passes, 1, 1), 0);
+        assert_empty(at.rt, near(at, passes, 1, 1), 0);
         added(at, passes, 1, 2);
         is_renewed(at.rt, passes);
         added(at, passes, 2, 3);

@@ -1,26 +1,35 @@
 //! An update that is refused for lack of memory. No memory runs out in a plain run: allocations are refused from outside.
-use crate::tests::assertions::same;
+use crate::tests::assertions::{found, same};
 use crate::tests::trial::{Site, Trial, row, tried};
+use map_fold::Update;
 use published_map::{Ended, MapName, Pass};
 use rebuild_core::{MapState, StateFault};
 use std::process::Abort;
 use std::sync::Wait;
+
+// The mark of the update, or of the other one where there was no memory for the first.
+fn in_two_tries<L: MapName, R: Wait + Abort>(
+    at: &Site<'_, L, R>,
+    pass: &mut Pass<L>,
+    update: Update,
+    again: Update,
+) -> Result<u64, StateFault> {
+    match at.shared.update(at.rt, at.alloc, pass, update) {
+        Err(StateFault::NoMemory) => at.shared.update(at.rt, at.alloc, pass, again),
+        done => done,
+    }
+}
 
 // An update for which there is no memory is made again.
 struct MadeAgain;
 
 impl<R: Wait + Abort> Trial<R> for MadeAgain {
     fn run<L: MapName>(&self, at: &Site<'_, L, R>, passes: &mut [Pass<L>]) {
-        let Some(pass) = passes.get_mut(0) else {
-            panic!(at.rt; "no such pass");
-        };
+        let pass = found(at.rt, passes.get_mut(0));
         for mark in 1..4u64 {
             let update = row(at.rt, at.alloc, 1, 9);
             let again = row(at.rt, at.alloc, 1, 9);
-            let done = match at.shared.update(at.rt, at.alloc, pass, update) {
-                Err(StateFault::NoMemory) => at.shared.update(at.rt, at.alloc, pass, again),
-                done => done,
-            };
+            let done = in_two_tries(at, pass, update, again);
             same(at.rt, "the mark", done.ok(), Some(mark));
         }
     }

@@ -16,7 +16,7 @@ use std::process::Abort;
 use std::sync::atomic::{AtomicU64, Ordering};
 use std::sync::ledger::{Blank, Ledger};
 use std::sync::{Mutex, Wait};
-use std::thread::join;
+use std::thread::{Threads, join};
 
 // Done, or why not.
 type Done<E> = Result<(), E>;
@@ -111,8 +111,8 @@ fn a_part_whose_swap_was_refused_is_detached_afresh(rt: HostRuntime) {
     let refused = made(&rt, vec![in alloc; 3]);
     let desk = CountDesk::new(with_forty(&rt, alloc), refused);
     let mut state = left_by(&rt, alloc, desk, (1, 1, 3), (Some(1), None));
-    let job = made(&rt, state.detach(alloc, 1));
-    holds(&rt, "it is detached", job.is_some());
+    let is_detached = made(&rt, state.detach(alloc, 1)).is_some();
+    holds(&rt, "it is detached", is_detached);
     have_tickets(&rt, &state, &[(1, Some(2))]);
 }
 
@@ -240,21 +240,31 @@ fn a_swap_is_forced_after_eight_tries(rt: HostRuntime) {
     same(&rt, "live points", live, 40 + 8 * 65);
 }
 
-#[test]
-fn a_worker_builds_beside_a_caller_until_it_is_told_to_end(rt: HostRuntime) {
-    let alloc = rt.alloc();
-    let desk = CountDesk::new(with_forty(&rt, alloc), Vec::new(alloc));
-    let gate = HoldGate::new(0, 1, 100_000_000);
-    let (bell, mut rest) = made(&rt, pair(alloc));
+// Lets a worker do its rounds beside a caller, which tells it to end after two replies.
+fn work_beside<R: Threads + Wait + Abort + Sync>(
+    rt: &R,
+    alloc: Global,
+    desk: &CountDesk,
+    gate: &HoldGate,
+) {
+    let (bell, mut rest) = made(rt, pair(alloc));
     join(
-        &rt,
+        rt,
         || {
             gate.replied(1, 0);
             gate.replied(1, 1);
             bell.stop();
         },
-        || work(&rt, alloc, 16, 1, &desk, &gate, &mut rest),
+        || work(rt, alloc, 16, 1, desk, gate, &mut rest),
     );
+}
+
+#[test]
+fn a_worker_builds_beside_a_caller_until_it_is_told_to_end(rt: HostRuntime) {
+    let alloc = rt.alloc();
+    let desk = CountDesk::new(with_forty(&rt, alloc), Vec::new(alloc));
+    let gate = HoldGate::new(0, 1, 100_000_000);
+    work_beside(&rt, alloc, &desk, &gate);
     holds(&rt, "both were held up", gate.held());
     let (state, calls) = desk.finish(&rt);
     // It may have looked for jobs once more before it was told.

@@ -4,7 +4,7 @@ ghost use Rattle.kd_search.specs.Query.{IsQuery};
 ghost use Rattle.shown_versions.specs.Marks.{callers_of, times_listed, IsDistinct};
 ghost use Rattle.published_map.specs.Held.{IsOpenedAs};
 
-use crate::tests::assertions::made;
+use crate::tests::assertions::{found, made};
 use map_fold::{BoxReply, Cuboids, NearReply, Points, Settings, Update};
 use point_geom::{Corner, Cuboid, Point};
 use published_map::{Ended, MapName, Opened, Pass, Shared};
@@ -37,9 +37,7 @@ pub fn tried<T: Trial<R>, R: Wait + Abort>(rt: &R, alloc: Global, callers: u8, t
     requires callers_from { 1 ≤ callers }
     requires callers_to { callers ≤ 8 }
 {
-    let Ok(opened) = Opened::new(alloc, Settings::new(200, 16), callers) else {
-        panic!(rt; "no memory");
-    };
+    let opened = made(rt, Opened::new(alloc, Settings::new(200, 16), callers));
     tried_on::<Brand, T, R>(rt, alloc, Blank::new(u64::from(callers)), opened, trial);
 }
 
@@ -52,18 +50,30 @@ fn tried_on<L: MapName, T: Trial<R>, R: Wait + Abort>(
 )
     requires opened { IsOpenedAs L.name L.parts L.callers L.marks L.voxel blank opened }
 {
-    let Ok((shared, passes)) = Shared::<L>::start(rt, alloc, blank, opened) else {
+    let Ok((shared, mut passes)) = Shared::<L>::start(rt, alloc, blank, opened) else {
         panic!(rt; "no memory");
     };
-    let mut passes = passes;
     {
         let shared = &shared;
         let at = Site { rt, alloc, shared };
         trial.run(&at, passes.as_mut_slice());
     }
-    assert!(rt; are_distinct(passes.as_slice()));
-    let (state, ended) = made(rt, shared.finish(rt, alloc, passes));
+    let (state, ended) = finished(rt, alloc, shared, passes);
     trial.end(rt, &state, ended.as_slice());
+}
+
+// Ends the map, whose callers are seen to be distinct.
+pub fn finished<L: MapName, R: Wait + Abort>(
+    rt: &R,
+    alloc: Global,
+    shared: Shared<L>,
+    passes: Vec<Pass<L>>,
+) -> (MapState, Vec<Ended>)
+    requires all { length passes.items ≡ L.callers }
+    requires parts { L.callers ≡ L.parts }
+{
+    assert!(rt; are_distinct(passes.as_slice()));
+    made(rt, shared.finish(rt, alloc, passes))
 }
 
 // Whether no caller comes twice.
@@ -92,9 +102,7 @@ pub fn updated<L: MapName, R: Wait + Abort>(
     place: usize,
     update: Update,
 ) -> u64 {
-    let Some(pass) = passes.get_mut(place) else {
-        panic!(at.rt; "no such pass");
-    };
+    let pass = found(at.rt, passes.get_mut(place));
     made(at.rt, at.shared.update(at.rt, at.alloc, pass, update))
 }
 
@@ -117,9 +125,7 @@ pub fn near<L: MapName, R: Abort>(
 ) -> NearReply
     requires query { IsQuery k None }
 {
-    let Some(pass) = passes.get_mut(place) else {
-        panic!(at.rt; "no such pass");
-    };
+    let pass = found(at.rt, passes.get_mut(place));
     let query = made(at.rt, Point::new(0, 0, 0));
     made(at.rt, pass.nearest(at.alloc, k, &query, None))
 }
@@ -130,9 +136,7 @@ pub fn in_box<L: MapName, R: Abort>(
     passes: &mut [Pass<L>],
     place: usize,
 ) -> BoxReply {
-    let Some(pass) = passes.get_mut(place) else {
-        panic!(at.rt; "no such pass");
-    };
+    let pass = found(at.rt, passes.get_mut(place));
     let cuboid = cuboid(at.rt, 9, 9, 9);
     made(at.rt, pass.in_cuboid(at.alloc, &cuboid, 5))
 }

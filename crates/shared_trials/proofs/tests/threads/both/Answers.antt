@@ -4,5 +4,5 @@ use Rattle.core.proofs.rt.Memory.TheSendSync as memory
 use Rattle.published_map.proofs.Crossing.{crosses}
 use Rattle.shared_trials.proofs.tests.threads.both.Goals as goal
 
-pub join-one-requires-send-F : goal.join-one-requires-send-F
-join-one-requires-send-F g c κs within = search (sendable, std.crosses, crosses, memory.the_field_sync) depth 40 fits 20000
+pub join-requires-send-F : goal.join-requires-send-F
+join-requires-send-F g c κs within = search (sendable, std.crosses, crosses, memory.the_field_sync) depth 40 fits 20000
