@@ -1,7 +1,0 @@
-//! Trees that are taken apart and put together, what updates do beside watched subtrees, and searches of trees that no log leads to. What
-//! plain updates leave, and all other searches, is shown by the program's stored runs. These tests speak of public calls alone, and stand
-//! in a crate of their own, so that what they call is proved once for all of them.
-#![tactic(auto)]
-
-#[cfg(test)]
-mod tests;
