@@ -28,16 +28,6 @@ impl<'a, L: Ledger, R: Clock> Bench<'a, L, R> {
         Ok(since(self.rt, begun)?.as_micros())
     }
 
-    /// The same, where what was done since then went well.
-    pub fn micros_of(
-        &self,
-        begun: io::Result<Instant>,
-        done: Result<(), Stop>,
-    ) -> Result<u128, Stop> {
-        done?;
-        self.micros(begun)
-    }
-
     /// What is told of a work that began then, had this checksum so far, and left this tree.
     pub fn told(&self, begun: io::Result<Instant>, sum: u64, tree: &Tree) -> Result<Told, Stop> {
         let micros = self.micros(begun)?;

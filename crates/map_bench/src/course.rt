@@ -16,65 +16,35 @@ const MOST_AT_ONCE: u32 = 262_144;
 
 const SCANS_OF_DELETION: u32 = 10;
 
-// Points stand 2 mm apart along a road.
-const APART: i64 = 2;
-
-// No two numbers of points take the same place in the drawn order, unless there are as many as a multiple of this.
-const STRIDE: i64 = 514_229;
-
 /// How the points of scans lie.
 #[derive(Clone, Copy)]
 pub enum Lie {
     /// Round a robot that moves a metre along x from scan to scan. After each tenth, what lies from 30 to 60 metres behind it is left.
     Left,
-    /// The same, but nothing is left.
-    Kept,
     /// Round one place, as many at once as may be, and so the next two.
     Drawn,
     /// In a row along x, from below.
     Rising,
     /// All at one place.
     Equal,
-    /// Along a road, one after the other.
-    Road,
-    /// All over a road of so many.
-    Mixed(u32),
 }
 
 impl Lie {
     fn points_of_scan(self) -> u32 {
         match self {
             Lie::Drawn | Lie::Rising | Lie::Equal => MOST_AT_ONCE,
-            Lie::Left | Lie::Kept | Lie::Road | Lie::Mixed(_) => POINTS_OF_SCAN,
+            Lie::Left => POINTS_OF_SCAN,
         }
     }
 
     fn point(self, scan: u32, number: u32, draws: &mut Draws) -> Point {
         match self {
-            Lie::Left | Lie::Kept => draws.point(scan),
+            Lie::Left => draws.point(scan),
             Lie::Drawn => draws.point(0),
             Lie::Rising => Point::new(number as i64, 0, 0).unwrap_or_default(),
             Lie::Equal => Point::default(),
-            Lie::Road => road_point(number as i64, draws),
-            Lie::Mixed(of) => road_point(mixed(number, of), draws),
         }
     }
-}
-
-// The place of a number among so many.
-fn mixed(number: u32, of: u32) -> i64 {
-    let place = (number as i64).wrapping_mul(STRIDE);
-    place.checked_rem(of as i64).unwrap_or(0)
-}
-
-fn road_point(place: i64, draws: &mut Draws) -> Point {
-    let aside = draws.point(0);
-    Point::new(APART.saturating_mul(place), aside.y(), aside.z()).unwrap_or_default()
-}
-
-/// The box round the first points of a road, so many.
-pub fn road_box(points: u32) -> Cuboid {
-    slab(0, APART.saturating_mul(points as i64))
 }
 
 /// What a map takes in at once, and what is deleted then.
@@ -103,8 +73,8 @@ pub fn scans(
     Ok(scans)
 }
 
-/// The points of a scan that have these numbers.
-pub fn points(
+// The points of a scan that have these numbers.
+fn points(
     alloc: Global,
     lie: Lie,
     scan: u32,

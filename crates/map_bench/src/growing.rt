@@ -79,14 +79,3 @@ fn looked<L: Ledger, R: Threads + Sync>(
         }
     }
 }
-
-/// The microseconds in which the map takes the scan in.
-pub fn taking_in<M: Growing, L: Ledger, R: Clock>(
-    at: &mut Bench<'_, L, R>,
-    map: &mut M,
-    scan: &Scan,
-) -> Result<u128, Stop> {
-    let begun = Instant::now(at.rt);
-    let done = map.take_in(at, scan);
-    at.micros_of(begun, done)
-}

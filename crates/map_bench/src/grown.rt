@@ -83,8 +83,8 @@ impl Grown {
         Ok(())
     }
 
-    /// Deletes what a choice chooses, as `delete` does.
-    pub fn delete<L: Ledger>(
+    // Deletes what a choice chooses, as `delete` does.
+    fn delete<L: Ledger>(
         &mut self,
         alloc: Global,
         choice: &Choice,

@@ -15,10 +15,6 @@
 //! - `odometry`: the same, but each point is asked for its 5 nearest before its scan is thinned;
 //! - `batches`: as `odometry`, but a scan's points are asked for at once;
 //! - `drawn`, `rising`, `equal`: a state takes N points that lie so, 262,144 an update, with Q as the size of a large subtree;
-//! - `expire`, `cut`, `mixed`: the older half of N points is forgotten at once, of a road by their numbers, of a road by a box, and by
-//!   their numbers where these stand all over the road; how long it took and how many nodes it touched is told;
-//! - `longest`: a state grows by scans to N points and then by Q more, of which the longest steps are told;
-//! - `waiting`: a state has a detached subtree that has met Q operations, and takes a thousand updates of one point, which are told;
 //! - `readers`: a shared map grows so to N points, and then Q readers, from 1 to 7, ask it beside a writer that adds a hundred scans more;
 //! - `paced`: the same, but the writer sleeps for 50 milliseconds before each scan;
 //! - `steady`: a shared map grows so to N points, and then takes 300 scans more, one every 10 milliseconds, beside a reader that asks
@@ -38,17 +34,14 @@ ghost use Rattle.kd_tree.specs.Counter.{IsBlankOf};
 mod bench;
 mod course;
 mod draws;
-mod forgotten;
 mod growing;
 mod grown;
-mod longest;
 mod robot;
 mod searches;
 mod stop;
 mod sums;
 mod threads;
 mod told;
-mod waiting;
 mod words;
 mod works;
 
@@ -107,10 +100,7 @@ fn print<R: Print + Eprint>(
     asked: &str,
     told: &Told,
 ) -> io::Result<()> {
-    let figures = told.figures.as_str();
-    let Some(sum) = told.sum else {
-        return println!(rt; "{figures}");
-    };
+    let (figures, sum) = (told.figures.as_str(), told.sum);
     eprintln!(rt; "{figures}")?;
     println!(rt; "{name} {count} {asked} sum {sum}")
 }

@@ -8,18 +8,15 @@ use std::alloc::Global;
 #[derive(Drop)]
 pub struct Told {
     pub figures: String,
-    /// The checksum of all answers on the way, and of all that is held at the end, of works that have one.
-    pub sum: Option<u64>,
+    /// The checksum of all answers on the way, and of all that is held at the end.
+    pub sum: u64,
 }
 
 impl Told {
     /// How long a work took that has this checksum.
     pub fn timed(alloc: Global, micros: u128, sum: u64) -> Result<Told, Stop> {
         let figures = format!(in alloc; "{micros}")?;
-        Ok(Told {
-            figures,
-            sum: Some(sum),
-        })
+        Ok(Told { figures, sum })
     }
 
     /// The same of a work that had this checksum so far, and left this tree.

@@ -26,8 +26,6 @@ pub enum OnTree {
     Grow(Look),
     /// Once it has grown so, it is asked for the 5 nearest of so many places.
     Ask,
-    /// Once it has grown, the older half of its points is forgotten.
-    Forget(Way),
 }
 
 /// What is done with the state of a map.
@@ -38,14 +36,10 @@ pub enum OnState {
     /// It takes in as many points at once as may be, which lie as badly as they may: no update rebuilds the tree more than once.
     /// Subtrees from as many nodes on as are asked for aren't rebuilt.
     Add(Lie),
-    /// It takes in scans, whose longest steps are told.
-    Longest,
-    /// It takes updates of one point while a detached subtree waits.
-    Waiting,
 }
 
 // The works by their names.
-const WORKS: [(&str, Work); 27] = [
+const WORKS: [(&str, Work); 22] = [
     ("build", Work::Built(Ask::Nothing)),
     ("ask", Work::Built(Ask::Nearest)),
     ("singly", Work::Built(Ask::Singly)),
@@ -63,11 +57,6 @@ const WORKS: [(&str, Work); 27] = [
     ("drawn", Work::State(OnState::Add(Lie::Drawn))),
     ("rising", Work::State(OnState::Add(Lie::Rising))),
     ("equal", Work::State(OnState::Add(Lie::Equal))),
-    ("expire", Work::Tree(OnTree::Forget(Way::Expire))),
-    ("cut", Work::Tree(OnTree::Forget(Way::Cut))),
-    ("mixed", Work::Tree(OnTree::Forget(Way::Mixed))),
-    ("longest", Work::State(OnState::Longest)),
-    ("waiting", Work::State(OnState::Waiting)),
     ("readers", Work::Threads(Sharing::Readers)),
     ("paced", Work::Threads(Sharing::Paced)),
     ("steady", Work::Threads(Sharing::Steady)),
@@ -115,17 +104,6 @@ pub enum Look {
     Singly,
     /// The same, all at once, on all processors.
     AtOnce,
-}
-
-/// What is forgotten, and how.
-#[derive(Clone, Copy)]
-pub enum Way {
-    /// The numbers of the first half of the road, which are the lower half.
-    Expire,
-    /// The same points, by a box.
-    Cut,
-    /// The lower half of the numbers, where these stand all over the road.
-    Mixed,
 }
 
 /// How much of it.

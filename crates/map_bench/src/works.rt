@@ -1,16 +1,13 @@
 //! Which work is measured on what: the tree or the state is made here, and lent to the work.
 use crate::bench::Bench;
 use crate::course::Lie;
-use crate::forgotten::forget;
 use crate::growing::timed;
 use crate::grown::{self, Grown};
-use crate::longest::longest_steps;
-use crate::robot::{self, Robot};
+use crate::robot::Robot;
 use crate::searches::{on_built, on_grown};
 use crate::stop::Stop;
 use crate::threads::side_by_side;
 use crate::told::Told;
-use crate::waiting::update_waiting;
 use crate::words::{Look, OnState, OnTree, Work};
 use kd_tree::Tree;
 use std::sync::Wait;
@@ -48,7 +45,6 @@ fn on_this_tree<L: Ledger, R: Clock + Threads + Sync>(
     match work {
         OnTree::Grow(look) => timed(at, map, Lie::Left, look),
         OnTree::Ask => on_grown(at, map),
-        OnTree::Forget(way) => forget(at, map, way),
     }
 }
 
@@ -56,31 +52,13 @@ fn on_state<L: Ledger, R: Clock + Threads + Sync>(
     at: &mut Bench<'_, L, R>,
     work: OnState,
 ) -> Result<Told, Stop> {
-    let (large, thins) = kept_by(work, at.size.asked);
+    // From how many nodes on subtrees are left alone, and whether scans are thinned.
+    let (large, thins, lie, look) = match work {
+        OnState::Thin(look) => (grown::LARGE, true, Lie::Left, look),
+        OnState::Add(lie) => (at.size.asked, false, lie, Look::Nothing),
+    };
     match Robot::new(at.alloc, large, thins) {
-        Ok(mut robot) => on_this_state(at, &mut robot, work),
+        Ok(mut robot) => timed(at, &mut robot, lie, look),
         Err(stop) => Err(stop),
-    }
-}
-
-// From how many nodes on subtrees are left alone, and whether scans are thinned.
-fn kept_by(work: OnState, asked: u32) -> (u32, bool) {
-    match work {
-        OnState::Thin(_) => (grown::LARGE, true),
-        OnState::Add(_) => (asked, false),
-        OnState::Longest | OnState::Waiting => (robot::LARGE, false),
-    }
-}
-
-fn on_this_state<L: Ledger, R: Clock + Threads + Sync>(
-    at: &mut Bench<'_, L, R>,
-    robot: &mut Robot,
-    work: OnState,
-) -> Result<Told, Stop> {
-    match work {
-        OnState::Thin(look) => timed(at, robot, Lie::Left, look),
-        OnState::Add(lie) => timed(at, robot, lie, Look::Nothing),
-        OnState::Longest => longest_steps(at, robot),
-        OnState::Waiting => update_waiting(at, robot),
     }
 }

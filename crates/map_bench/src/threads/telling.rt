@@ -12,10 +12,8 @@ pub fn told(alloc: Global, sharing: Sharing, scans: u32, times: &Times) -> Resul
         Sharing::Readers | Sharing::Paced => speeds(alloc, times, scans)?,
         Sharing::Steady | Sharing::Inline | Sharing::Unhelped => lines(alloc, times)?,
     };
-    Ok(Told {
-        figures,
-        sum: Some(times.sum),
-    })
+    let sum = times.sum;
+    Ok(Told { figures, sum })
 }
 
 // The kinds of steps that a steady map is told of, each behind what begins its line.
