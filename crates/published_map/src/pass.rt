@@ -18,7 +18,6 @@ use std::sync::ledger::Share;
 /// the one history that it has seen, and the updates that its caller has made by it.
 ///
 /// It keeps the version of what it has seen. No call with it waits.
-#[derive(Drop)]
 pub struct Pass<L: MapName> {
     pub(crate) caller: u8,
     pub(crate) reader: MapReader<L>,
@@ -38,6 +37,19 @@ impl<L: MapName> Model for Pass<L> {
     ghost view = { λ p. record { caller = p.caller; seen = p.kept; mine = at_places p.kept p.marks.items } };
 
     ghost invariant = { λ p. IsPass p.caller p.kept (seat_view p.reader.place) p.marks.items p.share.parts p.share.amount };
+}
+
+// By hand, so that whoever lets a pass go proves one call.
+impl<L: MapName> Drop for Pass<L> {
+    fn drop(self) {
+        let Pass {
+            caller: _caller,
+            reader: _reader,
+            kept: _kept,
+            marks: _marks,
+            share: _share,
+        } = self;
+    }
 }
 
 impl<L: MapName> Pass<L> {

@@ -4,7 +4,7 @@ ghost use Rattle.left_right.specs.Sides.{view};
 ghost use Rattle.shown_versions.specs.Marks.{seen_by_new};
 
 use crate::pass::Pass;
-use map_fold::{Entry, NoMemory};
+use map_fold::NoMemory;
 use rebuild_core::MapState;
 use shown_versions::{
     MapName, MapWriter, Mark, MarkList, Shown, ShownHistory, make_pair, place_reader,
@@ -28,14 +28,25 @@ pub fn opened_pair<L: MapName>(
     ensures shown { IfOk result (λ w. w.desk.shown.value ≡ []) }
     ensures known { IfOk result (λ w. view w.desk.place ≡ []) }
 {
-    let none: Option<Entry> = None;
-    let _history = state.history();
-    let Some(mark) = Mark::of(marks, &ShownHistory::of(state, &none)) else {
-        return Err(NoMemory);
-    };
-    let first = Shown::new(Arc::try_clone(state.version())?, mark);
+    let first = opening(state, marks)?;
     let second = first.again()?;
     Ok(make_pair(alloc, first, second, callers as usize)?)
+}
+
+// The state's version, under the mark of a history without an entry.
+fn opening<L: MapName>(state: &MapState, marks: &mut MarkList) -> Result<Shown<L>, NoMemory>
+    requires marks { marks.old ≡ L.marks }
+    requires empty { state.now.state.history ≡ [] }
+    requires voxel { state.now.state.settings.voxel ≡ L.voxel }
+    ensures same { marks.new ≡ marks.old }
+    ensures shown { IfOk result (λ s. s ≡ []) }
+{
+    let _history = state.history();
+    let version = Arc::try_clone(state.version())?;
+    let Some(mark) = Mark::of(marks, &ShownHistory::of(state, &None)) else {
+        return Err(NoMemory);
+    };
+    Ok(Shown::new(version, mark))
 }
 
 fn made_pass<L: MapName>(

@@ -21,7 +21,6 @@ use std::marker::{Brand, Model};
 use std::sync::ledger::{Blank, Ledger};
 
 /// A tree that was built of a detached subtree's items, with some operations done on it since.
-#[derive(Drop)]
 pub struct Built {
     pub(crate) job: Job,
     pub(crate) done: Vec<Op>,
@@ -46,6 +45,18 @@ impl Model for Built {
     ghost invariant = { λ b. IsLawfulBuilt (record { ticket = b.job.ticket; items = b.job.items; done = b.done.items; tree = b.tree }) × IsBalancedBelow b.large b.tree };
 }
 
+// By hand, so that whoever lets a value go proves one call.
+impl Drop for Built {
+    fn drop(self) {
+        let Built {
+            job: _job,
+            done: _done,
+            tree: _tree,
+            large: _large,
+        } = self;
+    }
+}
+
 /// A value on which nothing more was done for lack of memory.
 #[derive(Drop)]
 pub struct BuiltLeft {
@@ -66,6 +77,20 @@ impl Built {
             tree,
             large,
         }
+    }
+
+    // Its tree, and for which `large` it is balanced.
+    pub(crate) fn into_tree(self) -> (Tree, u32)
+        ensures tree { result.0 ≡ self.tree }
+        ensures balanced { IsBalancedBelow result.1 result.0 }
+    {
+        let Built {
+            job: _job,
+            done: _done,
+            tree,
+            large,
+        } = self;
+        (tree, large)
     }
 
     /// The ticket of the subtree.

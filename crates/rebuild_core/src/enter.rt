@@ -18,13 +18,7 @@ impl MapState {
         ensures len { result ≡ length self.new.state.history }
         ensures spare { self.new.spare ≡ self.old.spare - length (listed planned.entry) }
     {
-        let Planned {
-            tree,
-            next,
-            version,
-            entry,
-            logs,
-        } = planned;
+        let (tree, next, version, entry, logs) = planned.parts();
         list(&mut self.history, &mut self.made, entry);
         relog_all(&mut self.parts, logs);
         self.tree = tree;

@@ -14,10 +14,19 @@ use std::sync::Arc;
 use std::sync::ledger::{Blank, Ledger};
 
 /// The items of a detached subtree, which its state holds as well.
-#[derive(Drop)]
 pub struct Job {
     pub(crate) ticket: u64,
     pub(crate) items: Arc<Items>,
+}
+
+// By hand, so that whoever lets a job go proves one call.
+impl Drop for Job {
+    fn drop(self) {
+        let Job {
+            ticket: _ticket,
+            items: _items,
+        } = self;
+    }
 }
 
 impl Model for Job {

@@ -12,7 +12,6 @@ use std::sync::Arc;
 use std::sync::ledger::Ledger;
 
 /// What a step stores in the state, for which all memory is taken.
-#[derive(Drop)]
 pub struct Planned {
     pub(crate) tree: Tree,
     pub(crate) next: u32,
@@ -34,7 +33,36 @@ impl Model for Planned {
     ghost view = { λ p. record { tree = p.tree; next = p.next; version = p.version.value; entry = p.entry; logs = p.logs.items } };
 }
 
+// By hand, so that whoever lets a plan go proves one call.
+impl Drop for Planned {
+    fn drop(self) {
+        let Planned {
+            tree: _tree,
+            next: _next,
+            version: _version,
+            entry: _entry,
+            logs: _logs,
+        } = self;
+    }
+}
+
+// What a plan stores: a tree, the next number, a version, an entry, and logs.
+type Parts = (Tree, u32, Arc<Version>, Option<Entry>, Vec<PartLog>);
+
 impl Planned {
+    pub(crate) fn parts(self) -> Parts
+        ensures { self ≡ record { tree = result.0; next = result.1; version = result.2.value; entry = result.3; logs = result.4.items } }
+    {
+        let Planned {
+            tree,
+            next,
+            version,
+            entry,
+            logs,
+        } = self;
+        (tree, next, version, entry, logs)
+    }
+
     /// The version that the state is to have.
     pub fn version(&self) -> &Arc<Version>
         ensures { result.now.value ≡ self.now.version }

@@ -13,7 +13,6 @@ use std::marker::Model;
 use std::sync::Arc;
 
 /// The state of a map. Whatever steps it takes, it holds the fold of its history, and its version shows that.
-#[derive(Drop)]
 pub struct MapState {
     pub(crate) settings: Settings,
     pub(crate) tree: Tree,
@@ -30,6 +29,24 @@ pub struct MapState {
     pub(crate) former: Option<Arc<Version>>,
     // What the nodes of the next update are made in.
     pub(crate) scratch: Scratch,
+}
+
+// By hand, so that whoever lets a state go proves one call.
+impl Drop for MapState {
+    fn drop(self) {
+        let MapState {
+            settings: _settings,
+            tree: _tree,
+            next: _next,
+            history: _history,
+            version: _version,
+            made: _made,
+            parts: _parts,
+            last: _last,
+            former: _former,
+            scratch: _scratch,
+        } = self;
+    }
 }
 
 impl Model for MapState {

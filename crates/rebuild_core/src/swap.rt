@@ -127,7 +127,7 @@ impl MapState {
             });
         }
         let _done = built.done();
-        let Built { tree, large, .. } = built;
+        let (tree, large) = built.into_tree();
         let planned = self.swapped(alloc, part, tree, large, ops.as_slice(), steps)?;
         Ok(planned)
     }

@@ -12,7 +12,6 @@ use std::marker::Model;
 use std::sync::Arc;
 
 /// A version with its mark. Contracts see the history that the version shows.
-#[derive(Drop)]
 pub struct Shown<L: MapName> {
     version: Arc<Version>,
     mark: Mark<L>,
@@ -28,6 +27,16 @@ impl<L: MapName> Model for Shown<L> {
     ghost view = { λ s. s.mark.history };
 
     ghost invariant = { λ s. IsVersionOf L.voxel s.mark.history s.version.value };
+}
+
+// By hand, so that whoever lets a version go proves one call.
+impl<L: MapName> Drop for Shown<L> {
+    fn drop(self) {
+        let Shown {
+            version: _version,
+            mark: _mark,
+        } = self;
+    }
 }
 
 impl<L: MapName> Shown<L> {
