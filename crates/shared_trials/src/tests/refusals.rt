@@ -1,9 +1,11 @@
-//! An update that is refused for lack of memory. No memory runs out in a plain run: allocations are refused from outside.
-use crate::tests::assertions::{found, same};
-use crate::tests::trial::{Site, Trial, row, tried};
-use map_fold::Update;
+//! Updates that are refused. For lack of memory none is in a plain run: allocations are refused from outside.
+use crate::tests::assertions::{found, made, same};
+use crate::tests::trial::{Site, Trial, added, row, tried};
+use map_fold::{Points, Update};
+use point_geom::Point;
 use published_map::{Ended, MapName, Pass};
 use rebuild_core::{MapState, StateFault};
+use std::alloc::Global;
 use std::process::Abort;
 use std::sync::Wait;
 
@@ -43,4 +45,39 @@ impl<R: Wait + Abort> Trial<R> for MadeAgain {
 #[test]
 fn an_update_that_wanted_memory_gets_its_mark_later(rt: HostRuntime) {
     tried(&rt, rt.alloc(), 1, &MadeAgain);
+}
+
+// The second caller adds more points than there may be.
+struct TooMany;
+
+fn too_many(rt: &impl Abort, alloc: Global) -> Update {
+    let point = made(rt, Point::new(0, 0, 0));
+    let mut points = Points::new(alloc);
+    for _ in 0..4_194_304u32 {
+        made(rt, points.push(point));
+    }
+    Update::Add(points)
+}
+
+impl<R: Wait + Abort> Trial<R> for TooMany {
+    fn run<L: MapName>(&self, at: &Site<'_, L, R>, passes: &mut [Pass<L>]) {
+        added(at, passes, 1, 2);
+        let pass = found(at.rt, passes.get_mut(1));
+        let points = too_many(at.rt, at.alloc);
+        let answer = at.shared.update(at.rt, at.alloc, pass, points);
+        let (next, asked) = (1, 4_194_304);
+        let want = StateFault::TooManyPoints { next, asked };
+        same(at.rt, "the fault", answer.err(), Some(want));
+        // It was not renewed.
+        same(at.rt, "updates that it sees", pass.version().len(), 1);
+    }
+
+    fn end(&self, rt: &R, state: &MapState, _ended: &[Ended]) {
+        same(rt, "updates", state.history().len(), 1);
+    }
+}
+
+#[test]
+fn a_refused_update_shows_its_caller_what_the_other_did(rt: HostRuntime) {
+    tried(&rt, rt.alloc(), 2, &TooMany);
 }

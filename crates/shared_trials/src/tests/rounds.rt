@@ -3,20 +3,21 @@ ghost use Rattle.std.specs.Prelude.{◌≡◌, ◌≤◌, IfErr};
 ghost use Rattle.kd_tree.specs.Counter.{IsBlankOf};
 ghost use Rattle.rebuild_core.specs.Desk.{IsSwapCause};
 
-use crate::tests::assertions::{holds, made, same};
+use crate::tests::assertions::{found, holds, made, same};
 use crate::tests::unbalanced::{add, with_forty, with_two_breaches};
 use kd_tree::Steps;
-use map_fold::{NoMemory, Ops, Points};
+use map_fold::{NoMemory, Ops, Points, Settings};
 use point_geom::Point;
 use rebuild_core::{Built, Desk, Job, LogAsk, MapState, StateFault, SwapFault, SwapLeft};
-use rebuild_worker::{Bell, CountDesk, Gate, HoldGate, pair, work};
+use rebuild_worker::{Bell, CountDesk, FreeGate, Gate, HoldGate, pair, work};
 use std::alloc::Global;
 use std::marker::Brand;
 use std::process::Abort;
 use std::sync::atomic::{AtomicU64, Ordering};
 use std::sync::ledger::{Blank, Ledger};
 use std::sync::{Mutex, Wait};
-use std::thread::{Threads, join};
+use std::thread::{Threads, join, sleep};
+use std::time::{Clock, Duration};
 
 // Done, or why not.
 type Done<E> = Result<(), E>;
@@ -238,6 +239,98 @@ fn a_swap_is_forced_after_eight_tries(rt: HostRuntime) {
     have_tickets(&rt, &busy.state, &[(1, None)]);
     let live = busy.state.version().counts().live;
     same(&rt, "live points", live, 40 + 8 * 65);
+}
+
+// A map that has its worker end once it is asked for so many jobs.
+#[derive(Drop)]
+struct EndDesk {
+    desk: CountDesk,
+    bell: Bell,
+    last: u64,
+    asked: AtomicU64,
+}
+
+impl Desk for EndDesk {
+    fn detach<R: Wait>(&self, rt: &R, alloc: Global, slot: u8) -> Result<Option<Job>, NoMemory> {
+        let asked = self.asked.load(Ordering::SeqCst).saturating_add(1);
+        self.asked.store(asked, Ordering::SeqCst);
+        if asked == self.last {
+            self.bell.stop();
+        }
+        self.desk.detach(rt, alloc, slot)
+    }
+
+    fn log_after<R: Wait>(&self, rt: &R, alloc: Global, built: &Built) -> Result<Ops, LogAsk> {
+        self.desk.log_after(rt, alloc, built)
+    }
+
+    fn swap<R: Wait>(&self, rt: &R, alloc: Global, built: Built, force: bool) -> Done<SwapLeft> {
+        self.desk.swap(rt, alloc, built, force)
+    }
+}
+
+#[test]
+fn a_worker_looks_again_once_it_did_one_job(rt: HostRuntime) {
+    let alloc = rt.alloc();
+    let (bell, mut rest) = made(&rt, pair(alloc));
+    let desk = EndDesk {
+        desk: CountDesk::new(with_forty(&rt, alloc), Vec::new(alloc)),
+        bell,
+        last: 3,
+        asked: AtomicU64::new(0),
+    };
+    // Nobody rings for it.
+    work(&rt, alloc, 16, 1, &desk, &FreeGate, &mut rest);
+    let (_, calls) = desk.desk.finish(&rt);
+    same(
+        &rt,
+        "two jobs were asked for twice, and one was done",
+        calls,
+        5,
+    );
+}
+
+// Lets a worker do its rounds for a while, for which nobody rings.
+fn work_for_a_while<R: Threads + Wait + Clock + Abort + Sync>(
+    rt: &R,
+    alloc: Global,
+    desk: &CountDesk,
+) {
+    let (bell, mut rest) = made(rt, pair(alloc));
+    join(
+        rt,
+        || {
+            sleep(rt, Duration::from_millis(50));
+            bell.stop();
+        },
+        || work(rt, alloc, 16, 1, desk, &FreeGate, &mut rest),
+    );
+}
+
+#[test]
+fn a_worker_sleeps_where_memory_ran_out(rt: HostRuntime) {
+    let alloc = rt.alloc();
+    let state = made(&rt, MapState::new(alloc, Settings::new(200, 16)));
+    let desk = CountDesk::new(state, made(&rt, vec![in alloc; 1]));
+    work_for_a_while(&rt, alloc, &desk);
+    let (_, calls) = desk.finish(&rt);
+    holds(&rt, "it asked for both jobs once at most", calls <= 2);
+}
+
+// What was built of the map's first subtree.
+fn first_built(rt: &impl Abort, alloc: Global, state: &mut MapState) -> Built {
+    let job = found(rt, made(rt, state.detach(alloc, 1)));
+    found(rt, job.build(alloc, 16).ok())
+}
+
+#[test]
+fn a_map_that_refuses_says_that_memory_ran_out(rt: HostRuntime) {
+    let alloc = rt.alloc();
+    let mut state = with_forty(&rt, alloc);
+    let built = first_built(&rt, alloc, &mut state);
+    let desk = CountDesk::new(state, made(&rt, vec![in alloc; 1]));
+    let left = found(&rt, desk.swap(&rt, alloc, built, true).err());
+    same(&rt, "the cause", left.fault, SwapFault::NoMemory);
 }
 
 // Lets a worker do its rounds beside a caller, which tells it to end after two replies.
