@@ -108,7 +108,7 @@ impl Tree {
     pub(crate) fn opened(self) -> Result<Option<Opened>, NoMemory>
         ensures { IfOk result (λ o. AreTopParts self o) }
     {
-        match self.root {
+        match self.into_root() {
             Root::Empty => Ok(None),
             Root::Full { node, .. } => {
                 let node = taken(node)?;
@@ -123,7 +123,7 @@ impl Tree {
         ensures own { IfOk result (λ o. AreTopParts self (Some o)) }
         ensures stays { IfErr result (λ t. t ≡ self) }
     {
-        match self.root {
+        match self.into_root() {
             Root::Empty => Err(Tree::empty()),
             Root::Full { levels, size, node } => match taken_if_own(node) {
                 Ok(node) => Ok(node),

@@ -2,7 +2,6 @@
 use map_fold::{BoxReply, ClusterReply, NearReply, NearsReply};
 
 /// The reply to a command, or the one at the end.
-#[derive(Drop)]
 pub enum Reply {
     /// A change was made.
     Done {
@@ -28,4 +27,22 @@ pub enum Reply {
         live: u32,
         suspended: u32,
     },
+}
+
+// By hand, so that whoever lets a reply go proves one call.
+impl Drop for Reply {
+    fn drop(self) {
+        match self {
+            Reply::Done { mark: _mark } => {}
+            Reply::Totals {
+                mark: _mark,
+                live: _live,
+                suspended: _suspended,
+            } => {}
+            Reply::Near(_found) => {}
+            Reply::Nears(_found) => {}
+            Reply::Inside(_found) | Reply::Ball(_found) | Reply::Lonely(_found) => {}
+            Reply::Clusters(_found) => {}
+        }
+    }
 }
