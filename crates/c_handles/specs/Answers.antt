@@ -2,8 +2,9 @@
 use Rattle.std.specs.Prelude.{◌≡◌, ◌≢◌, ◌<◌, ◌≤◌, ◌*◌, ◌/◌, ◌%◌, ◌⊎◌, ◌≤ℤ◌, ℕ, ℤ, pos, negsuc, List, map, length, take, Any, All, Option, None, Some}
 use Rattle.std.specs.List.{flat_map}
 use Rattle.point_geom.specs.Place as geom
-use Rattle.map_fold.specs.Answers.{count, inside, live_count, nearest, suspended_count}
-use Rattle.map_fold.specs.declared.hits.Hit as found
+use Rattle.map_answers.specs.Answers.{count, inside, nearest}
+use Rattle.map_fold.specs.Contents.{live_count, suspended_count}
+use Rattle.map_answers.specs.declared.hits.Hit as found
 use Rattle.map_fold.specs.declared.item.Item as held
 use Rattle.map_fold.specs.declared.limits.TheConstants.{MAX_FOUND, MAX_WITHIN}
 use Rattle.kd_tree.specs.Contents.{contents}

@@ -5,7 +5,7 @@ ghost use Rattle.c_handles.specs.Answers.{c_hit, c_item, c_point};
 use crate::forms::{Hit, Item, Point};
 
 /// Writes the hits from a place on.
-pub fn write_hits(found: &[map_fold::Hit], at: usize, hits: &mut [Hit])
+pub fn write_hits(found: &[map_answers::Hit], at: usize, hits: &mut [Hit])
     requires { at + length found.now ≤ length hits.old }
     ensures written { take (at + length found.now) hits.new ≡ take at hits.old ++ map c_hit found.now }
     ensures length { length hits.new ≡ length hits.old }
@@ -26,7 +26,7 @@ pub fn write_items(found: &[map_fold::Item], items: &mut [Item])
     }
 }
 
-fn hit_of(hit: &map_fold::Hit) -> Hit
+fn hit_of(hit: &map_answers::Hit) -> Hit
     ensures { result ≡ c_hit hit.now }
 {
     const WORD: u128 = 18_446_744_073_709_551_616;

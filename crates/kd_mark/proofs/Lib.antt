@@ -1,3 +1,4 @@
+pub mod Among
 pub mod Criteria
 pub mod InBox
 pub mod Large
@@ -8,6 +9,7 @@ pub mod Near
 pub mod Refresh
 pub mod Results
 pub mod Several
+pub mod TakenApart
 pub mod Trees
 pub mod Update
 pub mod WatchedMark

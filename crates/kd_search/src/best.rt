@@ -1,6 +1,6 @@
 //! The live point of a box that is nearest to its centre.
 ghost use Rattle.std.specs.Prelude.{◌≡◌, [], IfSome, IsNone, ◌↔◌};
-ghost use Rattle.map_fold.specs.Answers.{inside_all};
+ghost use Rattle.map_answers.specs.Answers.{inside_all};
 ghost use Rattle.kd_tree.specs.Contents.{contents};
 ghost use Rattle.kd_search.specs.Best.{best_inside, IsBest};
 

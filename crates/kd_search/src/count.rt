@@ -1,6 +1,6 @@
 //! Counting in a box.
 ghost use Rattle.std.specs.Prelude.{◌≡◌, ◌≤◌, [], ◌∷◌};
-ghost use Rattle.map_fold.specs.Answers.{count};
+ghost use Rattle.map_answers.specs.Answers.{count};
 ghost use Rattle.kd_tree.specs.Contents.{contents};
 ghost use Rattle.kd_search.specs.Part.{items_of, nodes_of};
 

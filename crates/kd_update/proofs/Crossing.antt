@@ -38,7 +38,7 @@ use Rattle.kd_update.specs.Watch.{goes_to}
 use Rattle.node_labels.specs.declared.tag.Tag.{Tag}
 use Rattle.map_fold.specs.declared.op.Op.TheVariants.{Mark}
 use Rattle.kd_update.specs.Crossing.{AreMet, IsCrossed, IsMet, IsWholeGrown, going, logged_scan, puts_of}
-use Rattle.kd_update.proofs.Criteria.{apart}
+use Rattle.kd_mark.proofs.TakenApart.{apart}
 use Rattle.kd_update.proofs.Grown.{GoBeside, IsLive, IsStep, distinct_back, distinct_front, grown_first, grown_moved, grown_none, grown_put, live_of, new_first, step_grown}
 use Rattle.kd_update.proofs.Joins.{grown_held, put_new}
 use Rattle.kd_mark.proofs.Refresh.{head, refresh_same}

@@ -28,10 +28,10 @@ use Rattle.kd_mark.specs.Update.{IsBalancedBelow}
 use Rattle.kd_update.specs.Put.{goes_left, put_from}
 use Rattle.kd_update.specs.Scan.{AreLive, IsGrown, IsParted, IsPiece, numbers_in}
 use Rattle.kd_mark.proofs.Trees.{among_same, among_append, among_fork, at_pushed}
-use Rattle.kd_update.proofs.Trees.{swapped}
+use Rattle.kd_mark.proofs.Among.{swapped}
 use Rattle.kd_mark.proofs.Refresh.{head, left_among, refreshed_refresh}
 use Rattle.kd_mark.proofs.Update.{criteria_balanced, balanced_sons}
-use Rattle.kd_update.proofs.Criteria.{IsApart, apart}
+use Rattle.kd_mark.proofs.TakenApart.{IsApart, apart}
 use Rattle.kd_update.proofs.Route.{le_of_true, le_of_false, walk-put, nodes-put, levels-put, numbers-put}
 
 -- lists

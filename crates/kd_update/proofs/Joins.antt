@@ -21,7 +21,7 @@ use Rattle.kd_mark.specs.Refresh.{AreAmong}
 use Rattle.kd_mark.specs.Update.{IsBalancedBelow}
 use Rattle.kd_update.specs.Scan.{AreLive, IsGrown, IsPiece, IsPut, MayJoin, live_from, numbers_in, put_each}
 use Rattle.kd_mark.proofs.Trees.{among_same}
-use Rattle.kd_update.proofs.Trees.{among_then}
+use Rattle.kd_mark.proofs.Among.{among_then}
 use Rattle.kd_update.proofs.Grown.{IsLive, all_first, all_last, distinct_front, live_of, new_first}
 
 -- items put one after the other

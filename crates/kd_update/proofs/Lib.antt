@@ -1,4 +1,3 @@
-pub mod Criteria
 pub mod Crossing
 pub mod Grown
 pub mod Joins
@@ -6,9 +5,6 @@ pub mod Lists
 pub mod Logged
 pub mod Near
 pub mod Numbers
-pub mod OpRuns
 pub mod Route
 pub mod Several
-pub mod StandsFor
-pub mod Trees
 pub mod Watched

@@ -32,7 +32,7 @@ use Rattle.kd_update.specs.Put.{goes_left, put_under, put_from, side_of, Rebuild
 use Rattle.kd_mark.specs.Several.{large_at}
 use Rattle.kd_tree.proofs.Left.{all_left, left_all}
 use Rattle.kd_mark.proofs.Trees.{forked, at_pushed, walk-tagged_keep, among_same}
-use Rattle.kd_update.proofs.Trees.{among_left, among_right}
+use Rattle.kd_mark.proofs.Among.{among_left, among_right}
 use Rattle.kd_mark.proofs.Refresh.{head, refresh_contents, tops_alike}
 use Rattle.kd_mark.proofs.Near.{near}
 use Rattle.kd_update.proofs.Near.{with_near}

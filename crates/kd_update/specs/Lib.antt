@@ -3,6 +3,4 @@ pub mod Made
 pub mod Scan
 pub mod Watch
 pub mod Watches
-pub mod Replace
-pub mod Replay
 pub mod Crossing

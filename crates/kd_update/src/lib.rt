@@ -1,5 +1,5 @@
-//! Changes of a k-d tree: points put in, one by one or a scan in one pass, and whole trees settled. What is done by `kd_mark` alone, actions
-//! and rebuilding, stands there. While a subtree is rebuilt elsewhere, it is watched here: what it meets is logged, and then it is replaced.
+//! Points put into a k-d tree, one by one or a scan in one pass. What is done by `kd_mark` alone, actions and rebuilding, stands there.
+//! While a subtree is rebuilt elsewhere, it is watched here: what it meets is logged.
 #![tactic(auto)]
 
 mod insert;
@@ -11,14 +11,9 @@ mod numbered;
 mod one_pass;
 mod part_items;
 mod put_beside;
-mod replace;
-mod replacement;
-mod replay;
 mod room;
-mod runs;
 mod scan;
 mod scan_watched;
-mod settle;
 mod sides;
 mod watches;
 
@@ -26,11 +21,8 @@ pub use insert::put;
 pub use insert_watched::put_watched;
 pub use mark_watched::marked_watched;
 pub use numbered::{live_items, put_points};
-pub use replace::replaced;
-pub use replacement::Replaced;
-pub use replay::replayed;
+pub use one_pass::put_at_once;
 pub use room::roomy;
-pub use scan::put_all;
+pub use scan::{LOW, put_all};
 pub use scan_watched::put_all_watched;
-pub use settle::settled;
 pub use watches::Watches;

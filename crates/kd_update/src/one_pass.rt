@@ -18,9 +18,12 @@ use point_geom::Axis;
 use std::alloc::Global;
 use std::sync::ledger::Ledger;
 
-// The tree with the items put. They are moved about. The axis is that of the new leaf, should there be one item alone and the
-// tree be empty. A node is made in the memory of its old one, or of the scratch's, while there is any.
-pub(crate) fn put_at_once<L: Ledger>(
+/// The tree with the items put in one pass. They are moved about. The axis is that of the new leaf, should there be one item alone and the
+/// tree be empty. A node is made in the memory of its old one, or of the scratch's, while there is any. Where memory runs out, the
+/// tree is dropped.
+///
+/// Each node on the items' routes is made anew once, so n items take time in the order of n and of the nodes that they meet, beside what is rebuilt.
+pub fn put_at_once<L: Ledger>(
     alloc: Global,
     tree: Tree,
     large: u32,

@@ -16,8 +16,8 @@ use point_geom::Axis;
 use std::alloc::Global;
 use std::sync::ledger::Ledger;
 
-// A pass adds at most 22 levels, so it begins with no more than these.
-pub(crate) const LOW: u32 = 490;
+/// A pass adds at most 22 levels, so it begins with no more than these.
+pub const LOW: u32 = 490;
 
 /// The tree with these items put: each of them is live, and its number isn't held.
 ///

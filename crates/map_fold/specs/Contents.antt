@@ -1,5 +1,5 @@
 -- What a map holds: its items in the order of their numbers, each number once, none of them dropped.
-use Rattle.std.specs.Prelude.{◌≡◌, ℕ, ◌+◌, ◌<◌, ◌≤◌, Bool, true, false, not, ◌&&◌, List, [], ◌∷◌, map, filter, nat_lt, ◌==◌, if◌then◌else◌, Option, Some, None}
+use Rattle.std.specs.Prelude.{◌≡◌, ℕ, ◌+◌, ◌<◌, ◌≤◌, ◌⊎◌, Bool, true, false, not, ◌&&◌, List, [], ◌∷◌, map, filter, length, nat_lt, ◌==◌, if◌then◌else◌, Option, Some, None}
 use Rattle.std.specs.Ordering.{nat_cmp, ordering_then, is_lt}
 use Rattle.std.specs.declared.cmp.Ordering.{Ordering}
 use Rattle.point_geom.specs.Place.{Place, Bounds}
@@ -8,9 +8,15 @@ use Rattle.point_geom.specs.Distances.{centre_dist2}
 use Rattle.point_geom.specs.Boxes.{holds, voxel}
 use Rattle.node_labels.specs.declared.label.Label.TheVariants.{Live}
 use Rattle.node_labels.specs.declared.tag.Tag.{Tag}
-use Rattle.node_labels.specs.Labels.{apply, is_live, is_dropped, thin_tag}
+use Rattle.node_labels.specs.declared.counts.Counts.{Counts}
+use Rattle.node_labels.specs.Labels.{apply, is_live, is_suspended, is_dropped, thin_tag}
 use Rattle.map_fold.specs.declared.item.Item.{Item}
 use Rattle.map_fold.specs.declared.choice.Choice.{Choice}
+
+-- x stands in the list
+abbrev pub Member : {X : Type 0} → X → List X → Type 0
+Member x [] = ⊥
+Member x (y ∷ ys) = (x ≡ y) ⊎ Member x ys
 
 -- the numbers rise, from low on and below high, and no item is dropped
 abbrev pub AreContents : ℕ → ℕ → List Item → Type 0
@@ -113,3 +119,15 @@ abbrev pub thin : ℕ → List Item → ℕ → Place → List Item
 thin length m n p =
     let w = winner length m n p in
     put (mark m (in_box (voxel length p)) thin_tag) w.number w.point
+
+-- how many items are live
+abbrev pub live_count : List Item → ℕ
+live_count m = length (live_items m)
+
+-- how many items are suspended
+abbrev pub suspended_count : List Item → ℕ
+suspended_count m = length (filter (λ i. is_suspended i.label) m)
+
+-- how many are live and how many suspended
+abbrev pub totals : List Item → Counts
+totals m = record { live = live_count m; suspended = suspended_count m; dropped = 0 }

@@ -1,10 +1,4 @@
 pub mod Sizes
 pub mod Contents
-pub mod Answers
 pub mod Fold
 pub mod Ops
-pub mod Nearest
-pub mod Thinned
-pub mod Neighbours
-pub mod Clusters
-pub mod Rivals

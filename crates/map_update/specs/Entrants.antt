@@ -4,8 +4,7 @@ use Rattle.point_geom.specs.Place.{Place}
 use Rattle.point_geom.specs.Boxes.{holds, voxel}
 use Rattle.node_labels.specs.declared.label.Label.TheVariants.{Live}
 use Rattle.map_fold.specs.declared.item.Item.{Item}
-use Rattle.map_fold.specs.Contents.{comes_before, thin}
-use Rattle.map_fold.specs.Nearest.{Member}
+use Rattle.map_fold.specs.Contents.{comes_before, thin, Member}
 use Rattle.map_fold.specs.Ops.{IsUnheld}
 use Rattle.kd_update.specs.Scan.{live_from}
 

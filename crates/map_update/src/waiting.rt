@@ -4,7 +4,7 @@ ghost use Rattle.std.specs.Prelude.{◌≡◌, ℕ, ◌+◌, ◌*◌, ◌≤◌,
 ghost use Rattle.point_geom.specs.Boxes.{voxel};
 ghost use Rattle.node_labels.specs.Labels.{thin_tag};
 ghost use Rattle.node_labels.specs.declared.label.Label.TheVariants.{Live};
-ghost use Rattle.map_fold.specs.Answers.{count, inside_all};
+ghost use Rattle.map_answers.specs.Answers.{count, inside_all};
 ghost use Rattle.map_fold.specs.Contents.{in_box, mark, put, thin};
 ghost use Rattle.map_fold.specs.Fold.{thin_points};
 ghost use Rattle.map_fold.specs.Ops.{IsUnheld};

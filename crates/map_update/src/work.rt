@@ -14,7 +14,8 @@ ghost use Rattle.map_update.specs.Parts.{PartAt};
 
 use kd_mark::{Watch, rebuilt};
 use kd_tree::{MAX_LEVELS, MAX_NODES, Path, Steps, Tree};
-use kd_update::{Replaced, Watches, marked_watched, put_watched, replaced};
+use kd_update::{Watches, marked_watched, put_watched};
+use kd_replace::{Replaced, replaced};
 use map_fold::{Choice, NoMemory, Tag};
 use point_geom::Point;
 use std::alloc::Global;

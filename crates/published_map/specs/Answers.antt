@@ -2,10 +2,10 @@
 use Rattle.std.specs.Prelude.{◌≡◌, ℕ, ◌+◌, ◌<◌, List, length, Option, Result, Ok, Err}
 use Rattle.point_geom.specs.Place.{Place, Bounds}
 use Rattle.map_fold.specs.declared.entry.Entry.{Entry}
-use Rattle.map_fold.specs.declared.reply.NearReply.{NearReply}
-use Rattle.map_fold.specs.declared.reply.BoxReply.{BoxReply}
+use Rattle.map_answers.specs.declared.reply.NearReply.{NearReply}
+use Rattle.map_answers.specs.declared.reply.BoxReply.{BoxReply}
 use Rattle.map_fold.specs.declared.update.Update.{Update}
-use Rattle.map_fold.specs.Answers.{nearest, inside, count}
+use Rattle.map_answers.specs.Answers.{nearest, inside, count}
 use Rattle.map_fold.specs.Fold.{fold, points_in}
 use Rattle.rebuild_core.specs.History.{updates}
 use Rattle.rebuild_core.specs.declared.fault.StateFault.{StateFault}

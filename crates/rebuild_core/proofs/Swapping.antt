@@ -13,7 +13,7 @@ use Rattle.kd_tree.specs.Contents.{contents}
 use Rattle.kd_tree.specs.Criteria.{AllMeetCriteria}
 use Rattle.kd_tree.specs.Apart.{AreAllApart, IsClear}
 use Rattle.kd_mark.specs.Refresh.{AreAmong}
-use Rattle.kd_update.specs.Replace.{HasRoomAt, StandsFor}
+use Rattle.kd_replace.specs.Replace.{HasRoomAt, StandsFor}
 use Rattle.kd_mark.specs.Several.{AreLargeAt, AreSameAt, IsBalancedClear}
 use Rattle.kd_mark.proofs.Several.{balanced_clear}
 use Rattle.kd_mark.proofs.Update.{criteria_balanced}

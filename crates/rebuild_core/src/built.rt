@@ -14,7 +14,7 @@ use crate::balanced::is_balanced;
 use crate::holding::twin_by;
 use kd_mark::rebuilt;
 use kd_tree::{Steps, Tree};
-use kd_update::replayed;
+use kd_replay::replayed;
 use map_fold::{Item, NoMemory, Op};
 use std::alloc::Global;
 use std::marker::{Brand, Model};

@@ -11,7 +11,7 @@ use crate::logs::{PartLog, forgotten, logs_of};
 use crate::part::watched;
 use crate::{MapState, Planned, StateFault, Version};
 use kd_tree::{Scratch, Steps, Tree};
-use kd_update::settled;
+use kd_replace::settled;
 use map_fold::{Entry, MAX_POINTS, NoMemory, Update};
 use map_update::{Work, changed};
 use std::alloc::Global;

@@ -1,7 +1,6 @@
 //! Lists and trees, compared without memory.
 ghost use Rattle.std.specs.Prelude.{◌≡◌, ◌∷◌, [], ◌↔◌, true};
-ghost use Rattle.map_fold.specs.Contents.{AreContents, kept};
-ghost use Rattle.map_fold.specs.Nearest.{Member};
+ghost use Rattle.map_fold.specs.Contents.{AreContents, kept, Member};
 ghost use Rattle.kd_tree.specs.Contents.{contents};
 ghost use Rattle.kd_tree.specs.Walk.{walk};
 ghost use Rattle.rebuild_core.specs.Holding.{AreAllFrom};

@@ -11,7 +11,7 @@ use crate::logs::forgotten_for;
 use crate::part::{Part, others_of};
 use crate::{Built, Late, MapState, Planned, SwapFault};
 use kd_tree::{Steps, Tree};
-use kd_update::{Replaced, replaced};
+use kd_replace::{Replaced, replaced};
 use map_fold::{NoMemory, Op, Ops};
 use std::alloc::Global;
 use std::sync::ledger::Ledger;

@@ -1,6 +1,6 @@
 //! Versions of a map: what queries see.
 ghost use Rattle.std.specs.Prelude.{◌≡◌, IfOk};
-ghost use Rattle.map_fold.specs.Answers.{totals};
+ghost use Rattle.map_fold.specs.Contents.{totals};
 ghost use Rattle.kd_tree.specs.Shape.{leaf};
 ghost use Rattle.kd_tree.specs.Contents.{contents};
 

@@ -1,15 +1,15 @@
 //! Replies on the plain map.
 ghost use Rattle.std.specs.Prelude.{◌≡◌, ◌≤◌, IfOk, Some, None};
 ghost use Rattle.std.specs.Option.{ForSome, option_copied};
-ghost use Rattle.map_fold.specs.Answers.{nears};
+ghost use Rattle.map_answers.specs.Answers.{nears};
 ghost use Rattle.kd_search.specs.Query.{IsQuery};
 ghost use Rattle.scan_log.specs.Plain.{IsPlain};
 ghost use Rattle.transcript_check.specs.Told.{reply_at};
 
 use crate::neighbours::{ball_reply, tree_of};
-use map_fold::{
-    BoxReply, ClusterReply, HitLists, MAX_POINTS, NearReply, NearsReply, NoMemory, PlainMap,
-};
+use plain_map::PlainMap;
+use map_answers::{BoxReply, ClusterReply, HitLists, NearReply, NearsReply};
+use map_fold::{MAX_POINTS, NoMemory};
 use neighbour_sets::{Found, Grouped, clusters, lonely};
 use point_geom::Point;
 use scan_log::{Command, Reply};

@@ -4,7 +4,7 @@ use crate::tests::draw::Draw;
 use crate::tests::script::Script;
 use crate::tests::watch::perform_plainly;
 use kd_tree::Tree;
-use kd_update::replayed;
+use kd_replay::replayed;
 use map_fold::Item;
 use std::alloc::Global;
 use std::process::Abort;

@@ -6,7 +6,7 @@ use Rattle.kd_tree.specs.Walk.{walk}
 use Rattle.kd_tree.proofs.Held.{walk_few}
 use Rattle.kd_update.specs.Scan.{IsGrown}
 use Rattle.kd_update.proofs.Grown.{grown_anew, live_kept}
-use Rattle.kd_update.proofs.Trees.{bare}
+use Rattle.kd_mark.proofs.Among.{bare}
 use Rattle.kd_mark.proofs.Results.{ok_both}
 use Rattle.kd_mark.proofs.Update.{criteria_balanced}
 use Rattle.kd_update.proofs.one_pass.put_here.Goals as goal

@@ -3,10 +3,10 @@ use Rattle.point_geom.specs.Place.{Bounds}
 use Rattle.point_geom.specs.Boxes.{voxel}
 use Rattle.node_labels.specs.Labels.{thin_tag}
 use Rattle.map_fold.specs.declared.item.Item.{Item}
-use Rattle.map_fold.specs.Answers.{inside_all}
+use Rattle.map_answers.specs.Answers.{inside_all}
 use Rattle.map_fold.specs.Contents.{comes_before, in_box, live_at, mark, put, thin}
 use Rattle.map_fold.specs.Ops.{IsUnheld}
-use Rattle.map_fold.proofs.Thinning.{thin_none, thin_same, winner_number, winner_unheld}
+use Rattle.map_answers.proofs.Thinning.{thin_none, thin_same, winner_number, winner_unheld}
 use Rattle.kd_tree.specs.Contents.{contents}
 use Rattle.kd_search.specs.Best.{IsBest}
 use Rattle.map_update.proofs.Detached.{left_itself}

@@ -8,11 +8,11 @@ use Rattle.point_geom.proofs.Laws.{voxel_held}
 use Rattle.node_labels.specs.Labels.{is_live, thin_tag}
 use Rattle.node_labels.specs.declared.label.Label.TheVariants.{Live}
 use Rattle.map_fold.specs.declared.item.Item.{Item}
-use Rattle.map_fold.specs.Answers.{inside_all}
+use Rattle.map_answers.specs.Answers.{inside_all}
 use Rattle.map_fold.specs.Contents.{comes_before, in_box, live_at, mark, put, thin}
 use Rattle.map_fold.specs.Ops.{IsUnheld}
-use Rattle.map_fold.proofs.Centre.{live_is}
-use Rattle.map_fold.proofs.Found.{member-filter}
+use Rattle.map_answers.proofs.Centre.{live_is}
+use Rattle.map_answers.proofs.Found.{member-filter}
 use Rattle.kd_search.specs.Best.{IsBest}
 use Rattle.kd_update.proofs.Grown.{live_of}
 use Rattle.map_update.specs.Waiting.{IsJoined, held_by}

@@ -1,0 +1,5 @@
+pub mod Answers
+pub mod Nearest
+pub mod Thinned
+pub mod Neighbours
+pub mod Clusters
