@@ -11,7 +11,8 @@ use Rattle.node_labels.proofs.label.Label.TheSendSync as s10
 use Rattle.point_geom.proofs.cuboid.Corner.TheSendSync as s12
 use Rattle.point_geom.proofs.cuboid.Cuboid.TheSendSync as s13
 use Rattle.point_geom.proofs.point.Point.TheSendSync as s14
-use Rattle.rebuild_core.proofs.Crossing.{state_send, version_send, version_sync}
+use Rattle.rebuild_core.proofs.Crossing.{state_send}
+use Rattle.rebuild_parts.proofs.Handing.{version_send, version_sync}
 use Rattle.c_handles.specs.contracts.content.Content.{the_row}
 use Rattle.c_handles.specs.contracts.content.Kept as kept
 use Rattle.c_handles.specs.contracts.content.Seen as seen

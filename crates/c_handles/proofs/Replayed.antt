@@ -1,6 +1,6 @@
 -- What replaying leaves in a handle whose content is known.
 use Rattle.std.proofs.Common.{◌≡◌, ap, refl, [], Some}
-use Rattle.rebuild_core.specs.Built.{BuiltAt, IsReplayOf}
+use Rattle.rebuild_parts.specs.Built.{BuiltAt, IsReplayOf}
 use Rattle.c_handles.specs.declared.content.Content.{Content}
 use Rattle.c_handles.specs.declared.content.Content.TheVariants as content
 use Rattle.c_handles.specs.Building.{IsReplayed, built_in}

@@ -8,7 +8,7 @@ use Rattle.map_answers.specs.declared.hits.Hit as found
 use Rattle.map_fold.specs.declared.item.Item as held
 use Rattle.map_fold.specs.declared.limits.TheConstants.{MAX_FOUND, MAX_WITHIN}
 use Rattle.kd_tree.specs.Contents.{contents}
-use Rattle.rebuild_core.specs.Lawful.{VersionAt}
+use Rattle.rebuild_parts.specs.Seen.{VersionAt}
 use Rattle.c_handles.specs.declared.content.Content.{Content}
 use Rattle.c_handles.specs.declared.content.Content.TheVariants as content
 use Rattle.c_handles.specs.declared.forms.Place.{Place}

@@ -1,6 +1,6 @@
 -- What building and replaying leave in handles.
 use Rattle.std.specs.Prelude.{◌≡◌, ◌⊎◌, ℤ, [], Option, None, Some}
-use Rattle.rebuild_core.specs.Built.{BuiltAt, IsBuiltOf, IsReplayOf}
+use Rattle.rebuild_parts.specs.Built.{BuiltAt, IsBuiltOf, IsReplayOf}
 use Rattle.c_handles.specs.declared.content.Content.{Content}
 use Rattle.c_handles.specs.declared.content.Content.TheVariants as content
 use Rattle.c_handles.specs.declared.work.Work.{Work}

@@ -7,7 +7,7 @@ use crate::content::Content;
 use crate::done::Done;
 use crate::refusal::Refusal;
 use crate::work::Work;
-use rebuild_core::{BuiltLeft, JobLeft};
+use rebuild_parts::{BuiltLeft, JobLeft};
 use std::alloc::Global;
 use std::mem;
 

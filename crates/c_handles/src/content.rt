@@ -2,12 +2,14 @@
 ghost use Rattle.std.specs.Prelude.{◌≡◌, IfOk};
 ghost use Rattle.std.specs.Coded.{codes};
 ghost use Rattle.kd_tree.specs.ShapeCode.{coded_shape};
-ghost use Rattle.rebuild_core.specs.Lawful.{StateAt, VersionAt};
+ghost use Rattle.rebuild_core.specs.Lawful.{StateAt};
+ghost use Rattle.rebuild_parts.specs.Seen.{VersionAt};
 
 use crate::done::Done;
 use crate::work::Work;
 use map_fold::NoMemory;
-use rebuild_core::{MapState, Version};
+use rebuild_core::MapState;
+use rebuild_parts::Version;
 use std::alloc::Global;
 use std::marker::Model;
 use std::sync::Arc;

@@ -2,7 +2,7 @@
 ghost use Rattle.std.specs.Prelude.{◌≡◌, []};
 
 use map_fold::Ops;
-use rebuild_core::Built;
+use rebuild_parts::Built;
 use std::alloc::Global;
 use std::marker::Model;
 

@@ -4,7 +4,7 @@ ghost use Rattle.c_handles.specs.Answers.{AreTotals, shown_in};
 
 use crate::content::Content;
 use crate::forms::Totals;
-use rebuild_core::Version;
+use rebuild_parts::Version;
 use std::sync::Arc;
 
 /// The version that is shown, if one is.

@@ -1,5 +1,5 @@
 //! Subtrees that are to be rebuilt.
-use rebuild_core::Job;
+use rebuild_parts::Job;
 
 /// A subtree that is to be rebuilt, for a map with this `large`.
 #[derive(Drop)]

@@ -1,6 +1,6 @@
 -- What a call leaves in its handles, where their contents are known.
 use Rattle.std.proofs.Common.{◌≡◌, ap, refl, Bool, Some}
-use Rattle.rebuild_core.specs.Built.{undone}
+use Rattle.rebuild_core.specs.Known.{undone}
 use Rattle.rebuild_core.specs.Detach.{IsLogAfter}
 use Rattle.rebuild_core.specs.Lawful.{StateAt}
 use Rattle.rebuild_core.specs.Swap.{IsSwapStep, MaySwap}

@@ -1,6 +1,6 @@
 -- What detaching and swapping leave in handles.
 use Rattle.std.specs.Prelude.{◌≡◌, ◌<◌, ◌⊎◌, ℕ, ℤ, Bool, false, length, Option, None, Some}
-use Rattle.rebuild_core.specs.Built.{IsPartOf, IsStale, undone}
+use Rattle.rebuild_core.specs.Known.{IsPartOf, IsStale, undone}
 use Rattle.rebuild_core.specs.Detach.{IsDetachStep, IsNoDetach, IsSlot}
 use Rattle.rebuild_core.specs.Lawful.{StateAt}
 use Rattle.map_update.specs.Parts.{PartAt}

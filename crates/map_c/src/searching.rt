@@ -9,7 +9,7 @@ ghost use Rattle.c_handles.specs.Status.{code, no_memory, out_of_range};
 use c_handles::{Content, Hit, Place, Refusal, read_place, shown, write_hits};
 use kd_search::nearest;
 use map_fold::{MAX_FOUND, MAX_WITHIN};
-use rebuild_core::Version;
+use rebuild_parts::Version;
 use std::alloc::Global;
 
 /// The k nearest to a place of what is shown, from the front of the hits on, and how many they are.

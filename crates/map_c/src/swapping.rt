@@ -5,7 +5,7 @@ ghost use Rattle.map_c.specs.Swapping.{IsBehind, IsLeft, IsStaleAs, IsSwapRefusa
 ghost use Rattle.c_handles.specs.Status.{behind, code, done};
 ghost use Rattle.map_fold.specs.Ops.{Fit};
 ghost use Rattle.kd_tree.specs.Contents.{contents};
-ghost use Rattle.rebuild_core.specs.Built.{IsStale};
+ghost use Rattle.rebuild_core.specs.Known.{IsStale};
 ghost use Rattle.rebuild_core.specs.Detach.{IsLogAfter};
 ghost use Rattle.rebuild_core.specs.Swap.{IsSwapFault, IsSwapStep, MaySwap};
 ghost use Rattle.c_handles.specs.declared.refusal.Refusal.TheVariants as refused_as;
@@ -13,7 +13,8 @@ ghost use Rattle.c_handles.specs.declared.refusal.Refusal.TheVariants as refused
 use c_handles::{Content, DONE, Done, Handle, Refusal};
 use kd_tree::Steps;
 use map_fold::Ops;
-use rebuild_core::{Built, LogAsk, MapState, SwapFault, SwapLeft};
+use rebuild_core::{LogAsk, MapState, SwapFault, SwapLeft};
+use rebuild_parts::Built;
 use std::alloc::Global;
 use std::marker::Brand;
 use std::mem;

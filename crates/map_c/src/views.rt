@@ -11,7 +11,7 @@ use c_handles::{
     Bounds, Content, DONE, Handle, Hit, Item, Place, Refusal, Seen, Totals, boxed, shown,
 };
 use map_fold::NoMemory;
-use rebuild_core::Version;
+use rebuild_parts::Version;
 use std::alloc::Global;
 use std::sync::Arc;
 

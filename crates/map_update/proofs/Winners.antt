@@ -21,7 +21,7 @@ use Rattle.kd_tree.proofs.Held.{are_contents}
 use Rattle.kd_search.specs.Best.{IsBest}
 use Rattle.map_update.specs.Draft.{IsWork}
 use Rattle.map_update.specs.declared.work.Work.{Work}
-use Rattle.map_update.specs.Maps.{map_of}
+use Rattle.kd_tree.specs.Maps.{map_of}
 use Rattle.map_update.specs.OnePoint.{IsTurnedAway}
 
 -- what a draft holds is what a map may hold

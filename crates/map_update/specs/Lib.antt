@@ -1,4 +1,3 @@
-pub mod Maps
 pub mod Parts
 pub mod Single
 pub mod OnePoint

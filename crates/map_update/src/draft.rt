@@ -6,7 +6,7 @@ ghost use Rattle.map_fold.specs.declared.op.Op.TheVariants.{Put};
 ghost use Rattle.map_fold.specs.Contents.{put};
 ghost use Rattle.map_fold.specs.Fold.{add_points, mark_boxes, points_in, step};
 ghost use Rattle.kd_tree.specs.Contents.{contents};
-ghost use Rattle.map_update.specs.Maps.{map_of};
+ghost use Rattle.kd_tree.specs.Maps.{map_of};
 ghost use Rattle.map_update.specs.Draft.{DoesPlainly, IsWork, IsWorked, KeepsDraft, KeepsWatched, MakesFew};
 ghost use Rattle.map_update.specs.OnePoint.{IsTurnedAway};
 ghost use Rattle.map_update.specs.Single.{most_ops, only_mark, only_op};

@@ -8,7 +8,7 @@ ghost use Rattle.map_fold.specs.Fold.{thin_points};
 ghost use Rattle.map_fold.specs.Ops.{IsUnheld};
 ghost use Rattle.kd_tree.specs.Contents.{contents};
 ghost use Rattle.map_update.specs.Draft.{IsWork, IsWorked, KeepsDraft, KeepsWatched};
-ghost use Rattle.map_update.specs.Maps.{map_of};
+ghost use Rattle.kd_tree.specs.Maps.{map_of};
 ghost use Rattle.map_update.specs.OnePoint.{IsTurnedAway};
 
 use crate::draft::added_one;

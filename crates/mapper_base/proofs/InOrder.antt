@@ -5,7 +5,7 @@ use Rattle.std.specs.Option.{option_to_list}
 use Rattle.map_fold.specs.declared.entry.Entry.{Entry}
 use Rattle.map_fold.specs.declared.update.Update.{Update}
 use Rattle.map_fold.specs.Sizes.{Sizes}
-use Rattle.rebuild_core.specs.History.{updates}
+use Rattle.rebuild_parts.specs.History.{updates}
 use Rattle.rebuild_core.specs.Lawful.{StateAt, new_state}
 use Rattle.scan_log.specs.Commands.{command_update, updates_made}
 use Rattle.scan_log.specs.declared.command.Command.{Command}

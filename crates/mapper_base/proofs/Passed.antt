@@ -5,7 +5,7 @@ use Rattle.std.proofs.lemmas.List.{length-map}
 use Rattle.map_fold.specs.declared.entry.Entry.{Entry}
 use Rattle.map_fold.specs.declared.update.Update.{Update}
 use Rattle.map_fold.specs.Fold.{fold}
-use Rattle.rebuild_core.specs.History.{updates}
+use Rattle.rebuild_parts.specs.History.{updates}
 use Rattle.scan_log.specs.Commands.{command_update, updates_made}
 use Rattle.scan_log.specs.declared.command.Command.{Command}
 use Rattle.scan_log.specs.Transcript.{reply_on, reply_to}

@@ -6,9 +6,9 @@ use Rattle.map_fold.specs.declared.update.Update.{Update}
 use Rattle.map_fold.specs.Fold.{MapAt, fold}
 use Rattle.map_fold.proofs.Folds.{step_next}
 use Rattle.kd_tree.specs.Contents.{contents}
-use Rattle.rebuild_core.specs.History.{updates, entry_by}
+use Rattle.rebuild_parts.specs.History.{updates, entry_by}
 use Rattle.rebuild_core.specs.Lawful.{IsLawful, StateAt}
-use Rattle.map_update.specs.Maps.{map_of}
+use Rattle.kd_tree.specs.Maps.{map_of}
 use Rattle.rebuild_core.specs.Steps.{IsUpdateStep}
 use Rattle.scan_log.specs.Commands.{command_update}
 use Rattle.scan_log.specs.declared.command.Command.{Command}

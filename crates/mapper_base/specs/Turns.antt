@@ -1,7 +1,7 @@
 -- What a command makes of a state, and what is replied. Cited by private functions alone.
 use Rattle.std.specs.Prelude.{◌≡◌, ◌+◌, [], ◌∷◌, ◌++◌, length}
 use Rattle.kd_tree.specs.Contents.{contents}
-use Rattle.rebuild_core.specs.History.{updates}
+use Rattle.rebuild_parts.specs.History.{updates}
 use Rattle.rebuild_core.specs.Lawful.{StateAt}
 use Rattle.scan_log.specs.Commands.{updates_made}
 use Rattle.scan_log.specs.declared.command.Command.{Command}

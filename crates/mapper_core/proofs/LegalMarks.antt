@@ -6,7 +6,7 @@ use Rattle.std.specs.List.{AllByRecursion}
 use Rattle.std.specs.Option.{option_to_list}
 use Rattle.map_fold.specs.declared.entry.Entry.{Entry}
 use Rattle.map_fold.specs.declared.update.Update.{Update}
-use Rattle.rebuild_core.specs.History.{updates}
+use Rattle.rebuild_parts.specs.History.{updates}
 use Rattle.published_map.proofs.Marking.{get_length}
 use Rattle.scan_log.specs.Commands.{Concerns, command_caller, command_update, updates_made}
 use Rattle.scan_log.specs.declared.command.Command.{Command}

@@ -7,7 +7,7 @@ use Rattle.std.specs.Prelude.{MatchOption}
 use mathlib.Core.List.{IsPrefix}
 use Rattle.map_fold.specs.declared.entry.Entry.{Entry}
 use Rattle.map_fold.specs.declared.update.Update.{Update}
-use Rattle.rebuild_core.specs.History.{updates}
+use Rattle.rebuild_parts.specs.History.{updates}
 use Rattle.shown_versions.specs.Marks.{Seen, times_listed, IsDistinct, AllOf, callers_of, AllMet, AllGrown, AllMetNow, seen_by_new}
 use Rattle.shown_versions.proofs.Counting.{grown_callers}
 use Rattle.published_map.proofs.Marking.{get_prefix}

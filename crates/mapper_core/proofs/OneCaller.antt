@@ -7,8 +7,8 @@ use Rattle.map_fold.specs.declared.entry.Entry.{Entry}
 use Rattle.map_fold.specs.declared.update.Update.{Update}
 use Rattle.map_fold.specs.Fold.{MapAt, fold}
 use Rattle.kd_tree.specs.Contents.{contents}
-use Rattle.rebuild_core.specs.History.{updates, entry_by}
-use Rattle.rebuild_core.specs.Lawful.{VersionAt}
+use Rattle.rebuild_parts.specs.History.{updates, entry_by}
+use Rattle.rebuild_parts.specs.Seen.{VersionAt}
 use Rattle.shown_versions.specs.Marks.{Seen, Grown, Added, keep_if}
 use Rattle.shown_versions.specs.Versions.{IsVersionOf, held}
 use Rattle.published_map.proofs.Marking.{get_prefix, get_snoc}

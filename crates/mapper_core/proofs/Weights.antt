@@ -6,7 +6,7 @@ use Rattle.map_fold.specs.declared.entry.Entry.{Entry}
 use Rattle.map_fold.specs.declared.update.Update.{Update}
 use Rattle.map_fold.specs.Fold.{MapAt, step, fold, fold_from, no_points, points_in}
 use Rattle.map_fold.proofs.Folds.{step_next}
-use Rattle.rebuild_core.specs.History.{updates}
+use Rattle.rebuild_parts.specs.History.{updates}
 use Rattle.shown_versions.specs.Marks.{Seen, keep_if, own_updates, one_if, times_listed, IsDistinct, AllOf, callers_of, AllMet}
 use Rattle.scan_log.specs.declared.command.Command.{Command}
 use Rattle.scan_log.specs.declared.command.Command.TheVariants.{Change}

@@ -3,7 +3,7 @@ use Rattle.std.specs.Prelude.{◌≡◌, Bool, ℕ, ◌+◌, ◌<◌, ◌≤◌,
 use Rattle.std.specs.List.{AllByRecursion}
 use Rattle.map_fold.specs.declared.entry.Entry.{Entry}
 use Rattle.map_fold.specs.declared.memory.NoMemory.{NoMemory}
-use Rattle.rebuild_core.specs.History.{updates}
+use Rattle.rebuild_parts.specs.History.{updates}
 use Rattle.shown_versions.specs.Marks.{Seen, AllMet, AllOf, callers_of, seen_by_new}
 use Rattle.scan_log.specs.Commands.{IsBy, command_caller}
 use Rattle.scan_log.specs.declared.command.Command.{Command}

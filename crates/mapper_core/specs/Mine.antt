@@ -4,7 +4,7 @@ use mathlib.Core.List.{IsPrefix}
 use Rattle.map_fold.specs.declared.entry.Entry.{Entry}
 use Rattle.map_fold.specs.declared.update.Update.{Update}
 use Rattle.map_fold.specs.Fold.{fold}
-use Rattle.rebuild_core.specs.History.{updates}
+use Rattle.rebuild_parts.specs.History.{updates}
 use Rattle.shown_versions.specs.Marks.{Seen, Grown, keep_if}
 use Rattle.scan_log.specs.Commands.{command_update, is_by}
 use Rattle.scan_log.specs.declared.command.Command.{Command}

@@ -5,7 +5,8 @@ use Rattle.std.proofs.Crossing as std
 use Rattle.kd_tree.proofs.node.Tree.TheLaws.TheKnot as knot
 use Rattle.core.specs.declared.ledger.Ledger as ledger
 use Rattle.shown_versions.specs.declared.name.MapName as name
-use Rattle.rebuild_core.proofs.Crossing.{version_send, version_sync, state_send}
+use Rattle.rebuild_core.proofs.Crossing.{state_send}
+use Rattle.rebuild_parts.proofs.Handing.{version_send, version_sync}
 use Rattle.shown_versions.specs.contracts.shown.Shown as shown
 use Rattle.shown_versions.specs.contracts.shown.ShownAbsorb.TheImpl as absorb
 use Rattle.published_map.specs.contracts.locked.Locked as locked

@@ -2,7 +2,8 @@
 use Rattle.std.proofs.Common.{◌≡◌, ℕ, List, sym, ◌∙◌, subst}
 use Rattle.map_fold.specs.declared.entry.Entry.{Entry}
 use Rattle.kd_tree.specs.Contents.{contents}
-use Rattle.rebuild_core.specs.Lawful.{IsLawful, StateAt, VersionAt}
+use Rattle.rebuild_core.specs.Lawful.{IsLawful, StateAt}
+use Rattle.rebuild_parts.specs.Seen.{VersionAt}
 use Rattle.shown_versions.specs.Versions.{IsVersionOf}
 
 pub shows : (s : StateAt) → IsLawful s → IsVersionOf s.settings.voxel s.history s.version

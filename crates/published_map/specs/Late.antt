@@ -2,7 +2,7 @@
 use Rattle.std.specs.Prelude.{◌≡◌, ℕ, ◌<◌, ◌≤◌, ⊤, Bool, length, if◌then◌else◌}
 use Rattle.map_fold.specs.Ops.{Fit}
 use Rattle.kd_tree.specs.Contents.{contents}
-use Rattle.rebuild_core.specs.Built.{BuiltAt}
+use Rattle.rebuild_parts.specs.Built.{BuiltAt}
 use Rattle.rebuild_core.specs.declared.fault.Late.{Late}
 use Rattle.rebuild_core.specs.declared.fault.Late.TheVariants.{Stale, Behind, NoMemory}
 use Rattle.op_logger.specs.declared.log.TheConstants.{MAX_LOGGED}

@@ -2,7 +2,8 @@
 use Rattle.std.specs.Prelude.{List, ◌++◌}
 use Rattle.map_fold.specs.declared.entry.Entry.{Entry}
 use Rattle.rebuild_core.specs.Lawful.{StateAt}
-use Rattle.rebuild_core.specs.Steps.{PlannedAt, listed}
+use Rattle.rebuild_core.specs.Steps.{PlannedAt}
+use Rattle.rebuild_parts.specs.History.{listed}
 
 -- the history with the plan's entry, if there is one, appended
 abbrev pub history_after : PlannedAt → StateAt → List Entry

@@ -9,7 +9,7 @@ use kd_search::{count_in, in_cuboid, nearest};
 use map_answers::{BoxReply, NearReply};
 use map_fold::{MAX_FOUND, NoMemory};
 use point_geom::{Cuboid, Point};
-use rebuild_core::Version;
+use rebuild_parts::Version;
 use shown_versions::{MapName, MapReader, Shown, look};
 use std::alloc::Global;
 use std::marker::Model;

@@ -43,7 +43,7 @@ fn opening<L: MapName>(state: &MapState, marks: &mut MarkList) -> Result<Shown<L
 {
     let _history = state.history();
     let version = Arc::try_clone(state.version())?;
-    let Some(mark) = Mark::of(marks, &ShownHistory::of(state, &None)) else {
+    let Some(mark) = Mark::of(marks, &ShownHistory::of(state.told(), &None)) else {
         return Err(NoMemory);
     };
     Ok(Shown::new(version, mark))

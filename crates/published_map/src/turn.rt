@@ -27,7 +27,7 @@ fn shown_by<L: MapName>(
     ensures shown { IfOk result (λ s. s ≡ history_after planned.now state.now.state) }
 {
     let version = Arc::try_clone(planned.version())?;
-    let Some(mark) = Mark::of(marks, &ShownHistory::of(state, planned.entry())) else {
+    let Some(mark) = Mark::of(marks, &ShownHistory::of(state.told(), planned.entry())) else {
         return Err(NoMemory);
     };
     Ok(Shown::new(version, mark))

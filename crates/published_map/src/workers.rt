@@ -2,7 +2,7 @@
 //! takes time that depends on how many points such a subtree holds.
 ghost use Rattle.std.specs.Prelude.{◌≡◌, ◌≤◌, true, IfErr, IfOk, IfSome};
 ghost use Rattle.kd_tree.specs.Counter.{IsBlankOf};
-ghost use Rattle.rebuild_core.specs.Built.{CanBeDoneOn};
+ghost use Rattle.rebuild_parts.specs.Built.{CanBeDoneOn};
 ghost use Rattle.rebuild_core.specs.Desk.{IsAskCause};
 ghost use Rattle.map_update.specs.Parts.{AreItemsOf};
 ghost use Rattle.published_map.specs.Late.{IsLateCause};
@@ -11,7 +11,8 @@ use crate::hold::{Hold, hold_of, keep_hold};
 use crate::locked::Locked;
 use kd_tree::Steps;
 use map_fold::{NoMemory, Ops};
-use rebuild_core::{Built, Holding, Late, LogAsk, Snapshot, SwapOrLate, Version};
+use rebuild_core::{Late, LogAsk, SwapOrLate};
+use rebuild_parts::{Built, Holding, Snapshot, Version};
 use shown_versions::{MapName, Mark, Shown, ShownHistory};
 use std::alloc::Global;
 use std::sync::ledger::{Blank, Ledger};

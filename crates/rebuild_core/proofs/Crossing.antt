@@ -1,13 +1,11 @@
--- States and versions go to other threads, and are read by several at once.
+-- States go to other threads, and are read by several at once.
 use denote.Param.Send.{IsSend, IsSync, sendable}
 use Rattle.std.proofs.Crossing as std
 use Rattle.kd_tree.proofs.node.Tree.TheLaws.TheKnot as knot
 use Rattle.kd_tree.specs.contracts.scratch.Scratch as scratch
-use Rattle.rebuild_core.specs.contracts.holding.Held as held
-use Rattle.rebuild_core.specs.contracts.holding.Holding as holding
 use Rattle.rebuild_core.specs.contracts.part.Part as part
-use Rattle.rebuild_core.specs.contracts.version.Version as version
 use Rattle.rebuild_core.specs.contracts.state.MapState as state
+use Rattle.rebuild_parts.proofs.Handing.{holding_send, holding_sync, version_send, version_sync}
 use Rattle.std.proofs.option.Option.TheSendSync as o
 use Rattle.kd_tree.proofs.path.Path.TheSendSync as s0
 use Rattle.kd_tree.proofs.path.Side.TheSendSync as s1
@@ -26,29 +24,11 @@ use Rattle.point_geom.proofs.point.Point.TheSendSync as s14
 
 ruleset all = (sendable, std.crosses, knot.crosses, o.the_field_send, o.the_field_sync, o.the_send, o.the_sync, s1.the_field_send, s1.the_field_sync, s3.the_field_send, s3.the_field_sync, s4.the_field_send, s4.the_field_sync, s5.the_field_send, s5.the_field_sync, s6.the_field_send, s6.the_field_sync, s9.the_field_send, s9.the_field_sync, s10.the_field_send, s10.the_field_sync, s0.the_send, s0.the_sync, s1.the_send, s1.the_sync, s3.the_send, s3.the_sync, s4.the_send, s4.the_sync, s5.the_send, s5.the_sync, s6.the_send, s6.the_sync, s7.the_send, s7.the_sync, s8.the_send, s8.the_sync, s9.the_send, s9.the_sync, s10.the_send, s10.the_sync, s11.the_send, s11.the_sync, s12.the_send, s12.the_sync, s13.the_send, s13.the_sync, s14.the_send, s14.the_sync)
 
-pub version_send : IsSend version.the_row
-version_send = search all depth 40 fits 20000
-
-pub version_sync : IsSync version.the_row
-version_sync = search all depth 40 fits 20000
-
 scratch_send : IsSend (scratch.the_field).row
 scratch_send = search all depth 40 fits 20000
 
 scratch_sync : IsSync (scratch.the_field).row
 scratch_sync = search all depth 40 fits 20000
-
-held_send : IsSend (held.the_field).row
-held_send = search all depth 40 fits 20000
-
-held_sync : IsSync (held.the_field).row
-held_sync = search all depth 40 fits 20000
-
-pub holding_send : IsSend holding.the_row
-holding_send = search (held_send, held_sync, all) depth 40 fits 20000
-
-pub holding_sync : IsSync holding.the_row
-holding_sync = search (held_send, held_sync, all) depth 40 fits 20000
 
 part_send : IsSend part.the_row
 part_send = search (holding_send, holding_sync, all) depth 40 fits 20000

@@ -3,12 +3,10 @@ pub mod Plans
 pub mod OnePoint
 pub mod Outcome
 pub mod PartLogs
-pub mod Replaying
 pub mod Detaching
 pub mod KnownItems
-pub mod Balance
 pub mod OtherParts
 pub mod Swapping
 pub mod Crossing
-pub mod SameItems
 pub mod Staying
+pub mod KnownParts

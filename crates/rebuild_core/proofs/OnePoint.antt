@@ -11,7 +11,7 @@ use Rattle.kd_tree.specs.Shape.{Shape}
 use Rattle.kd_tree.specs.Contents.{contents}
 use Rattle.kd_tree.proofs.Held.{are_contents}
 use Rattle.rebuild_core.specs.Lawful.{IsLawful, StateAt}
-use Rattle.map_update.specs.Maps.{map_of}
+use Rattle.kd_tree.specs.Maps.{map_of}
 use Rattle.rebuild_core.specs.OnePoint.{IsThinnedFrom, IsTurnedAwayFrom}
 use Rattle.map_update.specs.OnePoint.{IsTurnedAway}
 

@@ -9,7 +9,7 @@ use Rattle.kd_mark.specs.declared.watch.Watch.{Watch}
 use Rattle.kd_mark.specs.Watches.{HaveRoom}
 use Rattle.map_update.specs.Draft.{watches_of}
 use Rattle.rebuild_core.specs.Lawful.{StateAt}
-use Rattle.map_update.specs.Maps.{map_of}
+use Rattle.kd_tree.specs.Maps.{map_of}
 use Rattle.rebuild_core.specs.Logs.{planned_parts}
 use Rattle.map_update.specs.OnePoint.{IsTurnedAway}
 use Rattle.rebuild_core.specs.Outcome.{IsLeftByUpdate, MakesNodes}

@@ -16,8 +16,9 @@ use Rattle.kd_mark.proofs.Several.{balanced_clear}
 use Rattle.kd_mark.proofs.Update.{criteria_balanced}
 use Rattle.map_fold.specs.declared.entry.Entry.{Entry}
 use Rattle.map_update.specs.Draft.{watches_of}
-use Rattle.rebuild_core.specs.History.{entry_by}
-use Rattle.rebuild_core.specs.Lawful.{IsLawful, StateAt, VersionAt}
+use Rattle.rebuild_parts.specs.History.{entry_by}
+use Rattle.rebuild_core.specs.Lawful.{IsLawful, StateAt}
+use Rattle.rebuild_parts.specs.Seen.{VersionAt}
 use Rattle.rebuild_core.specs.Logs.{LogPlan, planned_parts}
 use Rattle.map_update.specs.Parts.{AreInSlots, AreLawfulParts, PartAt, paths}
 use Rattle.map_update.specs.Single.{RebuildsNothing, entered_nodes, only_op, unrebuilt}

@@ -17,7 +17,8 @@ use Rattle.kd_replace.specs.Replace.{HasRoomAt, StandsFor}
 use Rattle.kd_mark.specs.Several.{AreLargeAt, AreSameAt, IsBalancedClear}
 use Rattle.kd_mark.proofs.Several.{balanced_clear}
 use Rattle.kd_mark.proofs.Update.{criteria_balanced}
-use Rattle.rebuild_core.specs.Built.{BuiltAt, IsLawfulBuilt, IsPartOf, IsTreeOf, undone}
+use Rattle.rebuild_parts.specs.Built.{BuiltAt, IsLawfulBuilt}
+use Rattle.rebuild_core.specs.Known.{IsPartOf, IsTreeOf, undone}
 use Rattle.rebuild_core.specs.Lawful.{IsLawful, StateAt}
 use Rattle.rebuild_core.specs.Logs.{LogPlan, planned_parts}
 use Rattle.map_update.specs.Parts.{AreEachLawful, AreLawfulParts, AreLeft, PartAt, paths, without}
@@ -27,7 +28,7 @@ use Rattle.map_update.proofs.ApartPaths.{clear_of_others, balanced_more, ones_mo
 use Rattle.map_update.proofs.Detached.{each_large, each_same, each_without, left_lawful, left_none, left_without}
 use Rattle.rebuild_core.proofs.OtherParts.{IsAmongOthers, part_among}
 use Rattle.rebuild_core.proofs.Plans.{held_lawful}
-use Rattle.rebuild_core.proofs.Replaying.{built_part, log_parts, undone_fit, undone_same}
+use Rattle.rebuild_core.proofs.KnownParts.{built_part, log_parts, undone_fit, undone_same}
 
 -- the value's part among the others
 among : (s : StateAt) (b : BuiltAt) (p : PartAt) → IsPartOf b s.parts p → IsAmongOthers b.ticket s.parts p

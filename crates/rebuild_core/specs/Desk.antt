@@ -2,7 +2,7 @@
 use Rattle.std.specs.Prelude.{◌≡◌, ◌<◌, ⊤, Bool, false}
 use Rattle.map_fold.specs.Ops.{Fit}
 use Rattle.kd_tree.specs.Contents.{contents}
-use Rattle.rebuild_core.specs.Built.{BuiltAt}
+use Rattle.rebuild_parts.specs.Built.{BuiltAt}
 use Rattle.rebuild_core.specs.declared.fault.LogAsk.{LogAsk}
 use Rattle.rebuild_core.specs.declared.fault.LogAsk.TheVariants as ask_of
 use Rattle.rebuild_core.specs.declared.fault.SwapFault.{SwapFault}

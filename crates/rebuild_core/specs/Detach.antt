@@ -8,7 +8,8 @@ use Rattle.kd_tree.specs.Apart.{AllClearMeetCriteria, IsFirstFree}
 use Rattle.kd_tree.specs.declared.path.Side.{Side}
 use Rattle.map_fold.specs.declared.memory.NoMemory as memory
 use Rattle.map_fold.specs.declared.op.Op.{Op}
-use Rattle.rebuild_core.specs.Built.{BuiltAt, IsPartOf, IsStale, JobAt, undone}
+use Rattle.rebuild_parts.specs.Built.{BuiltAt, JobAt}
+use Rattle.rebuild_core.specs.Known.{IsPartOf, IsStale, undone}
 use Rattle.rebuild_core.specs.Lawful.{StateAt, Stored}
 use Rattle.rebuild_core.specs.declared.fault.LogAsk.{LogAsk}
 use Rattle.rebuild_core.specs.declared.fault.LogAsk.TheVariants.{Stale, NoMemory}

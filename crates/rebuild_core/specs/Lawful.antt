@@ -6,17 +6,12 @@ use Rattle.kd_tree.specs.Shape.{Shape, leaf, numbers}
 use Rattle.kd_tree.specs.Sound.{IsSound}
 use Rattle.kd_mark.specs.Several.{IsBalancedClear}
 use Rattle.map_fold.specs.declared.entry.Entry.{Entry}
-use Rattle.rebuild_core.specs.History.{AreEntries, updates}
-use Rattle.map_update.specs.Maps.{map_of}
+use Rattle.rebuild_parts.specs.History.{AreEntries, updates}
+use Rattle.rebuild_parts.specs.Seen.{VersionAt}
+use Rattle.kd_tree.specs.Maps.{map_of}
 use Rattle.map_update.specs.Parts.{AreLawfulParts, PartAt, paths}
 use Rattle.map_fold.specs.declared.limits.TheConstants.{MAX_POINTS}
 use Rattle.rebuild_core.specs.declared.plan.TheConstants.{MAX_UPDATES}
-
--- what queries see: a tree, how many points were submitted, and how many entries the history had
-pub record VersionAt : Type 0 where
-  pub tree : Shape
-  pub next : ℕ
-  pub len : ℕ
 
 -- the state of a map: the parts are in the order of their slots, and last is the last ticket that was given
 pub record StateAt : Type 0 where

@@ -1,13 +1,11 @@
-pub mod History
 pub mod Logs
 pub mod Lawful
 pub mod OnePoint
-pub mod Built
 pub mod Steps
 pub mod Stays
 pub mod Outcome
 pub mod Desk
 pub mod Detach
-pub mod Holding
 pub mod StateView
 pub mod Swap
+pub mod Known

@@ -3,7 +3,7 @@ use Rattle.point_geom.specs.Place.{Place}
 use Rattle.map_answers.specs.Thinned.{IsThinned}
 use Rattle.kd_tree.specs.Shape.{Shape}
 use Rattle.kd_tree.specs.Contents.{contents}
-use Rattle.map_update.specs.Maps.{map_of}
+use Rattle.kd_tree.specs.Maps.{map_of}
 use Rattle.map_update.specs.OnePoint.{IsTurnedAway}
 use Rattle.rebuild_core.specs.Lawful.{StateAt}
 

@@ -10,9 +10,10 @@ use Rattle.kd_mark.specs.Several.{IsBalancedClear}
 use Rattle.map_fold.specs.declared.entry.Entry.{Entry}
 use Rattle.rebuild_core.specs.declared.fault.StateFault.{StateFault}
 use Rattle.rebuild_core.specs.declared.fault.StateFault.TheVariants.{TooManyUpdates, TooManyPoints, NoMemory}
-use Rattle.rebuild_core.specs.History.{entry_by}
-use Rattle.rebuild_core.specs.Lawful.{IsLawful, StateAt, VersionAt}
-use Rattle.map_update.specs.Maps.{map_of}
+use Rattle.rebuild_parts.specs.History.{entry_by}
+use Rattle.rebuild_core.specs.Lawful.{IsLawful, StateAt}
+use Rattle.rebuild_parts.specs.Seen.{VersionAt}
+use Rattle.kd_tree.specs.Maps.{map_of}
 use Rattle.rebuild_core.specs.Logs.{LogPlan, planned_parts}
 use Rattle.map_update.specs.Parts.{AreLawfulParts, AreLeft, HaveLogRoom, paths}
 use Rattle.rebuild_core.specs.declared.plan.Drafted.{Drafted}
@@ -31,11 +32,6 @@ pub record PlannedAt : Type 0 where
 -- the plan of a step that is no update: this tree and these logs, with the next number and the length of the history as they are
 abbrev pub plan_with : Shape → List LogPlan → StateAt → PlannedAt
 plan_with t logs s = record { tree = t; next = s.next; version = record { tree = t; next = s.next; len = length s.history }; entry = None; logs = logs }
-
--- the entry as a list, or an empty list where there is none
-abbrev pub listed : Option Entry → List Entry
-listed None = []
-listed (Some e) = e ∷ []
 
 -- the state with what was planned put in
 abbrev pub entered : PlannedAt → StateAt → StateAt

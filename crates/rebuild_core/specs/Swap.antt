@@ -11,7 +11,8 @@ use Rattle.rebuild_core.specs.declared.fault.SwapFault.{SwapFault}
 use Rattle.rebuild_core.specs.declared.fault.SwapFault.TheVariants.{Stale, Behind, NoMemory}
 use Rattle.rebuild_core.specs.declared.fault.Late.{Late}
 use Rattle.rebuild_core.specs.declared.fault.Late.TheVariants as late_of
-use Rattle.rebuild_core.specs.Built.{BuiltAt, IsPartOf, IsStale, undone}
+use Rattle.rebuild_parts.specs.Built.{BuiltAt}
+use Rattle.rebuild_core.specs.Known.{IsPartOf, IsStale, undone}
 use Rattle.rebuild_core.specs.Detach.{IsLogAfter}
 use Rattle.rebuild_core.specs.Lawful.{IsLawful, StateAt}
 use Rattle.rebuild_core.specs.Logs.{planned_parts}

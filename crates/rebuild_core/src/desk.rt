@@ -1,9 +1,10 @@
 //! What a worker asks of a map that others use too.
 ghost use Rattle.std.specs.Prelude.{◌≡◌, ◌≤◌, IfErr, IfOk, IfSome};
-ghost use Rattle.rebuild_core.specs.Built.{CanBeDoneOn};
+ghost use Rattle.rebuild_parts.specs.Built.{CanBeDoneOn};
 ghost use Rattle.rebuild_core.specs.Desk.{IsAskCause, IsHandedBack, IsSwapCause};
 
-use crate::{Built, Job, Late, LogAsk, SwapFault, SwapLeft};
+use crate::{Late, LogAsk, SwapFault, SwapLeft};
+use rebuild_parts::{Built, Job};
 use map_fold::{NoMemory, Ops};
 use std::alloc::Global;
 use std::sync::Wait;

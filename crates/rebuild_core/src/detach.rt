@@ -1,12 +1,14 @@
 //! Subtrees, detached to be rebuilt elsewhere, and what they have met since.
 ghost use Rattle.std.specs.Prelude.{◌≡◌, ◌+◌, ◌<◌, ◌≤◌, ◌↔◌, length, slice_set, Some, IfErr, IfOk, IfSome, IsNone, OnErr, OnOk};
 ghost use Rattle.std.specs.List.{insert};
-ghost use Rattle.rebuild_core.specs.Built.{CanBeDoneOn, IsFoundPart, IsStale};
+ghost use Rattle.rebuild_parts.specs.Built.{CanBeDoneOn};
+ghost use Rattle.rebuild_core.specs.Known.{IsFoundPart, IsStale};
 ghost use Rattle.rebuild_core.specs.Detach.{Detaches, IsDetachStep, IsDetachable, IsDetachedAt, IsLogAfter, IsLogFault, IsNoDetach, IsNoneToDetach, IsSlot, with_part};
 ghost use Rattle.map_update.specs.Parts.{AreItemsOf, PartAt, part_in};
 
 use crate::part::{Part, part_in, part_of, paths_of};
-use crate::{Built, Holding, Job, LogAsk, MapState, Snapshot};
+use crate::{LogAsk, MapState};
+use rebuild_parts::{Built, Holding, Job, Snapshot};
 use kd_tree::Path;
 use map_fold::{NoMemory, Ops};
 use op_logger::OpLog;
@@ -64,7 +66,7 @@ impl MapState {
         let _size = node.size();
         let holding = Holding::of(alloc, node)?;
         let ticket = last + 1;
-        Ok(Some((path, Snapshot { ticket, holding })))
+        Ok(Some((path, Snapshot::new(ticket, holding))))
     }
 
     // Puts it into the slot, with the next ticket.
@@ -120,7 +122,7 @@ impl MapState {
                 ticket: built.ticket(),
             });
         };
-        let done = built.done.len() as u32;
+        let done = built.done().len() as u32;
         let Ok(ops) = part.log.after(alloc, done) else {
             return Err(LogAsk::NoMemory);
         };
@@ -147,11 +149,11 @@ impl MapState {
         ensures some { IfSome result (λ p. IsFoundPart built.now self.now.state.parts p.now) }
     {
         let part = part_of(self.parts.as_slice(), built.ticket())?;
-        if !part.log.begins_with(built.done.as_slice()) {
+        let done = built.done();
+        if !part.log.begins_with(done) {
             return None;
         }
         let _history = self.history();
-        let _done = built.done();
         let _few = part.log.len();
         Some(part)
     }

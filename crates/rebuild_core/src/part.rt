@@ -4,7 +4,7 @@ ghost use Rattle.std.specs.Option.{option_map};
 ghost use Rattle.map_update.specs.Draft.{watches_of};
 ghost use Rattle.map_update.specs.Parts.{IsNewTicket, IsPlaceOf, part_in, part_of, paths, without};
 
-use crate::Holding;
+use rebuild_parts::Holding;
 use kd_mark::Watch;
 use kd_tree::Path;
 use kd_update::Watches;

@@ -9,7 +9,8 @@ ghost use Rattle.rebuild_core.specs.Steps.{HasRoom, IsDrafted, IsFault, IsSettle
 
 use crate::logs::{PartLog, forgotten, logs_of};
 use crate::part::watched;
-use crate::{MapState, Planned, StateFault, Version};
+use crate::{MapState, Planned, StateFault};
+use rebuild_parts::Version;
 use kd_tree::{Scratch, Steps, Tree};
 use kd_replace::settled;
 use map_fold::{Entry, MAX_POINTS, NoMemory, Update};

@@ -3,7 +3,8 @@ ghost use Rattle.std.specs.Prelude.{◌≡◌, IfOk};
 ghost use Rattle.rebuild_core.specs.Steps.{plan_with};
 
 use crate::logs::PartLog;
-use crate::{MapState, Version};
+use crate::MapState;
+use rebuild_parts::Version;
 use kd_tree::{Steps, Tree};
 use map_fold::{Entry, NoMemory};
 use std::alloc::Global;

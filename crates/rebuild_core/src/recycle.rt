@@ -1,7 +1,8 @@
 //! Memory of old nodes that a state's next update makes its nodes in. Nothing here changes what the state holds.
 ghost use Rattle.std.specs.Prelude.{◌≡◌};
 
-use crate::{MapState, Version};
+use crate::MapState;
+use rebuild_parts::Version;
 use kd_tree::{Scratch, Tree};
 use std::alloc::Global;
 use std::mem;
@@ -24,7 +25,7 @@ impl MapState {
     {
         let mut scratch = mem::replace(&mut self.scratch, Scratch::new(alloc));
         if let Some(version) = self.former.take() {
-            take_in(version, &mut scratch);
+            Version::scrap(version, &mut scratch);
         }
         scratch
     }
@@ -37,14 +38,5 @@ impl MapState {
     {
         scratch.take_in(Tree::empty());
         self.scratch = scratch;
-    }
-}
-
-// Lets the version go. Where nobody else holds it, the memory of its nodes is taken in.
-fn take_in(version: Arc<Version>, scratch: &mut Scratch) {
-    let mut version = version;
-    if let Some(version) = Arc::get_mut(&mut version) {
-        let tree = mem::replace(&mut version.tree, Tree::empty());
-        scratch.take_in(tree);
     }
 }

@@ -5,11 +5,13 @@ ghost use Rattle.map_update.specs.Parts.{part_in};
 ghost use Rattle.rebuild_core.specs.StateView.{info_of};
 
 use crate::part::{Part, part_in};
-use crate::{PartInfo, Version};
+use crate::PartInfo;
+use rebuild_parts::Version;
 use kd_tree::{Scratch, Tree};
 use map_fold::{Entry, NoMemory, Settings};
 use std::alloc::Global;
 use std::marker::Model;
+use std::snapshot::Snapshot;
 use std::sync::Arc;
 
 /// The state of a map. Whatever steps it takes, it holds the fold of its history, and its version shows that.
@@ -99,6 +101,13 @@ impl MapState {
         ensures lawful { IsLawful self.now.state }
     {
         self.history.as_slice()
+    }
+
+    /// The history, as only clauses read it. It takes no bytes.
+    pub fn told(&self) -> Snapshot<Vec<Entry>>
+        ensures { result.value.items ≡ self.now.state.history }
+    {
+        Snapshot::of(&self.history)
     }
 
     /// How many points were submitted, which is the number of the next one.

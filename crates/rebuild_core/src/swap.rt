@@ -2,14 +2,15 @@
 ghost use Rattle.std.specs.Prelude.{◌≡◌, ◌+◌, ◌≤◌, length, IfErr, IfOk, OnErr, OnOk};
 ghost use Rattle.kd_tree.specs.Parts.{replaced_at};
 ghost use Rattle.kd_mark.specs.Update.{IsBalancedBelow};
-ghost use Rattle.rebuild_core.specs.Built.{BuiltAt, IsTreeOf};
+ghost use Rattle.rebuild_parts.specs.Built.{BuiltAt};
+ghost use Rattle.rebuild_core.specs.Known.{IsTreeOf};
 ghost use Rattle.map_update.specs.Parts.{AreItemsOf};
 ghost use Rattle.rebuild_core.specs.Swap.{IsLate, IsLeftUnrebuilt, IsNear, IsUnrebuiltSwap, IsSwapFault, IsSwapPlan, IsSwapStep, MakesPath, MaySwap};
 
-use crate::built::caught_up;
 use crate::logs::forgotten_for;
 use crate::part::{Part, others_of};
-use crate::{Built, Late, MapState, Planned, SwapFault};
+use crate::{Late, MapState, Planned, SwapFault};
+use rebuild_parts::{Built, caught_up};
 use kd_tree::{Steps, Tree};
 use kd_replace::{Replaced, replaced};
 use map_fold::{NoMemory, Op, Ops};
@@ -84,15 +85,14 @@ impl MapState {
                 ticket: built.ticket(),
             });
         };
-        let done = built.done.len() as u32;
+        let done = built.done().len() as u32;
         let left = part.log.len() - done;
         if !force && MOST_LEFT < left {
             return Err(SwapFault::Behind { left });
         }
         let ops = part.log.after(alloc, done)?;
-        let _done = built.done();
-        let twin = built.tree.copy(alloc, steps)?;
-        let planned = self.swapped(alloc, part, twin, built.large, ops.as_slice(), steps)?;
+        let twin = built.tree().copy(alloc, steps)?;
+        let planned = self.swapped(alloc, part, twin, built.large(), ops.as_slice(), steps)?;
         Ok(planned)
     }
 
@@ -117,7 +117,7 @@ impl MapState {
         let Some(part) = self.part_known(&built) else {
             return Err(Late::Stale { built });
         };
-        let done = built.done.len() as u32;
+        let done = built.done().len() as u32;
         let left = part.log.len() - done;
         let ops = part.log.after(alloc, done)?;
         if most < left {
@@ -126,7 +126,6 @@ impl MapState {
                 ops: Ops::from(ops),
             });
         }
-        let _done = built.done();
         let (tree, large) = built.into_tree();
         let planned = self.swapped(alloc, part, tree, large, ops.as_slice(), steps)?;
         Ok(planned)

@@ -7,7 +7,8 @@ ghost use Rattle.rebuild_core.specs.Swap.{IsSwapStep};
 
 use kd_tree::Steps;
 use map_fold::{NoMemory, Ops};
-use rebuild_core::{Built, Desk, Job, LogAsk, MapState, SwapFault, SwapLeft, Swapped};
+use rebuild_core::{Desk, LogAsk, MapState, SwapFault, SwapLeft, Swapped};
+use rebuild_parts::{Built, Job};
 use std::alloc::Global;
 use std::marker::Brand;
 use std::sync::ledger::{Blank, Ledger};

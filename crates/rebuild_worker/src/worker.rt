@@ -1,13 +1,14 @@
 //! What a worker does.
 ghost use Rattle.std.specs.Prelude.{◌≡◌, ◌≤◌, ◌↔◌, ◌⊎◌, List, IfOk, IfSome};
 ghost use Rattle.map_fold.specs.declared.op.Op.{Op};
-ghost use Rattle.rebuild_core.specs.Built.{IsReplayOf};
+ghost use Rattle.rebuild_parts.specs.Built.{IsReplayOf};
 ghost use Rattle.rebuild_worker.specs.declared.worker.Round.TheVariants.{Idle, OutOfMemory};
 
 use crate::bell::Rest;
 use crate::gate::Gate;
 use map_fold::{MAX_LARGE, MIN_LARGE, NoMemory};
-use rebuild_core::{Built, Desk, Job, Late, SwapFault, SwapLeft};
+use rebuild_core::{Desk, Late, SwapFault, SwapLeft};
+use rebuild_parts::{Built, Job};
 use std::alloc::Global;
 use std::sync::Wait;
 

@@ -3,7 +3,7 @@ use Rattle.std.specs.Prelude.{◌≡◌, ℕ, ◌+◌, ◌≤◌, ◌==◌, Bool
 use mathlib.Core.List.{IsPrefix}
 use Rattle.map_fold.specs.declared.entry.Entry.{Entry}
 use Rattle.map_fold.specs.declared.update.Update.{Update}
-use Rattle.rebuild_core.specs.History.{entry_by}
+use Rattle.rebuild_parts.specs.History.{entry_by}
 
 -- the entry's update as a list, or an empty list where there is no entry
 abbrev pub update_in : Option Entry → List Update

@@ -3,9 +3,9 @@ use Rattle.std.specs.Prelude.{◌≡◌, ℕ, List, length}
 use Rattle.map_fold.specs.declared.entry.Entry.{Entry}
 use Rattle.map_fold.specs.declared.item.Item.{Item}
 use Rattle.map_fold.specs.Fold.{fold}
-use Rattle.rebuild_core.specs.History.{updates}
-use Rattle.rebuild_core.specs.Lawful.{VersionAt}
-use Rattle.map_update.specs.Maps.{map_of}
+use Rattle.rebuild_parts.specs.History.{updates}
+use Rattle.rebuild_parts.specs.Seen.{VersionAt}
+use Rattle.kd_tree.specs.Maps.{map_of}
 
 -- what the map holds after all entries
 abbrev pub held : ℕ → List Entry → List Item

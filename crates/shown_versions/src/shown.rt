@@ -6,7 +6,7 @@ use crate::mark::Mark;
 use crate::name::MapName;
 use left_right::Absorb;
 use map_fold::Entry;
-use rebuild_core::Version;
+use rebuild_parts::Version;
 use std::alloc::AllocError;
 use std::marker::Model;
 use std::sync::Arc;

@@ -5,7 +5,7 @@ use kd_search::{count_in, in_cuboid, nearest};
 use plain_map::PlainMap;
 use map_fold::{Settings, Update};
 use point_geom::{Cuboid, Point};
-use rebuild_core::Version;
+use rebuild_parts::Version;
 use std::alloc::Global;
 use std::mem;
 use std::process::Abort;

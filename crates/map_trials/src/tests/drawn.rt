@@ -10,7 +10,8 @@ use crate::tests::draws::Draws;
 use crate::tests::steps::{new_map, settled, swapped, updated};
 use plain_map::PlainMap;
 use map_fold::{Op, Points, Settings, Update};
-use rebuild_core::{Built, Job, LogAsk, MapState, SwapFault, SwapLeft};
+use rebuild_core::{LogAsk, MapState, SwapFault, SwapLeft};
+use rebuild_parts::{Built, Job};
 use std::alloc::Global;
 use std::process::Abort;
 

@@ -5,7 +5,8 @@ use crate::tests::assertions::{found, holds, made, same};
 use crate::tests::looks::live;
 use crate::tests::steps::{add_row_and, built, new_map, swap_ends, update};
 use map_fold::{NoMemory, Settings, Update};
-use rebuild_core::{Built, Job, MapState, Snapshot, SwapFault};
+use rebuild_core::{MapState, SwapFault};
+use rebuild_parts::{Built, Job, Snapshot};
 use std::alloc::Global;
 use std::process::Abort;
 

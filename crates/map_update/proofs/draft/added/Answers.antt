@@ -13,7 +13,7 @@ use Rattle.kd_mark.specs.Watches.{HaveRoom}
 use Rattle.kd_update.proofs.Joins.{add_points-put_each, join_next, live_from-length}
 use Rattle.kd_update.proofs.Numbers.{held_below}
 use Rattle.map_update.specs.Draft.{HasRoomFor}
-use Rattle.map_update.specs.Maps.{map_of}
+use Rattle.kd_tree.specs.Maps.{map_of}
 use Rattle.map_update.specs.declared.work.Work.{Work}
 use Rattle.map_update.proofs.Detached.{left_itself, left_trans}
 use Rattle.map_update.proofs.Drafts.{first_point, only_point, unrebuilt_ticks}

@@ -2,7 +2,7 @@ use Rattle.std.proofs.Common.{◌≡◌, ℕ, ◌+◌, ◌*◌, List, [], ◌∷
 use Rattle.point_geom.specs.Place.{Place}
 use Rattle.map_fold.specs.Fold.{thin_points}
 use Rattle.map_update.specs.Draft.{IsDraft, IsDraftLeft, IsWorked}
-use Rattle.map_update.specs.Maps.{map_of}
+use Rattle.kd_tree.specs.Maps.{map_of}
 use Rattle.map_update.specs.OnePoint.{IsTurnedAway}
 use Rattle.map_update.specs.Parts.{PartAt}
 use Rattle.map_update.proofs.thin.thinned.Given as goal

@@ -17,7 +17,7 @@ use Rattle.map_update.specs.declared.waiting.Waiting.{Waiting}
 use Rattle.map_update.specs.declared.work.Work.{Work}
 use Rattle.map_update.specs.Draft.{IsDraft, IsDraftLeft, IsWorked}
 use Rattle.map_update.specs.Entrants.{HaveOwnVoxels, AreEntrants, AreFirsts, thin_each}
-use Rattle.map_update.specs.Maps.{map_of}
+use Rattle.kd_tree.specs.Maps.{map_of}
 use Rattle.map_update.specs.Ranks.{HaveVoxels, items_in}
 use Rattle.map_update.specs.Waiting.{AreClear, NoneWaitsIn, IsJoined, held_by}
 use Rattle.map_update.proofs.AnyOrder.{thin_firsts}

@@ -1,5 +1,5 @@
 use Rattle.std.proofs.Common.{◌++◌, sym, ap, ◌∙◌}
-use Rattle.rebuild_core.specs.Steps.{listed}
+use Rattle.rebuild_parts.specs.History.{listed}
 use Rattle.published_map.proofs.turn.show_step.Goals as goal
 
 pub publish-requires : goal.publish-requires

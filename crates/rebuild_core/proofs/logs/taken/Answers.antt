@@ -1,7 +1,7 @@
 use Rattle.std.proofs.Common.{◌≡◌, List, ◌∷◌, get_or, ap, sym, ◌∙◌}
 use Rattle.kd_mark.specs.declared.watch.Watch.{Watch}
 use Rattle.rebuild_core.proofs.PartLogs.{first_taken}
-use Rattle.rebuild_core.proofs.SameItems.{not_both}
+use Rattle.rebuild_parts.proofs.SameItems.{not_both}
 use Rattle.rebuild_core.proofs.logs.taken.Goals as goal
 
 pub returns-then-not-is_same-clause-other : goal.returns-then-not-is_same-clause-other

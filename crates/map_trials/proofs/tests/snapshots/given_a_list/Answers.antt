@@ -1,7 +1,7 @@
 use Rattle.std.proofs.Common.{◌≡◌, ℕ, List, Option, ap, sym, ◌∙◌, subst}
 use Rattle.std.specs.Prelude.{IfSome}
 use Rattle.map_fold.specs.declared.item.Item.{Item}
-use Rattle.rebuild_core.specs.Built.{JobAt}
+use Rattle.rebuild_parts.specs.Built.{JobAt}
 use Rattle.rebuild_core.specs.Detach.{IsDetachStep}
 use Rattle.map_update.specs.Parts.{AreItemsOf}
 use Rattle.rebuild_core.proofs.KnownItems.{items_of_job}

@@ -1,6 +1,6 @@
 use Rattle.std.proofs.Common.{◌∙◌, ap, subst, Option}
 use Rattle.std.specs.Prelude.{IfSome}
-use Rattle.rebuild_core.specs.Built.{JobAt}
+use Rattle.rebuild_parts.specs.Built.{JobAt}
 use Rattle.rebuild_core.specs.Detach.{IsDetachStep}
 use Rattle.rebuild_core.specs.Lawful.{StateAt}
 use Rattle.published_map.specs.Holds.{HoldAt}

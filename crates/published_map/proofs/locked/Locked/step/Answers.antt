@@ -1,6 +1,7 @@
 use Rattle.std.proofs.Common.{◌≡◌, ◌++◌, length, sym, ◌∙◌, ap, append-nil}
 use Rattle.rebuild_core.specs.Lawful.{StateAt}
-use Rattle.rebuild_core.specs.Steps.{entered, listed}
+use Rattle.rebuild_core.specs.Steps.{entered}
+use Rattle.rebuild_parts.specs.History.{listed}
 use Rattle.published_map.proofs.Holding.{true_after}
 use Rattle.published_map.proofs.locked.Locked.step.Goals as goal
 

@@ -1,10 +1,11 @@
 use Rattle.std.proofs.Common.{rules, ◌≡◌, List, Some, ap, sym, ◌∙◌, subst, take, length, length-append, arith}
 use Rattle.map_fold.specs.declared.op.Op.{Op}
-use Rattle.rebuild_core.specs.Built.{BuiltAt, IsPartOf, undone}
+use Rattle.rebuild_parts.specs.Built.{BuiltAt}
+use Rattle.rebuild_core.specs.Known.{IsPartOf, undone}
 use Rattle.rebuild_core.specs.Lawful.{Stored}
 use Rattle.map_update.specs.Parts.{PartAt, part_of}
 use Rattle.rebuild_core.proofs.KnownItems.{known_part}
-use Rattle.rebuild_core.proofs.Replaying.{log_parts, undone_fit}
+use Rattle.rebuild_core.proofs.KnownParts.{log_parts, undone_fit}
 use Rattle.rebuild_core.proofs.state.MapState.part_known.Goals as goal
 
 is_part : (c : goal.After-len-few) → IsPartOf c.args.built.now c.args.self.now.state.parts c.in_ok-part.part.now

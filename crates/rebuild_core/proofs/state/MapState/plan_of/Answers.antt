@@ -1,6 +1,7 @@
 use Rattle.std.proofs.Common.{◌≡◌, ℕ, ◌+◌, ◌-◌, ◌<◌, ◌≤◌, ap, ◌∙◌, arith, length, slice_index_or, subst, sym}
 use Rattle.map_fold.specs.Fold.{points_in}
-use Rattle.rebuild_core.specs.Lawful.{StateAt, Stored, VersionAt}
+use Rattle.rebuild_core.specs.Lawful.{StateAt, Stored}
+use Rattle.rebuild_parts.specs.Seen.{VersionAt}
 use Rattle.rebuild_core.specs.StateView.{state_of}
 use Rattle.rebuild_core.specs.Steps.{IsDrafted}
 use Rattle.rebuild_core.proofs.Histories.{entry_made}

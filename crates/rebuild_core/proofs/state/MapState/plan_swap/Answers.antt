@@ -2,13 +2,13 @@ use Rattle.std.proofs.Common.{◌≡◌, ap, arith, length, subst, sym}
 use Rattle.std.specs.Prelude.{IfErr, IsErrAnd}
 use Rattle.std.specs.declared.result.Result.{Result}
 use Rattle.std.specs.declared.result.Result.TheVariants.{Ok, Err}
-use Rattle.rebuild_core.specs.Built.{BuiltAt}
+use Rattle.rebuild_parts.specs.Built.{BuiltAt}
 use Rattle.rebuild_core.specs.declared.fault.SwapFault.{SwapFault}
 use Rattle.rebuild_core.specs.declared.fault.SwapFault.TheVariants.{NoMemory}
 use Rattle.map_update.specs.Parts.{PartAt}
 use Rattle.rebuild_core.specs.Steps.{PlannedAt}
 use Rattle.rebuild_core.specs.Swap.{IsSwapFault, MaySwap}
-use Rattle.rebuild_core.proofs.SameItems.{not_both}
+use Rattle.rebuild_parts.proofs.SameItems.{not_both}
 use Rattle.rebuild_core.proofs.Swapping.{left_is}
 use Rattle.rebuild_core.proofs.state.MapState.plan_swap.Goals as goal
 use Rattle.rebuild_core.proofs.state.MapState.plan_swap.Goals.{else-not-force-via-then-not-force+else-left-gt-MOST_LEFT, else-not-force-via-else-not-force}

@@ -1,5 +1,6 @@
 use Rattle.std.proofs.Common.{◌≡◌, ℕ, None, ap, ◌∙◌, arith, length}
-use Rattle.rebuild_core.specs.Lawful.{Stored, VersionAt}
+use Rattle.rebuild_core.specs.Lawful.{Stored}
+use Rattle.rebuild_parts.specs.Seen.{VersionAt}
 use Rattle.rebuild_core.specs.Steps.{PlannedAt}
 use Rattle.rebuild_core.proofs.state.MapState.plan_with.Goals as goal
 

@@ -9,7 +9,7 @@ use Rattle.kd_tree.specs.declared.path.Side.{Side}
 use Rattle.kd_mark.specs.Refresh.{AreAmong}
 use Rattle.kd_replace.specs.Replace.{HasRoomAt, StandsFor}
 use Rattle.kd_mark.specs.Several.{AreLargeAt, AreSameAt, IsBalancedClear}
-use Rattle.rebuild_core.specs.Built.{undone}
+use Rattle.rebuild_core.specs.Known.{undone}
 use Rattle.rebuild_core.specs.Swap.{IsCaughtUp, IsSwapPlan}
 use Rattle.rebuild_core.specs.Lawful.{IsLawful, Stored}
 use Rattle.rebuild_core.specs.Logs.{planned_parts}

@@ -1,0 +1,52 @@
+-- Built values, and the parts that they are of.
+use Rattle.std.proofs.Common.{◌≡◌, ℕ, ◌≤◌, List, [], ◌∷◌, ◌++◌, length, map, drop, ap, sym, ◌∙◌, subst, inl, inr, arith, length-take, Some}
+use Rattle.std.specs.Prelude.{IsPermutation, ◌==◌}
+use Rattle.std.proofs.lemmas.Bool.{cond_both}
+use Rattle.std.proofs.lemmas.List.{take-append-drop}
+use Rattle.std.proofs.lemmas.List.Elements.{Contains-append_cases, Contains-append_left, Contains-append_right}
+use Rattle.std.proofs.lemmas.List.Sorted.{Contains-permutation, IsPermutation-sym}
+use Rattle.map_fold.specs.declared.item.Item.{Item}
+use Rattle.map_fold.specs.declared.op.Op.{Op}
+use Rattle.map_fold.specs.Ops.{Fit, numbers_put, replay}
+use Rattle.map_fold.proofs.Replays.{fit_append, fit_second, numbers_put-append, replay-append}
+use Rattle.kd_tree.specs.Shape.{Shape, numbers}
+use Rattle.kd_tree.specs.Contents.{contents}
+use Rattle.kd_mark.specs.Refresh.{AreAmong}
+use Rattle.kd_mark.proofs.Trees.{among_append, among_same}
+use Rattle.rebuild_parts.specs.Built.{BuiltAt, IsLawfulBuilt}
+use Rattle.rebuild_core.specs.Known.{IsPartOf, undone}
+use Rattle.rebuild_core.specs.Lawful.{IsLawful, StateAt}
+use Rattle.map_update.specs.Parts.{AreEachLawful, IsLawfulPart, PartAt, part_of}
+
+-- a value and its part
+
+of_lawful : (large next last : ℕ) (t : Shape) (ticket : ℕ) (ps : List PartAt) (p : PartAt) → part_of ticket ps ≡ Some p → AreEachLawful large next last t ps → IsLawfulPart large next last t p
+of_lawful large next last t ticket [] p e k = absurd cc
+of_lawful large next last t ticket (r ∷ ps) p e k =
+    cond_both (ticket == r.ticket) (Some r) (part_of ticket ps) (λ o. o ≡ Some p → IsLawfulPart large next last t p) (λ _ f. let same : r ≡ p = cc in subst (IsLawfulPart large next last t) same k.0)
+    (λ _ f. of_lawful large next last t ticket ps p f k.1) e
+
+-- the value's part is lawful
+pub built_part : (s : StateAt) (b : BuiltAt) (p : PartAt) → IsLawful s → IsPartOf b s.parts p → IsLawfulPart s.settings.large s.next s.last s.tree p
+built_part s b p k o = of_lawful s.settings.large s.next s.last s.tree b.ticket s.parts p o.found k.parts.each
+
+-- the log of its part is no shorter than what is done
+pub done_few : (b : BuiltAt) (ps : List PartAt) (p : PartAt) → IsPartOf b ps p → length b.done ≤ length p.log
+done_few b ps p o = omega (arith, ap length o.begins, length-take (length b.done) p.log)
+
+pub log_parts : (b : BuiltAt) (ps : List PartAt) (p : PartAt) → IsPartOf b ps p → p.log ≡ b.done ++ undone b p
+log_parts b ps p o = sym (take-append-drop (length b.done) p.log) ∙ ap (λ z. z ++ drop (length b.done) p.log) o.begins
+
+-- what isn't done fits what was built
+pub undone_fit : (s : StateAt) (b : BuiltAt) (p : PartAt) → IsLawful s → IsLawfulBuilt b → IsPartOf b s.parts p → Fit (contents b.tree) (undone b p)
+undone_fit s b p k h o =
+    let part = built_part s b p k o in
+    let all : Fit p.items (b.done ++ undone b p) = subst (Fit p.items) (log_parts b s.parts p o) part.fit in
+    let rest = fit_second p.items b.done (undone b p) all in
+    subst (λ m. Fit m (undone b p)) (ap (λ m. replay m b.done) (sym o.items) ∙ sym h.replayed) rest
+
+-- and once it is done, the value holds what the subtree holds
+pub undone_same : (s : StateAt) (b : BuiltAt) (p : PartAt) (k : IsLawful s) → IsLawfulBuilt b → (o : IsPartOf b s.parts p) → replay (contents b.tree) (undone b p) ≡ contents (built_part s b p k o).there.node
+undone_same s b p k h o =
+    ap (λ m. replay m (undone b p)) (h.replayed ∙ ap (λ m. replay m b.done) o.items)
+    ∙ sym (replay-append p.items b.done (undone b p)) ∙ ap (replay p.items) (sym (log_parts b s.parts p o)) ∙ sym (built_part s b p k o).replayed

@@ -1,5 +1,0 @@
-use Rattle.kd_tree.specs.Shape.{nodes}
-use Rattle.rebuild_core.proofs.balanced.+is_balanced.Given as goal
-
-abbrev pub decreases-is_balanced : goal.decreases-is_balanced
-decreases-is_balanced l = nodes l.tree.now

@@ -1,4 +1,0 @@
-use Rattle.rebuild_core.proofs.built.Built.replay_in_place.Given as goal
-
-abbrev pub ghosts-replayed_from : goal.ghosts-replayed_from
-ghosts-replayed_from a = record { name = a.blank.name; parts = a.blank.parts }

@@ -1,0 +1,4 @@
+pub mod Replaying
+pub mod Balance
+pub mod SameItems
+pub mod Handing

@@ -1,0 +1,4 @@
+pub mod History
+pub mod Built
+pub mod Holding
+pub mod Seen

@@ -1,0 +1,263 @@
+//! Detached subtrees that were rebuilt, and are brought up to date. Nothing here knows the state that they come from.
+ghost use Rattle.std.specs.Prelude.{◌≡◌, ◌+◌, ◌≤◌, [], ◌++◌, length, IfErr, IfOk};
+ghost use Rattle.map_fold.specs.Ops.{Fit, numbers_put, replay};
+ghost use Rattle.kd_tree.specs.Shape.{levels, nodes, numbers};
+ghost use Rattle.kd_tree.specs.Contents.{contents};
+ghost use Rattle.kd_tree.specs.Criteria.{AllMeetCriteria};
+ghost use Rattle.kd_tree.specs.Counter.{IsBlankOf};
+ghost use Rattle.kd_mark.specs.Refresh.{AreAmong};
+ghost use Rattle.kd_mark.specs.Update.{IsBalancedBelow};
+ghost use Rattle.rebuild_parts.specs.Built.{AreNumbersOf, IsLawfulBuilt, IsReplayOf};
+
+use crate::Job;
+use crate::balanced::is_balanced;
+use crate::holding::twin_by;
+use kd_mark::rebuilt;
+use kd_tree::{Steps, Tree};
+use kd_replay::replayed;
+use map_fold::{Item, NoMemory, Op};
+use std::alloc::Global;
+use std::marker::{Brand, Model};
+use std::sync::ledger::{Blank, Ledger};
+
+/// A tree that was built of a detached subtree's items, with some operations done on it since.
+pub struct Built {
+    pub(crate) job: Job,
+    done: Vec<Op>,
+    tree: Tree,
+    // Each node of 10 nodes and more, and fewer than these, meets the balance criterion.
+    large: u32,
+}
+
+impl Model for Built {
+    ghost use Rattle.rebuild_parts.specs.Built.{BuiltAt, IsLawfulBuilt};
+    ghost use Rattle.kd_mark.specs.Update.{IsBalancedBelow};
+
+    ghost Value = { BuiltAt };
+
+    ghost use Rattle.std.specs.Coded.{codes};
+    ghost use Rattle.kd_tree.specs.ShapeCode.{coded_shape};
+
+    ghost coded = { Prim.hlevel (codes, coded_shape) };
+
+    ghost view = { λ b. record { ticket = b.job.ticket; items = b.job.items; done = b.done.items; tree = b.tree } };
+
+    ghost invariant = { λ b. IsLawfulBuilt (record { ticket = b.job.ticket; items = b.job.items; done = b.done.items; tree = b.tree }) × IsBalancedBelow b.large b.tree };
+}
+
+// By hand, so that whoever lets a value go proves one call.
+impl Drop for Built {
+    fn drop(self) {
+        let Built {
+            job: _job,
+            done: _done,
+            tree: _tree,
+            large: _large,
+        } = self;
+    }
+}
+
+/// A value on which nothing more was done for lack of memory.
+#[derive(Drop)]
+pub struct BuiltLeft {
+    pub built: Built,
+}
+
+impl Built {
+    // A tree of the job's items, with nothing done on it.
+    pub(crate) fn new(alloc: Global, job: Job, large: u32, tree: Tree) -> Built
+        requires held { contents tree ≡ job.items }
+        requires numbers { AreNumbersOf job.items tree }
+        requires criteria { AllMeetCriteria 10 tree }
+        ensures { result ≡ record { ticket = job.ticket; items = job.items; done = []; tree = tree } }
+    {
+        Built {
+            job,
+            done: Vec::new(alloc),
+            tree,
+            large,
+        }
+    }
+
+    /// Its tree, and the `large` for which it is balanced.
+    pub fn into_tree(self) -> (Tree, u32)
+        ensures tree { result.0 ≡ self.tree }
+        ensures balanced { IsBalancedBelow result.1 result.0 }
+    {
+        let Built {
+            job: _job,
+            done: _done,
+            tree,
+            large,
+        } = self;
+        (tree, large)
+    }
+
+    /// The ticket of the subtree.
+    pub fn ticket(&self) -> u64
+        ensures { result ≡ self.now.ticket }
+    {
+        self.job.ticket()
+    }
+
+    /// What the subtree held, by itself, when it was detached.
+    pub fn items(&self) -> &[Item]
+        ensures { result.now ≡ self.now.items }
+    {
+        self.job.items()
+    }
+
+    /// The operations that were done since, in order.
+    pub fn done(&self) -> &[Op]
+        ensures value { result.now ≡ self.now.done }
+        ensures lawful { IsLawfulBuilt self.now }
+    {
+        self.done.as_slice()
+    }
+
+    /// The tree, which holds what the operations make of the items.
+    pub fn tree(&self) -> &Tree
+        ensures value { result.now ≡ self.now.tree }
+        ensures lawful { IsLawfulBuilt self.now }
+    {
+        &self.tree
+    }
+
+    /// The `large` for which the tree is balanced.
+    pub fn large(&self) -> u32
+        ensures { IsBalancedBelow result self.now.tree }
+    {
+        self.large
+    }
+
+    /// The same value once more. Its list and its nodes are shared, and what is done on it is copied.
+    pub fn again(&self, alloc: Global) -> Result<Built, NoMemory>
+        ensures { IfOk result (λ b. b ≡ self.now) }
+    {
+        let job = self.job.again()?;
+        let mut done = Vec::new(alloc);
+        done.extend_from_slice(self.done.as_slice())?;
+        let tree = twin_by::<Brand>(alloc, &self.tree, Blank::new(1))?;
+        Ok(Built {
+            job,
+            done,
+            tree,
+            large: self.large,
+        })
+    }
+
+    /// The value with these operations done too, one after the other, as `replayed` does them. Where its tree is out of balance
+    /// for this `large`, since it was built with another, it is rebuilt by medians before. Where memory runs out, the value
+    /// is handed back as it was.
+    pub fn replay(self, alloc: Global, large: u32, ops: &[Op]) -> Result<Built, BuiltLeft>
+        requires { Fit (contents self.tree) ops.now }
+        ensures replayed { IfOk result (IsReplayOf self ops.now) }
+        ensures balance { IfOk result (λ b. IsBalancedBelow large b.tree) }
+        ensures left { IfErr result (λ l. l.built ≡ self) }
+    {
+        let Ok(twin) = self.again(alloc) else {
+            return Err(BuiltLeft { built: self });
+        };
+        let Ok(built) = twin.replay_in_place(alloc, large, ops) else {
+            return Err(BuiltLeft { built: self });
+        };
+        Ok(built)
+    }
+
+    /// `replay`, done in the place of the value's own nodes, so that none of them is copied: the value is dropped where memory runs
+    /// out.
+    pub fn replay_in_place(self, alloc: Global, large: u32, ops: &[Op]) -> Result<Built, NoMemory>
+        requires { Fit (contents self.tree) ops.now }
+        ensures replayed { IfOk result (IsReplayOf self ops.now) }
+        ensures balance { IfOk result (λ b. IsBalancedBelow large b.tree) }
+    {
+        let Built {
+            job,
+            mut done,
+            tree,
+            large: made_with,
+        } = self;
+        done.extend_from_slice(ops)?;
+        let tree = replayed_from::<Brand>(alloc, tree, made_with, large, ops, Blank::new(1))?;
+        Ok(Built {
+            job,
+            done,
+            tree,
+            large,
+        })
+    }
+}
+
+// The tree after the operations, with a counter that nothing looks at.
+fn replayed_from<L: Ledger>(
+    alloc: Global,
+    tree: Tree,
+    made_with: u32,
+    large: u32,
+    ops: &[Op],
+    blank: Blank,
+) -> Result<Tree, NoMemory>
+    requires blank { IsBlankOf L.name L.parts blank }
+    requires balanced { IsBalancedBelow made_with tree }
+    requires fit { Fit (contents tree) ops.now }
+    ensures contents { IfOk result (λ t. contents t ≡ replay (contents tree) ops.now) }
+    ensures numbers { IfOk result (λ t. AreAmong (numbers t) (numbers_put ops.now ++ numbers tree)) }
+    ensures balance { IfOk result (λ t. IsBalancedBelow large t) }
+{
+    let mut steps: Steps<L> = Steps::new(blank);
+    caught_up(alloc, tree, made_with, large, ops, &mut steps)
+}
+
+/// The tree after the operations, which are done one after the other. It is balanced for this `large`, for which it is rebuilt by medians
+/// before, where it was made with another and isn't. Where memory runs out, the tree is dropped.
+pub fn caught_up<L: Ledger>(
+    alloc: Global,
+    tree: Tree,
+    made_with: u32,
+    large: u32,
+    ops: &[Op],
+    steps: &mut Steps<L>,
+) -> Result<Tree, NoMemory>
+    requires balanced { IsBalancedBelow made_with tree }
+    requires fit { Fit (contents tree) ops.now }
+    ensures contents { IfOk result (λ t. contents t ≡ replay (contents tree) ops.now) }
+    ensures numbers { IfOk result (λ t. AreAmong (numbers t) (numbers_put ops.now ++ numbers tree)) }
+    ensures balance { IfOk result (λ t. IsBalancedBelow large t) }
+    ensures low { IfOk result (λ t. levels t ≤ levels tree + length (numbers_put ops.now)) }
+    ensures few { IfOk result (λ t. nodes t ≤ nodes tree + length (numbers_put ops.now)) }
+    // A balanced tree stays where nothing is to be done, and no node is made.
+    ensures same { ops.now ≡ [] → IsBalancedBelow large tree → IfOk result (λ t. t ≡ tree) }
+    ensures still { ops.now ≡ [] → IsBalancedBelow large tree → steps.new ≡ steps.old }
+{
+    let tree = balanced_for(alloc, tree, made_with, large, steps)?;
+    if ops.is_empty() {
+        return Ok(tree);
+    }
+    replayed(alloc, tree, large, ops)
+}
+
+// The tree, rebuilt where it isn't balanced for this `large`. Only where it was made with another is it looked at.
+fn balanced_for<L: Ledger>(
+    alloc: Global,
+    tree: Tree,
+    made_with: u32,
+    large: u32,
+    steps: &mut Steps<L>,
+) -> Result<Tree, NoMemory>
+    requires { IsBalancedBelow made_with tree }
+    ensures contents { IfOk result (λ t. contents t ≡ contents tree) }
+    ensures numbers { IfOk result (λ t. AreAmong (numbers t) (numbers tree)) }
+    ensures balance { IfOk result (λ t. IsBalancedBelow large t) }
+    ensures low { IfOk result (λ t. levels t ≤ levels tree) }
+    ensures few { IfOk result (λ t. nodes t ≤ nodes tree) }
+    ensures same { IsBalancedBelow large tree → IfOk result (λ t. t ≡ tree) }
+    ensures still { IsBalancedBelow large tree → steps.new ≡ steps.old }
+{
+    if made_with == large {
+        return Ok(tree);
+    }
+    if is_balanced(&tree, large) {
+        return Ok(tree);
+    }
+    rebuilt(alloc, tree, steps)
+}

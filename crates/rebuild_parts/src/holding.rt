@@ -1,0 +1,121 @@
+//! What detached subtrees held: trees as long as nobody has listed them, and then lists.
+ghost use Rattle.std.specs.Prelude.{◌≡◌, ◌↔◌, true, IfOk};
+ghost use Rattle.map_fold.specs.Contents.{AreContents};
+ghost use Rattle.kd_tree.specs.Contents.{contents};
+ghost use Rattle.kd_tree.specs.Counter.{IsBlankOf};
+
+use crate::Built;
+use crate::same_items::{are_same, holds};
+use kd_tree::{Steps, Tree};
+use map_fold::{Items, MAX_POINTS, NoMemory};
+use std::alloc::Global;
+use std::marker::{Brand, Model};
+use std::sync::Arc;
+use std::sync::ledger::{Blank, Ledger};
+
+/// What a detached subtree held, by itself, when it was detached. Contracts see the list of its items, whether it is kept as a
+/// list or as a tree, which shares its nodes with the map's tree.
+pub struct Holding {
+    held: Held,
+}
+
+// By hand, so that whoever lets one go proves one call.
+impl Drop for Holding {
+    fn drop(self) {
+        let Holding { held: _held } = self;
+    }
+}
+
+#[derive(Drop)]
+enum Held {
+    Unlisted(Arc<Tree>),
+    Listed(Arc<Items>),
+}
+
+impl Model for Holding {
+    ghost use Rattle.std.specs.Prelude.{List};
+    ghost use Rattle.map_fold.specs.declared.item.Item.{Item};
+    ghost use Rattle.map_fold.specs.Contents.{AreContents};
+
+    ghost Value = { List Item };
+
+    ghost use Rattle.rebuild_parts.specs.Holding.{items_held};
+
+    ghost view = { λ h. items_held h.held };
+
+    ghost use Rattle.map_fold.specs.declared.limits.TheConstants.{MAX_POINTS};
+
+    ghost invariant = { λ h. AreContents 0 MAX_POINTS (items_held h.held) };
+}
+
+impl Holding {
+    /// What the tree holds. It takes no time that depends on how many nodes there are.
+    pub fn of(alloc: Global, tree: &Tree) -> Result<Holding, NoMemory>
+        requires { AreContents 0 MAX_POINTS (contents tree.now) }
+        ensures { IfOk result (λ h. h ≡ contents tree.now) }
+    {
+        let twin = twin_by::<Brand>(alloc, tree, Blank::new(1))?;
+        let tree = Arc::new(alloc, twin)?;
+        Ok(Holding {
+            held: Held::Unlisted(tree),
+        })
+    }
+
+    // The items of a list.
+    pub(crate) fn listed(items: Arc<Items>) -> Holding
+        requires { AreContents 0 MAX_POINTS items.value }
+        ensures { result ≡ items.value }
+    {
+        Holding {
+            held: Held::Listed(items),
+        }
+    }
+
+    /// The same, held once more: a pointer is copied.
+    pub fn again(&self) -> Result<Holding, NoMemory>
+        ensures { IfOk result (λ h. h ≡ self.now) }
+    {
+        let held = match &self.held {
+            Held::Unlisted(tree) => Held::Unlisted(Arc::try_clone(tree)?),
+            Held::Listed(items) => Held::Listed(Arc::try_clone(items)?),
+        };
+        Ok(Holding { held })
+    }
+
+    // The items as a list. n of them take time in the order of n log n, where they are kept as a tree.
+    pub(crate) fn list(&self, alloc: Global) -> Result<Arc<Items>, NoMemory>
+        ensures value { IfOk result (λ items. items.value ≡ self.now) }
+        ensures lawful { AreContents 0 MAX_POINTS self.now }
+    {
+        match &self.held {
+            Held::Unlisted(tree) => {
+                let items = Arc::new(alloc, tree.flatten(alloc)?)?;
+                Ok(items)
+            }
+            Held::Listed(items) => {
+                let items = Arc::try_clone(items)?;
+                Ok(items)
+            }
+        }
+    }
+
+    /// Whether the value was built of these items. A list is compared item by item; a tree takes time in the order of n log n.
+    pub fn is_of(&self, built: &Built) -> bool
+        ensures { result ≡ true ↔ (self.now ≡ built.now.items) }
+    {
+        let items = built.job.items.as_slice();
+        match &self.held {
+            Held::Unlisted(tree) => holds(tree, items),
+            Held::Listed(list) => are_same(list.as_slice(), items),
+        }
+    }
+}
+
+// A tree with the same nodes, with a counter that nothing looks at.
+pub(crate) fn twin_by<L: Ledger>(alloc: Global, tree: &Tree, blank: Blank) -> Result<Tree, NoMemory>
+    requires blank { IsBlankOf L.name L.parts blank }
+    ensures { IfOk result (λ t. t ≡ tree.now) }
+{
+    let mut steps: Steps<L> = Steps::new(blank);
+    tree.copy(alloc, &mut steps)
+}

@@ -1,0 +1,67 @@
+//! Lists and trees, compared without memory.
+ghost use Rattle.std.specs.Prelude.{◌≡◌, ◌∷◌, [], ◌↔◌, true};
+ghost use Rattle.map_fold.specs.Contents.{AreContents, kept, Member};
+ghost use Rattle.kd_tree.specs.Contents.{contents};
+ghost use Rattle.kd_tree.specs.Walk.{walk};
+ghost use Rattle.rebuild_parts.specs.Holding.{AreAllFrom};
+
+use kd_tree::Tree;
+use map_fold::{Item, Label, MAX_POINTS, Tag};
+
+pub(crate) fn are_same(items: &[Item], others: &[Item]) -> bool
+    ensures { result ≡ true ↔ (items.now ≡ others.now) }
+{
+    items == others
+}
+
+// Whether the tree holds these items, and no others. Each item of the tree is looked for in the list.
+pub(crate) fn holds(tree: &Tree, items: &[Item]) -> bool
+    requires { AreContents 0 MAX_POINTS items.now }
+    ensures { result ≡ true ↔ (contents tree.now ≡ items.now) }
+{
+    let counts = tree.counts();
+    let count = counts.live + counts.suspended;
+    if count as usize != items.len() {
+        return false;
+    }
+    are_among(tree, Tag::KEEP, items)
+}
+
+// Whether each item that is left of the tree under this action is one of the items.
+fn are_among(tree: &Tree, owed: Tag, items: &[Item]) -> bool
+    requires { AreContents 0 MAX_POINTS items.now }
+    ensures { result ≡ true ↔ AreAllFrom (walk owed tree.now) items.now }
+{
+    let Some(top) = tree.top() else {
+        return true;
+    };
+    let below = top.pending.then(owed);
+    if !is_among(&top.item.relabelled(owed), items) {
+        return false;
+    }
+    if !are_among(top.left, below, items) {
+        return false;
+    }
+    are_among(top.right, below, items)
+}
+
+// Whether the item is dropped or one of the items.
+fn is_among(item: &Item, items: &[Item]) -> bool
+    requires { AreContents 0 MAX_POINTS items.now }
+    ensures { result ≡ true ↔ AreAllFrom (kept (item.now ∷ [])) items.now }
+{
+    if item.label == Label::Dropped {
+        return true;
+    }
+    is_one(item, items)
+}
+
+fn is_one(item: &Item, items: &[Item]) -> bool
+    requires { AreContents 0 MAX_POINTS items.now }
+    ensures { result ≡ true ↔ Member item.now items.now }
+{
+    match items.binary_search_by_key(&item.number, |i: &Item| i.number) {
+        Err(_) => false,
+        Ok(place) => items[place] == *item,
+    }
+}
