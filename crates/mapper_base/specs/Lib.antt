@@ -7,4 +7,3 @@ pub mod Prints
 pub mod Inputs
 pub mod Done
 pub mod Causes
-pub mod Turns

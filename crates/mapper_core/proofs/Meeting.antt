@@ -22,7 +22,7 @@ use Rattle.mapper_core.specs.Mine.{keep_made, updates_by, Mine, Ran}
 use Rattle.mapper_core.specs.Meetings.{AllMine, MergedFrom, MergedTo, AllDone, Standing, IsTotal}
 use Rattle.mapper_core.proofs.Beginnings.{prefix_trans, prefix_length, take_early}
 use Rattle.scan_log.proofs.Whose.{later_less}
-use Rattle.mapper_base.proofs.Passed.{reply_take}
+use Rattle.mapper_serial.proofs.Passed.{reply_take}
 use Rattle.mapper_core.proofs.Whose.{keep_append}
 use Rattle.mapper_core.proofs.LegalMarks.{placed_below}
 use Rattle.mapper_core.proofs.OneCaller.{mine_other, mine_next, mine_skip}

@@ -23,7 +23,7 @@ use Rattle.scan_log.proofs.Serial.{mark_of-reply_on}
 use Rattle.mapper_core.specs.Told.{Answers, StandsInHistory}
 use Rattle.mapper_core.specs.Mine.{keep_made, updates_by, Mine, Answered, Tried, RanTo, Turned}
 use Rattle.mapper_core.proofs.Beginnings.{prefix_self, prefix_trans, prefix_length, take_prefix}
-use Rattle.mapper_base.proofs.Passed.{all_taken, reply_take}
+use Rattle.mapper_serial.proofs.Passed.{all_taken, reply_take}
 use Rattle.mapper_core.proofs.Whose.{keep_append, passed_by}
 
 keep_own : (c : ℕ) (u : Update) (us : List Update) → keep_if (c == c) u us ≡ u ∷ us

@@ -15,7 +15,7 @@ use Rattle.scan_log.specs.Scripts.{points_of}
 use Rattle.scan_log.proofs.Whose.{change_or_none}
 use Rattle.mapper_core.specs.Mine.{updates_by}
 use Rattle.mapper_core.specs.Meetings.{AllDone}
-use Rattle.mapper_base.proofs.Passed.{passed}
+use Rattle.mapper_serial.proofs.Passed.{passed}
 use Rattle.mapper_core.proofs.Whose.{passed_by}
 
 unfoldable pub weigh : (Update → ℕ) → List Update → ℕ

@@ -12,10 +12,8 @@ ghost use Rattle.mapper_base.specs.Seen.{log_seen, out_seen, run_seen};
 use crate::callers::threaded_plain;
 use byte_streams::{Sink, SinkFault, Source, write_all};
 use map_fold::NoMemory;
-use mapper_base::{
-    Ending, Status, checked_text, driven_text, in_order_text, made_text, read_script, tell,
-    transcript,
-};
+use mapper_serial::{checked_text, driven_text, in_order_text, made_text, transcript};
+use mapper_base::{Ending, Status, read_script, tell};
 use mapper_words::{Ask, asked};
 use rebuild_worker::Gate;
 use scan_log::{PlainScript, Script};

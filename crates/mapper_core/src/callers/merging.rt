@@ -5,7 +5,7 @@ ghost use Rattle.mapper_core.specs.Meetings.{AreReplies, HasReply, Takes, Merged
 
 use super::queue::Queue;
 use map_fold::NoMemory;
-use mapper_base::Replies;
+use mapper_serial::Replies;
 use scan_log::{Command, Reply};
 
 // The next reply of a caller, the first of whom is 1.

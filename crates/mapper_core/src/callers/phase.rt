@@ -15,7 +15,7 @@ use super::merging::merge;
 use super::queue::Queue;
 use super::stage::Stage;
 use map_fold::{MAX_POINTS, NoMemory};
-use mapper_base::Replies;
+use mapper_serial::Replies;
 use published_map::{MapName, Pass, Shared};
 use rebuild_worker::Gate;
 use scan_log::{Command, MAX_COMMANDS, Reply};

@@ -13,7 +13,7 @@ use super::naming::callers_in;
 use super::script::run_commands;
 use super::stage::Stage;
 use map_fold::{MAX_LARGE, MIN_LARGE, NoMemory};
-use mapper_base::Replies;
+use mapper_serial::Replies;
 use published_map::{MapName, Opened, Pass, Shared};
 use rebuild_worker::{Gate, pair, work};
 use scan_log::{PlainScript, Script};

@@ -2,7 +2,7 @@ use Rattle.std.proofs.Common.{◌≡◌, ℕ, List, drop, Option, None, Some, If
 use Rattle.scan_log.specs.Scripts.{ScriptAt}
 use Rattle.transcript_check.specs.declared.verdict.Verdict.{Verdict}
 use Rattle.transcript_check.specs.Verdicts.{IsVerdict}
-use Rattle.mapper_base.proofs.texts.checked_text.Goals as goal
+use Rattle.mapper_serial.proofs.texts.checked_text.Goals as goal
 
 -- the verdict on what was read is the one on what there was
 found_in : (input : Option (List ℕ)) (bytes : List ℕ) (n : ℕ) (x : ScriptAt) (v : Verdict) → IfSome input (λ b. b ≡ bytes) → IsVerdict x (drop n bytes) v

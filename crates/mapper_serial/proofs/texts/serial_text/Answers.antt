@@ -1,6 +1,6 @@
 use Rattle.std.proofs.lemmas.Result.{IfOk-weaker}
 use Rattle.mapper_base.proofs.Printed.{serial_print}
-use Rattle.mapper_base.proofs.texts.serial_text.Goals as goal
+use Rattle.mapper_serial.proofs.texts.serial_text.Goals as goal
 
 pub returns : goal.returns
 returns c =

@@ -15,8 +15,8 @@ use Rattle.scan_log.specs.declared.command.Command.{Command}
 use Rattle.scan_log.specs.declared.command.Command.TheVariants.{Change}
 use Rattle.scan_log.specs.Scripts.{submitted}
 use Rattle.scan_log.specs.Transcript.{reply_on}
-use Rattle.mapper_base.specs.Turns.{Follows, IsTended, reply_of}
-use Rattle.mapper_base.proofs.Passed.{all_taken, passed}
+use Rattle.mapper_serial.specs.Turns.{Follows, IsTended, reply_of}
+use Rattle.mapper_serial.proofs.Passed.{all_taken, passed}
 
 -- an update, and then the looking after
 pub change_follows : (caller : ℕ) (u : Update) (s m t : StateAt) → IsUpdateStep caller u s m → IsTended m t → Follows (Change caller u) s t

@@ -1,8 +1,8 @@
 use Rattle.std.proofs.lemmas.Result.{IfOk-weaker}
 use Rattle.scan_log.proofs.Whose.{makes_none}
-use Rattle.mapper_base.specs.Turns.{Follows}
-use Rattle.mapper_base.proofs.Turns.{query_follows}
-use Rattle.mapper_base.proofs.answering.answer.Goals as goal
+use Rattle.mapper_serial.specs.Turns.{Follows}
+use Rattle.mapper_serial.proofs.Turns.{query_follows}
+use Rattle.mapper_serial.proofs.answering.answer.Goals as goal
 
 pub returns-in_default-clause-follows : goal.returns-in_default-clause-follows
 returns-in_default-clause-follows c =

@@ -8,12 +8,12 @@ ghost use Rattle.mapper_base.specs.Prints.{AreSerialLines, IsVerdictLine};
 ghost use Rattle.mapper_base.specs.Seen.{log_seen};
 ghost use Rattle.mapper_base.specs.Summary.{summary_of};
 
-use crate::{
-    Ending, Input, behind, in_order, made, read_input, read_script, summary, transcript,
-    verdict_line,
-};
+use crate::{in_order, transcript};
 use byte_streams::Source;
 use map_fold::NoMemory;
+use mapper_base::{
+    Ending, Input, behind, made, read_input, read_script, summary, verdict_line,
+};
 use mapper_words::Ask;
 use scan_log::{PlainScript, Script, write_script};
 use std::alloc::Global;

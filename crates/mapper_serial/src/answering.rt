@@ -4,9 +4,9 @@ ghost use Rattle.kd_tree.specs.Counter.{IsBlankOf};
 ghost use Rattle.rebuild_core.specs.Steps.{HasRoom, IsUpdateStep};
 ghost use Rattle.scan_log.specs.Plain.{IsPlain};
 ghost use Rattle.scan_log.specs.Scripts.{submitted};
-ghost use Rattle.mapper_base.specs.Turns.{Follows, IsTended, reply_of};
+ghost use Rattle.mapper_serial.specs.Turns.{Follows, IsTended, reply_of};
 
-use crate::on_tree::{tree_reply, tree_totals};
+use mapper_base::{tree_reply, tree_totals};
 use kd_tree::Steps;
 use map_fold::{MAX_POINTS, NoMemory, Update};
 use rebuild_core::{MAX_UPDATES, MapState, StateFault, SwapFault};

@@ -14,8 +14,8 @@ use Rattle.scan_log.specs.Plain.{IsPlainScript}
 use Rattle.scan_log.specs.Scripts.{ScriptAt, points_of}
 use Rattle.scan_log.specs.Transcript.{history, mark_from, serial_marks, serial_marks_from, replies, replies_from, reply_to}
 use Rattle.scan_log.proofs.Serial.{serial_history}
-use Rattle.mapper_base.specs.Turns.{Follows, reply_of}
-use Rattle.mapper_base.proofs.Passed.{reply_take}
+use Rattle.mapper_serial.specs.Turns.{Follows, reply_of}
+use Rattle.mapper_serial.proofs.Passed.{reply_take}
 
 made_first : (made : Option Update) (us : List Update) → option_to_list made ++ us ≡ (option_to_list made ++ []) ++ us
 made_first (Some u) us = refl
