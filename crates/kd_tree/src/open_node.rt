@@ -29,9 +29,15 @@ pub struct OpenNode {
 }
 
 /// The memory of a node, if any is kept.
-#[derive(Drop)]
 pub struct Block {
     node: Option<Arc<Node>>,
+}
+
+// By hand, so that whoever lets it go proves one call.
+impl Drop for Block {
+    fn drop(self) {
+        let Block { node: _node } = self;
+    }
 }
 
 // A top node whose sons still owe what is pending.
@@ -168,7 +174,8 @@ impl Block {
 
     /// This memory, or some of the scratch's where none is kept.
     pub fn or_of(self, scratch: &mut Scratch) -> Block {
-        match self.node {
+        let Block { node } = self;
+        match node {
             Some(node) => Block { node: Some(node) },
             None => scratch.block(),
         }
@@ -192,7 +199,8 @@ impl Block {
     fn filled_with(self, alloc: Global, node: Node) -> Result<Arc<Node>, NoMemory>
         ensures { IfOk result (λ a. arc_value a ≡ node) }
     {
-        if let Some(mut block) = self.node {
+        let Block { node: kept } = self;
+        if let Some(mut block) = kept {
             if let Some(place) = Arc::get_mut(&mut block) {
                 *place = node;
                 return Ok(block);

@@ -8,7 +8,6 @@ use point_geom::{Cuboid, Point};
 use std::alloc::Global;
 
 /// A command of a log.
-#[derive(Drop)]
 pub enum Command {
     /// A change of the map.
     Change {
@@ -84,6 +83,56 @@ pub enum Command {
     },
     /// A barrier: what stands after it comes after what stands before it.
     Sync,
+}
+
+// By hand, so that whoever lets a command go proves one call.
+impl Drop for Command {
+    fn drop(self) {
+        match self {
+            Command::Change {
+                caller: _caller,
+                update: _update,
+            } => {}
+            Command::Near {
+                caller: _caller,
+                k: _k,
+                point: _point,
+                within: _within,
+            } => {}
+            Command::Nears {
+                caller: _caller,
+                k: _k,
+                points: _points,
+            } => {}
+            Command::Inside {
+                caller: _caller,
+                k: _k,
+                cuboid: _cuboid,
+            } => {}
+            Command::Ball {
+                caller: _caller,
+                k: _k,
+                r: _r,
+                point: _point,
+            } => {}
+            Command::Lonely {
+                caller: _caller,
+                k: _k,
+                r: _r,
+            }
+            | Command::Clusters {
+                caller: _caller,
+                k: _k,
+                r: _r,
+            } => {}
+            Command::Pose {
+                caller: _caller,
+                rules: _rules,
+                point: _point,
+            } => {}
+            Command::Sync => {}
+        }
+    }
 }
 
 impl Command {

@@ -1,6 +1,5 @@
 use Rattle.std.proofs.Common.{rules, ◌≡◌, List, Some, ap, sym, ◌∙◌, subst, take, length, length-append, arith}
 use Rattle.map_fold.specs.declared.op.Op.{Op}
-use Rattle.rebuild_parts.specs.Built.{BuiltAt}
 use Rattle.rebuild_core.specs.Known.{IsPartOf, undone}
 use Rattle.rebuild_core.specs.Lawful.{Stored}
 use Rattle.map_update.specs.Parts.{PartAt, part_of}
@@ -15,8 +14,8 @@ is_part c =
     let p = c.in_ok-part.part.now in
     let parts = c.as_slice.ensures.value ∙ ap (λ (x : Stored). x.state.parts) c.self.view_is in
     let found : part_of b.ticket s.parts ≡ Some p = ap (λ n. part_of n s.parts) (sym c.ticket.ensures) ∙ ap (part_of c.ticket.result) (sym parts) ∙ sym c.in_ok-part.ensures in
-    let ops = c.as_slice-2.result.now in
-    let done : ops ≡ b.done = c.as_slice-2.ensures.value ∙ ap (λ (x : BuiltAt). x.done) c.built.view_is in
+    let ops = c.done-done.result.now in
+    let done : ops ≡ b.done = c.done-done.ensures.value in
     let log : c.part.inside.log ≡ p.log = ap (λ (x : PartAt). x.log) c.part.view_is in
     let begins : take (length ops) p.log ≡ ops = subst (λ (l : List Op). take (length ops) l ≡ ops) log (c.begins_with.ensures.0 c.if-not-begins_with.false) in
     record { found = found; items = sym (known_part b.ticket b.items p s.parts c.requires.known found); begins = subst (λ (l : List Op). take (length l) p.log ≡ l) done begins }

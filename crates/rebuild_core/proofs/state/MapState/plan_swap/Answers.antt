@@ -1,8 +1,7 @@
-use Rattle.std.proofs.Common.{◌≡◌, ap, arith, length, subst, sym}
+use Rattle.std.proofs.Common.{◌≡◌, ap, arith, length, refl, subst, sym}
 use Rattle.std.specs.Prelude.{IfErr, IsErrAnd}
 use Rattle.std.specs.declared.result.Result.{Result}
 use Rattle.std.specs.declared.result.Result.TheVariants.{Ok, Err}
-use Rattle.rebuild_parts.specs.Built.{BuiltAt}
 use Rattle.rebuild_core.specs.declared.fault.SwapFault.{SwapFault}
 use Rattle.rebuild_core.specs.declared.fault.SwapFault.TheVariants.{NoMemory}
 use Rattle.map_update.specs.Parts.{PartAt}
@@ -20,9 +19,8 @@ out_of (Err e) P none k = subst P (sym none) k
 
 pub returns-in_err-ops-clause-refused : goal.returns-in_err-ops-clause-refused
 returns-in_err-ops-clause-refused g c =
-    let done : c.len-done.result ≡ length c.built.inside.done.items = omega (arith, c.len-done.ensures, c.built.inside.done.ok) in
     let left =
-    left_is c.args.built.now c.in-Some.part.now c.len.result c.len-done.result c.part.inside.log c.built.inside.done.items c.len.ensures.value (ap (λ (p : PartAt). p.log) c.part.view_is) done (ap (λ (b : BuiltAt). b.done) c.built.view_is) in
+    left_is c.args.built.now c.in-Some.part.now c.len.result (length c.done.result.now) c.part.inside.log c.done.result.now c.len.ensures.value (ap (λ (p : PartAt). p.log) c.part.view_is) refl c.done.ensures.value in
     let may : MaySwap c.args.built.now c.args.force c.args.self.now.state = (
       c.in-Some.part.now,
       c.in-Some.ensures.some.of,
@@ -35,9 +33,8 @@ returns-in_err-ops-clause-refused g c =
 
 pub returns-in_err-twin-clause-refused : goal.returns-in_err-twin-clause-refused
 returns-in_err-twin-clause-refused g c =
-    let done : c.len-done.result ≡ length c.built.inside.done.items = omega (arith, c.len-done.ensures, c.built.inside.done.ok) in
     let left =
-    left_is c.args.built.now c.in-Some.part.now c.len.result c.len-done.result c.part.inside.log c.built.inside.done.items c.len.ensures.value (ap (λ (p : PartAt). p.log) c.part.view_is) done (ap (λ (b : BuiltAt). b.done) c.built.view_is) in
+    left_is c.args.built.now c.in-Some.part.now c.len.result (length c.done.result.now) c.part.inside.log c.done.result.now c.len.ensures.value (ap (λ (p : PartAt). p.log) c.part.view_is) refl c.done.ensures.value in
     let may : MaySwap c.args.built.now c.args.force c.args.self.now.state = (
       c.in-Some.part.now,
       c.in-Some.ensures.some.of,
@@ -50,9 +47,8 @@ returns-in_err-twin-clause-refused g c =
 
 pub returns-in_err-planned-clause-refused : goal.returns-in_err-planned-clause-refused
 returns-in_err-planned-clause-refused g c =
-    let done : c.len-done.result ≡ length c.built.inside.done.items = omega (arith, c.len-done.ensures, c.built.inside.done.ok) in
     let left =
-    left_is c.args.built.now c.in-Some.part.now c.len.result c.len-done.result c.part.inside.log c.built.inside.done.items c.len.ensures.value (ap (λ (p : PartAt). p.log) c.part.view_is) done (ap (λ (b : BuiltAt). b.done) c.built.view_is) in
+    left_is c.args.built.now c.in-Some.part.now c.len.result (length c.done.result.now) c.part.inside.log c.done.result.now c.len.ensures.value (ap (λ (p : PartAt). p.log) c.part.view_is) refl c.done.ensures.value in
     let may : MaySwap c.args.built.now c.args.force c.args.self.now.state = (
       c.in-Some.part.now,
       c.in-Some.ensures.some.of,
@@ -65,9 +61,8 @@ returns-in_err-planned-clause-refused g c =
 
 pub returns-clause-may : goal.returns-clause-may
 returns-clause-may g c =
-    let done : c.len-done.result ≡ length c.built.inside.done.items = omega (arith, c.len-done.ensures, c.built.inside.done.ok) in
     let left =
-    left_is c.args.built.now c.in-Some.part.now c.len.result c.len-done.result c.part.inside.log c.built.inside.done.items c.len.ensures.value (ap (λ (p : PartAt). p.log) c.part.view_is) done (ap (λ (b : BuiltAt). b.done) c.built.view_is) in (
+    left_is c.args.built.now c.in-Some.part.now c.len.result (length c.done.result.now) c.part.inside.log c.done.result.now c.len.ensures.value (ap (λ (p : PartAt). p.log) c.part.view_is) refl c.done.ensures.value in (
       c.in-Some.part.now,
       c.in-Some.ensures.some.of,
       λ unforced. elim c.else-not-force.branch [
