@@ -10,8 +10,8 @@ ghost use Rattle.kd_search.specs.Query.{IsQuery};
 use crate::part::live;
 use crate::sides::Sides;
 use kd_tree::Tree;
-use map_fold::{Item, Label, NoMemory, Tag};
 use map_answers::{Hit, Hits};
+use map_fold::{Item, Label, NoMemory, Tag};
 use point_geom::{Point, dist2};
 use std::alloc::Global;
 

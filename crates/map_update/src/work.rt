@@ -13,9 +13,9 @@ ghost use Rattle.map_update.specs.Draft.{DoesPlainly, IsDraft, IsDraftLeft, IsWo
 ghost use Rattle.map_update.specs.Parts.{PartAt};
 
 use kd_mark::{Watch, rebuilt};
+use kd_replace::{Replaced, replaced};
 use kd_tree::{MAX_LEVELS, MAX_NODES, Path, Steps, Tree};
 use kd_update::{Watches, marked_watched, put_watched};
-use kd_replace::{Replaced, replaced};
 use map_fold::{Choice, NoMemory, Tag};
 use point_geom::Point;
 use std::alloc::Global;

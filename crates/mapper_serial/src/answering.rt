@@ -6,9 +6,9 @@ ghost use Rattle.scan_log.specs.Plain.{IsPlain};
 ghost use Rattle.scan_log.specs.Scripts.{submitted};
 ghost use Rattle.mapper_serial.specs.Turns.{Follows, IsTended, reply_of};
 
-use mapper_base::{tree_reply, tree_totals};
 use kd_tree::Steps;
 use map_fold::{MAX_POINTS, NoMemory, Update};
+use mapper_base::{tree_reply, tree_totals};
 use rebuild_core::{MAX_UPDATES, MapState, StateFault, SwapFault};
 use rebuild_parts::Built;
 use scan_log::{Command, Reply};

@@ -11,9 +11,7 @@ ghost use Rattle.mapper_base.specs.Summary.{summary_of};
 use crate::{in_order, transcript};
 use byte_streams::Source;
 use map_fold::NoMemory;
-use mapper_base::{
-    Ending, Input, behind, made, read_input, read_script, summary, verdict_line,
-};
+use mapper_base::{Ending, Input, behind, made, read_input, read_script, summary, verdict_line};
 use mapper_words::Ask;
 use scan_log::{PlainScript, Script, write_script};
 use std::alloc::Global;

@@ -11,8 +11,11 @@ ghost use Rattle.map_answers.specs.Thinned.{IsThinned};
 ghost use Rattle.map_fold.specs.declared.update.Update.TheVariants as Update;
 
 use crate::thin::thin_one;
-use map_fold::{Choice, Counts, Cuboids, Item, Items, Label, MAX_FOUND, MAX_POINTS, MAX_WITHIN, NoMemory, Points, Settings, Tag, Update};
 use map_answers::{Hit, Hits};
+use map_fold::{
+    Choice, Counts, Cuboids, Item, Items, Label, MAX_FOUND, MAX_POINTS, MAX_WITHIN, NoMemory,
+    Points, Settings, Tag, Update,
+};
 use point_geom::{Cuboid, MAX_EDGE, Point, dist2};
 use std::alloc::Global;
 use std::marker::Model;

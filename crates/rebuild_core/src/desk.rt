@@ -4,8 +4,8 @@ ghost use Rattle.rebuild_parts.specs.Built.{CanBeDoneOn};
 ghost use Rattle.rebuild_core.specs.Desk.{IsAskCause, IsHandedBack, IsSwapCause};
 
 use crate::{Late, LogAsk, SwapFault, SwapLeft};
-use rebuild_parts::{Built, Job};
 use map_fold::{NoMemory, Ops};
+use rebuild_parts::{Built, Job};
 use std::alloc::Global;
 use std::sync::Wait;
 

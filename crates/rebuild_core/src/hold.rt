@@ -2,10 +2,10 @@
 ghost use Rattle.std.specs.Prelude.{◌≡◌, None, Some, IfOk, IfSome, IsNone};
 ghost use Rattle.map_update.specs.Parts.{AreItemsOf, PartAt, part_in, part_of};
 
-use crate::part::{part_in, part_of, place_of};
 use crate::MapState;
-use rebuild_parts::Holding;
+use crate::part::{part_in, part_of, place_of};
 use map_fold::NoMemory;
+use rebuild_parts::Holding;
 use std::mem;
 
 impl MapState {

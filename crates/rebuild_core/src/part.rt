@@ -4,12 +4,12 @@ ghost use Rattle.std.specs.Option.{option_map};
 ghost use Rattle.map_update.specs.Draft.{watches_of};
 ghost use Rattle.map_update.specs.Parts.{IsNewTicket, IsPlaceOf, part_in, part_of, paths, without};
 
-use rebuild_parts::Holding;
 use kd_mark::Watch;
 use kd_tree::Path;
 use kd_update::Watches;
 use map_fold::NoMemory;
 use op_logger::OpLog;
+use rebuild_parts::Holding;
 use std::alloc::Global;
 use std::marker::Model;
 

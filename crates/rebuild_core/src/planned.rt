@@ -2,11 +2,11 @@
 ghost use Rattle.std.specs.Prelude.{◌≡◌, IfOk};
 ghost use Rattle.rebuild_core.specs.Steps.{plan_with};
 
-use crate::logs::PartLog;
 use crate::MapState;
-use rebuild_parts::Version;
+use crate::logs::PartLog;
 use kd_tree::{Steps, Tree};
 use map_fold::{Entry, NoMemory};
+use rebuild_parts::Version;
 use std::alloc::Global;
 use std::marker::Model;
 use std::sync::Arc;

@@ -2,8 +2,8 @@
 ghost use Rattle.std.specs.Prelude.{◌≡◌};
 
 use crate::MapState;
-use rebuild_parts::Version;
 use kd_tree::{Scratch, Tree};
+use rebuild_parts::Version;
 use std::alloc::Global;
 use std::mem;
 use std::sync::Arc;

@@ -4,11 +4,11 @@ ghost use Rattle.rebuild_core.specs.Lawful.{IsLawful, new_state};
 ghost use Rattle.map_update.specs.Parts.{part_in};
 ghost use Rattle.rebuild_core.specs.StateView.{info_of};
 
-use crate::part::{Part, part_in};
 use crate::PartInfo;
-use rebuild_parts::Version;
+use crate::part::{Part, part_in};
 use kd_tree::{Scratch, Tree};
 use map_fold::{Entry, NoMemory, Settings};
+use rebuild_parts::Version;
 use std::alloc::Global;
 use std::marker::Model;
 use std::snapshot::Snapshot;

@@ -7,10 +7,10 @@ ghost use Rattle.scan_log.specs.Plain.{IsPlain};
 ghost use Rattle.transcript_check.specs.Told.{reply_at};
 
 use crate::neighbours::{ball_reply, tree_of};
-use plain_map::PlainMap;
 use map_answers::{BoxReply, ClusterReply, HitLists, NearReply, NearsReply};
 use map_fold::{MAX_POINTS, NoMemory};
 use neighbour_sets::{Found, Grouped, clusters, lonely};
+use plain_map::PlainMap;
 use point_geom::Point;
 use scan_log::{Command, Reply};
 use std::alloc::Global;

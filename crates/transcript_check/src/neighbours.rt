@@ -9,8 +9,8 @@ ghost use Rattle.kd_tree.specs.Counter.{IsBlankOf};
 ghost use Rattle.scan_log.specs.Transcript.{found_reply};
 
 use kd_tree::{Steps, Tree};
-use map_fold::{Item, Items, Label, MAX_FOUND, MAX_POINTS, MAX_WITHIN, NoMemory};
 use map_answers::BoxReply;
+use map_fold::{Item, Items, Label, MAX_FOUND, MAX_POINTS, MAX_WITHIN, NoMemory};
 use plain_map::PlainMap;
 use point_geom::{Point, dist2};
 use std::alloc::Global;

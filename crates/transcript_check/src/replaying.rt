@@ -12,8 +12,8 @@ ghost use Rattle.transcript_check.specs.Verdicts.{IsFirstOther};
 use crate::answers::reply_to;
 use crate::lines::{Told, command_at};
 use crate::order::{Marked, places_by_mark};
-use plain_map::PlainMap;
 use map_fold::{MAX_POINTS, NoMemory, Settings};
+use plain_map::PlainMap;
 use scan_log::{Command, Format, PlainScript, reply_line};
 use std::alloc::Global;
 

@@ -4,9 +4,9 @@ ghost use Rattle.kd_tree.specs.Shape.{numbers};
 ghost use Rattle.kd_tree.specs.Counter.{IsBlankOf};
 
 use crate::tests::assertions::made;
+use kd_replace::settled;
 use kd_tree::{Steps, Tree};
 use kd_update::{put, roomy};
-use kd_replace::settled;
 use map_fold::{MAX_POINTS, NoMemory};
 use point_geom::{Corner, Cuboid, CuboidError, Point};
 use std::alloc::Global;
