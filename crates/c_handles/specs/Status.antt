@@ -2,8 +2,8 @@
 use Rattle.std.specs.Prelude.{◌≡◌, ◌⊎◌, ℤ, pos, Result, Ok, Err}
 use Rattle.c_handles.specs.declared.refusal.Refusal.{Refusal}
 use Rattle.c_handles.specs.declared.refusal.Refusal.TheVariants as refusal
-use Rattle.rebuild_core.specs.declared.fault.StateFault.{StateFault}
-use Rattle.rebuild_core.specs.declared.fault.StateFault.TheVariants as fault
+use Rattle.rebuild_parts.specs.declared.fault.StateFault.{StateFault}
+use Rattle.rebuild_parts.specs.declared.fault.StateFault.TheVariants as fault
 
 -- the call did what it says
 abbrev pub done : ℤ

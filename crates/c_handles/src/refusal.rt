@@ -4,7 +4,7 @@ ghost use Rattle.c_handles.specs.Status.{code, refusal_of, c_status};
 ghost use Rattle.c_handles.specs.declared.refusal.Refusal.TheVariants.{NoMemory};
 
 use map_fold::NoMemory;
-use rebuild_core::StateFault;
+use rebuild_parts::StateFault;
 
 /// The call did what it says.
 pub const DONE: i32 = 0;

@@ -1,6 +1,6 @@
 //! Why a measurement stopped.
 use map_fold::NoMemory;
-use rebuild_core::StateFault;
+use rebuild_parts::StateFault;
 use std::alloc::AllocError;
 use std::io;
 

@@ -5,8 +5,8 @@ use Rattle.rebuild_core.specs.Detach.{IsDetachStep, IsNoDetach, IsSlot}
 use Rattle.rebuild_core.specs.Lawful.{StateAt}
 use Rattle.map_update.specs.Parts.{PartAt}
 use Rattle.rebuild_core.specs.Swap.{IsSwapStep, MaySwap}
-use Rattle.rebuild_core.specs.declared.fault.SwapFault.{SwapFault}
-use Rattle.rebuild_core.specs.declared.fault.SwapFault.TheVariants as fault
+use Rattle.rebuild_parts.specs.declared.fault.SwapFault.{SwapFault}
+use Rattle.rebuild_parts.specs.declared.fault.SwapFault.TheVariants as fault
 use Rattle.c_handles.specs.declared.content.Content.{Content}
 use Rattle.c_handles.specs.declared.content.Content.TheVariants as content
 use Rattle.c_handles.specs.declared.work.Work.{Work}

@@ -13,8 +13,8 @@ ghost use Rattle.c_handles.specs.declared.refusal.Refusal.TheVariants as refused
 use c_handles::{Content, DONE, Done, Handle, Refusal};
 use kd_tree::Steps;
 use map_fold::Ops;
-use rebuild_core::{LogAsk, MapState, SwapFault, SwapLeft};
-use rebuild_parts::Built;
+use rebuild_core::{MapState, SwapLeft};
+use rebuild_parts::{Built, LogAsk, SwapFault};
 use std::alloc::Global;
 use std::marker::Brand;
 use std::mem;

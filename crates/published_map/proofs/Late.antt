@@ -9,8 +9,8 @@ use Rattle.rebuild_parts.specs.Built.{BuiltAt}
 use Rattle.rebuild_core.specs.Lawful.{IsLawful, StateAt}
 use Rattle.map_update.specs.Parts.{AreEachLawful, PartAt, part_of}
 use Rattle.rebuild_core.specs.Swap.{IsLate}
-use Rattle.rebuild_core.specs.declared.fault.Late.{Late}
-use Rattle.rebuild_core.specs.declared.fault.Late.TheVariants.{Stale, Behind, NoMemory}
+use Rattle.rebuild_parts.specs.declared.fault.Late.{Late}
+use Rattle.rebuild_parts.specs.declared.fault.Late.TheVariants.{Stale, Behind, NoMemory}
 use Rattle.published_map.specs.Late.{IsLateCause}
 
 -- the log of a part has at most 65,536 operations

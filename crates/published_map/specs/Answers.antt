@@ -8,8 +8,8 @@ use Rattle.map_fold.specs.declared.update.Update.{Update}
 use Rattle.map_answers.specs.Answers.{nearest, inside, count}
 use Rattle.map_fold.specs.Fold.{fold, points_in}
 use Rattle.rebuild_parts.specs.History.{updates}
-use Rattle.rebuild_core.specs.declared.fault.StateFault.{StateFault}
-use Rattle.rebuild_core.specs.declared.fault.StateFault.TheVariants.{TooManyUpdates, TooManyPoints, NoMemory}
+use Rattle.rebuild_parts.specs.declared.fault.StateFault.{StateFault}
+use Rattle.rebuild_parts.specs.declared.fault.StateFault.TheVariants.{TooManyUpdates, TooManyPoints, NoMemory}
 use Rattle.shown_versions.specs.Marks.{Seen, Grown, Added}
 use Rattle.shown_versions.specs.Versions.{held}
 use Rattle.map_fold.specs.declared.limits.TheConstants.{MAX_POINTS}

@@ -3,8 +3,8 @@ use Rattle.std.specs.Prelude.{◌≡◌, ℕ, ◌<◌, ◌≤◌, ⊤, Bool, len
 use Rattle.map_fold.specs.Ops.{Fit}
 use Rattle.kd_tree.specs.Contents.{contents}
 use Rattle.rebuild_parts.specs.Built.{BuiltAt}
-use Rattle.rebuild_core.specs.declared.fault.Late.{Late}
-use Rattle.rebuild_core.specs.declared.fault.Late.TheVariants.{Stale, Behind, NoMemory}
+use Rattle.rebuild_parts.specs.declared.fault.Late.{Late}
+use Rattle.rebuild_parts.specs.declared.fault.Late.TheVariants.{Stale, Behind, NoMemory}
 use Rattle.op_logger.specs.declared.log.TheConstants.{MAX_LOGGED}
 
 -- Where at most so many operations are done: but for lack of memory the value is handed back, and one that is further behind with the

@@ -5,9 +5,8 @@ use Rattle.map_fold.specs.Fold.{fold, no_points, step}
 use Rattle.map_fold.specs.declared.update.Update.{Update}
 use Rattle.map_fold.proofs.Folds.{fold_from-push}
 use Rattle.map_fold.specs.declared.entry.Entry.{Entry}
-use Rattle.rebuild_parts.specs.History.{AreEntries, MayComeNext, entries_of, entry_by, updates}
+use Rattle.rebuild_parts.specs.History.{AreEntries, entries_of, entry_by, listed, MayComeNext, updates}
 use Rattle.rebuild_core.specs.StateView.{IsNextOf}
-use Rattle.rebuild_parts.specs.History.{listed}
 
 -- one more entry is one more step
 pub fold-entry : (voxel : ℕ) (h : List Entry) (e : Entry) → fold voxel (updates (h ++ e ∷ [])) ≡ step voxel e.update (fold voxel (updates h))

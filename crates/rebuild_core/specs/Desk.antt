@@ -3,12 +3,12 @@ use Rattle.std.specs.Prelude.{◌≡◌, ◌<◌, ⊤, Bool, false}
 use Rattle.map_fold.specs.Ops.{Fit}
 use Rattle.kd_tree.specs.Contents.{contents}
 use Rattle.rebuild_parts.specs.Built.{BuiltAt}
-use Rattle.rebuild_core.specs.declared.fault.LogAsk.{LogAsk}
-use Rattle.rebuild_core.specs.declared.fault.LogAsk.TheVariants as ask_of
-use Rattle.rebuild_core.specs.declared.fault.SwapFault.{SwapFault}
-use Rattle.rebuild_core.specs.declared.fault.SwapFault.TheVariants as fault_of
-use Rattle.rebuild_core.specs.declared.fault.Late.{Late}
-use Rattle.rebuild_core.specs.declared.fault.Late.TheVariants as late_of
+use Rattle.rebuild_parts.specs.declared.fault.LogAsk.{LogAsk}
+use Rattle.rebuild_parts.specs.declared.fault.LogAsk.TheVariants as ask_of
+use Rattle.rebuild_parts.specs.declared.fault.SwapFault.{SwapFault}
+use Rattle.rebuild_parts.specs.declared.fault.SwapFault.TheVariants as fault_of
+use Rattle.rebuild_parts.specs.declared.fault.Late.{Late}
+use Rattle.rebuild_parts.specs.declared.fault.Late.TheVariants as late_of
 
 -- a stale value's ticket is told
 abbrev pub IsAskCause : BuiltAt → LogAsk → Type 0

@@ -11,8 +11,8 @@ use Rattle.map_fold.specs.declared.op.Op.{Op}
 use Rattle.rebuild_parts.specs.Built.{BuiltAt, JobAt}
 use Rattle.rebuild_core.specs.Known.{IsPartOf, IsStale, undone}
 use Rattle.rebuild_core.specs.Lawful.{StateAt, Stored}
-use Rattle.rebuild_core.specs.declared.fault.LogAsk.{LogAsk}
-use Rattle.rebuild_core.specs.declared.fault.LogAsk.TheVariants.{Stale, NoMemory}
+use Rattle.rebuild_parts.specs.declared.fault.LogAsk.{LogAsk}
+use Rattle.rebuild_parts.specs.declared.fault.LogAsk.TheVariants.{Stale, NoMemory}
 use Rattle.map_update.specs.Parts.{PartAt, part_in, paths}
 
 -- a subtree is detached afresh where its part stands, and else where the first node that is clear of the parts breaches a criterion

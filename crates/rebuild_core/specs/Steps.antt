@@ -8,8 +8,8 @@ use Rattle.kd_tree.specs.Contents.{contents}
 use Rattle.kd_tree.specs.Criteria.{AllMeetCriteria}
 use Rattle.kd_mark.specs.Several.{IsBalancedClear}
 use Rattle.map_fold.specs.declared.entry.Entry.{Entry}
-use Rattle.rebuild_core.specs.declared.fault.StateFault.{StateFault}
-use Rattle.rebuild_core.specs.declared.fault.StateFault.TheVariants.{TooManyUpdates, TooManyPoints, NoMemory}
+use Rattle.rebuild_parts.specs.declared.fault.StateFault.{StateFault}
+use Rattle.rebuild_parts.specs.declared.fault.StateFault.TheVariants.{TooManyUpdates, TooManyPoints, NoMemory}
 use Rattle.rebuild_parts.specs.History.{entry_by, listed}
 use Rattle.rebuild_core.specs.Lawful.{IsLawful, StateAt}
 use Rattle.rebuild_parts.specs.Seen.{VersionAt}

@@ -7,10 +7,10 @@ use Rattle.kd_tree.specs.Contents.{contents}
 use Rattle.kd_tree.specs.Parts.{replaced_at}
 use Rattle.kd_replace.specs.Replace.{HasRoomAt, RebuildsNoneAbove}
 use Rattle.kd_mark.specs.Update.{IsBalancedBelow}
-use Rattle.rebuild_core.specs.declared.fault.SwapFault.{SwapFault}
-use Rattle.rebuild_core.specs.declared.fault.SwapFault.TheVariants.{Stale, Behind, NoMemory}
-use Rattle.rebuild_core.specs.declared.fault.Late.{Late}
-use Rattle.rebuild_core.specs.declared.fault.Late.TheVariants as late_of
+use Rattle.rebuild_parts.specs.declared.fault.SwapFault.{SwapFault}
+use Rattle.rebuild_parts.specs.declared.fault.SwapFault.TheVariants.{Stale, Behind, NoMemory}
+use Rattle.rebuild_parts.specs.declared.fault.Late.{Late}
+use Rattle.rebuild_parts.specs.declared.fault.Late.TheVariants as late_of
 use Rattle.rebuild_parts.specs.Built.{BuiltAt}
 use Rattle.rebuild_core.specs.Known.{IsPartOf, IsStale, undone}
 use Rattle.rebuild_core.specs.Detach.{IsLogAfter}

@@ -3,9 +3,9 @@ ghost use Rattle.std.specs.Prelude.{◌≡◌, ◌≤◌, IfErr, IfOk, IfSome};
 ghost use Rattle.rebuild_parts.specs.Built.{CanBeDoneOn};
 ghost use Rattle.rebuild_core.specs.Desk.{IsAskCause, IsHandedBack, IsSwapCause};
 
-use crate::{Late, LogAsk, SwapFault, SwapLeft};
+use crate::SwapLeft;
+use rebuild_parts::{Built, Job, Late, LogAsk, SwapFault};
 use map_fold::{NoMemory, Ops};
-use rebuild_parts::{Built, Job};
 use std::alloc::Global;
 use std::sync::Wait;
 

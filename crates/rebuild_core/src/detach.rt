@@ -7,11 +7,11 @@ ghost use Rattle.rebuild_core.specs.Detach.{Detaches, IsDetachStep, IsDetachable
 ghost use Rattle.map_update.specs.Parts.{AreItemsOf, PartAt, part_in};
 
 use crate::part::{Part, part_in, part_of, paths_of};
-use crate::{LogAsk, MapState};
+use crate::MapState;
+use rebuild_parts::{Built, Holding, Job, LogAsk, Snapshot};
 use kd_tree::Path;
 use map_fold::{NoMemory, Ops};
 use op_logger::OpLog;
-use rebuild_parts::{Built, Holding, Job, Snapshot};
 use std::alloc::Global;
 
 impl MapState {

@@ -4,10 +4,8 @@
 mod desk;
 mod detach;
 mod enter;
-mod fault;
 mod hold;
 mod logs;
-mod messages;
 mod part;
 mod plan;
 mod planned;
@@ -16,7 +14,6 @@ mod state;
 mod swap;
 
 pub use desk::{Desk, SwapOrLate, Swapped};
-pub use fault::{Late, LogAsk, StateFault, SwapFault};
 pub use part::PartInfo;
 pub use plan::MAX_UPDATES;
 pub use planned::Planned;

@@ -9,12 +9,12 @@ ghost use Rattle.rebuild_core.specs.Steps.{HasRoom, IsDrafted, IsFault, IsSettle
 
 use crate::logs::{PartLog, forgotten, logs_of};
 use crate::part::watched;
-use crate::{MapState, Planned, StateFault};
+use crate::{MapState, Planned};
+use rebuild_parts::{StateFault, Version};
 use kd_replace::settled;
 use kd_tree::{Scratch, Steps, Tree};
 use map_fold::{Entry, MAX_POINTS, NoMemory, Update};
 use map_update::{Work, changed};
-use rebuild_parts::Version;
 use std::alloc::Global;
 use std::marker::Brand;
 use std::sync::ledger::{Blank, Ledger};

@@ -9,11 +9,11 @@ ghost use Rattle.rebuild_core.specs.Swap.{IsLate, IsLeftUnrebuilt, IsNear, IsUnr
 
 use crate::logs::forgotten_for;
 use crate::part::{Part, others_of};
-use crate::{Late, MapState, Planned, SwapFault};
+use crate::{MapState, Planned};
+use rebuild_parts::{Built, Late, SwapFault, caught_up};
 use kd_replace::{Replaced, replaced};
 use kd_tree::{Steps, Tree};
 use map_fold::{NoMemory, Op, Ops};
-use rebuild_parts::{Built, caught_up};
 use std::alloc::Global;
 use std::sync::ledger::Ledger;
 

@@ -7,8 +7,8 @@ ghost use Rattle.rebuild_core.specs.Swap.{IsSwapStep};
 
 use kd_tree::Steps;
 use map_fold::{NoMemory, Ops};
-use rebuild_core::{Desk, LogAsk, MapState, SwapFault, SwapLeft, Swapped};
-use rebuild_parts::{Built, Job};
+use rebuild_core::{Desk, MapState, SwapLeft, Swapped};
+use rebuild_parts::{Built, Job, LogAsk, SwapFault};
 use std::alloc::Global;
 use std::marker::Brand;
 use std::sync::ledger::{Blank, Ledger};

@@ -7,8 +7,8 @@ ghost use Rattle.rebuild_worker.specs.declared.worker.Round.TheVariants.{Idle, O
 use crate::bell::Rest;
 use crate::gate::Gate;
 use map_fold::{MAX_LARGE, MIN_LARGE, NoMemory};
-use rebuild_core::{Desk, Late, SwapFault, SwapLeft};
-use rebuild_parts::{Built, Job};
+use rebuild_core::{Desk, SwapLeft};
+use rebuild_parts::{Built, Job, Late, SwapFault};
 use std::alloc::Global;
 use std::sync::Wait;
 

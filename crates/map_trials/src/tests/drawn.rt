@@ -10,8 +10,8 @@ use crate::tests::draws::Draws;
 use crate::tests::steps::{new_map, settled, swapped, updated};
 use map_fold::{Op, Points, Settings, Update};
 use plain_map::PlainMap;
-use rebuild_core::{LogAsk, MapState, SwapFault, SwapLeft};
-use rebuild_parts::{Built, Job};
+use rebuild_core::{MapState, SwapLeft};
+use rebuild_parts::{Built, Job, LogAsk, SwapFault};
 use std::alloc::Global;
 use std::process::Abort;
 

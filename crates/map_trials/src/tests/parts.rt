@@ -8,8 +8,8 @@ use crate::tests::steps::{
 };
 use map_fold::{Cuboids, Points, Settings, Update};
 use point_geom::Point;
-use rebuild_core::{MapState, SwapFault};
-use rebuild_parts::{Built, Job};
+use rebuild_core::MapState;
+use rebuild_parts::{Built, Job, SwapFault};
 use std::alloc::Global;
 use std::process::Abort;
 

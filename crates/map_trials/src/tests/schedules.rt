@@ -8,8 +8,8 @@ use crate::tests::steps::{
 use kd_search::nearest;
 use map_fold::{Cuboids, Points, Settings, Update};
 use point_geom::Point;
-use rebuild_core::{MapState, SwapFault};
-use rebuild_parts::Job;
+use rebuild_core::MapState;
+use rebuild_parts::{Job, SwapFault};
 use std::alloc::Global;
 use std::process::Abort;
 

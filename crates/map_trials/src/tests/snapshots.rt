@@ -5,8 +5,8 @@ use crate::tests::assertions::{found, holds, made, same};
 use crate::tests::looks::live;
 use crate::tests::steps::{add_row_and, built, new_map, swap_ends, update};
 use map_fold::{NoMemory, Settings, Update};
-use rebuild_core::{MapState, SwapFault};
-use rebuild_parts::{Built, Job, Snapshot};
+use rebuild_core::MapState;
+use rebuild_parts::{Built, Job, Snapshot, SwapFault};
 use std::alloc::Global;
 use std::process::Abort;
 

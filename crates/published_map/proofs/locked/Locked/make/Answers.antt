@@ -1,10 +1,9 @@
 use Rattle.std.proofs.Common.{◌≡◌, ◌+◌, List, [], ◌∷◌, ◌++◌, length, length-append, refl, sym, ◌∙◌, ap, subst, arith}
 use mathlib.Core.List.{IsPrefix}
 use Rattle.map_fold.specs.declared.entry.Entry.{Entry}
-use Rattle.rebuild_parts.specs.History.{entry_by}
+use Rattle.rebuild_parts.specs.History.{entry_by, listed}
 use Rattle.rebuild_core.specs.Lawful.{StateAt, Stored}
 use Rattle.rebuild_core.specs.Steps.{entered}
-use Rattle.rebuild_parts.specs.History.{listed}
 use Rattle.shown_versions.specs.Marks.{Seen}
 use Rattle.published_map.proofs.Marking.{marked_after, pass_added}
 use Rattle.published_map.proofs.Hearing.{begins}

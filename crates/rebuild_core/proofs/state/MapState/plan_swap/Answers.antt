@@ -2,8 +2,8 @@ use Rattle.std.proofs.Common.{◌≡◌, ap, arith, length, refl, subst, sym}
 use Rattle.std.specs.Prelude.{IfErr, IsErrAnd}
 use Rattle.std.specs.declared.result.Result.{Result}
 use Rattle.std.specs.declared.result.Result.TheVariants.{Ok, Err}
-use Rattle.rebuild_core.specs.declared.fault.SwapFault.{SwapFault}
-use Rattle.rebuild_core.specs.declared.fault.SwapFault.TheVariants.{NoMemory}
+use Rattle.rebuild_parts.specs.declared.fault.SwapFault.{SwapFault}
+use Rattle.rebuild_parts.specs.declared.fault.SwapFault.TheVariants.{NoMemory}
 use Rattle.map_update.specs.Parts.{PartAt}
 use Rattle.rebuild_core.specs.Steps.{PlannedAt}
 use Rattle.rebuild_core.specs.Swap.{IsSwapFault, MaySwap}
