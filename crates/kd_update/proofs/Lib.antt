@@ -8,3 +8,4 @@ pub mod Numbers
 pub mod Route
 pub mod Several
 pub mod Watched
+pub mod ApartPaths

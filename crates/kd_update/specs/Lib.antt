@@ -4,3 +4,4 @@ pub mod Scan
 pub mod Watch
 pub mod Watches
 pub mod Crossing
+pub mod Parts

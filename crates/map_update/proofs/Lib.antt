@@ -1,7 +1,6 @@
 pub mod Drafts
 pub mod Winners
 pub mod OnePoint
-pub mod ApartPaths
 pub mod Detached
 pub mod Working
 pub mod Both

@@ -8,19 +8,11 @@ use Rattle.kd_mark.specs.declared.watch.Watch.{Watch}
 use Rattle.kd_mark.specs.Several.{IsBalancedClear}
 use Rattle.kd_mark.specs.Watches.{HaveRoom, paths_in, with_marks}
 use Rattle.kd_update.specs.Watches.{with_puts}
-use Rattle.map_update.specs.Parts.{AreLawfulParts, AreLeft, PartAt, paths}
+use Rattle.kd_update.specs.Parts.{AreLawfulParts, AreLeft, PartAt, paths, watch_of, watches_of}
 use Rattle.map_update.specs.Single.{RebuildsNothing, entered_nodes, unrebuilt}
 use Rattle.map_update.specs.declared.work.Work.{Work}
 use Rattle.kd_tree.specs.declared.limits.TheConstants.{MAX_LEVELS, MAX_NODES}
 use Rattle.op_logger.specs.declared.log.TheConstants.{MAX_LOGGED}
-
--- a part as it is watched
-abbrev pub watch_of : PartAt → Watch
-watch_of p = record { path = p.path; log = p.log }
-
--- the parts as they are watched, in their order
-abbrev pub watches_of : List PartAt → List Watch
-watches_of ps = map watch_of ps
 
 -- The work watches these parts: they are lawful in its tree, which is balanced outside them, and each number is below the next one.
 pub record IsDraft (large next last : ℕ) (ps : List PartAt) (w : Work) : Type 0 where

@@ -1,4 +1,3 @@
-pub mod Parts
 pub mod Single
 pub mod OnePoint
 pub mod Draft

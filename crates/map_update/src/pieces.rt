@@ -4,7 +4,7 @@ ghost use Rattle.kd_tree.specs.Contents.{contents};
 ghost use Rattle.kd_update.specs.Crossing.{HaveRoomAtOnce};
 ghost use Rattle.kd_update.specs.Scan.{MayJoin, put_each};
 ghost use Rattle.map_update.specs.Draft.{IsDraft, IsDraftLeft, IsWork, IsWorked, KeepsWatched};
-ghost use Rattle.map_update.specs.Parts.{PartAt};
+ghost use Rattle.kd_update.specs.Parts.{PartAt};
 ghost use Rattle.map_update.specs.Pieces.{MayPass};
 
 use crate::work::{Work, Worked};

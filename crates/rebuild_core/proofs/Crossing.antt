@@ -3,9 +3,8 @@ use denote.Param.Send.{IsSend, IsSync, sendable}
 use Rattle.std.proofs.Crossing as std
 use Rattle.kd_tree.proofs.node.Tree.TheLaws.TheKnot as knot
 use Rattle.kd_tree.specs.contracts.scratch.Scratch as scratch
-use Rattle.rebuild_core.specs.contracts.part.Part as part
 use Rattle.rebuild_core.specs.contracts.state.MapState as state
-use Rattle.rebuild_parts.proofs.Handing.{holding_send, holding_sync, version_send, version_sync}
+use Rattle.rebuild_parts.proofs.Handing.{part_send, part_sync, version_send, version_sync}
 use Rattle.std.proofs.option.Option.TheSendSync as o
 use Rattle.kd_tree.proofs.path.Path.TheSendSync as s0
 use Rattle.kd_tree.proofs.path.Side.TheSendSync as s1
@@ -29,12 +28,6 @@ scratch_send = search all depth 40 fits 20000
 
 scratch_sync : IsSync (scratch.the_field).row
 scratch_sync = search all depth 40 fits 20000
-
-part_send : IsSend part.the_row
-part_send = search (holding_send, holding_sync, all) depth 40 fits 20000
-
-part_sync : IsSync part.the_row
-part_sync = search (holding_send, holding_sync, all) depth 40 fits 20000
 
 pub state_send : IsSend state.the_row
 state_send = search (version_send, version_sync, part_send, scratch_send, all) depth 40 fits 20000

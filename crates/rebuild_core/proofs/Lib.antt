@@ -2,10 +2,8 @@ pub mod Histories
 pub mod Plans
 pub mod OnePoint
 pub mod Outcome
-pub mod PartLogs
 pub mod Detaching
 pub mod KnownItems
-pub mod OtherParts
 pub mod Swapping
 pub mod Crossing
 pub mod Staying

@@ -7,10 +7,10 @@ use Rattle.map_fold.specs.declared.update.Update.TheVariants.{Thin}
 use Rattle.kd_tree.specs.Shape.{Shape}
 use Rattle.kd_mark.specs.declared.watch.Watch.{Watch}
 use Rattle.kd_mark.specs.Watches.{HaveRoom}
-use Rattle.map_update.specs.Draft.{watches_of}
+use Rattle.kd_update.specs.Parts.{watches_of}
 use Rattle.rebuild_core.specs.Lawful.{StateAt}
 use Rattle.kd_tree.specs.Maps.{map_of}
-use Rattle.rebuild_core.specs.Logs.{planned_parts}
+use Rattle.rebuild_parts.specs.Logs.{planned_parts}
 use Rattle.map_update.specs.OnePoint.{IsTurnedAway}
 use Rattle.rebuild_core.specs.Outcome.{IsLeftByUpdate, MakesNodes}
 use Rattle.map_update.specs.Single.{RebuildsNothing, entered_nodes, only_op}

@@ -15,12 +15,11 @@ use Rattle.kd_mark.specs.Watches.{HaveRoom}
 use Rattle.kd_mark.proofs.Several.{balanced_clear}
 use Rattle.kd_mark.proofs.Update.{criteria_balanced}
 use Rattle.map_fold.specs.declared.entry.Entry.{Entry}
-use Rattle.map_update.specs.Draft.{watches_of}
 use Rattle.rebuild_parts.specs.History.{entry_by}
 use Rattle.rebuild_core.specs.Lawful.{IsLawful, StateAt}
 use Rattle.rebuild_parts.specs.Seen.{VersionAt}
-use Rattle.rebuild_core.specs.Logs.{LogPlan, planned_parts}
-use Rattle.map_update.specs.Parts.{AreInSlots, AreLawfulParts, PartAt, paths}
+use Rattle.rebuild_parts.specs.Logs.{LogPlan, planned_parts}
+use Rattle.kd_update.specs.Parts.{AreInSlots, AreLawfulParts, PartAt, paths, watches_of}
 use Rattle.map_update.specs.Single.{RebuildsNothing, entered_nodes, only_op, unrebuilt}
 use Rattle.rebuild_core.specs.StateView.{IsNextOf}
 use Rattle.rebuild_core.specs.Steps.{IsDrafted, IsUnrebuiltUpdate, IsSettlePlan, IsUpdatePlan, PlannedAt, entered, plan_with}

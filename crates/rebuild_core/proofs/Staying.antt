@@ -11,10 +11,10 @@ use Rattle.kd_mark.specs.Several.{IsBalancedClear}
 use Rattle.kd_mark.specs.Watch.{logged_mark}
 use Rattle.kd_update.specs.Watch.{logged_put}
 use Rattle.kd_mark.specs.Watches.{HaveRoom, paths_in}
-use Rattle.map_update.specs.Draft.{HasRoomFor, HaveRoomFor, IsDraft, IsDraftLeft, plain_work, watches_of, with_op}
+use Rattle.map_update.specs.Draft.{HasRoomFor, HaveRoomFor, IsDraft, IsDraftLeft, plain_work, with_op}
 use Rattle.rebuild_core.specs.Lawful.{IsLawful, StateAt}
-use Rattle.rebuild_core.specs.Logs.{LogPlan, planned_parts}
-use Rattle.map_update.specs.Parts.{AreLawfulParts, AreLeft, PartAt, paths}
+use Rattle.rebuild_parts.specs.Logs.{LogPlan, planned_parts}
+use Rattle.kd_update.specs.Parts.{AreLawfulParts, AreLeft, PartAt, paths, watches_of}
 use Rattle.map_update.specs.Single.{most_ops, only_op, RebuildsNothing}
 use Rattle.rebuild_core.specs.Stays.{HasRoomBeside, HaveLogRoomFor, logged_by}
 use Rattle.rebuild_core.specs.Steps.{IsUnrebuiltUpdate}

@@ -20,13 +20,13 @@ use Rattle.kd_mark.proofs.Update.{criteria_balanced}
 use Rattle.rebuild_parts.specs.Built.{BuiltAt, IsLawfulBuilt}
 use Rattle.rebuild_core.specs.Known.{IsPartOf, IsTreeOf, undone}
 use Rattle.rebuild_core.specs.Lawful.{IsLawful, StateAt}
-use Rattle.rebuild_core.specs.Logs.{LogPlan, planned_parts}
-use Rattle.map_update.specs.Parts.{AreEachLawful, AreLawfulParts, AreLeft, PartAt, paths, without}
+use Rattle.rebuild_parts.specs.Logs.{LogPlan, planned_parts}
+use Rattle.kd_update.specs.Parts.{AreEachLawful, AreLawfulParts, AreLeft, PartAt, paths, without}
 use Rattle.rebuild_core.specs.Steps.{plan_with}
 use Rattle.rebuild_core.specs.Swap.{IsCaughtUp, IsLeftBySwap, IsSwapPlan}
-use Rattle.map_update.proofs.ApartPaths.{clear_of_others, balanced_more, ones_moved}
+use Rattle.kd_update.proofs.ApartPaths.{clear_of_others, balanced_more, ones_moved}
 use Rattle.map_update.proofs.Detached.{each_large, each_same, each_without, left_lawful, left_none, left_without}
-use Rattle.rebuild_core.proofs.OtherParts.{IsAmongOthers, part_among}
+use Rattle.rebuild_parts.proofs.OtherParts.{IsAmongOthers, part_among}
 use Rattle.rebuild_core.proofs.Plans.{held_lawful}
 use Rattle.rebuild_core.proofs.KnownParts.{built_part, log_parts, undone_fit, undone_same}
 

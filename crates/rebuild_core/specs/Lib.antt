@@ -1,4 +1,3 @@
-pub mod Logs
 pub mod Lawful
 pub mod OnePoint
 pub mod Steps

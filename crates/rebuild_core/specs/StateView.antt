@@ -4,8 +4,8 @@ use Rattle.map_fold.specs.declared.entry.Entry.{Entry}
 use Rattle.rebuild_core.specs.declared.state.MapState.TheInside.{Inside}
 use Rattle.rebuild_parts.specs.History.{MayComeNext, entries_of}
 use Rattle.rebuild_core.specs.Lawful.{StateAt}
-use Rattle.map_update.specs.Parts.{PartAt}
-use Rattle.rebuild_core.specs.declared.part.PartInfo.{PartInfo}
+use Rattle.kd_update.specs.Parts.{PartAt}
+use Rattle.rebuild_parts.specs.declared.part.PartInfo.{PartInfo}
 use Rattle.rebuild_core.specs.declared.plan.TheConstants.{MAX_UPDATES}
 
 -- the state as contracts see it, from the fields that keep it

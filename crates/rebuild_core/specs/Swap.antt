@@ -15,8 +15,8 @@ use Rattle.rebuild_parts.specs.Built.{BuiltAt}
 use Rattle.rebuild_core.specs.Known.{IsPartOf, IsStale, undone}
 use Rattle.rebuild_core.specs.Detach.{IsLogAfter}
 use Rattle.rebuild_core.specs.Lawful.{IsLawful, StateAt}
-use Rattle.rebuild_core.specs.Logs.{planned_parts}
-use Rattle.map_update.specs.Parts.{PartAt, without}
+use Rattle.rebuild_parts.specs.Logs.{planned_parts}
+use Rattle.kd_update.specs.Parts.{PartAt, without}
 use Rattle.rebuild_core.specs.Steps.{PlannedAt, entered}
 
 -- the value is of one of the parts, and where the swap isn't forced it is at most 64 operations behind

@@ -4,11 +4,10 @@ ghost use Rattle.std.specs.List.{insert};
 ghost use Rattle.rebuild_parts.specs.Built.{CanBeDoneOn};
 ghost use Rattle.rebuild_core.specs.Known.{IsFoundPart, IsStale};
 ghost use Rattle.rebuild_core.specs.Detach.{Detaches, IsDetachStep, IsDetachable, IsDetachedAt, IsLogAfter, IsLogFault, IsNoDetach, IsNoneToDetach, IsSlot, with_part};
-ghost use Rattle.map_update.specs.Parts.{AreItemsOf, PartAt, part_in};
+ghost use Rattle.kd_update.specs.Parts.{AreItemsOf, PartAt, part_in};
 
-use crate::part::{Part, part_in, part_of, paths_of};
+use rebuild_parts::{Built, Holding, Job, LogAsk, Part, part_in, part_of, paths_of, Snapshot};
 use crate::MapState;
-use rebuild_parts::{Built, Holding, Job, LogAsk, Snapshot};
 use kd_tree::Path;
 use map_fold::{NoMemory, Ops};
 use op_logger::OpLog;

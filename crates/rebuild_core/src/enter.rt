@@ -5,7 +5,7 @@ ghost use Rattle.rebuild_core.specs.StateView.{AreMade, IsNextOf};
 ghost use Rattle.rebuild_core.specs.Steps.{entered};
 ghost use Rattle.rebuild_parts.specs.History.{listed};
 
-use crate::logs::relog_all;
+use rebuild_parts::relog_all;
 use crate::{MapState, Planned};
 use map_fold::Entry;
 use std::mem;

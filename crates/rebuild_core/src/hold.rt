@@ -1,11 +1,10 @@
 //! What the parts of a state held, handed out and put in. Nothing here changes what contracts see of a state.
 ghost use Rattle.std.specs.Prelude.{◌≡◌, None, Some, IfOk, IfSome, IsNone};
-ghost use Rattle.map_update.specs.Parts.{AreItemsOf, PartAt, part_in, part_of};
+ghost use Rattle.kd_update.specs.Parts.{AreItemsOf, PartAt, part_in, part_of};
 
 use crate::MapState;
-use crate::part::{part_in, part_of, place_of};
+use rebuild_parts::{Holding, part_in, part_of, place_of};
 use map_fold::NoMemory;
-use rebuild_parts::Holding;
 use std::mem;
 
 impl MapState {

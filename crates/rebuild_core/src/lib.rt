@@ -5,8 +5,6 @@ mod desk;
 mod detach;
 mod enter;
 mod hold;
-mod logs;
-mod part;
 mod plan;
 mod planned;
 mod recycle;
@@ -14,7 +12,6 @@ mod state;
 mod swap;
 
 pub use desk::{Desk, SwapOrLate, Swapped};
-pub use part::PartInfo;
 pub use plan::MAX_UPDATES;
 pub use planned::Planned;
 pub use state::MapState;

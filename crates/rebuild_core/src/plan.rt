@@ -1,16 +1,14 @@
 //! Steps of a state: worked out by a plan, which may be refused, and then entered, which may not.
 ghost use Rattle.std.specs.Prelude.{◌≡◌, ◌+◌, ◌≤◌, length, IfOk, IfErr, OnOk, OnErr};
 ghost use Rattle.map_fold.specs.Fold.{points_in};
-ghost use Rattle.map_update.specs.Draft.{watches_of};
+ghost use Rattle.kd_update.specs.Parts.{watches_of};
 ghost use Rattle.kd_tree.specs.Counter.{IsBlankOf};
-ghost use Rattle.rebuild_core.specs.Logs.{planned_parts};
+ghost use Rattle.rebuild_parts.specs.Logs.{planned_parts};
 ghost use Rattle.rebuild_core.specs.Outcome.{IsLeftByUpdate, MakesNodes};
 ghost use Rattle.rebuild_core.specs.Steps.{HasRoom, IsDrafted, IsFault, IsSettlePlan, IsSettleStep, IsUpdatePlan, IsUpdateStep};
 
-use crate::logs::{PartLog, forgotten, logs_of};
-use crate::part::watched;
+use rebuild_parts::{PartLog, StateFault, Version, forgotten, logs_of, watched};
 use crate::{MapState, Planned};
-use rebuild_parts::{StateFault, Version};
 use kd_replace::settled;
 use kd_tree::{Scratch, Steps, Tree};
 use map_fold::{Entry, MAX_POINTS, NoMemory, Update};

@@ -1,14 +1,13 @@
 //! The state of a map.
 ghost use Rattle.std.specs.Prelude.{◌≡◌, IfOk};
 ghost use Rattle.rebuild_core.specs.Lawful.{IsLawful, new_state};
-ghost use Rattle.map_update.specs.Parts.{part_in};
+ghost use Rattle.kd_update.specs.Parts.{part_in};
 ghost use Rattle.rebuild_core.specs.StateView.{info_of};
 
-use crate::PartInfo;
-use crate::part::{Part, part_in};
+
+use rebuild_parts::{Part, PartInfo, Version, part_in};
 use kd_tree::{Scratch, Tree};
 use map_fold::{Entry, NoMemory, Settings};
-use rebuild_parts::Version;
 use std::alloc::Global;
 use std::marker::Model;
 use std::snapshot::Snapshot;

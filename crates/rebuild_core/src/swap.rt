@@ -4,13 +4,11 @@ ghost use Rattle.kd_tree.specs.Parts.{replaced_at};
 ghost use Rattle.kd_mark.specs.Update.{IsBalancedBelow};
 ghost use Rattle.rebuild_parts.specs.Built.{BuiltAt};
 ghost use Rattle.rebuild_core.specs.Known.{IsTreeOf};
-ghost use Rattle.map_update.specs.Parts.{AreItemsOf};
+ghost use Rattle.kd_update.specs.Parts.{AreItemsOf};
 ghost use Rattle.rebuild_core.specs.Swap.{IsLate, IsLeftUnrebuilt, IsNear, IsUnrebuiltSwap, IsSwapFault, IsSwapPlan, IsSwapStep, MakesPath, MaySwap};
 
-use crate::logs::forgotten_for;
-use crate::part::{Part, others_of};
+use rebuild_parts::{Built, Late, Part, SwapFault, caught_up, forgotten_for, others_of};
 use crate::{MapState, Planned};
-use rebuild_parts::{Built, Late, SwapFault, caught_up};
 use kd_replace::{Replaced, replaced};
 use kd_tree::{Steps, Tree};
 use map_fold::{NoMemory, Op, Ops};

@@ -1,9 +1,10 @@
--- Versions and what subtrees held go to other threads, and are read by several at once.
+-- Versions, parts and what subtrees held go to other threads, and are read by several at once.
 use denote.Param.Send.{IsSend, IsSync, sendable}
 use Rattle.std.proofs.Crossing as std
 use Rattle.kd_tree.proofs.node.Tree.TheLaws.TheKnot as knot
 use Rattle.rebuild_parts.specs.contracts.holding.Held as held
 use Rattle.rebuild_parts.specs.contracts.holding.Holding as holding
+use Rattle.rebuild_parts.specs.contracts.part.Part as part
 use Rattle.rebuild_parts.specs.contracts.version.Version as version
 use Rattle.std.proofs.option.Option.TheSendSync as o
 use Rattle.kd_tree.proofs.path.Path.TheSendSync as s0
@@ -40,3 +41,9 @@ holding_send = search (held_send, held_sync, all) depth 40 fits 20000
 
 pub holding_sync : IsSync holding.the_row
 holding_sync = search (held_send, held_sync, all) depth 40 fits 20000
+
+pub part_send : IsSend part.the_row
+part_send = search (holding_send, holding_sync, all) depth 40 fits 20000
+
+pub part_sync : IsSync part.the_row
+part_sync = search (holding_send, holding_sync, all) depth 40 fits 20000

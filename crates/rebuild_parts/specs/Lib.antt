@@ -2,3 +2,4 @@ pub mod History
 pub mod Built
 pub mod Holding
 pub mod Seen
+pub mod Logs

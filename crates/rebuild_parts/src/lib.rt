@@ -1,5 +1,6 @@
-//! What the state of a map hands out: versions, which queries see, and detached subtrees, which are rebuilt elsewhere: what each held,
-//! the job of rebuilding it, and the tree that was built; and why it refuses what it is asked. Nothing here knows the state.
+//! What the state of a map keeps and hands out: versions, which queries see, and detached subtrees, which are rebuilt elsewhere. Of each the
+//! state keeps a part, with its log; handed out are what it held, the job of rebuilding it, and the tree that was built. And why a state
+//! refuses what it is asked. Nothing here knows the state.
 #![tactic(auto)]
 
 mod balanced;
@@ -7,7 +8,9 @@ mod built;
 mod fault;
 mod holding;
 mod job;
+mod logs;
 mod messages;
+mod part;
 mod same_items;
 mod snapshot;
 mod version;
@@ -16,5 +19,7 @@ pub use built::{Built, BuiltLeft, caught_up};
 pub use fault::{Late, LogAsk, StateFault, SwapFault};
 pub use holding::Holding;
 pub use job::{Job, JobLeft};
+pub use logs::{PartLog, forgotten, forgotten_for, logs_of, relog_all};
+pub use part::{Part, PartInfo, others_of, part_in, part_of, paths_of, place_of, watched};
 pub use snapshot::{Snapshot, SnapshotLeft};
 pub use version::Version;

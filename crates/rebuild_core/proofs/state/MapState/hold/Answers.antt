@@ -2,10 +2,10 @@ use Rattle.std.proofs.Common.{◌≡◌, List, ap, sym, ◌∙◌, subst, get_or
 use Rattle.std.proofs.lemmas.List.{get_or_default}
 use Rattle.map_fold.specs.declared.item.Item.{Item}
 use Rattle.rebuild_core.specs.Lawful.{IsLawful, Stored}
-use Rattle.map_update.specs.Parts.{AreItemsOf, IsPlaceOf, PartAt}
+use Rattle.kd_update.specs.Parts.{AreItemsOf, IsPlaceOf, PartAt}
 use Rattle.rebuild_core.specs.StateView.{spare_of, state_of}
 use Rattle.rebuild_core.proofs.KnownItems.{held_again}
-use Rattle.rebuild_core.proofs.PartLogs.{place_below}
+use Rattle.rebuild_parts.proofs.PartLogs.{place_below}
 use Rattle.rebuild_core.proofs.state.MapState.hold.Goals as goal
 
 same_parts : (c : goal.After-self-1) → set c.self.inside.parts.items c.in-Some.place (record { slot = c.part.inside.slot; path = c.part.inside.path; ticket = c.part.inside.ticket; items = c.replace.new.dest; log = c.part.inside.log }) ≡ c.self.inside.parts.items

@@ -2,7 +2,7 @@ use Rattle.std.proofs.Common.{◌≡◌, ◌+◌, ◌≤◌, IfOk, List, ap, ref
 use Rattle.map_fold.specs.Fold.{points_in}
 use Rattle.kd_tree.specs.Shape.{Shape}
 use Rattle.rebuild_core.specs.Lawful.{StateAt}
-use Rattle.rebuild_core.specs.Logs.{LogPlan, planned_parts}
+use Rattle.rebuild_parts.specs.Logs.{LogPlan, planned_parts}
 use Rattle.rebuild_core.specs.Outcome.{IsLeftByUpdate}
 use Rattle.rebuild_core.specs.Steps.{HasRoom, IsDrafted, IsUpdatePlan}
 use Rattle.rebuild_core.specs.declared.plan.Drafted.{Drafted}

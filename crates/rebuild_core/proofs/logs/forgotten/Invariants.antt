@@ -1,7 +1,0 @@
-use Rattle.std.proofs.Common.{◌≡◌, ◌++◌, List, take}
-use Rattle.rebuild_core.specs.Logs.{planned_parts}
-use Rattle.map_update.specs.Parts.{PartAt}
-use Rattle.rebuild_core.proofs.logs.forgotten.Given as goal
-
-abbrev pub invariant-loop-part : goal.invariant-loop-part
-invariant-loop-part l = (rest : List PartAt) → planned_parts l.logs.items (take l.part-index l.parts ++ rest) ≡ rest

@@ -1,6 +1,0 @@
-use Rattle.std.proofs.Common.{◌≡◌, take}
-use Rattle.map_update.specs.Parts.{paths}
-use Rattle.rebuild_core.proofs.part.paths_of.Given as goal
-
-abbrev pub invariant-loop-part : goal.invariant-loop-part
-invariant-loop-part l = l.paths.items ≡ paths (take l.part-index l.parts)

@@ -1,6 +1,0 @@
-use Rattle.std.proofs.Common.{◌≡◌, take}
-use Rattle.map_update.specs.Draft.{watches_of}
-use Rattle.rebuild_core.proofs.part.watched.Given as goal
-
-abbrev pub invariant-loop-part : goal.invariant-loop-part
-invariant-loop-part l = l.watches ≡ watches_of (take l.part-index l.parts)
