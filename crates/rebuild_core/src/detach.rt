@@ -6,11 +6,11 @@ ghost use Rattle.rebuild_core.specs.Known.{IsFoundPart, IsStale};
 ghost use Rattle.rebuild_core.specs.Detach.{Detaches, IsDetachStep, IsDetachable, IsDetachedAt, IsLogAfter, IsLogFault, IsNoDetach, IsNoneToDetach, IsSlot, with_part};
 ghost use Rattle.kd_update.specs.Parts.{AreItemsOf, PartAt, part_in};
 
-use rebuild_parts::{Built, Holding, Job, LogAsk, Part, part_in, part_of, paths_of, Snapshot};
 use crate::MapState;
 use kd_tree::Path;
 use map_fold::{NoMemory, Ops};
 use op_logger::OpLog;
+use rebuild_parts::{Built, Holding, Job, LogAsk, Part, Snapshot, part_in, part_of, paths_of};
 use std::alloc::Global;
 
 impl MapState {

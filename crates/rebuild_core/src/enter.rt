@@ -5,9 +5,9 @@ ghost use Rattle.rebuild_core.specs.StateView.{AreMade, IsNextOf};
 ghost use Rattle.rebuild_core.specs.Steps.{entered};
 ghost use Rattle.rebuild_parts.specs.History.{listed};
 
-use rebuild_parts::relog_all;
 use crate::{MapState, Planned};
 use map_fold::Entry;
+use rebuild_parts::relog_all;
 use std::mem;
 
 impl MapState {

@@ -3,8 +3,8 @@ ghost use Rattle.std.specs.Prelude.{◌≡◌, None, Some, IfOk, IfSome, IsNone}
 ghost use Rattle.kd_update.specs.Parts.{AreItemsOf, PartAt, part_in, part_of};
 
 use crate::MapState;
-use rebuild_parts::{Holding, part_in, part_of, place_of};
 use map_fold::NoMemory;
+use rebuild_parts::{Holding, part_in, part_of, place_of};
 use std::mem;
 
 impl MapState {

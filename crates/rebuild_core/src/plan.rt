@@ -7,12 +7,12 @@ ghost use Rattle.rebuild_parts.specs.Logs.{planned_parts};
 ghost use Rattle.rebuild_core.specs.Outcome.{IsLeftByUpdate, MakesNodes};
 ghost use Rattle.rebuild_core.specs.Steps.{HasRoom, IsDrafted, IsFault, IsSettlePlan, IsSettleStep, IsUpdatePlan, IsUpdateStep};
 
-use rebuild_parts::{PartLog, StateFault, Version, forgotten, logs_of, watched};
 use crate::{MapState, Planned};
 use kd_replace::settled;
 use kd_tree::{Scratch, Steps, Tree};
 use map_fold::{Entry, MAX_POINTS, NoMemory, Update};
 use map_update::{Work, changed};
+use rebuild_parts::{PartLog, StateFault, Version, forgotten, logs_of, watched};
 use std::alloc::Global;
 use std::marker::Brand;
 use std::sync::ledger::{Blank, Ledger};

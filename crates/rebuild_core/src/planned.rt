@@ -3,9 +3,9 @@ ghost use Rattle.std.specs.Prelude.{◌≡◌, IfOk};
 ghost use Rattle.rebuild_core.specs.Steps.{plan_with};
 
 use crate::MapState;
-use rebuild_parts::{PartLog, Version};
 use kd_tree::{Steps, Tree};
 use map_fold::{Entry, NoMemory};
+use rebuild_parts::{PartLog, Version};
 use std::alloc::Global;
 use std::marker::Model;
 use std::sync::Arc;

@@ -4,10 +4,9 @@ ghost use Rattle.rebuild_core.specs.Lawful.{IsLawful, new_state};
 ghost use Rattle.kd_update.specs.Parts.{part_in};
 ghost use Rattle.rebuild_core.specs.StateView.{info_of};
 
-
-use rebuild_parts::{Part, PartInfo, Version, part_in};
 use kd_tree::{Scratch, Tree};
 use map_fold::{Entry, NoMemory, Settings};
+use rebuild_parts::{Part, PartInfo, Version, part_in};
 use std::alloc::Global;
 use std::marker::Model;
 use std::snapshot::Snapshot;

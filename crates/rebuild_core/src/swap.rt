@@ -7,11 +7,11 @@ ghost use Rattle.rebuild_core.specs.Known.{IsTreeOf};
 ghost use Rattle.kd_update.specs.Parts.{AreItemsOf};
 ghost use Rattle.rebuild_core.specs.Swap.{IsLate, IsLeftUnrebuilt, IsNear, IsUnrebuiltSwap, IsSwapFault, IsSwapPlan, IsSwapStep, MakesPath, MaySwap};
 
-use rebuild_parts::{Built, Late, Part, SwapFault, caught_up, forgotten_for, others_of};
 use crate::{MapState, Planned};
 use kd_replace::{Replaced, replaced};
 use kd_tree::{Steps, Tree};
 use map_fold::{NoMemory, Op, Ops};
+use rebuild_parts::{Built, Late, Part, SwapFault, caught_up, forgotten_for, others_of};
 use std::alloc::Global;
 use std::sync::ledger::Ledger;
 

@@ -29,11 +29,7 @@ impl Model for PartLog {
 }
 
 /// What becomes of each part where these watches are left of them, in their order: one without a watch is forgotten.
-pub fn logs_of(
-    alloc: Global,
-    parts: &[Part],
-    watches: Watches,
-) -> Result<Vec<PartLog>, NoMemory>
+pub fn logs_of(alloc: Global, parts: &[Part], watches: Watches) -> Result<Vec<PartLog>, NoMemory>
     requires { AreOwn parts.now }
     ensures { (qs : List PartAt) → AreLeft parts.now qs → watches ≡ watches_of qs
         → IfOk result (λ v. planned_parts v.items parts.now ≡ qs) }

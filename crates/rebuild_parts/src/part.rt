@@ -3,12 +3,12 @@ ghost use Rattle.std.specs.Prelude.{◌≡◌, ◌≤◌, length, IfOk, IfSome, 
 ghost use Rattle.std.specs.Option.{option_map};
 ghost use Rattle.kd_update.specs.Parts.{IsNewTicket, IsPlaceOf, part_in, part_of, paths, without, watches_of};
 
+use crate::Holding;
 use kd_mark::Watch;
 use kd_tree::Path;
 use kd_update::Watches;
 use map_fold::NoMemory;
 use op_logger::OpLog;
-use crate::Holding;
 use std::alloc::Global;
 use std::marker::Model;
 
