@@ -5,7 +5,7 @@ use Rattle.kd_tree.specs.Sound.{IsSound, IsSoundFork}
 use Rattle.kd_tree.specs.Criteria.{AllMeetCriteria}
 use Rattle.kd_tree.specs.Parts.{pushed}
 use Rattle.kd_tree.specs.declared.change.Fork.{Fork}
-use Rattle.kd_mark.specs.Refresh.{IsRefresh, RefreshesIfDue}
+use Rattle.kd_mark.specs.Refresh.{RefreshesIfDue}
 use Rattle.kd_mark.specs.Update.{IsSettled}
 use Rattle.kd_mark.proofs.Refresh.{head, refresh_trans, refresh_fork, refresh_sound, refreshed_refresh}
 use Rattle.kd_mark.proofs.TakenApart.{apart}

@@ -27,14 +27,6 @@ inside-top c i left right =
     ∙ ap (λ z. filter (in_box c) z ++ inside_all (left ++ right) c) (live-kept i)
     ∙ ap (λ z. inside_all (i ∷ []) c ++ z) (inside-append c left right)
 
--- one item, live and in the box or not
-pub inside_one : (c : Bounds) (i : Item) (b : Bool) → b ≡ (is_live i.label && in_box c i) → inside_all (i ∷ []) c ≡ cond b (i ∷ []) []
-inside_one c i b e = rw e (own (is_live i.label))
-  where
-    own : (x : Bool) → filter (in_box c) (cond x (i ∷ []) []) ≡ cond (x && in_box c i) (i ∷ []) []
-    own true = refl
-    own false = refl
-
 -- what a box doesn't meet holds nothing in it
 pub inside_missed : (c : Bounds) (e : Span) (xs : List Item) → AreIn e xs → meets c e ≡ false → inside_all xs c ≡ []
 inside_missed c e [] h m = refl

@@ -22,7 +22,8 @@ use std::sync::ledger::Ledger;
 /// tree be empty. A node is made in the memory of its old one, or of the scratch's, while there is any. Where memory runs out, the
 /// tree is dropped.
 ///
-/// Each node on the items' routes is made anew once, so n items take time in the order of n and of the nodes that they meet, beside what is rebuilt.
+/// Each node on the items' routes is made anew once, and each item is compared at each node of its route: n items take time in the order of n times
+/// the tree's levels, beside what is rebuilt.
 pub fn put_at_once<L: Ledger>(
     alloc: Global,
     tree: Tree,

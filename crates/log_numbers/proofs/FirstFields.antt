@@ -44,9 +44,6 @@ pub record DigitsRead (bytes : List ℕ) (i n : ℕ) : Type 0 where
   pub parts : first_field bytes ≡ take i bytes ++ first_field (drop i bytes)
   pub value : n ≡ min (digits_value 10 (take i bytes)) 1000000000000000000
 
-pub digits_start : (bytes : List ℕ) → DigitsRead bytes 0 0
-digits_start bytes = record { left = refl; parts = refl; value = refl }
-
 capped_more : (n v d : ℕ) → n ≡ min v 1000000000000000000 → min (10 * n + d) 1000000000000000000 ≡ min (v * 10 + d) 1000000000000000000
 capped_more n v d e = omega arith
 
@@ -70,11 +67,6 @@ digits_more bytes i n h low high r =
           ∙ ap (λ (v : ℕ). min v 1000000000000000000) (sym (digits_value_more 10 bytes i h));
     }
 
--- the next byte is neither a digit nor a space
-pub digits_bad : (bytes : List ℕ) (i n : ℕ) → i < length bytes → is_ascii_digit (get_or bytes i 0) ≡ false → nat_eq (get_or bytes i 0) 32 ≡ false
-    → DigitsRead bytes i n → all_ascii_digits (first_field bytes) ≡ false
-digits_bad bytes i n h bad other r = r.left ∙ rw (drop_more bytes i 0 h, other, bad) refl
-
 digits_all : (bytes : List ℕ) (i n : ℕ) → i ≤ length bytes → first_field (drop i bytes) ≡ [] → DigitsRead bytes i n
     → IsRead all_ascii_digits plain_value (first_field bytes) (pos n) i
 digits_all bytes i n h none r =
@@ -85,11 +77,6 @@ digits_all bytes i n h none r =
       value = rw is (ap pos r.value);
       size = rw is (sym long);
     }
-
--- the next byte is a space
-pub digits_space : (bytes : List ℕ) (i n : ℕ) → i < length bytes → nat_eq (get_or bytes i 0) 32 ≡ true → DigitsRead bytes i n
-    → IsRead all_ascii_digits plain_value (first_field bytes) (pos n) i
-digits_space bytes i n h space r = digits_all bytes i n (omega arith) (rw (drop_more bytes i 0 h, space) refl) r
 
 -- no byte is left
 pub digits_end : (bytes : List ℕ) (i n : ℕ) → length bytes ≤ i → i ≤ length bytes → DigitsRead bytes i n

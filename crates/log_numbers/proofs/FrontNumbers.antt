@@ -1,5 +1,5 @@
 -- Numbers before the first space, with and without a minus.
-use Rattle.std.proofs.Common.{◌≡◌, ℕ, zero, suc, ◌+◌, ◌<◌, ◌≤◌, ◌^◌, Bool, true, false, cond, nat_eq, List, [], ◌∷◌, length, min, refl, ap, sym, ◌∙◌, arith, ℤ, pos, ◌-ℤ◌, to_z, of_z, w64}
+use Rattle.std.proofs.Common.{◌≡◌, ℕ, zero, suc, ◌+◌, ◌<◌, ◌≤◌, ◌^◌, Bool, true, false, nat_eq, List, [], ◌∷◌, length, min, refl, ap, sym, ◌∙◌, arith, ℤ, pos, ◌-ℤ◌, to_z, of_z, w64}
 use lib.IntN.{negsuc}
 use Rattle.std.proofs.lemmas.Int.{ints, to_z-of_z}
 use Rattle.std.specs.Prelude.{◌||◌, nat_le, neg_ℤ}
@@ -7,7 +7,7 @@ use Rattle.std.specs.Str.{all_ascii_digits}
 use Rattle.std.specs.Str.Parse.{digits_value, signed_digits_value}
 use Rattle.std.proofs.lemmas.Bool.{and_parts}
 use Rattle.std.proofs.lemmas.Bool.Decides.{nat_tests}
-use Rattle.log_numbers.specs.Numerals.{IsRead, capped, first_field, is_numeral, is_positive_numeral, is_zero, plain_value, without_minus}
+use Rattle.log_numbers.specs.Numerals.{IsRead, capped, first_field, is_numeral, is_positive_numeral, plain_value, without_minus}
 use Rattle.log_numbers.proofs.FirstFields.{first_field-digits}
 
 -- a minus stands before them
@@ -24,15 +24,6 @@ minus_first (c ∷ cs) h = go (nat_eq c 45) refl
         none : nat_eq c 45 ≡ false → without_minus (c ∷ cs) ≡ c ∷ cs
         none e = rw e refl
 
--- none does
-pub no_minus : (bytes : List ℕ) → length bytes ≤ length (without_minus bytes) → without_minus bytes ≡ bytes
-no_minus [] h = refl
-no_minus (c ∷ cs) h =
-    elim (nat_eq c 45) as (λ b. length cs + 1 ≤ length (cond b cs (c ∷ cs)) → cond b cs (c ∷ cs) ≡ c ∷ cs) [
-      | true ↦ λ k. absurd (omega arith)
-      | false ↦ λ k. refl
-    ] (omega arith)
-
 -- the number of a minus and digits, as far as it counts
 capped-neg : (v : ℕ) → capped (neg_ℤ (pos v)) ≡ neg_ℤ (pos (min v 1000000000000000000))
 capped-neg zero = refl
@@ -40,10 +31,6 @@ capped-neg (suc m) = less (min (suc m) 1000000000000000000) (min m 9999999999999
   where
     less : (k n : ℕ) → k ≡ suc n → negsuc n ≡ neg_ℤ (pos k)
     less k n e = rw e refl
-
-pub minus_bad : (digits : List ℕ) → is_positive_numeral digits ≡ false → is_numeral (45 ∷ digits) ≡ false
-minus_bad [] h = refl
-minus_bad (c ∷ cs) h = h
 
 pub minus_read : (digits : List ℕ) (n : ℤ) (len : ℕ) → IsRead is_positive_numeral plain_value digits n len
     → IsRead is_numeral (signed_digits_value 10) (45 ∷ digits) (neg_ℤ n) (len + 1)
@@ -56,53 +43,6 @@ minus_read digits n len r = record {
     minus : (digits : List ℕ) → is_positive_numeral digits ≡ true → is_numeral (45 ∷ digits) ≡ true
     minus [] h = cc h
     minus (c ∷ cs) h = h
-
-pub plain_bad : (field : List ℕ) → is_zero field ≡ false → without_minus field ≡ field → is_positive_numeral field ≡ false → is_numeral field ≡ false
-plain_bad [] z m h = refl
-plain_bad (c ∷ []) z m h = rw (z, h) refl
-plain_bad (c ∷ d ∷ cs) z m h = go (nat_eq c 45) refl
-  where
-    go : (b : Bool) → nat_eq c 45 ≡ b → is_numeral (c ∷ d ∷ cs) ≡ false
-    go true e = absurd (omega (arith, ap length (sym (gone e) ∙ m)))
-      where
-        gone : nat_eq c 45 ≡ true → without_minus (c ∷ d ∷ cs) ≡ d ∷ cs
-        gone e = rw e refl
-    go false e = rw e h
-
-pub plain_read : (field : List ℕ) (n : ℤ) (len : ℕ) → IsRead is_positive_numeral plain_value field n len
-    → IsRead is_numeral (signed_digits_value 10) field n len
-plain_read [] n len r = let no = r.passes in cc
-plain_read (c ∷ cs) n len r =
-    let p = and_parts _ (all_ascii_digits cs) r.passes in
-    let q = and_parts (nat_le 49 c) (nat_le c 57) p.0 in
-    let sign : nat_eq c 45 ≡ false = grind (arith, nat_tests, q.0) in
-    let plus : nat_eq c 43 ≡ false = grind (arith, nat_tests, q.0) in
-    record {
-      passes = plain c cs sign r.passes;
-      value = r.value ∙ ap capped (sym (value sign plus));
-      size = r.size;
-    }
-  where
-    plain : (c : ℕ) (cs : List ℕ) → nat_eq c 45 ≡ false → is_positive_numeral (c ∷ cs) ≡ true → is_numeral (c ∷ cs) ≡ true
-    plain c [] e h = or (nat_eq c 48) h
-      where
-        or : (b : Bool) → is_positive_numeral (c ∷ []) ≡ true → (b || is_positive_numeral (c ∷ [])) ≡ true
-        or true h = refl
-        or false h = h
-    plain c (d ∷ cs) e h = rw e h
-
-    value : nat_eq c 45 ≡ false → nat_eq c 43 ≡ false → signed_digits_value 10 (c ∷ cs) ≡ pos (digits_value 10 (c ∷ cs))
-    value sign plus = rw (sign, plus) refl
-
-zero_is : (field : List ℕ) → is_zero field ≡ true → field ≡ 48 ∷ []
-zero_is [] h = cc h
-zero_is (c ∷ []) h =
-    let is : c ≡ 48 = grind (arith, nat_tests, h) in
-    rw is refl
-zero_is (c ∷ d ∷ cs) h = cc h
-
-pub zero_read : (field : List ℕ) → is_zero field ≡ true → IsRead is_numeral (signed_digits_value 10) field (pos 0) 1
-zero_read field h = rw (zero_is field h) (record { passes = refl; value = refl; size = refl })
 
 -- a numeral has no space
 pub first_field-positive : (xs : List ℕ) → is_positive_numeral xs ≡ true → first_field xs ≡ xs

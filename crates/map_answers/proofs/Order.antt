@@ -1,14 +1,14 @@
 -- The order of hits: it is total, and the first k in it are one list.
 use Rattle.std.proofs.Common.{◌≡◌, ◌⊎◌, inl, inr, true, refl, sym, ap, ◌∙◌}
 use Rattle.std.specs.Cmp.{IsTotalOrder, IsStrictWeakOrder}
-use Rattle.std.specs.FinMap.{nat_cmp-IsAntisymmetric, int_cmp-IsAntisymmetric}
-use Rattle.std.specs.Ordering.{ordering_then, ordering_reverse, is_lt, nat_cmp, int_cmp}
+use Rattle.std.specs.FinMap.{nat_cmp-IsAntisymmetric}
+use Rattle.std.specs.Ordering.{ordering_then, ordering_reverse, is_lt, nat_cmp}
 use Rattle.std.specs.declared.cmp.Ordering.{Ordering}
 use Rattle.std.specs.declared.cmp.Ordering.TheVariants.{Less, Equal, Greater}
 use Rattle.std.proofs.lemmas.Cmp.{then_total, on_total, nat_cmp_total, int_cmp_total}
 use Rattle.std.proofs.lemmas.List.MinMax.{ranks_by}
 use Rattle.std.proofs.lemmas.Bool.{false≢true}
-use Rattle.point_geom.specs.Place.{Place, IsAt}
+use Rattle.point_geom.specs.Place.{Place}
 use Rattle.point_geom.specs.Axes.{place_cmp}
 use Rattle.map_answers.specs.declared.hits.Hit.{Hit}
 use Rattle.map_answers.specs.Answers.{hit_cmp, is_nearer}
@@ -28,13 +28,6 @@ pub then_equal : (o p : Ordering) → ordering_then o p ≡ Equal → (o ≡ Equ
 then_equal Less p e = absurd (cc)
 then_equal Equal p e = (refl, e)
 then_equal Greater p e = absurd (cc)
-
--- no order of places tells points at one place apart
-pub place_cmp-Equal : (p q : Place) → place_cmp p q ≡ Equal → IsAt q p
-place_cmp-Equal p q e =
-    let s = then_equal (int_cmp p.x q.x) _ e in
-    let t = then_equal (int_cmp p.y q.y) _ s.1 in
-    record { x = int_cmp-IsAntisymmetric p.x q.x s.0; y = int_cmp-IsAntisymmetric p.y q.y t.0; z = int_cmp-IsAntisymmetric p.z q.z t.1 }
 
 -- hits between which the order doesn't decide have one number
 pub hit_cmp-Equal : (a b : Hit) → hit_cmp a b ≡ Equal → a.number ≡ b.number

@@ -10,11 +10,6 @@ pub replay-append : (m : List Item) (a b : List Op) → replay m (a ++ b) ≡ re
 replay-append m [] b = refl
 replay-append m (op ∷ a) b = replay-append (perform m op) a b
 
--- the first of operations that fit
-pub fit_first : (m : List Item) (op : Op) (ops : List Op) → Fit m (op ∷ ops) → Fit m (op ∷ [])
-fit_first m (Mark within a) ops k = tt
-fit_first m (Put n p) ops k = (k.0, k.1, tt)
-
 -- those after it fit what it leaves
 pub fit_rest : (m : List Item) (op : Op) (ops : List Op) → Fit m (op ∷ ops) → Fit (perform m op) ops
 fit_rest m (Mark within a) ops k = k

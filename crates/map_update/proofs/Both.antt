@@ -3,7 +3,7 @@ use Rattle.std.proofs.Common.{◌≡◌, ℕ, ◌+◌, ◌<◌, ◌≤◌, inl, 
 use Rattle.std.specs.Prelude.{All, IsPermutation, count_by, filter, ◌==◌, ◌&&◌}
 use Rattle.std.proofs.lemmas.Bool.{eqb-true}
 use Rattle.std.proofs.lemmas.List.{append-nil}
-use Rattle.std.proofs.lemmas.List.Elements.{All-append, All-contains, All-contains_itself, All-head, All-map, All-tail, All-weaker, filter-append}
+use Rattle.std.proofs.lemmas.List.Elements.{All-append, All-contains, All-contains_itself, All-head, All-tail, All-weaker, filter-append}
 use Rattle.std.proofs.lemmas.List.Sorted.{length_permutation, IsPermutation-sym, IsPermutation-to_front, sum_by-IsPermutation}
 use Rattle.std.proofs.lemmas.List.Sums.{sum_by-append, sum_by-cons}
 use Rattle.std.specs.Prelude.{Contains}
@@ -26,7 +26,7 @@ use Rattle.kd_search.specs.Best.{best_from, best_inside, best_of}
 use Rattle.kd_search.proofs.Boxed.{count-by_number, inside-append}
 use Rattle.kd_search.proofs.Least.{best-by_number, best_from-append, best_from-none}
 use Rattle.kd_mark.specs.Refresh.{AreAmong}
-use Rattle.kd_update.specs.Scan.{AreLive, MayJoin, numbers_in, put_each}
+use Rattle.kd_update.specs.Scan.{AreLive, MayJoin, put_each}
 use Rattle.kd_update.proofs.Grown.{IsLive, live_of}
 
 -- what the tree holds and these items, by number
@@ -113,9 +113,6 @@ pub among_below : (next : ℕ) (ks ns ms : List ℕ) → AreAmong ms (ks ++ ns) 
 among_below next ks ns ms among first second =
     let P : ℕ → Type 0 = λ n. n < next in
     All-weaker (λ n. Contains ms n) P (λ n k. All-contains P (ks ++ ns) n (All-append P ks ns first second) (among n k)) ms (All-contains_itself ms)
-
-pub numbers_below : (next : ℕ) (ws : List Item) → All (λ i. i.number < next) ws → All (λ n. n < next) (numbers_in ws)
-numbers_below next ws k = All-map (λ (n : ℕ). n < next) (λ (i : Item). i.number) ws k
 
 -- where a test lets nothing through, its contrary lets all through
 all_left : (p : Item → Bool) (xs : List Item) → filter p xs ≡ [] → filter (λ x. not (p x)) xs ≡ xs

@@ -130,9 +130,6 @@ entered_in edge high n m p k h new there =
     over (inl there) = inr (is_left edge high m p k h there.0 there.1)
     over (inr same) = inl (same ∙ sym (winner_itself edge n m p))
 
-pub entered_member : (edge high n : ℕ) (m : List Item) (p : Place) (k : Item) → AreContents 0 high m → IsUnheld n m → Member k (thin edge m n p) ↔ ((Member k m × (is_live_in (voxel edge p) k ≡ false)) ⊎ (k ≡ winner edge m n p))
-entered_member edge high n m p k h new = (entered_from edge high n m p k h new, entered_in edge high n m p k h new)
-
 -- another number that isn't held still isn't
 pub unheld_after : (edge high n : ℕ) (m : List Item) (p : Place) (other : ℕ) → AreContents 0 high m → IsUnheld n m → IsUnheld other m → other ≢ n → IsUnheld other (thin edge m n p)
 unheld_after edge high n m p other h new free apart = unheld_by other (thin edge m n p) (λ k there. over k (entered_from edge high n m p k h new there))
@@ -218,8 +215,3 @@ entrants_after edge high m i is h may = entrants_kept edge high i.number m i.poi
 pub contents_each : (edge high : ℕ) (m is : List Item) → AreContents 0 high m → AreEntrants high m is → AreContents 0 high (thin_each edge m is)
 contents_each edge high m [] h may = h
 contents_each edge high m (i ∷ is) h may = contents_each edge high (thin edge m i.number i.point) is (contents_entered edge high i.number m i.point h may.0.below) (entrants_after edge high m i is h may)
-
--- one after the others
-pub thin_each-append : (edge : ℕ) (m is js : List Item) → thin_each edge m (is ++ js) ≡ thin_each edge (thin_each edge m is) js
-thin_each-append edge m [] js = refl
-thin_each-append edge m (i ∷ is) js = thin_each-append edge (thin edge m i.number i.point) is js

@@ -61,11 +61,6 @@ later_enter low high n (p ∷ ps) m from to h = (
 pub points_enter : (next : ℕ) (ps : List Place) (m : List Item) → AreContents 0 next m → AreEntrants (next + length ps) m (live_from next ps)
 points_enter next ps m h = later_enter next (next + length ps) next ps m (omega arith) (omega arith) h
 
--- each of the first ones is a new item
-pub firsts_new : (edge next : ℕ) (ps : List Place) (fs m : List Item) (i : Item) → AreFirsts edge next ps fs → AreContents 0 next m → Member i fs → MayEnter (next + length ps) m i × (next ≤ i.number)
-firsts_new edge next ps fs m i firsts h there =
-    let within = firsts.within i there in (from_enters next ps m i h within, (from_is next ps i within).1)
-
 -- items of two voxels have two numbers
 apart_numbers : (edge next : ℕ) (ps : List Place) (i j : Item) → 1 ≤ edge → Member i (live_from next ps) → Member j (live_from next ps) → holds (voxel edge i.point) j.point ≡ false → j.number ≢ i.number
 apart_numbers edge next ps i j from one two out = λ same.

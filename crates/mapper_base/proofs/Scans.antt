@@ -50,9 +50,6 @@ pub record HasSeen (i s left t : ℕ) (ps : List Place) : Type 0 where
   pub many : length ps + left ≡ 2000
   pub each : AllByRecursion (IsScannedPlace One) ps
 
-pub seen_start : (i s : ℕ) → HasSeen i s 2000 s []
-seen_start i s = record { rest = refl; moved = refl; many = refl; each = tt }
-
 -- what holds of each holds with one more
 pub each_push : {X : Type 0} (P : X → Type 0) (xs : List X) (y : X) → AllByRecursion P xs → P y → AllByRecursion P (xs ++ y ∷ [])
 each_push P [] y each last = (last, tt)
@@ -111,9 +108,6 @@ pub record HasMade (n left i t : ℕ) (z : ScriptAt) : Type 0 where
   pub few : length z.commands ≤ 5 * i
   pub room : points_of z.commands ≡ 2000 * i
   pub held : hits_of z.commands ≤ 256 * length z.commands
-
-pub made_start : (n : ℕ) (z : ScriptAt) → z ≡ record { format = One; sizes = record { voxel = 500; large = 1500 }; commands = [] } → HasMade n n 0 1 z
-made_start n z e = rw e (record { format = refl; sizes = refl; rest = refl; few = omega arith; room = refl; held = omega arith })
 
 pub made_next : (n left k i t u : ℕ) (z w : ScriptAt) → HasMade n left i t z → left ≡ suc k → w.format ≡ One → w.sizes ≡ z.sizes
     → w.commands ≡ z.commands ++ scan_commands i (points_of_draws i (next_draws 6000 t)) → length w.commands ≤ length z.commands + 5

@@ -41,12 +41,6 @@ take_length_le zero (x ∷ xs) = omega arith
 take_length_le (suc n) [] = omega arith
 take_length_le (suc n) (x ∷ xs) = let r = take_length_le n xs in omega arith
 
-pub drop_length_le : {A : Type 0} (n : ℕ) (xs : List A) → n ≤ length xs → n + length (drop n xs) ≡ length xs
-drop_length_le zero [] le = refl
-drop_length_le zero (x ∷ xs) le = omega arith
-drop_length_le (suc n) [] le = absurd (omega arith)
-drop_length_le (suc n) (x ∷ xs) le = let r = drop_length_le n xs (omega arith) in omega arith
-
 -- the first commands have no more points than all
 pub points_take : (n : ℕ) (cs : List Command) → points_of (take n cs) ≤ points_of cs
 points_take zero [] = omega arith

@@ -1,4 +1,3 @@
-pub mod Packing
 pub mod Laws
 mod Vectors
 pub mod Same

@@ -1,36 +1,17 @@
 -- States go to other threads, and are read by several at once.
-use denote.Param.Send.{IsSend, IsSync, sendable}
-use Rattle.std.proofs.Crossing as std
-use Rattle.kd_tree.proofs.node.Tree.TheLaws.TheKnot as knot
+use denote.Param.Send.{IsSend, IsSync}
 use Rattle.kd_tree.specs.contracts.scratch.Scratch as scratch
 use Rattle.rebuild_core.specs.contracts.state.MapState as state
-use Rattle.rebuild_parts.proofs.Handing.{part_send, part_sync, version_send, version_sync}
-use Rattle.std.proofs.option.Option.TheSendSync as o
-use Rattle.kd_tree.proofs.path.Path.TheSendSync as s0
-use Rattle.kd_tree.proofs.path.Side.TheSendSync as s1
-use Rattle.map_fold.proofs.choice.Choice.TheSendSync as s3
-use Rattle.map_fold.proofs.entry.Entry.TheSendSync as s4
-use Rattle.map_fold.proofs.item.Item.TheSendSync as s5
-use Rattle.map_fold.proofs.op.Op.TheSendSync as s6
-use Rattle.map_fold.proofs.sequence.Sequence.TheSendSync as s7
-use Rattle.map_fold.proofs.settings.Settings.TheSendSync as s8
-use Rattle.map_fold.proofs.update.Update.TheSendSync as s9
-use Rattle.node_labels.proofs.label.Label.TheSendSync as s10
-use Rattle.op_logger.proofs.log.OpLog.TheSendSync as s11
-use Rattle.point_geom.proofs.cuboid.Corner.TheSendSync as s12
-use Rattle.point_geom.proofs.cuboid.Cuboid.TheSendSync as s13
-use Rattle.point_geom.proofs.point.Point.TheSendSync as s14
-
-ruleset all = (sendable, std.crosses, knot.crosses, o.the_field_send, o.the_field_sync, o.the_send, o.the_sync, s1.the_field_send, s1.the_field_sync, s3.the_field_send, s3.the_field_sync, s4.the_field_send, s4.the_field_sync, s5.the_field_send, s5.the_field_sync, s6.the_field_send, s6.the_field_sync, s9.the_field_send, s9.the_field_sync, s10.the_field_send, s10.the_field_sync, s0.the_send, s0.the_sync, s1.the_send, s1.the_sync, s3.the_send, s3.the_sync, s4.the_send, s4.the_sync, s5.the_send, s5.the_sync, s6.the_send, s6.the_sync, s7.the_send, s7.the_sync, s8.the_send, s8.the_sync, s9.the_send, s9.the_sync, s10.the_send, s10.the_sync, s11.the_send, s11.the_sync, s12.the_send, s12.the_sync, s13.the_send, s13.the_sync, s14.the_send, s14.the_sync)
+use Rattle.rebuild_parts.proofs.Handing.{crosses, part_send, part_sync, version_send, version_sync}
 
 scratch_send : IsSend (scratch.the_field).row
-scratch_send = search all depth 40 fits 20000
+scratch_send = search crosses depth 40 fits 20000
 
 scratch_sync : IsSync (scratch.the_field).row
-scratch_sync = search all depth 40 fits 20000
+scratch_sync = search crosses depth 40 fits 20000
 
 pub state_send : IsSend state.the_row
-state_send = search (version_send, version_sync, part_send, scratch_send, all) depth 40 fits 20000
+state_send = search (version_send, version_sync, part_send, scratch_send, crosses) depth 40 fits 20000
 
 pub state_sync : IsSync state.the_row
-state_sync = search (version_send, version_sync, part_sync, scratch_sync, all) depth 40 fits 20000
+state_sync = search (version_send, version_sync, part_sync, scratch_sync, crosses) depth 40 fits 20000

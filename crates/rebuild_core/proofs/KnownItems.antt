@@ -1,5 +1,5 @@
 -- Parts whose items somebody knows: no step makes them others.
-use Rattle.std.proofs.Common.{◌≡◌, ℕ, ◌<◌, ◌≤◌, List, [], ◌∷◌, ◌++◌, get_or, set, ap, sym, ◌∙◌, arith, subst, inl, inr, Option, Some, None}
+use Rattle.std.proofs.Common.{◌≡◌, ℕ, ◌<◌, ◌≤◌, List, [], ◌∷◌, ◌++◌, get_or, set, ap, sym, ◌∙◌, arith, subst, Option, Some, None}
 use Rattle.std.specs.Prelude.{◌==◌}
 use Rattle.std.proofs.lemmas.Bool.{cond_both, eqb-false, eqb-true}
 use Rattle.std.proofs.lemmas.List.{get_or_at, set_at}
@@ -9,7 +9,7 @@ use Rattle.rebuild_parts.specs.Built.{JobAt}
 use Rattle.rebuild_core.specs.Detach.{IsDetachStep, with_part}
 use Rattle.rebuild_core.specs.Lawful.{IsLawful, StateAt}
 use Rattle.rebuild_parts.specs.Logs.{LogPlan, planned_parts, relogged, with_log}
-use Rattle.kd_update.specs.Parts.{AreItemsOf, AreLeft, HaveOwnTickets, IsNewTicket, IsPlaceOf, PartAt, part_of}
+use Rattle.kd_update.specs.Parts.{AreItemsOf, HaveOwnTickets, IsNewTicket, IsPlaceOf, PartAt, part_of}
 use Rattle.rebuild_core.specs.Steps.{PlannedAt, entered}
 use Rattle.rebuild_core.proofs.Detaching.{later_new, part_detached, with_cases}
 
@@ -17,13 +17,6 @@ use Rattle.rebuild_core.proofs.Detaching.{later_new, part_detached, with_cases}
 pub items_of_new : (ticket : ℕ) (items : List Item) (ps : List PartAt) → IsNewTicket ticket ps → AreItemsOf ticket items ps
 items_of_new ticket items [] k = tt
 items_of_new ticket items (p ∷ ps) k = ((λ e. absurd (k.0 (sym e))), items_of_new ticket items ps k.1)
-
--- no part is found of it
-pub items_of_none : (ticket : ℕ) (items : List Item) (ps : List PartAt) → part_of ticket ps ≡ None → AreItemsOf ticket items ps
-items_of_none ticket items [] e = tt
-items_of_none ticket items (p ∷ ps) e =
-    cond_both (ticket == p.ticket) (Some p) (part_of ticket ps) (λ o. o ≡ None → AreItemsOf ticket items (p ∷ ps)) (λ _ f. absurd cc)
-    (λ other f. ((λ same. absurd (eqb-false ticket p.ticket other (sym same))), items_of_none ticket items ps f)) e
 
 -- a ticket above the last one
 pub items_of_later : (s : StateAt) (ticket : ℕ) (items : List Item) → IsLawful s → s.last < ticket → AreItemsOf ticket items s.parts
@@ -78,12 +71,6 @@ held_again ticket items ps i q known k is =
 -- after a planned step
 pub items_of_entered : (ticket : ℕ) (items : List Item) (p : PlannedAt) (s : StateAt) → AreItemsOf ticket items s.parts → AreItemsOf ticket items (entered p s).parts
 items_of_entered ticket items p s k = items_of_planned ticket items p.logs s.parts k
-
--- of what is left of the parts
-pub items_of_left : (ticket : ℕ) (items : List Item) (ps qs : List PartAt) → AreLeft ps qs → AreItemsOf ticket items ps → AreItemsOf ticket items qs
-items_of_left ticket items [] qs l k = subst (AreItemsOf ticket items) (sym l) tt
-items_of_left ticket items (p ∷ ps) qs (inl l) k = items_of_left ticket items ps qs l k.1
-items_of_left ticket items (p ∷ ps) qs (inr l) k = subst (AreItemsOf ticket items) (sym l.2) (k.0, items_of_left ticket items ps l.1 l.4 k.1)
 
 -- with one part more, or one afresh
 pub items_of_with : (ticket : ℕ) (items : List Item) (q : PartAt) → (q.ticket ≡ ticket → q.items ≡ items) → (ps : List PartAt) → AreItemsOf ticket items ps → AreItemsOf ticket items (with_part q ps)

@@ -1,18 +1,12 @@
 -- Built values, and the parts that they are of.
-use Rattle.std.proofs.Common.{◌≡◌, ℕ, ◌≤◌, List, [], ◌∷◌, ◌++◌, length, map, drop, ap, sym, ◌∙◌, subst, inl, inr, arith, length-take, Some}
-use Rattle.std.specs.Prelude.{IsPermutation, ◌==◌}
+use Rattle.std.proofs.Common.{◌≡◌, ℕ, ◌≤◌, List, [], ◌∷◌, ◌++◌, length, drop, ap, sym, ◌∙◌, subst, arith, Some}
+use Rattle.std.specs.Prelude.{◌==◌}
 use Rattle.std.proofs.lemmas.Bool.{cond_both}
 use Rattle.std.proofs.lemmas.List.{take-append-drop}
-use Rattle.std.proofs.lemmas.List.Elements.{Contains-append_cases, Contains-append_left, Contains-append_right}
-use Rattle.std.proofs.lemmas.List.Sorted.{Contains-permutation, IsPermutation-sym}
-use Rattle.map_fold.specs.declared.item.Item.{Item}
-use Rattle.map_fold.specs.declared.op.Op.{Op}
-use Rattle.map_fold.specs.Ops.{Fit, numbers_put, replay}
-use Rattle.map_fold.proofs.Replays.{fit_append, fit_second, numbers_put-append, replay-append}
-use Rattle.kd_tree.specs.Shape.{Shape, numbers}
+use Rattle.map_fold.specs.Ops.{Fit, replay}
+use Rattle.map_fold.proofs.Replays.{fit_second, replay-append}
+use Rattle.kd_tree.specs.Shape.{Shape}
 use Rattle.kd_tree.specs.Contents.{contents}
-use Rattle.kd_mark.specs.Refresh.{AreAmong}
-use Rattle.kd_mark.proofs.Trees.{among_append, among_same}
 use Rattle.rebuild_parts.specs.Built.{BuiltAt, IsLawfulBuilt}
 use Rattle.rebuild_core.specs.Known.{IsPartOf, undone}
 use Rattle.rebuild_core.specs.Lawful.{IsLawful, StateAt}
@@ -29,10 +23,6 @@ of_lawful large next last t ticket (r ∷ ps) p e k =
 -- the value's part is lawful
 pub built_part : (s : StateAt) (b : BuiltAt) (p : PartAt) → IsLawful s → IsPartOf b s.parts p → IsLawfulPart s.settings.large s.next s.last s.tree p
 built_part s b p k o = of_lawful s.settings.large s.next s.last s.tree b.ticket s.parts p o.found k.parts.each
-
--- the log of its part is no shorter than what is done
-pub done_few : (b : BuiltAt) (ps : List PartAt) (p : PartAt) → IsPartOf b ps p → length b.done ≤ length p.log
-done_few b ps p o = omega (arith, ap length o.begins, length-take (length b.done) p.log)
 
 pub log_parts : (b : BuiltAt) (ps : List PartAt) (p : PartAt) → IsPartOf b ps p → p.log ≡ b.done ++ undone b p
 log_parts b ps p o = sym (take-append-drop (length b.done) p.log) ∙ ap (λ z. z ++ drop (length b.done) p.log) o.begins

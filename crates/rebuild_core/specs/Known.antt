@@ -1,5 +1,5 @@
 -- Built values, and the parts that they are of.
-use Rattle.std.specs.Prelude.{◌≡◌, ℕ, ◌≤◌, List, length, take, drop, Some}
+use Rattle.std.specs.Prelude.{◌≡◌, ◌≤◌, List, length, take, drop, Some}
 use Rattle.map_fold.specs.declared.op.Op.{Op}
 use Rattle.kd_tree.specs.Shape.{Shape}
 use Rattle.kd_update.specs.Parts.{PartAt, part_of}

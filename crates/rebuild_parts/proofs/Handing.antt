@@ -22,28 +22,29 @@ use Rattle.point_geom.proofs.cuboid.Corner.TheSendSync as s12
 use Rattle.point_geom.proofs.cuboid.Cuboid.TheSendSync as s13
 use Rattle.point_geom.proofs.point.Point.TheSendSync as s14
 
-ruleset all = (sendable, std.crosses, knot.crosses, o.the_field_send, o.the_field_sync, o.the_send, o.the_sync, s1.the_field_send, s1.the_field_sync, s3.the_field_send, s3.the_field_sync, s4.the_field_send, s4.the_field_sync, s5.the_field_send, s5.the_field_sync, s6.the_field_send, s6.the_field_sync, s9.the_field_send, s9.the_field_sync, s10.the_field_send, s10.the_field_sync, s0.the_send, s0.the_sync, s1.the_send, s1.the_sync, s3.the_send, s3.the_sync, s4.the_send, s4.the_sync, s5.the_send, s5.the_sync, s6.the_send, s6.the_sync, s7.the_send, s7.the_sync, s8.the_send, s8.the_sync, s9.the_send, s9.the_sync, s10.the_send, s10.the_sync, s11.the_send, s11.the_sync, s12.the_send, s12.the_sync, s13.the_send, s13.the_sync, s14.the_send, s14.the_sync)
+-- what is in them
+pub ruleset crosses = (sendable, std.crosses, knot.crosses, o.the_field_send, o.the_field_sync, o.the_send, o.the_sync, s1.the_field_send, s1.the_field_sync, s3.the_field_send, s3.the_field_sync, s4.the_field_send, s4.the_field_sync, s5.the_field_send, s5.the_field_sync, s6.the_field_send, s6.the_field_sync, s9.the_field_send, s9.the_field_sync, s10.the_field_send, s10.the_field_sync, s0.the_send, s0.the_sync, s1.the_send, s1.the_sync, s3.the_send, s3.the_sync, s4.the_send, s4.the_sync, s5.the_send, s5.the_sync, s6.the_send, s6.the_sync, s7.the_send, s7.the_sync, s8.the_send, s8.the_sync, s9.the_send, s9.the_sync, s10.the_send, s10.the_sync, s11.the_send, s11.the_sync, s12.the_send, s12.the_sync, s13.the_send, s13.the_sync, s14.the_send, s14.the_sync)
 
 pub version_send : IsSend version.the_row
-version_send = search all depth 40 fits 20000
+version_send = search crosses depth 40 fits 20000
 
 pub version_sync : IsSync version.the_row
-version_sync = search all depth 40 fits 20000
+version_sync = search crosses depth 40 fits 20000
 
 held_send : IsSend (held.the_field).row
-held_send = search all depth 40 fits 20000
+held_send = search crosses depth 40 fits 20000
 
 held_sync : IsSync (held.the_field).row
-held_sync = search all depth 40 fits 20000
+held_sync = search crosses depth 40 fits 20000
 
 pub holding_send : IsSend holding.the_row
-holding_send = search (held_send, held_sync, all) depth 40 fits 20000
+holding_send = search (held_send, held_sync, crosses) depth 40 fits 20000
 
 pub holding_sync : IsSync holding.the_row
-holding_sync = search (held_send, held_sync, all) depth 40 fits 20000
+holding_sync = search (held_send, held_sync, crosses) depth 40 fits 20000
 
 pub part_send : IsSend part.the_row
-part_send = search (holding_send, holding_sync, all) depth 40 fits 20000
+part_send = search (holding_send, holding_sync, crosses) depth 40 fits 20000
 
 pub part_sync : IsSync part.the_row
-part_sync = search (holding_send, holding_sync, all) depth 40 fits 20000
+part_sync = search (holding_send, holding_sync, crosses) depth 40 fits 20000

@@ -13,10 +13,12 @@ use op_logger::OpLog;
 use std::alloc::Global;
 use std::marker::Model;
 
-/// What becomes of the part of a ticket: its new log, or none where it is forgotten.
+/// What becomes of the part of a ticket.
 #[derive(Drop)]
 pub struct PartLog {
+    /// The ticket that the part was detached with.
     pub ticket: u64,
+    /// Its new log, or none where the part is forgotten.
     pub log: Option<OpLog>,
 }
 

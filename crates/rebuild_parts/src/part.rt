@@ -24,10 +24,15 @@ pub struct PartInfo {
 /// A detached subtree. What it held is shared with the snapshot or the job that was made of it.
 #[derive(Drop)]
 pub struct Part {
+    /// From 1 to 4; no two parts of a state have one slot.
     pub slot: u8,
+    /// Where it stands in the tree.
     pub path: Path,
+    /// The ticket that it was detached with.
     pub ticket: u64,
+    /// What it held when it was detached.
     pub held: Holding,
+    /// What was done to it since.
     pub log: OpLog,
 }
 

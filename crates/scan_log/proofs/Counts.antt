@@ -1,18 +1,9 @@
--- How often a byte stands in a part, and where it stands first.
-use Rattle.std.proofs.Common.{◌≡◌, ℕ, ◌+◌, ◌<◌, Bool, true, false, cond, nat_eq, nat_lt, List, length, get_or, take, Option, Some, None, refl, arith}
-use Rattle.std.specs.Prelude.{count_by}
+-- Where a byte stands first.
+use Rattle.std.proofs.Common.{◌≡◌, ℕ, ◌+◌, ◌<◌, Bool, true, false, nat_eq, nat_lt, List, length, Option, Some, None, refl, arith}
 use Rattle.std.specs.List.{position, position_or_len}
 use Rattle.std.proofs.lemmas.Bool.Decides.{nat_tests}
-use Rattle.std.proofs.lemmas.List.Sums.{count_by_more_no, count_by_more_yes, position_or_len_is}
+use Rattle.std.proofs.lemmas.List.Sums.{position_or_len_is}
 use Rattle.memchr.specs.Find.{IsFirstByte, is_byte}
-
--- one byte more
-pub count_more : (p : ℕ → Bool) (xs : List ℕ) (i : ℕ) → i < length xs → count_by p (take (i + 1) xs) ≡ count_by p (take i xs) + cond (p (get_or xs i 0)) 1 0
-count_more p xs i h = go (p (get_or xs i 0)) refl
-  where
-    go : (b : Bool) → p (get_or xs i 0) ≡ b → count_by p (take (i + 1) xs) ≡ count_by p (take i xs) + cond b 1 0
-    go true e = count_by_more_yes p xs i 0 h e
-    go false e = omega (arith, count_by_more_no p xs i 0 h e)
 
 is_false : (b : Bool) → ¬ (b ≡ true) → b ≡ false
 is_false true h = absurd (h refl)

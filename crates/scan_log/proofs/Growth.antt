@@ -1,13 +1,12 @@
 -- A script that grows by the commands of the lines.
 use Rattle.std.proofs.Common.{◌≡◌, ℕ, ◌+◌, ◌-◌, ◌≤◌, List, [], ◌∷◌, ◌++◌, length, Result, Ok, Err, refl, sym, ap, ◌∙◌, arith, append_assoc, length-append}
 use Rattle.std.specs.List.{AllByRecursion}
-use Rattle.map_fold.specs.Sizes.{Sizes}
 use Rattle.scan_log.specs.declared.format.Format.{Format}
 use Rattle.scan_log.specs.declared.format.Format.TheVariants.{Two}
 use Rattle.scan_log.specs.declared.command.Command.{Command}
 use Rattle.scan_log.specs.Steps.{◌>>=◌}
 use Rattle.scan_log.specs.Faults.{FaultAt}
-use Rattle.scan_log.specs.Reading.{line_command, commands_of, body_of}
+use Rattle.scan_log.specs.Reading.{line_command, commands_of}
 use Rattle.scan_log.specs.Scripts.{ScriptAt, IsScript, IsCommand, asked, submitted, points_of, hits_of, with_command}
 use Rattle.scan_log.proofs.Logs.{line_takes}
 use Rattle.scan_log.proofs.Wider.{command_widens}
@@ -23,16 +22,6 @@ pub record ReadSoFar (s : ScriptAt) (room hits : ℕ) (lines : List (ℕ × List
   pub counted : points_of s.commands + room ≡ 4194304
   pub listed : hits_of s.commands + hits ≡ 16777216
   pub left : extended s (commands_of s.format (length s.commands) room hits lines) ≡ whole
-
-extended-none : (format : Format) (sizes : Sizes) (read : Result (List Command) FaultAt)
-    → extended (record { format = format; sizes = sizes; commands = [] }) read ≡ (read >>= λ cs. Ok (record { format = format; sizes = sizes; commands = cs }))
-extended-none format sizes (Ok cs) = refl
-extended-none format sizes (Err e) = refl
-
--- nothing was read but the header
-pub read_start : (format : Format) (sizes : Sizes) (lines : List (ℕ × List ℕ)) → IsScript (record { format = format; sizes = sizes; commands = [] })
-    → ReadSoFar (record { format = format; sizes = sizes; commands = [] }) 4194304 16777216 lines (body_of format sizes lines)
-read_start format sizes lines is = record { limits = is; counted = refl; listed = refl; left = extended-none format sizes (commands_of format 0 4194304 16777216 lines) }
 
 -- what holds of each element and of one more
 AllByRecursion-push : {X : Type 0} (P : X → Type 0) (xs : List X) (y : X) → AllByRecursion P xs → P y

@@ -5,7 +5,7 @@ use Rattle.std.proofs.lemmas.Bool.Decides.{nat_tests}
 use mathlib.Core.List.{IsPrefix}
 use prog.Atomic.{either}
 use Rattle.logbook.specs.Pages.{Cell, cell, keeps, no_nib, step, Moves, Goes}
-use Rattle.shown_versions.specs.Book.{Page, IsBookOf, Adds, blank, last_of}
+use Rattle.shown_versions.specs.Book.{Page, IsBookOf, Adds}
 
 abbrev Log : Type 0
 Log = List Page
@@ -70,7 +70,3 @@ adds_moves v e old len cs log kept pre away =
 last_counts : {A : Type 0} (b : A) (xs : List A) (x : A) → fold (λ _ h. h) b (xs ++ x ∷ []) ≡ x
 last_counts b [] x = refl
 last_counts b (y ∷ ys) x = last_counts y ys x
-
--- what was added is the last
-pub last_added : (log v : Log) (e : Page) → log ≡ v ++ e ∷ [] → last_of log ≡ e
-last_added log v e is = ap last_of is ∙ last_counts blank v e

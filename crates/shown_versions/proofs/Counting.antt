@@ -95,10 +95,6 @@ all_of_cons (c ∷ cs) e es =
     let k = keep_length (e.caller == c) e.update (own_updates c es) in
     omega arith
 
-one_if_most : (b : Bool) → one_if b ≤ 1
-one_if_most true = omega arith
-one_if_most false = omega arith
-
 times_by : (x c : ℕ) (cs : List ℕ) → times_listed c cs ≡ 0 → times_listed x cs ≤ 1 → (b : Bool) → (x == c) ≡ b → one_if b + times_listed x cs ≤ 1
 times_by x c cs none most true is =
     let same : x ≡ c = grind (arith, nat_tests) in

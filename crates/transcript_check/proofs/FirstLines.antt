@@ -99,15 +99,6 @@ mark_read head line behind field (Err e) o begun is read same =
     let clash : ◌≡◌ {A = Result ℕ LogCause} (Err e) (Ok m) = read ∙ good in
     cc)
 
--- a line with its feed has a feed
-pub feed_in : (xs line behind : List ℕ) → xs ≡ (line ++ 10 ∷ []) ++ behind → IsNowhere 10 xs → ⊥
-feed_in [] [] behind e h = cc
-feed_in [] (b ∷ line) behind e h = cc
-feed_in (x ∷ xs) [] behind e h = h 0 (omega arith) cc
-feed_in (x ∷ xs) (b ∷ line) behind e h =
-    let tail : xs ≡ (line ++ 10 ∷ []) ++ behind = cc in
-    feed_in xs line behind tail (λ j low is. h (suc j) (omega arith) is)
-
 -- the line before the first feed is the only one
 pub line_before : (xs line behind : List ℕ) (k : ℕ) → IsFirstAt 10 xs k → AllByRecursion IsNoFeed line → xs ≡ (line ++ 10 ∷ []) ++ behind → line ≡ take k xs
 line_before [] line behind k h plain e = absurd (let w : k < 0 = h.within in omega arith)
@@ -145,7 +136,3 @@ none_marked head xs k h never line behind m e is =
     let whole : xs ≡ (is.line ++ 10 ∷ []) ++ behind = e ∙ ap (λ (l : List ℕ). l ++ behind) is.ended in
     let same : is.line ≡ take k xs = line_before xs is.line behind k h is.one whole in
     never m (rw (← same) is.spelled)
-
--- nor where there is no feed
-pub none_ended : (head : List ℕ) (xs : List ℕ) → IsNowhere 10 xs → (line behind : List ℕ) (m : ℕ) → xs ≡ line ++ behind → IsMarked head line m → ⊥
-none_ended head xs h line behind m e is = feed_in xs is.line behind (e ∙ ap (λ (l : List ℕ). l ++ behind) is.ended) h

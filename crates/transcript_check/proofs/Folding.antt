@@ -30,9 +30,6 @@ points_of_front zero us = omega arith
 points_of_front (suc n) [] = omega arith
 points_of_front (suc n) (u ∷ us) = let r = points_of_front n us in omega arith
 
-changes : List (ℕ × Update) → List Update
-changes hs = map (λ h. h.1) hs
-
 points_put : (m : ℕ) (u : Update) (hs : List (ℕ × Update)) → points_in_all (map (λ h. h.1) (put_update m u hs)) ≡ points_in u + points_in_all (map (λ h. h.1) hs)
 points_put m u [] = omega arith
 points_put m u (h ∷ hs) = go (nat_lt h.0 m) (points_put m u hs)

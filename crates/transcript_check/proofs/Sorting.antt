@@ -17,9 +17,6 @@ use Rattle.scan_log.specs.Transcript.{marked_updates, put_if, put_update}
 use Rattle.transcript_check.specs.Told.{updates_of}
 use Rattle.transcript_check.specs.declared.order.Marked.{Marked}
 
-abbrev pub Pair : Type 0
-Pair = ℕ × Update
-
 abbrev pub first_if : ℕ → Option Update → List (ℕ × Update) → List (ℕ × Update)
 first_if m (Some u) hs = (m, u) ∷ hs
 first_if m None hs = hs
