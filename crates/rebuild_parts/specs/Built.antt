@@ -13,12 +13,13 @@ pub record JobAt : Type 0 where
   pub ticket : ℕ
   pub items : List Item
 
--- a tree that was built of the items, and the operations that were done on it since
+-- a tree that was built of the items, the operations that were done on it since, and the `large` that it is balanced for
 pub record BuiltAt : Type 0 where
   pub ticket : ℕ
   pub items : List Item
   pub done : List Op
   pub tree : Shape
+  pub large : ℕ
 
 -- each node's number is an item's
 abbrev pub AreNumbersOf : List Item → Shape → Type 0

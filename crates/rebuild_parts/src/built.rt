@@ -40,9 +40,9 @@ impl Model for Built {
 
     ghost coded = { Prim.hlevel (codes, coded_shape) };
 
-    ghost view = { λ b. record { ticket = b.job.ticket; items = b.job.items; done = b.done.items; tree = b.tree } };
+    ghost view = { λ b. record { ticket = b.job.ticket; items = b.job.items; done = b.done.items; tree = b.tree; large = b.large } };
 
-    ghost invariant = { λ b. IsLawfulBuilt (record { ticket = b.job.ticket; items = b.job.items; done = b.done.items; tree = b.tree }) × IsBalancedBelow b.large b.tree };
+    ghost invariant = { λ b. IsLawfulBuilt (record { ticket = b.job.ticket; items = b.job.items; done = b.done.items; tree = b.tree; large = b.large }) × IsBalancedBelow b.large b.tree };
 }
 
 // By hand, so that whoever lets a value go proves one call.
@@ -69,7 +69,7 @@ impl Built {
         requires held { contents tree ≡ job.items }
         requires numbers { AreNumbersOf job.items tree }
         requires criteria { AllMeetCriteria 10 tree }
-        ensures { result ≡ record { ticket = job.ticket; items = job.items; done = []; tree = tree } }
+        ensures { result ≡ record { ticket = job.ticket; items = job.items; done = []; tree = tree; large = large } }
     {
         Built {
             job,
@@ -82,6 +82,7 @@ impl Built {
     /// Its tree, and the `large` for which it is balanced.
     pub fn into_tree(self) -> (Tree, u32)
         ensures tree { result.0 ≡ self.tree }
+        ensures large { result.1 ≡ self.large }
         ensures balanced { IsBalancedBelow result.1 result.0 }
     {
         let Built {
@@ -125,7 +126,8 @@ impl Built {
 
     /// The `large` for which the tree is balanced.
     pub fn large(&self) -> u32
-        ensures { IsBalancedBelow result self.now.tree }
+        ensures value { result ≡ self.now.large }
+        ensures balanced { IsBalancedBelow result self.now.tree }
     {
         self.large
     }
@@ -152,6 +154,7 @@ impl Built {
     pub fn replay(self, alloc: Global, large: u32, ops: &[Op]) -> Result<Built, BuiltLeft>
         requires { Fit (contents self.tree) ops.now }
         ensures replayed { IfOk result (IsReplayOf self ops.now) }
+        ensures large { IfOk result (λ b. b.large ≡ large) }
         ensures balance { IfOk result (λ b. IsBalancedBelow large b.tree) }
         ensures left { IfErr result (λ l. l.built ≡ self) }
     {
@@ -169,6 +172,7 @@ impl Built {
     pub fn replay_in_place(self, alloc: Global, large: u32, ops: &[Op]) -> Result<Built, NoMemory>
         requires { Fit (contents self.tree) ops.now }
         ensures replayed { IfOk result (IsReplayOf self ops.now) }
+        ensures large { IfOk result (λ b. b.large ≡ large) }
         ensures balance { IfOk result (λ b. IsBalancedBelow large b.tree) }
     {
         let Built {

@@ -86,6 +86,7 @@ impl Job {
     /// memory runs out, the job is handed back. The value is best swapped into a state with the same `large`.
     pub fn build(self, alloc: Global, large: u32) -> Result<Built, JobLeft>
         ensures built { IfOk result (IsBuiltOf self) }
+        ensures large { IfOk result (λ b. b.large ≡ large) }
         ensures left { IfErr result (λ l. l.job ≡ self) }
     {
         match self.tree_by::<Brand>(alloc, Blank::new(1)) {

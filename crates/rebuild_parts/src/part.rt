@@ -24,7 +24,7 @@ pub struct PartInfo {
 /// A detached subtree. What it held is shared with the snapshot or the job that was made of it.
 #[derive(Drop)]
 pub struct Part {
-    /// From 1 to 4; no two parts of a state have one slot.
+    /// From 1 to 4 among the parts of a state, no two of which have one slot.
     pub slot: u8,
     /// Where it stands in the tree.
     pub path: Path,
