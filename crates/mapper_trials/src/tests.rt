@@ -5,3 +5,4 @@ mod outside;
 mod pieces;
 mod runs;
 mod scripts;
+mod verdicts;

@@ -6,18 +6,21 @@ ghost use Rattle.transcript_check.specs.Heads.{SpellMarks, heads};
 ghost use Rattle.transcript_check.specs.Told.{lines_told, marks_of};
 ghost use Rattle.transcript_check.specs.Verdicts.{IsVerdict, joined_lines};
 
+use crate::held_map::HeldMap;
 use crate::legality::are_legal;
 use crate::lines::{Stop, Told, told_lines};
 use crate::order::updates_by_mark;
 use crate::replaying::first_other;
+use crate::tree_map::TreeMap;
 use crate::verdict::Verdict;
 use map_fold::NoMemory;
+use plain_map::PlainMap;
 use scan_log::{PlainScript, Script};
 use std::alloc::Global;
 
-/// What is found of a transcript of the script. The text is read once. Then the updates are made on the plain map in the order of
-/// their marks, and each query is answered by a walk over all items, or by one for each place that it names; for lonely points and
-/// clusters the items are put into a tree. Takes memory for the script's copy, the plain map, the marks, and one reply at a time.
+/// What is found of a transcript of the script. The text is read once. Then the updates are made on a tree in the order of their
+/// marks, and each query is answered between them, as in a run. Takes memory for the script's copy, the tree, the marks, and one
+/// reply at a time.
 pub fn check(alloc: Global, script: &Script, transcript: &[u8]) -> Result<Verdict, NoMemory>
     ensures verdict { IfOk result (IsVerdict script.now transcript.now) }
 
@@ -27,8 +30,38 @@ pub fn check(alloc: Global, script: &Script, transcript: &[u8]) -> Result<Verdic
     // So it is legal exactly where its lines are those of legal replies.
     ensures legal { IfOk result (λ v. (v ≡ Verdict.Legal) ↔ AreLegalLines script.now transcript.now) }
 {
+    check_on::<TreeMap>(alloc, script, transcript)
+}
+
+/// The same by the plain map, whose updates and answers are walks over all items: slow, and plain enough to check `check` by.
+pub fn check_plainly(alloc: Global, script: &Script, transcript: &[u8]) -> Result<Verdict, NoMemory>
+    ensures verdict { IfOk result (IsVerdict script.now transcript.now) }
+
+    // No other verdict is true of it.
+    ensures only { IfOk result (λ v. (w : Verdict) → IsVerdict script.now transcript.now w → w ≡ v) }
+
+    // So it is legal exactly where its lines are those of legal replies.
+    ensures legal { IfOk result (λ v. (v ≡ Verdict.Legal) ↔ AreLegalLines script.now transcript.now) }
+{
+    check_on::<PlainMap>(alloc, script, transcript)
+}
+
+// The same by such a map.
+fn check_on<M: HeldMap>(
+    alloc: Global,
+    script: &Script,
+    transcript: &[u8],
+) -> Result<Verdict, NoMemory>
+    ensures verdict { IfOk result (IsVerdict script.now transcript.now) }
+
+    // No other verdict is true of it.
+    ensures only { IfOk result (λ v. (w : Verdict) → IsVerdict script.now transcript.now w → w ≡ v) }
+
+    // So it is legal exactly where its lines are those of legal replies.
+    ensures legal { IfOk result (λ v. (v ≡ Verdict.Legal) ↔ AreLegalLines script.now transcript.now) }
+{
     match told_lines(alloc, script.commands(), transcript) {
-        Ok(told) => verdict_on(alloc, script, told.as_slice()),
+        Ok(told) => verdict_on::<M>(alloc, script, told.as_slice()),
         Err(Stop::Unspelled { before }) => Ok(Verdict::Unspelled {
             line: number_of(before),
         }),
@@ -37,7 +70,11 @@ pub fn check(alloc: Global, script: &Script, transcript: &[u8]) -> Result<Verdic
 }
 
 // What is found of lines that spell marks.
-fn verdict_on(alloc: Global, script: &Script, told: &[Told]) -> Result<Verdict, NoMemory>
+fn verdict_on<M: HeldMap>(
+    alloc: Global,
+    script: &Script,
+    told: &[Told],
+) -> Result<Verdict, NoMemory>
     requires { SpellMarks (heads script.now.commands) (lines_told told.now) (marks_of told.now) }
     ensures { IfOk result (IsVerdict script.now (joined_lines (lines_told told.now))) }
 {
@@ -47,7 +84,7 @@ fn verdict_on(alloc: Global, script: &Script, told: &[Told]) -> Result<Verdict, 
     if !are_legal(commands, told, updates.as_slice()) {
         return Ok(Verdict::Marks);
     }
-    match first_other(alloc, &plain, told, updates.as_slice())? {
+    match first_other::<M>(alloc, &plain, told, updates.as_slice())? {
         Some(place) => Ok(Verdict::Differs {
             line: number_of(place),
         }),

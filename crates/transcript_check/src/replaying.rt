@@ -1,4 +1,4 @@
-//! Replaying a history on the plain map, and comparing each line with its reply.
+//! Replaying a history, and comparing each line with its reply.
 ghost use Rattle.std.specs.Prelude.{◌≡◌, ◌+◌, ◌≤◌, length, IfOk, MatchOption};
 ghost use Rattle.std.specs.Bool.{Decides};
 ghost use Rattle.std.specs.Option.{ForSome, option_copied};
@@ -9,16 +9,15 @@ ghost use Rattle.scan_log.specs.Transcript.{reply_text, marked_updates};
 ghost use Rattle.transcript_check.specs.Told.{changes_of, lines_told, lines_under, marks_of, points_in_all, reply_at, updates_of};
 ghost use Rattle.transcript_check.specs.Verdicts.{IsFirstOther};
 
-use crate::answers::reply_to;
+use crate::held_map::HeldMap;
 use crate::lines::{Told, command_at};
 use crate::order::{Marked, places_by_mark};
 use map_fold::{MAX_POINTS, NoMemory, Settings};
-use plain_map::PlainMap;
 use scan_log::{Command, Format, PlainScript, reply_line};
 use std::alloc::Global;
 
 /// The place of the first line that isn't its reply's, from 0.
-pub fn first_other(
+pub fn first_other<M: HeldMap>(
     alloc: Global,
     script: &PlainScript,
     told: &[Told],
@@ -34,12 +33,12 @@ pub fn first_other(
     let settings = script.settings();
     let format = script.format();
     let places = places_by_mark(alloc, told)?;
-    let mut map = PlainMap::new(alloc);
+    let mut map = M::empty(alloc);
     let mut level = 0;
     let mut first = told.len();
     for at in places.as_slice() {
         let mark = at.mark as usize;
-        map = advanced(map, settings, &updates[level..mark])?;
+        map = advanced(alloc, map, settings, &updates[level..mark])?;
         level = mark;
         if at.place < first {
             let command = command_at(commands, at.place);
@@ -56,30 +55,35 @@ pub fn first_other(
 }
 
 // The map after these updates.
-fn advanced(map: PlainMap, settings: &Settings, updates: &[Marked]) -> Result<PlainMap, NoMemory>
-    requires { map.next + points_in_all (changes_of updates.now) ≤ MAX_POINTS }
-    ensures { IfOk result (λ m. m ≡ fold_from settings.now.voxel (changes_of updates.now) map) }
+fn advanced<M: HeldMap>(
+    alloc: Global,
+    map: M,
+    settings: &Settings,
+    updates: &[Marked],
+) -> Result<M, NoMemory>
+    requires { (M.holds map).next + points_in_all (changes_of updates.now) ≤ MAX_POINTS }
+    ensures { IfOk result (λ m. M.holds m ≡ fold_from settings.now.voxel (changes_of updates.now) (M.holds map)) }
 {
     let mut map = map;
     for marked in updates {
-        map = map.apply(settings, marked.update)?;
+        map = map.apply(alloc, settings, marked.update)?;
     }
     Ok(map)
 }
 
 // Whether the line is that of its reply on this map.
-fn is_told(
+fn is_told<M: HeldMap>(
     alloc: Global,
-    map: &PlainMap,
+    map: &M,
     format: Format,
     command: Option<&Command>,
     told: &Told,
 ) -> Result<bool, NoMemory>
     requires good { ForSome (option_copied command) IsPlain }
-    requires points { map.now.next ≤ MAX_POINTS }
-    ensures { IfOk result (λ same. Decides same (told.now.line.now ≡ reply_text format (option_copied command.entry) (reply_at map.now.items (option_copied command.entry) told.now.mark))) }
+    requires points { (M.holds map.now).next ≤ MAX_POINTS }
+    ensures { IfOk result (λ same. Decides same (told.now.line.now ≡ reply_text format (option_copied command.entry) (reply_at (M.holds map.now).items (option_copied command.entry) told.now.mark))) }
 {
-    let reply = reply_to(alloc, map, command, told.mark as u64)?;
+    let reply = map.reply(alloc, command, told.mark as u64)?;
     let mut line = Vec::new(alloc);
     reply_line(&mut line, format, command, &reply)?;
     Ok(told.line == line.as_slice())

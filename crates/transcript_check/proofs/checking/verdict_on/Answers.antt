@@ -7,24 +7,24 @@ use Rattle.transcript_check.proofs.OneVerdict.{other_few, other_verdict, told_pl
 use Rattle.transcript_check.proofs.checking.verdict_on.Goals as goal
 
 pub updates_by_mark-requires : goal.updates_by_mark-requires
-updates_by_mark-requires c =
+updates_by_mark-requires g c =
     let is : c.in_ok-plain.plain ≡ plain_script c.args.script.now = c.in_ok-plain.ensures in
     rw (c.commands-commands.ensures.all, is) (told_plain c.args.script.now c.args.told.now c.requires)
 
 pub are_legal-requires-clause-many : goal.are_legal-requires-clause-many
-are_legal-requires-clause-many c =
+are_legal-requires-clause-many g c =
     let is : c.in_ok-plain.plain ≡ plain_script c.args.script.now = c.in_ok-plain.ensures in
     rw (c.commands-commands.ensures.all, is) (told_plain c.args.script.now c.args.told.now c.requires)
 
 pub number_of-requires : goal.number_of-requires
-number_of-requires c =
+number_of-requires g c =
     let is : c.in_ok-plain.plain ≡ plain_script c.args.script.now = c.in_ok-plain.ensures in
     let many : length c.args.told.now ≡ length c.in_ok-plain.plain.commands + 1 = rw is (told_plain c.args.script.now c.args.told.now c.requires) in
     let other = rw c.in-Some.is at c.in_ok-place.ensures in
     omega (arith, other_few c.in_ok-plain.plain c.args.told.now (c.in-Some.place + 1) c.commands-commands.ensures.limits many other)
 
 pub returns-in-Some : goal.returns-in-Some
-returns-in-Some c =
+returns-in-Some g c =
     let s = c.args.script.now in
     let told = c.args.told.now in
     let is : c.in_ok-plain.plain ≡ plain_script s = c.in_ok-plain.ensures in
@@ -33,7 +33,7 @@ returns-in-Some c =
     subst (λ (n : ℕ). IsVerdict s (joined_lines (lines_told told)) (Differs n)) (sym c.number_of.ensures) (other_verdict s told (c.in-Some.place + 1) c.requires (test.0 refl) other)
 
 pub returns : goal.returns
-returns c =
+returns g c =
     let s = c.args.script.now in
     let told = c.args.told.now in
     let is : c.in_ok-plain.plain ≡ plain_script s = c.in_ok-plain.ensures in

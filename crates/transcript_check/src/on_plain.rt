@@ -1,34 +1,46 @@
-//! Replies on the plain map.
+//! The plain map, replayed on and asked. Tests run it beside the tree.
 ghost use Rattle.std.specs.Prelude.{◌≡◌, ◌≤◌, IfOk, Some, None};
-ghost use Rattle.std.specs.Option.{ForSome, option_copied};
 ghost use Rattle.map_answers.specs.Answers.{nears};
 ghost use Rattle.kd_search.specs.Query.{IsQuery};
 ghost use Rattle.scan_log.specs.Plain.{IsPlain};
 ghost use Rattle.transcript_check.specs.Told.{reply_at};
 
+use crate::held_map::HeldMap;
 use crate::neighbours::{ball_reply, tree_of};
 use map_answers::{BoxReply, ClusterReply, HitLists, NearReply, NearsReply};
-use map_fold::{MAX_POINTS, NoMemory};
+use map_fold::{MAX_POINTS, NoMemory, Settings, Update};
 use neighbour_sets::{Found, Grouped, clusters, lonely};
 use plain_map::PlainMap;
 use point_geom::Point;
 use scan_log::{Command, Reply};
 use std::alloc::Global;
 
-/// The reply to a command, or to the end, on this map and with this mark.
-pub fn reply_to(
-    alloc: Global,
-    map: &PlainMap,
-    command: Option<&Command>,
-    mark: u64,
-) -> Result<Reply, NoMemory>
-    requires good { ForSome (option_copied command) IsPlain }
-    requires points { map.now.next ≤ MAX_POINTS }
-    ensures { IfOk result (λ r. r ≡ reply_at map.now.items (option_copied command.entry) mark) }
-{
-    match command {
-        Some(command) => answer_to(alloc, map, command, mark),
-        None => Ok(totals(map, mark)),
+impl HeldMap for PlainMap {
+    ghost holds = { λ m. m };
+
+    fn empty(alloc: Global) -> PlainMap {
+        PlainMap::new(alloc)
+    }
+
+    fn apply(
+        self,
+        _alloc: Global,
+        settings: &Settings,
+        update: &Update,
+    ) -> Result<PlainMap, NoMemory> {
+        PlainMap::apply(self, settings, update)
+    }
+
+    fn reply(
+        &self,
+        alloc: Global,
+        command: Option<&Command>,
+        mark: u64,
+    ) -> Result<Reply, NoMemory> {
+        match command {
+            Some(command) => answer_to(alloc, self, command, mark),
+            None => Ok(totals(self, mark)),
+        }
     }
 }
 

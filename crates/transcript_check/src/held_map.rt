@@ -1,0 +1,33 @@
+//! What a history is replayed on.
+ghost use Rattle.std.specs.Prelude.{◌≡◌, ◌+◌, ◌≤◌, IfOk};
+ghost use Rattle.std.specs.Option.{ForSome, option_copied};
+ghost use Rattle.map_fold.specs.Fold.{no_points, points_in, step};
+ghost use Rattle.scan_log.specs.Plain.{IsPlain};
+ghost use Rattle.transcript_check.specs.Told.{reply_at};
+
+use map_fold::{MAX_POINTS, NoMemory, Settings, Update};
+use scan_log::{Command, Reply};
+use std::alloc::Global;
+
+/// A map on which updates are made and commands are answered. How it keeps what it holds, and so what that costs, is its own.
+pub trait HeldMap: Drop {
+    ghost use Rattle.map_fold.specs.Fold.{MapAt};
+
+    /// What it holds, and how many points were submitted.
+    ghost holds: { Self → MapAt };
+
+    /// A map of nothing.
+    fn empty(alloc: Global) -> Self
+        ensures { holds result ≡ no_points };
+
+    /// The map after one more update. Lack of memory loses the map.
+    fn apply(self, alloc: Global, settings: &Settings, update: &Update) -> Result<Self, NoMemory>
+        requires { (holds self).next + points_in update.now ≤ MAX_POINTS }
+        ensures { IfOk result (λ m. holds m ≡ step settings.now.voxel update.now (holds self)) };
+
+    /// The reply to a command, or to the end, with this mark.
+    fn reply(&self, alloc: Global, command: Option<&Command>, mark: u64) -> Result<Reply, NoMemory>
+        requires good { ForSome (option_copied command) IsPlain }
+        requires points { (holds self.now).next ≤ MAX_POINTS }
+        ensures { IfOk result (λ r. r ≡ reply_at (holds self.now).items (option_copied command.entry) mark) };
+}

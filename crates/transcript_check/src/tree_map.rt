@@ -1,0 +1,114 @@
+//! What updates make of a map, in a tree of its own. It is replayed on and asked.
+ghost use Rattle.std.specs.Prelude.{◌≡◌, ◌+◌, ◌≤◌, IfOk};
+ghost use Rattle.map_fold.specs.Fold.{points_in, step};
+ghost use Rattle.kd_tree.specs.Counter.{IsBlankOf};
+
+use crate::held_map::HeldMap;
+use crate::on_tree::{tree_reply, tree_totals};
+use kd_tree::{Scratch, Steps, Tree};
+use kd_update::Watches;
+use map_fold::{MAX_LARGE, MAX_POINTS, NoMemory, Settings, Update};
+use map_update::{Work, changed};
+use scan_log::{Command, Reply};
+use std::alloc::Global;
+use std::marker::{Brand, Model};
+use std::sync::ledger::{Blank, Ledger};
+
+/// A map whose items are in a tree that nobody else sees: no version and no history is kept, and nothing of it is rebuilt elsewhere.
+pub struct TreeMap {
+    work: Work,
+    next: u32,
+    scratch: Scratch,
+}
+
+impl Model for TreeMap {
+    ghost use Rattle.map_fold.specs.Fold.{MapAt};
+    ghost use Rattle.map_fold.specs.declared.limits.TheConstants.{MAX_LARGE};
+    ghost use Rattle.kd_tree.specs.Maps.{map_of};
+    ghost use Rattle.map_update.specs.Draft.{IsWork};
+
+    ghost Value = { MapAt };
+
+    ghost view = { λ m. map_of m.work.tree m.next };
+
+    ghost invariant = { λ m. IsWork MAX_LARGE m.next m.work };
+}
+
+// By hand, so that whoever lets a map go proves one call.
+impl Drop for TreeMap {
+    fn drop(self) {
+        let TreeMap {
+            work: _work,
+            next: _next,
+            scratch: _scratch,
+        } = self;
+    }
+}
+
+impl HeldMap for TreeMap {
+    ghost holds = { λ m. m };
+
+    // Takes no memory.
+    fn empty(alloc: Global) -> TreeMap {
+        let tree = Tree::empty();
+        let watches = Watches::new(alloc);
+        TreeMap {
+            work: Work { tree, watches },
+            next: 0,
+            scratch: Scratch::new(alloc),
+        }
+    }
+
+    // What lost its balance is rebuilt with the update, as far as it is smaller than the greatest size that settings name.
+    fn apply(
+        self,
+        alloc: Global,
+        settings: &Settings,
+        update: &Update,
+    ) -> Result<TreeMap, NoMemory> {
+        self.apply_by::<Brand>(alloc, settings, update, Blank::new(1))
+    }
+
+    fn reply(
+        &self,
+        alloc: Global,
+        command: Option<&Command>,
+        mark: u64,
+    ) -> Result<Reply, NoMemory> {
+        let tree = &self.work.tree;
+        match command {
+            Some(command) => tree_reply(alloc, tree, mark, command),
+            None => Ok(tree_totals(tree, mark)),
+        }
+    }
+}
+
+impl TreeMap {
+    // The map after one more update, with a counter that nothing looks at.
+    fn apply_by<L: Ledger>(
+        self,
+        alloc: Global,
+        settings: &Settings,
+        update: &Update,
+        blank: Blank,
+    ) -> Result<TreeMap, NoMemory>
+        requires points { self.next + points_in update.now ≤ MAX_POINTS }
+        requires blank { IsBlankOf L.name L.parts blank }
+        ensures { IfOk result (λ m. m ≡ step settings.now.voxel update.now self) }
+    {
+        let TreeMap {
+            work,
+            next,
+            mut scratch,
+        } = self;
+        let mut steps: Steps<L> = Steps::new(blank);
+        let wide = Settings::new(settings.voxel(), MAX_LARGE);
+        let work = changed(alloc, work, &wide, next, update, &mut scratch, &mut steps)?;
+        let next = next + update.points() as u32;
+        Ok(TreeMap {
+            work,
+            next,
+            scratch,
+        })
+    }
+}
