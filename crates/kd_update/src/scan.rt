@@ -62,6 +62,10 @@ fn put_in_pieces<L: Ledger>(
         if tree.levels() >= MAX_LEVELS || tree.size() >= MAX_NODES {
             return built_with_rest(alloc, tree, rest, scratch, steps);
         }
+        let size = tree.size() as usize;
+        if 1 <= size && size <= rest.len() {
+            return built_with_rest(alloc, tree, rest, scratch, steps);
+        }
         let most = most_at_once(&tree, large);
         let (piece, more) = rest.split_at(most.min(rest.len()));
         tree = put_piece(alloc, tree, large, piece, scratch, steps)?;

@@ -30,3 +30,8 @@ returns g c =
     let s = c.loop-rest.tree in
     let none = nil_from_length c.loop-rest.rest.now (eqb-true (length c.loop-rest.rest.now) 0 (sym c.is_empty.ensures ∙ c.loop-rest-test.false)) in
     c.loop-rest.invariant.rest s (subst (λ (xs : List Item). IsPut c.args.large s xs s) (sym none) (put_none c.args.large s))
+
+pub returns-then-size-rest : goal.returns-then-size-rest
+returns-then-size-rest g c =
+    IfOk-weaker c.built_with_rest-then-size-rest.result _ (λ t. IsPut c.args.large c.args.tree c.args.items.now t)
+    c.loop-rest.invariant.rest (c.built_with_rest-then-size-rest.ensures c.args.large)
