@@ -37,6 +37,8 @@ typedef struct { corv_place lo, hi; } corv_box;
 typedef struct { corv_point point; uint64_t dist2_high, dist2_low; uint32_t number; } corv_hit;
 /* A live point, under its number. */
 typedef struct { corv_point point; uint32_t number; } corv_item;
+/* A point that is held, under its number: live where suspended is 0, suspended where it is 1. */
+typedef struct { corv_point point; uint32_t number, suspended; } corv_held;
 /* How many updates were made, how many points they submitted, and how many of those are live and how many suspended. */
 typedef struct { uint64_t updates; uint32_t points, live, suspended; } corv_totals;
 
@@ -54,7 +56,8 @@ enum {
     CORV_TOO_MANY_POINTS = 9,   /* more than 4,194,304 points would have been submitted */
     CORV_NOTHING_TO_DETACH = 10, /* no subtree is to be rebuilt */
     CORV_STALE = 11,            /* the built subtree's place in the map is there no more */
-    CORV_BEHIND = 12            /* more than 64 operations are left to be done on the built subtree */
+    CORV_BEHIND = 12,           /* more than 64 operations are left to be done on the built subtree */
+    CORV_NO_LINE = 13           /* an update has more than 262,144 points or boxes, or expires above 4,194,304: no line of a log says it */
 };
 
 /* Makes a map that holds nothing. Its voxels have edges of 1 to 1,000,000, and of 16 to 1,000,000 nodes on a subtree is large.
@@ -92,6 +95,12 @@ int32_t corv_map_count(corv_map *map, const corv_box *box, uint32_t *live);
 /* The live points in the box, by number; the first most where there are more. most is from 1 to 256, and room at least that.
  * EMPTY, BAD_NUMBER, NO_ROOM, BAD_BOX, NO_MEMORY. */
 int32_t corv_map_inside(corv_map *map, const corv_box *box, uint32_t most, corv_item *items, size_t room, size_t *count);
+/* The live points at most r millimetres from the place, by number; the first most where there are more. most is from 1 to 256, r up to
+ * 4,398,046,511,104, and room at least most. EMPTY, BAD_NUMBER, NO_ROOM, OUT_OF_RANGE, NO_MEMORY. */
+int32_t corv_map_ball(corv_map *map, const corv_place *place, uint64_t r, uint32_t most, corv_held *items, size_t room, size_t *count);
+/* What is live or suspended under a number from this one on, by number: all of it, or as much as there is room for, which may be
+ * nothing. One call with room for the live and the suspended points of the totals has all. EMPTY, NO_MEMORY. */
+int32_t corv_map_items(corv_map *map, uint32_t from, corv_held *items, size_t room, size_t *count);
 /* EMPTY. */
 int32_t corv_map_totals(corv_map *map, corv_totals *totals);
 
@@ -106,7 +115,16 @@ int32_t corv_view_nearest(corv_view *view, const corv_place *place, uint32_t k, 
 int32_t corv_view_nearest_each(corv_view *view, const corv_place *places, size_t n, uint32_t k, int64_t within, corv_hit *hits, size_t room, uint32_t *counts, size_t counts_room, size_t *count);
 int32_t corv_view_count(corv_view *view, const corv_box *box, uint32_t *live);
 int32_t corv_view_inside(corv_view *view, const corv_box *box, uint32_t most, corv_item *items, size_t room, size_t *count);
+int32_t corv_view_items(corv_view *view, uint32_t from, corv_held *items, size_t room, size_t *count);
 int32_t corv_view_totals(corv_view *view, corv_totals *totals);
+
+/* Makes a map that holds what the view shows, so that a map goes on that comes to its limits: the suspended points under the numbers
+ * from 0 on, and behind them the live ones, each kind in the order of its numbers. Its updates are counted anew: 33 at most. It can
+ * be made in another thread than the map's. FULL (the map), EMPTY (the view), BAD_NUMBER, NO_MEMORY. */
+int32_t corv_view_renew(corv_view *view, uint32_t voxel, uint32_t large, corv_map *map);
+/* Writes the map's updates as a log of version 2, which leads to the same map; an update of no point or box has no line. All updates
+ * are caller 1's. EMPTY, TOO_MANY_UPDATES (65,536 lines), NO_LINE, NO_MEMORY, NO_ROOM. */
+int32_t corv_map_log(corv_map *map, uint8_t *bytes, size_t room, size_t *count);
 
 /* Large subtrees are rebuilt beside the updates, on threads of the caller's: detach (in the map's thread), build (in any, while
  * the map goes on), swap (in the map's thread). Where a swap answers BEHIND: replay (in any thread), and swap again. Nothing of it

@@ -29,6 +29,7 @@ using Point = corv_point;
 using Box = corv_box;
 using Hit = corv_hit;
 using Item = corv_item;
+using Held = corv_held;
 using Totals = corv_totals;
 
 /// A call was refused, and everything is as it was. Where memory ran out it is std::bad_alloc instead.
@@ -50,6 +51,7 @@ private:
             case CORV_BAD_BOX: return "corv: a number of a box is out of range, or one of hi is below that of lo";
             case CORV_TOO_MANY_UPDATES: return "corv: too many updates";
             case CORV_TOO_MANY_POINTS: return "corv: too many points";
+            case CORV_NO_LINE: return "corv: no line of a log says an update";
             default: return "corv: a call was refused";
         }
     }
@@ -91,6 +93,7 @@ struct MapCalls {
     static constexpr auto nearest_each = corv_map_nearest_each;
     static constexpr auto count = corv_map_count;
     static constexpr auto inside = corv_map_inside;
+    static constexpr auto items = corv_map_items;
     static constexpr auto totals = corv_map_totals;
 };
 
@@ -101,6 +104,7 @@ struct ViewCalls {
     static constexpr auto nearest_each = corv_view_nearest_each;
     static constexpr auto count = corv_view_count;
     static constexpr auto inside = corv_view_inside;
+    static constexpr auto items = corv_view_items;
     static constexpr auto totals = corv_view_totals;
 };
 
@@ -194,6 +198,17 @@ public:
         return items;
     }
 
+    /// All points, live and suspended, under the numbers from this one on, by number.
+    std::vector<Held> items(std::uint32_t from = 0) {
+        auto held = totals();
+        std::vector<Held> items(std::max<std::size_t>(1, std::size_t{held.live} + held.suspended));
+        std::size_t count = 0;
+        auto status = Calls::items(get(), from, items.data(), items.size(), &count);
+        items.resize(count);
+        detail::check(status);
+        return items;
+    }
+
     /// How many updates were made, and how many points are there.
     Totals totals() {
         Totals totals{};
@@ -268,6 +283,28 @@ class Map : public Asked<detail::MapCalls> {
 public:
     /// Holds nothing. Its voxels have edges of 1 to 1,000,000 mm; subtrees of so many nodes, 16 to 1,000,000, count as large.
     Map(std::uint32_t voxel, std::uint32_t large) { detail::check(corv_map_new(voxel, large, get())); }
+
+    /// Holds what the view shows, under new numbers: the suspended points first, and then the live ones, each in their order.
+    Map(View &view, std::uint32_t voxel, std::uint32_t large) {
+        detail::check(corv_view_renew(view.get(), voxel, large, get()));
+    }
+
+    /// The updates as a log.
+    std::vector<std::uint8_t> log() {
+        auto all = totals();
+        std::vector<std::uint8_t> bytes(64 + 64 * all.updates + 56 * std::size_t{all.points});
+        for (;;) {
+            std::size_t count = 0;
+            auto status = corv_map_log(get(), bytes.data(), bytes.size(), &count);
+            if (status == CORV_NO_ROOM) {
+                bytes.resize(2 * bytes.size());
+                continue;
+            }
+            detail::check(status);
+            bytes.resize(count);
+            return bytes;
+        }
+    }
 
     /// Each point is held, live, under the next number.
     void add(List<Point> points) { update(corv_map_add, points); }

@@ -1,2 +1,5 @@
+pub mod Balls
+pub mod Logged
 pub mod Maps
+pub mod Renewal
 pub mod Swapping

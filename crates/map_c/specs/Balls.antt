@@ -1,0 +1,42 @@
+-- The live points of a ball.
+use Rattle.std.specs.Prelude.{◌≡◌, ◌<◌, ◌≤◌, ◌⊎◌, ℕ, ℤ, List, map, length, take, Option, None, Some}
+use Rattle.map_fold.specs.declared.limits.TheConstants.{MAX_FOUND, MAX_WITHIN}
+use Rattle.map_answers.specs.Neighbours.{ball}
+use Rattle.kd_tree.specs.Contents.{contents}
+use Rattle.rebuild_parts.specs.Seen.{VersionAt}
+use Rattle.c_handles.specs.Answers.{shown_in}
+use Rattle.c_handles.specs.Forms.{IsRightPlace, place_at}
+use Rattle.c_handles.specs.Status.{bad_number, empty, no_memory, no_room, out_of_range}
+use Rattle.c_handles.specs.declared.content.Content.{Content}
+use Rattle.c_handles.specs.declared.forms.Place.{Place}
+use Rattle.map_c.specs.declared.all_items.HeldPoint.{HeldPoint}
+use Rattle.map_c.specs.Renewal.{c_held}
+
+-- a ball may be asked for so far, and so many of it
+pub record IsBallAsked (r most : ℕ) : Type 0 where
+  pub from : 1 ≤ most
+  pub to : most ≤ MAX_FOUND
+  pub r_to : r ≤ MAX_WITHIN
+
+-- the live points of what is shown at most r millimetres from a place, by number, the first `most` of them, as C has them
+abbrev pub ball_items : VersionAt → Place → ℕ → ℕ → List HeldPoint
+ball_items v p r most = map c_held (take most (ball (contents v.tree) (place_at p) r))
+
+-- The front of the items, as long as the count, is the live points in the ball of what the handle shows.
+pub record IsBall (c : Option Content) (p : Place) (r most : ℕ) (items : List HeldPoint) (count : ℕ) : Type 0 where
+  pub version : VersionAt
+  pub shown : shown_in c ≡ Some version
+  pub asked : IsBallAsked r most
+  pub room : most ≤ length items
+  pub range : IsRightPlace p
+  pub list : take count items ≡ ball_items version p r most
+  pub number : count ≡ length (ball_items version p r most)
+
+-- why they aren't listed
+abbrev pub IsBallRefusal : Option Content → Place → ℕ → ℕ → ℕ → ℤ → Type 0
+IsBallRefusal c p r most room status =
+    ((status ≡ empty) × (shown_in c ≡ None))
+    ⊎ ((status ≡ bad_number) × (IsBallAsked r most → ⊥))
+    ⊎ ((status ≡ no_room) × (room < most))
+    ⊎ ((status ≡ out_of_range) × (IsRightPlace p → ⊥))
+    ⊎ (status ≡ no_memory)

@@ -1,0 +1,75 @@
+//! The live points of a ball, written where C wants them.
+ghost use Rattle.std.specs.Prelude.{◌≡◌, IfErr, IfOk, Some, false, length, true};
+ghost use Rattle.c_handles.specs.Answers.{IsTold};
+ghost use Rattle.c_handles.specs.Status.{code};
+ghost use Rattle.map_c.specs.Balls.{IsBall, IsBallAsked, IsBallRefusal};
+
+use crate::all_items::{HeldPoint, write_all};
+use c_handles::{Content, DONE, Handle, Place, Refusal, read_place, shown};
+use map_fold::{MAX_FOUND, MAX_WITHIN};
+use neighbour_sets::in_ball;
+use std::alloc::Global;
+
+/// Writes the live points at most `r` millimetres from a place by number, the first `most` where there are more, and how many they
+/// are.
+#[unsafe(no_mangle)]
+pub extern "C" fn corv_map_ball(
+    alloc: Global,
+    map: &mut Handle,
+    place: &Place,
+    r: u64,
+    most: u32,
+    items: &mut [HeldPoint],
+    count: &mut usize,
+) -> i32
+    ensures { IsTold (IsBall map.old.held.content place.now r most items.new count.new)
+        (IsBallRefusal map.old.held.content place.now r most (length items.old))
+        map.old.held.content map.new.held.content count.new result }
+{
+    *count = 0;
+    let Some(content) = map.take(alloc) else {
+        return Refusal::Empty.status();
+    };
+    let found = list_ball(alloc, &content, place, r, most, items);
+    *map = Handle::of(content);
+    match found {
+        Err(refusal) => refusal.status(),
+        Ok(n) => {
+            *count = n;
+            DONE
+        }
+    }
+}
+
+fn list_ball(
+    alloc: Global,
+    content: &Content,
+    place: &Place,
+    r: u64,
+    most: u32,
+    items: &mut [HeldPoint],
+) -> Result<usize, Refusal>
+    ensures found { IfOk result (IsBall (Some content.now) place.now r most items.new) }
+    ensures refused { IfErr result (λ c. IsBallRefusal (Some content.now) place.now r most (length items.old) (code c)) }
+{
+    let Some(version) = shown(content) else {
+        return Err(Refusal::Empty);
+    };
+    if !is_asked(r, most) {
+        return Err(Refusal::BadNumber);
+    }
+    if items.len() < most as usize {
+        return Err(Refusal::NoRoom);
+    }
+    let point = read_place(place)?;
+    let found = in_ball(alloc, version.tree(), &point, r, most)?;
+    let n = write_all(found.as_slice(), items);
+    Ok(n)
+}
+
+fn is_asked(r: u64, most: u32) -> bool
+    ensures yes { result ≡ true → IsBallAsked r most }
+    ensures no { result ≡ false → IsBallAsked r most → ⊥ }
+{
+    1 <= most && most <= MAX_FOUND && r <= MAX_WITHIN
+}

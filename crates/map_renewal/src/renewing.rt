@@ -1,0 +1,142 @@
+//! A new map that holds what a version holds.
+ghost use Rattle.std.specs.Prelude.{◌≡◌, ◌+◌, ◌<◌, ◌≤◌, [], ◌∷◌, ◌++◌, length, IfOk, OnOk};
+ghost use Rattle.node_labels.specs.declared.label.Label.TheVariants.{Live, Suspended};
+ghost use Rattle.map_fold.specs.Contents.{live_items};
+ghost use Rattle.map_fold.specs.Fold.{add_points};
+ghost use Rattle.kd_tree.specs.Maps.{map_of};
+ghost use Rattle.kd_tree.specs.Counter.{IsBlankOf};
+ghost use Rattle.kd_tree.specs.Contents.{contents};
+ghost use Rattle.rebuild_core.specs.Steps.{HasRoom, IsUpdateStep};
+ghost use Rattle.map_renewal.specs.Renewed.{IsAdded, all_places, numbered_as, points_of, points_with, renewed_items, suspended_items};
+
+use crate::everywhere::{everywhere, look_at};
+use kd_tree::Steps;
+use map_fold::{Cuboids, Item, Label, MAX_POINTS, NoMemory, Points, Settings, Update};
+use point_geom::Point;
+use rebuild_core::{MAX_UPDATES, MapState};
+use rebuild_parts::{StateFault, Version};
+use std::alloc::Global;
+use std::marker::Brand;
+use std::sync::ledger::{Blank, Ledger};
+
+/// A new map that holds what the version holds: the suspended points under the numbers from 0 on, and behind them the live
+/// ones, each kind in the order of its numbers. So only a point's number changes.
+pub fn renewed(alloc: Global, version: &Version, settings: Settings) -> Result<MapState, NoMemory>
+    ensures held { IfOk result (λ s. contents s.state.tree ≡ renewed_items (contents version.now.tree)) }
+    ensures next { IfOk result (λ s. s.state.next ≡ length (contents version.now.tree)) }
+    ensures settings { IfOk result (λ s. s.state.settings ≡ settings) }
+
+    // So the points are the same, with their intensities, live and suspended, in the order of their numbers.
+    ensures live { IfOk result (λ s. points_of (live_items (contents s.state.tree)) ≡ points_of (live_items (contents version.now.tree))) }
+    ensures suspended { IfOk result (λ s. points_of (suspended_items (contents s.state.tree)) ≡ points_of (suspended_items (contents version.now.tree))) }
+{
+    let _size = version.tree().size();
+    let items = version.tree().flatten(alloc)?;
+    let suspended = points_with(alloc, items.as_slice(), Label::Suspended)?;
+    let live = points_with(alloc, items.as_slice(), Label::Live)?;
+    let state = of_points(alloc, suspended.as_slice(), live.as_slice(), settings)?;
+    Ok(state)
+}
+
+// A new map of these suspended points, and behind them these live ones.
+fn of_points(
+    alloc: Global,
+    suspended: &[Point],
+    live: &[Point],
+    settings: Settings,
+) -> Result<MapState, NoMemory>
+    requires few { length suspended.now + length live.now ≤ MAX_POINTS }
+    ensures held { IfOk result (λ s. contents s.state.tree ≡ numbered_as Suspended 0 suspended.now ++ numbered_as Live (length suspended.now) live.now) }
+    ensures next { IfOk result (λ s. s.state.next ≡ length suspended.now + length live.now) }
+    ensures settings { IfOk result (λ s. s.state.settings ≡ settings) }
+{
+    look_at(suspended);
+    let mut state = MapState::new(alloc, settings)?;
+    add_all(alloc, &mut state, suspended)?;
+    one_more(alloc, &mut state, Update::Suspend(all_of_it(alloc)?))?;
+    add_all(alloc, &mut state, live)?;
+    Ok(state)
+}
+
+// The most points that a line of a log has. No update has more, so that a log can say the history.
+const MOST: usize = 262_144;
+
+// So many of them are as many points as a map is given.
+const TURNS: usize = 16;
+
+// Adds them, by as many updates as it takes: 16 at most.
+fn add_all(alloc: Global, state: &mut MapState, points: &[Point]) -> Result<(), NoMemory>
+    requires few { state.old.state.next + length points.now ≤ MAX_POINTS }
+    requires short { length state.old.state.history ≤ 100 }
+    ensures { OnOk result (IsAdded points.now state.old.state state.new.state) }
+{
+    let mut rest = points;
+    for _turn in 0..TURNS {
+        let (front, back) = rest.split_at(rest.len().min(MOST));
+        add(alloc, state, front)?;
+        rest = back;
+    }
+    Ok(())
+}
+
+// Adds so many by one update, or by none where there are none.
+fn add(alloc: Global, state: &mut MapState, points: &[Point]) -> Result<(), NoMemory>
+    requires few { state.old.state.next + length points.now ≤ MAX_POINTS }
+    requires short { length state.old.state.history < MAX_UPDATES }
+    ensures added { OnOk result (map_of state.new.state.tree state.new.state.next ≡ add_points points.now (map_of state.old.state.tree state.old.state.next)) }
+    ensures settings { OnOk result (state.new.state.settings ≡ state.old.state.settings) }
+    ensures short { OnOk result (length state.new.state.history ≤ length state.old.state.history + 1) }
+{
+    if points.is_empty() {
+        return Ok(());
+    }
+    let points = Points::from(Vec::from_slice(alloc, points)?);
+    one_more(alloc, state, Update::Add(points))
+}
+
+// The points of the items of this label, in order.
+fn points_with(alloc: Global, items: &[Item], label: Label) -> Result<Points, NoMemory>
+    ensures { IfOk result (λ points. points ≡ points_with label items.now) }
+{
+    let mut points = Points::new(alloc);
+    for item in items {
+        if item.label == label {
+            points.push(item.point)?;
+        }
+    }
+    Ok(points)
+}
+
+fn all_of_it(alloc: Global) -> Result<Cuboids, NoMemory>
+    ensures { IfOk result (λ boxes. boxes ≡ all_places ∷ []) }
+{
+    let mut boxes = Cuboids::new(alloc);
+    boxes.push(everywhere())?;
+    Ok(boxes)
+}
+
+fn one_more(alloc: Global, state: &mut MapState, update: Update) -> Result<(), NoMemory>
+    requires room { HasRoom update state.old.state }
+    ensures { OnOk result (IsUpdateStep 1 update state.old.state state.new.state) }
+{
+    counted::<Brand>(alloc, state, update, Blank::new(1))
+}
+
+// The same, with a counter that nothing looks at. There is room for it, so nothing but lack of memory refuses it.
+fn counted<L: Ledger>(
+    alloc: Global,
+    state: &mut MapState,
+    update: Update,
+    blank: Blank,
+) -> Result<(), NoMemory>
+    requires room { HasRoom update state.old.state }
+    requires blank { IsBlankOf L.name L.parts blank }
+    ensures { OnOk result (IsUpdateStep 1 update state.old.state state.new.state) }
+{
+    let mut steps: Steps<L> = Steps::new(blank);
+    match state.update(alloc, 1, update, &mut steps) {
+        Ok(_) => Ok(()),
+        Err(StateFault::NoMemory) => Err(NoMemory),
+        Err(StateFault::TooManyUpdates { .. } | StateFault::TooManyPoints { .. }) => unreachable!(),
+    }
+}
