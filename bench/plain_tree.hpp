@@ -1,7 +1,7 @@
 // A straightforward incremental k-d tree in plain C++, to be measured beside ours. It is changed in place, holds no versions, and builds
 // what got uneven anew where it stands. It admits the same coordinates, so its squared distances have 128 bits.
 #pragma once
-#include "map.hpp"
+#include <corv/map.hpp>
 
 #include <array>
 #include <memory>

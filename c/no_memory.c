@@ -1,7 +1,7 @@
 /* Each allocation of a map's life is refused in turn. Then the call that wanted it answers CORV_NO_MEMORY, the map is as it was, and the
  * same call, made once more, does what it has to. Linked with -Wl,--wrap=malloc,--wrap=realloc. Prints what isn't so, and ends with
  * status 1 where there is something. */
-#include "map.h"
+#include <corv/map.h>
 #include <limits.h>
 #include <stdio.h>
 #include <stdlib.h>

@@ -1,6 +1,6 @@
 // What map.hpp adds to map.h: owners that are moved and never copied, refusals that are thrown, empty lists, and views in threads of
 // their own. Prints what isn't so, and ends with status 1 where there is something.
-#include "map.hpp"
+#include <corv/map.hpp>
 
 #include <array>
 #include <cstdio>

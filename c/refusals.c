@@ -1,6 +1,6 @@
 /* Each refusal of each call, in the order in which the causes are named, and what a refused call leaves: everything as it was.
  * Prints what isn't so, and ends with status 1 where there is something. */
-#include "map.h"
+#include <corv/map.h>
 #include <stdio.h>
 #include <stdlib.h>
 

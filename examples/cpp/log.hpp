@@ -1,6 +1,6 @@
 // Reads a log of version 2 and writes its transcript, as much of both as odometry has use for: add, thin, near, nears and sync.
 #pragma once
-#include "map.hpp"
+#include <corv/map.hpp>
 
 #include <charconv>
 #include <istream>

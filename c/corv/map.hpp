@@ -128,10 +128,40 @@ private:
     std::size_t size_;
 };
 
+/// Values that stand side by side, for a loop.
+template <class T>
+struct Range {
+    const T *first, *last;
+
+    const T *begin() const noexcept { return first; }
+    const T *end() const noexcept { return last; }
+    std::size_t size() const noexcept { return static_cast<std::size_t>(last - first); }
+    const T &operator[](std::size_t at) const noexcept { return first[at]; }
+};
+
 /// The hits of several places: those of the first one, and right behind them the next one's. `counts` tells how many each has.
+/// A loop over it goes from place to place, and has each one's hits.
 struct Hits {
     std::vector<Hit> all;
     std::vector<std::uint32_t> counts;
+
+    class Each {
+    public:
+        Each(const Hit *hit, const std::uint32_t *count) : hit_(hit), count_(count) {}
+        Range<Hit> operator*() const noexcept { return {hit_, hit_ + *count_}; }
+        Each &operator++() noexcept {
+            hit_ += *count_++;
+            return *this;
+        }
+        bool operator!=(const Each &other) const noexcept { return count_ != other.count_; }
+
+    private:
+        const Hit *hit_;
+        const std::uint32_t *count_;
+    };
+
+    Each begin() const noexcept { return {all.data(), counts.data()}; }
+    Each end() const noexcept { return {all.data() + all.size(), counts.data() + counts.size()}; }
 };
 
 /// The distance of a hit in millimetres, as near as a double comes to it.
@@ -179,6 +209,19 @@ public:
         all.resize(count);
         counts.resize(status == CORV_DONE ? places.size() : 0);
         detail::check(status);
+    }
+
+    /// The same into memory of the caller's: room for `size` hits, at least k for each place, and for a count for each. Returns how many
+    /// hits there are.
+    std::size_t nearest_each(List<Place> places, std::uint32_t k, std::optional<std::uint64_t> within, Hit *hits, std::size_t size,
+                             std::uint32_t *counts) {
+        Hit no_hit;
+        std::uint32_t no_count;
+        std::size_t count = 0;
+        detail::check(Calls::nearest_each(get(), places.data(), places.size(), k, reach(within), size ? hits : &no_hit,
+                                          std::max<std::size_t>(1, size), places.size() ? counts : &no_count,
+                                          std::max<std::size_t>(1, places.size()), &count));
+        return count;
     }
 
     /// How many live points are in a box.

@@ -1,0 +1,64 @@
+#!/usr/bin/env python3
+"""Odometry's turn on the map, as examples/cpp/odometry.cpp has it: of each scan the points are asked for what is nearest to them, and
+then the scan is taken into the map. Meanwhile a second thread rebuilds what got uneven in it.
+
+    odometry.py < LOG > TRANSCRIPT
+
+The log is read first, as arrays. What is printed is what `mapper run --serial` prints of it. How long the map took is told on
+standard error.
+"""
+
+import array
+import sys
+import time
+
+import corv
+
+
+def commands(lines):
+    """The commands of a log: caller, word, rows, k and a greatest distance."""
+    for line in lines:
+        if line.strip() and not line.startswith("#"):
+            caller, *fields = line.split()
+            word = fields.pop(0) if fields else caller
+            k = int(fields.pop(0)) if word in ("near", "nears") else None
+            within = int(fields.pop()) if "within" in fields[-2:] else None
+            numbers = array.array("q", map(int, fields[:-1] if within is not None else fields))
+            yield caller, word, numbers and corv.rows(numbers, 4 if k is None else 3), k, within
+
+
+def main():
+    """Runs the log on standard input."""
+    lines = sys.stdin.read().splitlines()
+    words = lines[0].split()
+    map, hits, out, spent = corv.Map(int(words[3]), int(words[5])), corv.Hits(), [], 0
+    given = [*commands(lines[1:])]
+    with corv.Rebuilder(map) as rebuilder:
+        for caller, word, rows, k, within in given:
+            start = time.perf_counter()
+            if k is not None:
+                map.nearest(rows, k, within, out=hits)
+            elif word != "sync":
+                (map.add if word == "add" else map.thin)(rows)
+                rebuilder.step()
+            spent += time.perf_counter() - start
+            out.append(reply(caller, word, map.totals(), k and hits))
+    out.append(reply("end", "sync", map.totals(), None))
+    print("\n".join(out))
+    print(f"odometry.py: the map took {spent * 1e6:.0f} us; subtrees swapped in: {rebuilder.swapped}", file=sys.stderr)
+
+
+def reply(caller, word, totals, hits):
+    """The line to a command."""
+    if word == "sync":
+        return f"{caller} {totals.updates} live {totals.live} suspended {totals.suspended}"
+    if hits is None:
+        return f"{caller} ok {totals.updates}"
+    fields = [caller, word, str(totals.updates)]
+    for place in hits:
+        fields += ["/"] * (word == "nears") + ["| %d %d %d %d %d %d" % hit for hit in place]
+    return " ".join(fields)
+
+
+if __name__ == "__main__":
+    main()

@@ -1,0 +1,1 @@
+from .test_map import *  # noqa: F401, F403
