@@ -6,7 +6,7 @@
 // A line `nears` of the log is a scan that is asked for, and a line `thin` or `add` one that is taken in. What is printed is what
 // `mapper run --serial` prints of the same log. How long the map took is told on standard error.
 #include "log.hpp"
-#include "map.hpp"
+#include <corv/map.hpp>
 
 #include <chrono>
 #include <cstdio>
@@ -50,13 +50,34 @@ private:
     int swapped_ = 0;
 };
 
+void nears(corv::Map &map, const Command &command, corv::Hits &hits) {
+    const std::size_t parts = 4;
+    std::vector<std::future<corv::Hits>> asked;
+    auto &places = command.places;
+    auto ask = [&command, &places](corv::View view, std::size_t from, std::size_t to) {
+        corv::Hits found;
+        view.nearest_each(corv::List<corv::Place>(places.data() + from, to - from), command.k, command.within, found);
+        return found;
+    };
+    if (places.size() < 64) { map.nearest_each(places, command.k, command.within, hits); return; }
+    for (std::size_t part = 1; part < parts; ++part)
+        asked.push_back(std::async(std::launch::async, ask, map.view(), part * places.size() / parts, (part + 1) * places.size() / parts));
+    hits = ask(map.view(), 0, places.size() / parts);
+    for (auto &one : asked) {
+        auto more = one.get();
+        hits.all.insert(hits.all.end(), more.all.begin(), more.all.end());
+        hits.counts.insert(hits.counts.end(), more.counts.begin(), more.counts.end());
+    }
+}
+
 // Has the map do a command: what it finds is left in `hits`.
 void turn(corv::Map &map, Rebuild &rebuild, const Command &command, corv::Hits &hits) {
     if (command.word == "add" || command.word == "thin") {
+        rebuild.step();
         command.word == "add" ? map.add(command.points) : map.thin(command.points);
         rebuild.step();
     } else if (command.word != "sync") {
-        map.nearest_each(command.places, command.k, command.within, hits);
+        nears(map, command, hits);
     }
 }
 
