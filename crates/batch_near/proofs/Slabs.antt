@@ -4,7 +4,7 @@ use Rattle.std.proofs.lemmas.Bool.{cases_eq}
 use Rattle.std.proofs.lemmas.Nat.{mod_below}
 use Rattle.std.proofs.lemmas.List.{get_or-set_same, get_or-set_other, get_or_read, get_or-map, length-map, ext_get_or}
 use Rattle.point_geom.specs.Place.{Place}
-use Rattle.map_answers.specs.declared.hits.Hit.{Hit}
+use Rattle.map_fold.specs.declared.hits.Hit.{Hit}
 use Rattle.batch_near.specs.Slabs.{slab_of, AreFilled}
 
 -- the list of each of the first n places is what f finds for it, where the place is in the slab

@@ -2,7 +2,7 @@
 use Rattle.std.specs.Prelude.{◌≡◌, ℕ, ◌/◌, ◌%◌, ◌<◌, List, [], length, get_or}
 use Rattle.std.specs.Int.{cast_unsigned, w64}
 use Rattle.point_geom.specs.Place.{Place}
-use Rattle.map_answers.specs.declared.hits.Hit.{Hit}
+use Rattle.map_fold.specs.declared.hits.Hit.{Hit}
 
 -- the slab that a place is in: each is about two metres of x, and the same comes again after 32
 unfoldable pub slab_of : Place → ℕ

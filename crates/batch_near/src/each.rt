@@ -4,13 +4,13 @@ ghost use Rattle.std.specs.Option.{ForSome};
 ghost use Rattle.std.specs.Thread.{IsSync};
 ghost use Rattle.kd_search.specs.Query.{IsQuery};
 ghost use Rattle.batch_near.specs.Slabs.{slab_of, AreFilled};
-ghost use Rattle.map_answers.specs.Answers.{nearest, nearest_each};
+ghost use Rattle.map_fold.specs.Answers.{nearest, nearest_each};
 ghost use Rattle.kd_tree.specs.Contents.{contents};
 
 use kd_search::nearest;
 use kd_tree::Tree;
-use map_answers::{HitLists, Hits};
-use map_fold::{MAX_FOUND, MAX_WITHIN, NoMemory, Points};
+use map_fold::{HitLists, Hits};
+use map_items::{MAX_FOUND, MAX_WITHIN, NoMemory, Points};
 use point_geom::Point;
 use rayon::prelude::*;
 use rayon::{current_num_threads, join_mut};

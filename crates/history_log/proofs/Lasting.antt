@@ -7,11 +7,11 @@ use Rattle.scan_log.specs.declared.command.Command.TheVariants.{Change}
 use Rattle.scan_log.proofs.Growth.{points_of-push, hits_of-push}
 use Rattle.std.specs.List.{AllByRecursion}
 use Rattle.std.proofs.lemmas.Bool.Decides.{nat_tests}
-use Rattle.map_fold.specs.Fold.{MapAt, fold, fold_from, step, no_points, points_in}
-use Rattle.map_fold.specs.declared.entry.Entry.{Entry}
-use Rattle.map_fold.specs.declared.update.Update.{Update}
-use Rattle.map_fold.specs.declared.update.Update.TheVariants.{Add, Thin, Delete, Suspend, Restore, Expire}
-use Rattle.map_fold.proofs.Folds.{step_next}
+use Rattle.map_items.specs.Fold.{MapAt, fold, fold_from, step, no_points, points_in}
+use Rattle.map_items.specs.declared.entry.Entry.{Entry}
+use Rattle.map_items.specs.declared.update.Update.{Update}
+use Rattle.map_items.specs.declared.update.Update.TheVariants.{Add, Thin, Delete, Suspend, Restore, Expire}
+use Rattle.map_items.proofs.Folds.{step_next}
 use Rattle.rebuild_parts.specs.History.{AreEntries, updates}
 use Rattle.scan_log.specs.Commands.{command_update, updates_made}
 use Rattle.scan_log.specs.declared.command.Command.{Command}

@@ -1,5 +1,5 @@
 //! Why a history has no log.
-use map_fold::NoMemory;
+use map_items::NoMemory;
 
 /// Why a history has no log.
 #[derive(Clone, Copy, Debug, PartialEq, Eq)]

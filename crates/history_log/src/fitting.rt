@@ -6,7 +6,7 @@ ghost use Rattle.scan_log.specs.declared.format.Format.TheVariants.{Two};
 ghost use Rattle.scan_log.specs.Scripts.{AreBoxes, AreScanned, IsBoxCorner, IsBoxNumber, IsCallerBox, IsUpdate};
 ghost use Rattle.history_log.specs.Lines.{has_any};
 
-use map_fold::{MAX_POINTS, Update};
+use map_items::{MAX_POINTS, Update};
 use point_geom::{Corner, Cuboid, Point};
 
 // The most points or boxes of a command.

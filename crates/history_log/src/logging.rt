@@ -1,6 +1,6 @@
 //! The history as a script, and as a log.
 ghost use Rattle.std.specs.Prelude.{◌≡◌, ◌+◌, ◌≤◌, ◌++◌, IfErr, IfOk, OnOk};
-ghost use Rattle.map_fold.specs.Fold.{fold, points_in};
+ghost use Rattle.map_items.specs.Fold.{fold, points_in};
 ghost use Rattle.kd_tree.specs.Maps.{map_of};
 ghost use Rattle.scan_log.specs.declared.format.Format.TheVariants.{Two};
 ghost use Rattle.scan_log.specs.Commands.{updates_made};
@@ -11,7 +11,7 @@ ghost use Rattle.history_log.specs.Lines.{IsByCaller, IsEntryFault, IsLogFault, 
 
 use crate::LogFault;
 use crate::fitting::{fits, has_any};
-use map_fold::{Entry, MAX_POINTS};
+use map_items::{Entry, MAX_POINTS};
 use rebuild_core::MapState;
 use scan_log::{Command, Format, MAX_COMMANDS, Script, write_script};
 use std::alloc::Global;

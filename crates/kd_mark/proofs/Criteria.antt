@@ -1,7 +1,7 @@
 -- Trees in which nothing is to be rebuilt.
 use Rattle.std.proofs.Common.{◌≡◌, ℕ, List, sym, subst, arith}
 use Rattle.std.proofs.lemmas.Bool.{cond_both}
-use Rattle.map_fold.specs.declared.choice.Choice.{Choice}
+use Rattle.map_items.specs.declared.choice.Choice.{Choice}
 use Rattle.kd_tree.specs.Shape.{Shape, leaf, fork}
 use Rattle.kd_tree.specs.Apart.{is_here}
 use Rattle.kd_tree.specs.declared.path.Side.{Side}

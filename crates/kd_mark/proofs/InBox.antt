@@ -7,7 +7,7 @@ use Rattle.std.specs.List.{AllByRecursion}
 use Rattle.std.proofs.lemmas.List.Elements.{recursion_from_All, All-map, All-weaker, All-filter}
 use Rattle.std.proofs.lemmas.List.Sums.{sum_by-cons}
 use Rattle.point_geom.specs.Place.{Place, Bounds}
-use Rattle.map_fold.specs.declared.choice.Choice.{Choice}
+use Rattle.map_items.specs.declared.choice.Choice.{Choice}
 use Rattle.point_geom.specs.Axes.{on}
 use Rattle.point_geom.specs.Extents.{IsIn, spot}
 use Rattle.kd_mark.specs.Reach.{covers, covers_box, meets, meets_box, reach, reach_of}
@@ -18,9 +18,9 @@ use Rattle.node_labels.specs.declared.label.Label.{Label}
 use Rattle.node_labels.specs.declared.label.Label.TheVariants.{Live, Suspended, Dropped}
 use Rattle.node_labels.specs.declared.tag.Tag.{Tag}
 use Rattle.node_labels.proofs.Laws.{composed-keep_right}
-use Rattle.map_fold.specs.declared.item.Item.{Item}
-use Rattle.map_fold.specs.Contents.{relabelled, marked_item, kept, mark, chosen_by, everything, is_above, is_inside}
-use Rattle.map_fold.proofs.Numbered.{marked_number}
+use Rattle.map_items.specs.declared.item.Item.{Item}
+use Rattle.map_items.specs.Contents.{relabelled, marked_item, kept, mark, chosen_by, everything, is_above, is_inside}
+use Rattle.map_items.proofs.Numbered.{marked_number}
 use Rattle.kd_tree.specs.Shape.{Head, Shape, leaf, fork, nodes, levels, numbers}
 use Rattle.kd_tree.specs.Walk.{walk, extent, grown, tagged, AllKept, times}
 use Rattle.kd_tree.specs.Sound.{IsSound, IsSoundFork}

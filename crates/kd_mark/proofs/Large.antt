@@ -1,7 +1,7 @@
 -- Large subtrees at paths.
 use Rattle.std.proofs.Common.{◌≡◌, ℕ, ◌≤◌, ap, ◌∙◌, sym, arith, List, [], ◌∷◌, Some}
 use Rattle.std.proofs.lemmas.Option.{same_Some}
-use Rattle.map_fold.specs.declared.op.Op.{Op}
+use Rattle.map_items.specs.declared.op.Op.{Op}
 use Rattle.kd_tree.specs.Shape.{Shape, leaf, fork, nodes}
 use Rattle.kd_tree.specs.Parts.{at}
 use Rattle.kd_tree.specs.declared.path.Side.{Side}

@@ -1,14 +1,14 @@
 -- What is logged of an action, read from the tree.
 use Rattle.std.proofs.Common.{◌≡◌, ℕ, ◌+◌, ◌≤◌, Bool, true, false, cond, refl, ap, ◌∙◌, sym, subst, arith, List, [], ◌∷◌, ◌++◌, length, length-append, append_assoc, append-nil, min, Option, Some, None}
 use Rattle.std.proofs.lemmas.Bool.{cond_both, cond-true, cond-false}
-use Rattle.map_fold.specs.declared.choice.Choice.{Choice}
+use Rattle.map_items.specs.declared.choice.Choice.{Choice}
 use Rattle.kd_mark.specs.Reach.{covers, meets, reach, reach_of}
 use Rattle.kd_mark.specs.declared.reach.Reach.{Reach}
 use Rattle.node_labels.specs.Labels.{composed}
 use Rattle.node_labels.specs.declared.tag.Tag.{Tag}
-use Rattle.map_fold.specs.Contents.{all_items}
-use Rattle.map_fold.specs.declared.op.Op.{Op}
-use Rattle.map_fold.specs.declared.op.Op.TheVariants.{Mark}
+use Rattle.map_items.specs.Contents.{all_items}
+use Rattle.map_items.specs.declared.op.Op.{Op}
+use Rattle.map_items.specs.declared.op.Op.TheVariants.{Mark}
 use Rattle.kd_tree.specs.Shape.{Head, Shape, leaf, fork}
 use Rattle.kd_tree.specs.Walk.{tagged}
 use Rattle.kd_tree.specs.declared.path.Side.{Side}

@@ -1,10 +1,10 @@
 -- How many nodes an action on chosen items makes, where nothing is rebuilt.
 use Rattle.std.proofs.Common.{◌≡◌, ℕ, ◌+◌, ◌*◌, ◌≤◌, Bool, true, false, not, ◌&&◌, cond, refl, sym, subst, arith, Some}
-use Rattle.map_fold.specs.declared.choice.Choice.{Choice}
+use Rattle.map_items.specs.declared.choice.Choice.{Choice}
 use Rattle.kd_mark.specs.Reach.{covers, meets, reach, reach_of}
 use Rattle.kd_mark.specs.declared.reach.Reach.{Reach}
 use Rattle.node_labels.specs.declared.tag.Tag.{Tag}
-use Rattle.map_fold.specs.Contents.{chosen_by, marked_item}
+use Rattle.map_items.specs.Contents.{chosen_by, marked_item}
 use Rattle.kd_tree.specs.Shape.{Head, Shape, leaf, fork}
 use Rattle.kd_tree.specs.Walk.{tagged}
 use Rattle.kd_tree.specs.Parts.{pushed}

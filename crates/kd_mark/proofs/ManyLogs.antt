@@ -1,9 +1,9 @@
 -- Several watches.
 use Rattle.std.proofs.Common.{◌≡◌, ℕ, ◌+◌, ◌≤◌, refl, ap, ◌∙◌, sym, arith, length, List, [], ◌∷◌, append-nil}
-use Rattle.map_fold.specs.declared.op.Op.{Op}
+use Rattle.map_items.specs.declared.op.Op.{Op}
 use Rattle.kd_tree.specs.declared.path.Side.{Side}
 use Rattle.kd_mark.specs.declared.watch.Watch.{Watch}
-use Rattle.map_fold.specs.Ops.{Extends}
+use Rattle.map_items.specs.Ops.{Extends}
 use Rattle.kd_mark.specs.Watches.{AreMore, AreExtended, paths_in}
 
 pub extended_itself : (ws : List Watch) → AreExtended ws ws

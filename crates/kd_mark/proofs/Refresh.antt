@@ -6,8 +6,8 @@ use Rattle.point_geom.specs.Place.{Place}
 use Rattle.point_geom.specs.Axes.{on}
 use Rattle.point_geom.specs.declared.axis.Axis.{Axis}
 use Rattle.node_labels.specs.Labels.{keep_tag}
-use Rattle.map_fold.specs.declared.item.Item.{Item}
-use Rattle.map_fold.specs.Contents.{relabelled, kept}
+use Rattle.map_items.specs.declared.item.Item.{Item}
+use Rattle.map_items.specs.Contents.{relabelled, kept}
 use Rattle.kd_tree.specs.Shape.{Head, Shape, fork, nodes, levels, numbers}
 use Rattle.kd_tree.specs.Walk.{walk, AllKept, times, tagged}
 use Rattle.kd_tree.specs.Sound.{IsSoundFork}

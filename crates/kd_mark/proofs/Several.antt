@@ -1,12 +1,12 @@
 -- Actions while several subtrees are watched, and nodes above these joined.
 use Rattle.std.proofs.Common.{◌≡◌, ℕ, true, false, inl, inr, refl, ap, ◌∙◌, sym, subst, arith, List, [], ◌∷◌, Option, Some, None}
 use Rattle.std.proofs.lemmas.Bool.{cond_both}
-use Rattle.map_fold.specs.declared.choice.Choice.{Choice}
+use Rattle.map_items.specs.declared.choice.Choice.{Choice}
 use Rattle.kd_mark.specs.Reach.{covers, meets, reach}
 use Rattle.kd_mark.specs.declared.reach.Reach.{Reach}
 use Rattle.point_geom.specs.declared.axis.Axis.{Axis}
 use Rattle.node_labels.specs.declared.tag.Tag.{Tag}
-use Rattle.map_fold.specs.declared.item.Item.{Item}
+use Rattle.map_items.specs.declared.item.Item.{Item}
 use Rattle.kd_tree.specs.Shape.{Head, Shape, leaf, fork, nodes}
 use Rattle.kd_tree.specs.Walk.{tagged}
 use Rattle.kd_tree.specs.Parts.{pushed}
@@ -14,7 +14,7 @@ use Rattle.kd_tree.specs.Apart.{is_here, onward}
 use Rattle.kd_tree.specs.declared.change.Fork.{Fork}
 use Rattle.kd_tree.specs.declared.path.Side.{Side}
 use Rattle.kd_tree.specs.declared.path.Side.TheVariants.{Left, Right}
-use Rattle.map_fold.specs.Contents.{chosen_by, marked_item}
+use Rattle.map_items.specs.Contents.{chosen_by, marked_item}
 use Rattle.kd_mark.specs.Mark.{marked_shape, RebuildsNoneEntered}
 use Rattle.kd_mark.specs.Refresh.{IsNotDue, RefreshesIfDue}
 use Rattle.kd_mark.specs.Update.{IsBalancedBelow}

@@ -2,17 +2,17 @@
 use Rattle.std.proofs.Common.{◌≡◌, ◌≤◌, true, false, not, ◌&&◌, cond, refl, ap, ◌∙◌, sym, subst, arith, List, [], ◌∷◌, ◌++◌, Some}
 use Rattle.std.proofs.lemmas.Bool.{cond_both, and_parts}
 use Rattle.std.proofs.lemmas.Option.{same_Some}
-use Rattle.map_fold.specs.declared.choice.Choice.{Choice}
+use Rattle.map_items.specs.declared.choice.Choice.{Choice}
 use Rattle.kd_mark.specs.Reach.{covers, meets, reach_of}
 use Rattle.node_labels.specs.Labels.{composed, keep_tag, is_live, is_suspended}
 use Rattle.node_labels.specs.declared.label.Label.{Label}
 use Rattle.node_labels.specs.declared.label.Label.TheVariants.{Live, Suspended, Dropped}
 use Rattle.node_labels.specs.declared.tag.Tag.{Tag}
 use Rattle.node_labels.proofs.Laws.{tags_alike}
-use Rattle.map_fold.specs.declared.op.Op.{Op}
-use Rattle.map_fold.specs.declared.op.Op.TheVariants.{Mark}
-use Rattle.map_fold.specs.Contents.{all_items, everything, chosen_by, mark, marked_item, relabelled}
-use Rattle.map_fold.specs.Ops.{Fit, replay}
+use Rattle.map_items.specs.declared.op.Op.{Op}
+use Rattle.map_items.specs.declared.op.Op.TheVariants.{Mark}
+use Rattle.map_items.specs.Contents.{all_items, everything, chosen_by, mark, marked_item, relabelled}
+use Rattle.map_items.specs.Ops.{Fit, replay}
 use Rattle.kd_tree.specs.Shape.{Head, Shape, leaf, fork, nodes}
 use Rattle.kd_tree.specs.Walk.{tagged}
 use Rattle.kd_tree.specs.Contents.{contents}

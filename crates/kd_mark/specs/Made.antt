@@ -1,6 +1,6 @@
 -- How many nodes an action makes, where nothing is rebuilt.
 use Rattle.std.specs.Prelude.{ℕ, ◌+◌, if◌then◌else◌}
-use Rattle.map_fold.specs.declared.choice.Choice.{Choice}
+use Rattle.map_items.specs.declared.choice.Choice.{Choice}
 use Rattle.kd_mark.specs.Reach.{covers, meets, reach_of}
 use Rattle.kd_tree.specs.Shape.{Shape, leaf, fork}
 use Rattle.kd_mark.specs.Mark.{is_entered}

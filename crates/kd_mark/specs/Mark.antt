@@ -1,9 +1,9 @@
 -- An action on the chosen items, as it is done: a subtree that the choice covers owes it, and one that it misses is left alone.
 use Rattle.std.specs.Prelude.{◌≡◌, ℕ, Bool, true, not, ◌&&◌, if◌then◌else◌}
-use Rattle.map_fold.specs.declared.choice.Choice.{Choice}
+use Rattle.map_items.specs.declared.choice.Choice.{Choice}
 use Rattle.node_labels.specs.Labels.{composed, keep_tag}
 use Rattle.node_labels.specs.declared.tag.Tag.{Tag}
-use Rattle.map_fold.specs.Contents.{relabelled, marked_item, chosen_by}
+use Rattle.map_items.specs.Contents.{relabelled, marked_item, chosen_by}
 use Rattle.kd_tree.specs.Shape.{Shape, leaf, fork}
 use Rattle.kd_tree.specs.Walk.{tagged}
 use Rattle.kd_mark.specs.Reach.{covers, meets, reach_of}

@@ -3,8 +3,8 @@ use Rattle.std.specs.Prelude.{Bool, true, ◌&&◌, Option, Some, None}
 use Rattle.point_geom.specs.Place.{Bounds, Span}
 use Rattle.point_geom.specs.Extents as Extents
 use Rattle.point_geom.specs.Extents.{spot}
-use Rattle.map_fold.specs.Contents.{is_above}
-use Rattle.map_fold.specs.declared.choice.Choice.{Choice}
+use Rattle.map_items.specs.Contents.{is_above}
+use Rattle.map_items.specs.declared.choice.Choice.{Choice}
 use Rattle.kd_tree.specs.Shape.{Head, Shape, leaf, fork}
 use Rattle.kd_tree.specs.Walk.{extent, grown}
 use Rattle.kd_tree.specs.Numbers.{one_number, widened, range}

@@ -1,6 +1,6 @@
 //! What an action on chosen items does to watched subtrees, logged before it is done. Nothing here takes a node apart.
 ghost use Rattle.std.specs.Prelude.{◌≡◌, ◌+◌, ◌≤◌, ◌++◌, length, OnOk};
-ghost use Rattle.map_fold.specs.Ops.{Extends};
+ghost use Rattle.map_items.specs.Ops.{Extends};
 ghost use Rattle.kd_tree.specs.Walk.{tagged};
 ghost use Rattle.kd_mark.specs.Watch.{handed, is_met, logged_mark};
 ghost use Rattle.kd_mark.specs.Watches.{AreExtended, AreFewMore, HaveRoom, with_marks};
@@ -8,7 +8,7 @@ ghost use Rattle.kd_mark.specs.Watches.{AreExtended, AreFewMore, HaveRoom, with_
 use crate::reach::{covers, meets, reach_of};
 use crate::watch::{Watch, note};
 use kd_tree::{Side, Tree};
-use map_fold::{Choice, NoMemory, Op, Tag};
+use map_items::{Choice, NoMemory, Op, Tag};
 use op_logger::{MAX_LOGGED, OpLog};
 
 /// Puts at the end of each watch's log what the action on the chosen items does to its subtree. The action is done afterwards.

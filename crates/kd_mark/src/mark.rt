@@ -1,7 +1,7 @@
 //! Actions on chosen items, with watched subtrees left as they stand. What the choice covers is labelled at its top, and what it
 //! misses is left alone. Nothing here knows what is logged of watched subtrees.
 ghost use Rattle.std.specs.Prelude.{◌≡◌, ◌+◌, ◌*◌, ◌≤◌, IfOk};
-ghost use Rattle.map_fold.specs.Contents.{chosen_by, mark};
+ghost use Rattle.map_items.specs.Contents.{chosen_by, mark};
 ghost use Rattle.kd_tree.specs.Shape.{numbers};
 ghost use Rattle.kd_tree.specs.Contents.{contents};
 ghost use Rattle.kd_mark.specs.Refresh.{AreAmong, IsRefresh};
@@ -14,7 +14,7 @@ use crate::reach::{covers, meets, reach_of};
 use crate::rebuild::rejoined;
 use crate::ways::{Unwatched, Ways, spared_from};
 use kd_tree::{OpenNode, Side, Steps, Tree};
-use map_fold::{Choice, NoMemory, Tag};
+use map_items::{Choice, NoMemory, Tag};
 use std::alloc::Global;
 use std::sync::ledger::Ledger;
 

@@ -1,10 +1,10 @@
 //! What a tree reaches, and whether a choice meets or covers that. Nothing here takes a node apart.
 ghost use Rattle.std.specs.Prelude.{◌≡◌};
 ghost use Rattle.kd_mark.specs.Reach.{covers, covers_box, meets, meets_box, reach};
-ghost use Rattle.map_fold.specs.Contents.{is_above};
+ghost use Rattle.map_items.specs.Contents.{is_above};
 
 use kd_tree::{Numbers, Tree};
-use map_fold::Choice;
+use map_items::Choice;
 use point_geom::{Cuboid, Extent};
 
 // Where the nodes of a tree lie, and from which number to which they go. Dropped ones count too.

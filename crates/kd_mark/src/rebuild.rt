@@ -9,7 +9,7 @@ ghost use Rattle.kd_tree.specs.Parts.{fork_of, joined};
 ghost use Rattle.kd_mark.specs.Refresh.{AreAmong, IsRefresh, IsNotDue, RefreshesIfDue};
 
 use kd_tree::{OpenNode, Scratch, Steps, Tree};
-use map_fold::NoMemory;
+use map_items::NoMemory;
 use std::alloc::Global;
 use std::sync::ledger::Ledger;
 

@@ -1,9 +1,9 @@
 //! What is watched of a tree while updates cross it: the subtree at a path, and the operations that it has met.
 ghost use Rattle.std.specs.Prelude.{◌≡◌, ◌+◌, ◌<◌, ◌≤◌, [], ◌∷◌, ◌++◌, length, OnOk};
-ghost use Rattle.map_fold.specs.Ops.{Extends};
+ghost use Rattle.map_items.specs.Ops.{Extends};
 
 use kd_tree::Path;
-use map_fold::{NoMemory, Op};
+use map_items::{NoMemory, Op};
 use op_logger::{MAX_LOGGED, OpLog};
 
 /// A subtree that is watched: its path, and the operations on its own items that were met since the log was empty.

@@ -6,9 +6,9 @@ use Rattle.point_geom.specs.Place.{Place, Span}
 use Rattle.point_geom.specs.Distances.{dist2}
 use Rattle.point_geom.specs.Extents.{IsIn, span_dist2}
 use Rattle.point_geom.proofs.Laws.{reach}
-use Rattle.map_answers.specs.declared.hits.Hit.{Hit}
-use Rattle.map_fold.specs.declared.item.Item.{Item}
-use Rattle.map_answers.specs.Answers.{is_nearer, put_hit, candidates}
+use Rattle.map_fold.specs.declared.hits.Hit.{Hit}
+use Rattle.map_items.specs.declared.item.Item.{Item}
+use Rattle.map_fold.specs.Answers.{is_nearer, put_hit, candidates}
 use Rattle.kd_search.specs.Points.{AreIn, AreAway}
 use Rattle.kd_search.specs.Nearest.{put_all, AreBefore, AreFull, IsBound}
 use Rattle.kd_search.proofs.Shortlist.{held_same, held_more, full_at, full_stays, candidates_away, candidates_beyond}

@@ -9,9 +9,9 @@ use Rattle.point_geom.specs.Boxes.{holds}
 use Rattle.point_geom.specs.Extents.{covers, meets}
 use Rattle.point_geom.proofs.Laws.{held_meets, covered_held}
 use Rattle.node_labels.specs.Labels.{is_live}
-use Rattle.map_fold.specs.declared.item.Item.{Item}
-use Rattle.map_fold.specs.Contents.{in_box, kept, live_items}
-use Rattle.map_answers.specs.Answers.{inside_all, count}
+use Rattle.map_items.specs.declared.item.Item.{Item}
+use Rattle.map_items.specs.Contents.{in_box, kept, live_items}
+use Rattle.map_fold.specs.Answers.{inside_all, count}
 use Rattle.kd_tree.specs.Contents.{by_number}
 use Rattle.kd_tree.proofs.Numbered.{by_number-filter, by_number_moves}
 use Rattle.kd_search.specs.Points.{AreIn}

@@ -4,10 +4,10 @@ use Rattle.std.specs.Prelude.{nat_lt}
 use Rattle.std.specs.List.{insert}
 use Rattle.std.proofs.lemmas.List.{take_all}
 use Rattle.point_geom.specs.Place.{Bounds}
-use Rattle.map_fold.specs.declared.item.Item.{Item}
-use Rattle.map_fold.specs.Contents.{kept}
-use Rattle.map_answers.specs.Answers.{inside_all}
-use Rattle.map_answers.proofs.Ranking.{take-take_suc, insert-take, length-insert}
+use Rattle.map_items.specs.declared.item.Item.{Item}
+use Rattle.map_items.specs.Contents.{kept}
+use Rattle.map_fold.specs.Answers.{inside_all}
+use Rattle.map_fold.proofs.Ranking.{take-take_suc, insert-take, length-insert}
 use Rattle.kd_tree.specs.Contents.{insert_item, by_number}
 use Rattle.kd_search.specs.Inserted.{insert_all}
 use Rattle.kd_search.proofs.Boxed.{inside-top}

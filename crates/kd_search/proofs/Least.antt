@@ -2,12 +2,12 @@
 use Rattle.std.proofs.Common.{◌≡◌, inl, true, false, cond, List, [], ◌∷◌, ◌++◌, refl, sym, ap, ◌∙◌, subst, Option, Some, None}
 use Rattle.std.specs.Prelude.{IfSome, IsNone, ◌↔◌}
 use Rattle.point_geom.specs.Place.{Bounds}
-use Rattle.map_fold.specs.declared.item.Item.{Item}
-use Rattle.map_fold.specs.Contents.{centre_cmp, comes_before, least, live_items, in_box, kept, Member}
-use Rattle.map_answers.specs.Answers.{inside_all}
-use Rattle.map_answers.proofs.Centre.{least_first, least_member, one_best}
-use Rattle.map_answers.proofs.Found.{member-filter, member-filter_of}
-use Rattle.map_answers.proofs.Thinning.{inside_is}
+use Rattle.map_items.specs.declared.item.Item.{Item}
+use Rattle.map_items.specs.Contents.{centre_cmp, comes_before, least, live_items, in_box, kept, Member}
+use Rattle.map_fold.specs.Answers.{inside_all}
+use Rattle.map_fold.proofs.Centre.{least_first, least_member, one_best}
+use Rattle.map_fold.proofs.Found.{member-filter, member-filter_of}
+use Rattle.map_fold.proofs.Thinning.{inside_is}
 use Rattle.kd_tree.specs.Contents.{AreDistinct, by_number}
 use Rattle.kd_tree.proofs.Numbered.{numbered_from, numbered_in, one_item}
 use Rattle.kd_search.specs.Best.{best_of, best_inside, IsBest, better, best_from}

@@ -6,13 +6,13 @@ use Rattle.std.proofs.lemmas.Bool.{cases_Bool, false_from_ne_true}
 use Rattle.std.proofs.lemmas.List.{map-append}
 use Rattle.std.proofs.lemmas.List.Elements.{filter-append}
 use Rattle.point_geom.specs.Place.{Place}
-use Rattle.map_answers.specs.declared.hits.Hit.{Hit}
-use Rattle.map_fold.specs.declared.item.Item.{Item}
-use Rattle.map_fold.specs.Contents.{kept, live_items, Member}
-use Rattle.map_answers.specs.Answers.{is_nearer, put_hit, in_order, hit_of, is_within, candidates}
-use Rattle.map_answers.proofs.Order.{nearer_not_back, nearer_chain, nearer_either}
-use Rattle.map_answers.proofs.Ranking.{put_hit-take}
-use Rattle.map_answers.proofs.FirstOnes.{put_hit_by, put_hit_front}
+use Rattle.map_fold.specs.declared.hits.Hit.{Hit}
+use Rattle.map_items.specs.declared.item.Item.{Item}
+use Rattle.map_items.specs.Contents.{kept, live_items, Member}
+use Rattle.map_fold.specs.Answers.{is_nearer, put_hit, in_order, hit_of, is_within, candidates}
+use Rattle.map_fold.proofs.Order.{nearer_not_back, nearer_chain, nearer_either}
+use Rattle.map_fold.proofs.Ranking.{put_hit-take}
+use Rattle.map_fold.proofs.FirstOnes.{put_hit_by, put_hit_front}
 use Rattle.kd_tree.specs.Contents.{AreDistinct, insert_item, by_number}
 use Rattle.kd_tree.proofs.Numbered.{Apart, apart_once, numbered_from}
 use Rattle.kd_search.specs.Nearest.{put_all}

@@ -5,11 +5,11 @@ use Rattle.std.proofs.lemmas.List.Sums.{sum_by-append}
 use Rattle.point_geom.specs.Place.{Place}
 use Rattle.node_labels.specs.Labels.{is_live, keep_tag}
 use Rattle.node_labels.specs.declared.tag.Tag.{Tag}
-use Rattle.map_answers.specs.declared.hits.Hit.{Hit}
-use Rattle.map_fold.specs.declared.item.Item.{Item}
-use Rattle.map_fold.specs.Contents.{kept, live_items, Member}
-use Rattle.map_answers.specs.Answers.{candidates}
-use Rattle.map_answers.proofs.Found.{candidate_is, member-filter}
+use Rattle.map_fold.specs.declared.hits.Hit.{Hit}
+use Rattle.map_items.specs.declared.item.Item.{Item}
+use Rattle.map_items.specs.Contents.{kept, live_items, Member}
+use Rattle.map_fold.specs.Answers.{candidates}
+use Rattle.map_fold.proofs.Found.{candidate_is, member-filter}
 use Rattle.kd_tree.specs.Shape.{Shape}
 use Rattle.kd_tree.specs.Walk.{walk, times}
 use Rattle.kd_tree.specs.Sound.{IsSound}

@@ -9,7 +9,7 @@ use Rattle.point_geom.specs.Axes.{on}
 use Rattle.point_geom.specs.Distances.{gap2, dist2}
 use Rattle.point_geom.specs.declared.axis.Axis.{Axis}
 use Rattle.point_geom.specs.declared.axis.Axis.TheVariants.{X, Y, Z}
-use Rattle.map_fold.specs.declared.item.Item.{Item}
+use Rattle.map_items.specs.declared.item.Item.{Item}
 use Rattle.kd_search.specs.Points.{AreBelow, AreAbove, AreAway}
 
 first_part : (x y z : ℕ) → x ≤ x + y + z

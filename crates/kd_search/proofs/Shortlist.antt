@@ -7,12 +7,12 @@ use Rattle.std.proofs.lemmas.List.Elements.{All-head, All-tail}
 use Rattle.point_geom.specs.Place.{Place}
 use Rattle.point_geom.specs.Distances.{dist2}
 use Rattle.node_labels.specs.Labels.{is_live}
-use Rattle.map_answers.specs.declared.hits.Hit.{Hit}
-use Rattle.map_fold.specs.declared.item.Item.{Item}
-use Rattle.map_fold.specs.Contents.{live_items}
-use Rattle.map_answers.specs.Answers.{is_nearer, put_hit, hit_of, is_within, candidates}
-use Rattle.map_answers.proofs.Order.{nearer_not_back}
-use Rattle.map_answers.proofs.Ranking.{put_hit-take}
+use Rattle.map_fold.specs.declared.hits.Hit.{Hit}
+use Rattle.map_items.specs.declared.item.Item.{Item}
+use Rattle.map_items.specs.Contents.{live_items}
+use Rattle.map_fold.specs.Answers.{is_nearer, put_hit, hit_of, is_within, candidates}
+use Rattle.map_fold.proofs.Order.{nearer_not_back}
+use Rattle.map_fold.proofs.Ranking.{put_hit-take}
 use Rattle.kd_search.specs.Points.{AreAway}
 use Rattle.kd_search.specs.Nearest.{put_all, is_admitted, AreFrom, AreBefore, Recede, AreNearestFirst, AreFull}
 

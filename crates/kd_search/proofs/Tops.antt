@@ -5,8 +5,8 @@ use Rattle.point_geom.specs.Axes.{on}
 use Rattle.point_geom.specs.Distances.{dist2, gap2}
 use Rattle.node_labels.specs.Labels.{composed}
 use Rattle.node_labels.specs.declared.tag.Tag.{Tag}
-use Rattle.map_fold.specs.declared.item.Item.{Item}
-use Rattle.map_fold.specs.Contents.{kept, relabelled}
+use Rattle.map_items.specs.declared.item.Item.{Item}
+use Rattle.map_items.specs.Contents.{kept, relabelled}
 use Rattle.kd_tree.specs.Shape.{Head, Shape, fork}
 use Rattle.kd_tree.specs.Walk.{walk}
 use Rattle.kd_tree.specs.Sound.{IsSound}

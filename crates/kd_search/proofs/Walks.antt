@@ -8,8 +8,8 @@ use Rattle.node_labels.specs.Labels.{is_live}
 use Rattle.node_labels.specs.declared.label.Label.{Label}
 use Rattle.node_labels.specs.declared.label.Label.TheVariants.{Live, Suspended, Dropped}
 use Rattle.node_labels.specs.declared.tag.Tag.{Tag}
-use Rattle.map_fold.specs.declared.item.Item.{Item}
-use Rattle.map_fold.specs.Contents.{kept, live_items}
+use Rattle.map_items.specs.declared.item.Item.{Item}
+use Rattle.map_items.specs.Contents.{kept, live_items}
 use Rattle.kd_tree.specs.Shape.{Shape, nodes}
 use Rattle.kd_tree.specs.Walk.{walk, extent}
 use Rattle.kd_tree.proofs.Actions.{tally_total}

@@ -4,9 +4,9 @@ use Rattle.std.specs.declared.option.Option.{Option}
 use Rattle.std.specs.declared.option.Option.TheVariants.{None, Some}
 use Rattle.point_geom.specs.Place.{Bounds}
 use Rattle.point_geom.specs.Boxes.{holds}
-use Rattle.map_fold.specs.declared.item.Item.{Item}
-use Rattle.map_fold.specs.Contents.{centre_cmp, comes_before, least, live_items, Member}
-use Rattle.map_answers.specs.Answers.{inside_all}
+use Rattle.map_items.specs.declared.item.Item.{Item}
+use Rattle.map_items.specs.Contents.{centre_cmp, comes_before, least, live_items, Member}
+use Rattle.map_fold.specs.Answers.{inside_all}
 
 -- the least item of a list, if it has one
 abbrev pub best_of : Bounds → List Item → Option Item

@@ -1,6 +1,6 @@
 -- Items put in the order of their numbers. Cited by private functions alone.
 use Rattle.std.specs.Prelude.{List, [], ◌∷◌}
-use Rattle.map_fold.specs.declared.item.Item.{Item}
+use Rattle.map_items.specs.declared.item.Item.{Item}
 use Rattle.kd_tree.specs.Contents.{insert_item}
 
 -- all of the first, the last first, each in its place in the second

@@ -2,8 +2,8 @@
 use Rattle.std.specs.Prelude.{◌≡◌, ℕ, ◌*◌, ◌^◌, ◌≤◌, ◌<◌, ◌⊎◌, Bool, true, false, List, [], ◌∷◌, length, nat_le}
 use Rattle.std.specs.declared.option.Option.{Option}
 use Rattle.std.specs.declared.option.Option.TheVariants.{None, Some}
-use Rattle.map_answers.specs.declared.hits.Hit.{Hit}
-use Rattle.map_answers.specs.Answers.{put_hit}
+use Rattle.map_fold.specs.declared.hits.Hit.{Hit}
+use Rattle.map_fold.specs.Answers.{put_hit}
 
 -- all of the first, the last first, each in its place in the second
 abbrev pub put_all : List Hit → List Hit → List Hit

@@ -1,7 +1,7 @@
 -- A subtree, with the action that it owes from above. Cited by private functions alone.
 use Rattle.std.specs.Prelude.{◌≡◌, ℕ, ◌+◌, ◌≤◌, List, [], ◌∷◌, ◌++◌}
-use Rattle.map_fold.specs.declared.item.Item.{Item}
-use Rattle.map_fold.specs.Contents.{kept}
+use Rattle.map_items.specs.declared.item.Item.{Item}
+use Rattle.map_items.specs.Contents.{kept}
 use Rattle.kd_tree.specs.Shape.{nodes}
 use Rattle.kd_tree.specs.Walk.{walk}
 use Rattle.kd_search.specs.Points.{AreBelow, AreAbove}

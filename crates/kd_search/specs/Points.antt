@@ -5,7 +5,7 @@ use Rattle.point_geom.specs.Axes.{on}
 use Rattle.point_geom.specs.Distances.{dist2}
 use Rattle.point_geom.specs.Extents.{IsIn}
 use Rattle.point_geom.specs.declared.axis.Axis.{Axis}
-use Rattle.map_fold.specs.declared.item.Item.{Item}
+use Rattle.map_items.specs.declared.item.Item.{Item}
 
 -- each item's point is in the closed box
 abbrev pub AreIn : Span → List Item → Type 0

@@ -1,12 +1,12 @@
 //! The live point of a box that is nearest to its centre.
 ghost use Rattle.std.specs.Prelude.{◌≡◌, [], IfSome, IsNone, ◌↔◌};
-ghost use Rattle.map_answers.specs.Answers.{inside_all};
+ghost use Rattle.map_fold.specs.Answers.{inside_all};
 ghost use Rattle.kd_tree.specs.Contents.{contents};
 ghost use Rattle.kd_search.specs.Best.{best_inside, IsBest};
 
 use crate::rivals::rivals_in;
 use kd_tree::Tree;
-use map_fold::Item;
+use map_items::Item;
 use point_geom::Cuboid;
 
 /// The live item in the cuboid whose point is nearest to the cuboid's centre; of several the least by x, y and z, and then

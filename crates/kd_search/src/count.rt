@@ -1,12 +1,12 @@
 //! Counting in a box.
 ghost use Rattle.std.specs.Prelude.{◌≡◌, ◌≤◌, [], ◌∷◌};
-ghost use Rattle.map_answers.specs.Answers.{count};
+ghost use Rattle.map_fold.specs.Answers.{count};
 ghost use Rattle.kd_tree.specs.Contents.{contents};
 ghost use Rattle.kd_search.specs.Part.{items_of, nodes_of};
 
 use crate::part::Part;
 use kd_tree::Tree;
-use map_fold::Item;
+use map_items::Item;
 use point_geom::Cuboid;
 
 /// How many live points are in the cuboid. A subtree that lies within it is counted without being entered, and one

@@ -1,7 +1,7 @@
 //! The live points of a box by number.
 ghost use Rattle.std.specs.Prelude.{◌≡◌, ◌≤◌, [], ◌∷◌, length, take, IfOk, None, OnOk};
 ghost use Rattle.std.specs.List.{insert};
-ghost use Rattle.map_answers.specs.Answers.{inside, inside_all};
+ghost use Rattle.map_fold.specs.Answers.{inside, inside_all};
 ghost use Rattle.kd_tree.specs.Contents.{contents, insert_item};
 ghost use Rattle.kd_search.specs.Inserted.{insert_all};
 ghost use Rattle.kd_search.specs.Part.{items_of};
@@ -9,7 +9,7 @@ ghost use Rattle.kd_search.specs.Query.{IsQuery};
 
 use crate::part::Part;
 use kd_tree::Tree;
-use map_fold::{Item, Items, NoMemory};
+use map_items::{Item, Items, NoMemory};
 use point_geom::Cuboid;
 use std::alloc::Global;
 

@@ -1,7 +1,7 @@
 //! The nearest live points.
 ghost use Rattle.std.specs.Prelude.{◌≡◌, ◌≤◌, [], ◌∷◌, take, IfOk, IsOk, OnOk};
-ghost use Rattle.map_answers.specs.Answers.{candidates, nearest, put_hit};
-ghost use Rattle.map_answers.specs.Nearest.{AreNearest};
+ghost use Rattle.map_fold.specs.Answers.{candidates, nearest, put_hit};
+ghost use Rattle.map_fold.specs.Nearest.{AreNearest};
 ghost use Rattle.kd_tree.specs.Contents.{contents};
 ghost use Rattle.kd_tree.specs.Walk.{walk};
 ghost use Rattle.kd_search.specs.Nearest.{IsBound, put_all};
@@ -10,8 +10,8 @@ ghost use Rattle.kd_search.specs.Query.{IsQuery};
 use crate::part::live;
 use crate::sides::Sides;
 use kd_tree::Tree;
-use map_answers::{Hit, Hits};
-use map_fold::{Item, Label, NoMemory, Tag};
+use map_fold::{Hit, Hits};
+use map_items::{Item, Label, NoMemory, Tag};
 use point_geom::{Point, dist2};
 use std::alloc::Global;
 

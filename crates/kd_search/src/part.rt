@@ -2,13 +2,13 @@
 //! they are looked at; the tree stays as it is.
 ghost use Rattle.std.specs.Prelude.{◌≡◌, [], length, IfNone, IfSome};
 ghost use Rattle.node_labels.specs.Labels.{keep_tag};
-ghost use Rattle.map_fold.specs.Contents.{live_items};
+ghost use Rattle.map_items.specs.Contents.{live_items};
 ghost use Rattle.kd_tree.specs.Walk.{walk};
 ghost use Rattle.kd_search.specs.Points.{AreIn};
 ghost use Rattle.kd_search.specs.Part.{IsTopOf, items_of};
 
 use kd_tree::Tree;
-use map_fold::{Item, Tag};
+use map_items::{Item, Tag};
 use point_geom::{Axis, Extent};
 
 /// A subtree, and the action that it owes from above.

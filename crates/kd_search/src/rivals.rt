@@ -1,6 +1,6 @@
 //! The live points of a box: the one that is nearest to its centre, and how many there are.
 ghost use Rattle.std.specs.Prelude.{◌≡◌, ◌+◌, ◌≤◌, ◌<◌, [], ◌∷◌, IfSome, IsNone, ◌↔◌};
-ghost use Rattle.map_answers.specs.Answers.{count, inside_all};
+ghost use Rattle.map_fold.specs.Answers.{count, inside_all};
 ghost use Rattle.kd_tree.specs.Contents.{contents};
 ghost use Rattle.kd_tree.specs.Shape.{nodes};
 ghost use Rattle.kd_tree.specs.Walk.{walk};
@@ -8,7 +8,7 @@ ghost use Rattle.kd_search.specs.Best.{best_from, best_inside, IsBest};
 
 use crate::part::live;
 use kd_tree::{MAX_NODES, Tree};
-use map_fold::{Item, Tag};
+use map_items::{Item, Tag};
 use point_geom::Cuboid;
 
 /// What is live in a cuboid: the items of which thinning leaves one.

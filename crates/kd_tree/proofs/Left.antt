@@ -7,8 +7,8 @@ use Rattle.std.proofs.lemmas.List.Elements.{All-nil, All-cons, All-head, All-app
 use Rattle.point_geom.specs.Place.{Place}
 use Rattle.node_labels.specs.Labels.{composed}
 use Rattle.node_labels.specs.declared.tag.Tag.{Tag}
-use Rattle.map_fold.specs.declared.item.Item.{Item}
-use Rattle.map_fold.specs.Contents.{relabelled, kept}
+use Rattle.map_items.specs.declared.item.Item.{Item}
+use Rattle.map_items.specs.Contents.{relabelled, kept}
 use Rattle.kd_tree.specs.Shape.{Shape, leaf, fork}
 use Rattle.kd_tree.specs.Walk.{is_kept, walk, AllKept}
 

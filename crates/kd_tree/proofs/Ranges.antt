@@ -9,8 +9,8 @@ use Rattle.node_labels.specs.Labels.{apply, composed}
 use Rattle.node_labels.specs.declared.label.Label.{Label}
 use Rattle.node_labels.specs.declared.label.Label.TheVariants.{Live, Suspended, Dropped}
 use Rattle.node_labels.specs.declared.tag.Tag.{Tag}
-use Rattle.map_fold.specs.declared.item.Item.{Item}
-use Rattle.map_fold.specs.Contents.{relabelled, kept}
+use Rattle.map_items.specs.declared.item.Item.{Item}
+use Rattle.map_items.specs.Contents.{relabelled, kept}
 use Rattle.kd_tree.specs.Shape.{Shape, leaf, fork, numbers}
 use Rattle.kd_tree.specs.Walk.{walk}
 use Rattle.kd_tree.specs.Numbers.{one_number, widened, range, IsRangeOf}

@@ -1,6 +1,6 @@
 -- Trees as maps.
 use Rattle.std.specs.Prelude.{ℕ}
-use Rattle.map_fold.specs.Fold.{MapAt}
+use Rattle.map_items.specs.Fold.{MapAt}
 use Rattle.kd_tree.specs.Shape.{Shape}
 use Rattle.kd_tree.specs.Contents.{contents}
 

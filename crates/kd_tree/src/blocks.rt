@@ -1,6 +1,6 @@
 //! The memory of old nodes, for new ones. Nothing here knows what a node is, nor for which ones its memory is wanted.
 use crate::{Block, Tree};
-use map_fold::NoMemory;
+use map_items::NoMemory;
 use std::alloc::Global;
 
 // The most blocks that are kept: 1 MB.

@@ -1,7 +1,7 @@
 //! Changes at the top of a tree. An action on all of a tree is done to its top alone, which owes it to its sons.
 ghost use Rattle.std.specs.Prelude.{◌≡◌, ◌+◌, ◌≤◌, ◌∷◌, ◌++◌, IfOk, IfSome, IsNone, ◌↔◌};
 ghost use Rattle.node_labels.specs.Labels.{keep_tag};
-ghost use Rattle.map_fold.specs.Contents.{everything, mark};
+ghost use Rattle.map_items.specs.Contents.{everything, mark};
 ghost use Rattle.kd_tree.specs.Shape.{leaf, numbers};
 ghost use Rattle.kd_tree.specs.Walk.{tagged};
 ghost use Rattle.kd_tree.specs.Sound.{IsSound, IsTopSound};
@@ -10,7 +10,7 @@ ghost use Rattle.kd_tree.specs.Parts.{contents_of_parts, joined, pushed, with_so
 
 use crate::open_node::{Block, OpenNode, Opened};
 use crate::{Side, Steps, Tree};
-use map_fold::{Item, NoMemory, Tag};
+use map_items::{Item, NoMemory, Tag};
 use point_geom::Axis;
 use std::alloc::Global;
 use std::sync::ledger::Ledger;

@@ -10,7 +10,7 @@ ghost use Rattle.kd_tree.specs.View.{IsKeptAt, AreTopParts, IsTakenOf, shape_at,
 
 use crate::node::{Node, Root};
 use crate::{Scratch, Steps, Tree};
-use map_fold::{Item, NoMemory, Tag};
+use map_items::{Item, NoMemory, Tag};
 use point_geom::Axis;
 use std::alloc::Global;
 use std::mem;

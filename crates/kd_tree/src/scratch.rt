@@ -12,7 +12,7 @@ use crate::blocks::Blocks;
 use crate::build::built;
 use crate::flatten::{gather_owed, push_kept};
 use crate::{Block, MAX_NODES, Steps, Tree};
-use map_fold::{Item, NoMemory, Tag};
+use map_items::{Item, NoMemory, Tag};
 use std::alloc::Global;
 use std::sync::ledger::Ledger;
 

@@ -11,10 +11,10 @@ use Rattle.point_geom.specs.declared.axis.Axis.{Axis}
 use Rattle.node_labels.specs.Labels.{composed, keep_tag}
 use Rattle.node_labels.specs.declared.label.Label.TheVariants.{Live}
 use Rattle.node_labels.proofs.Laws.{composed-keep_right}
-use Rattle.map_fold.specs.declared.item.Item.{Item}
-use Rattle.map_fold.specs.declared.op.Op.{Op}
-use Rattle.map_fold.specs.Contents.{all_items, kept, put, relabelled}
-use Rattle.map_fold.specs.Ops.{Fit, numbers_put, replay}
+use Rattle.map_items.specs.declared.item.Item.{Item}
+use Rattle.map_items.specs.declared.op.Op.{Op}
+use Rattle.map_items.specs.Contents.{all_items, kept, put, relabelled}
+use Rattle.map_items.specs.Ops.{Fit, numbers_put, replay}
 use Rattle.kd_tree.specs.Shape.{Head, Shape, leaf, fork, nodes, numbers}
 use Rattle.kd_tree.specs.Walk.{tagged, walk}
 use Rattle.kd_tree.specs.Sound.{IsSound}
@@ -36,7 +36,7 @@ use Rattle.kd_mark.specs.Several.{AreLargeAt, AreWatched}
 use Rattle.kd_mark.specs.Watch.{IsWatched, handed, is_keep}
 use Rattle.kd_update.specs.Watch.{goes_to}
 use Rattle.node_labels.specs.declared.tag.Tag.{Tag}
-use Rattle.map_fold.specs.declared.op.Op.TheVariants.{Mark}
+use Rattle.map_items.specs.declared.op.Op.TheVariants.{Mark}
 use Rattle.kd_update.specs.Crossing.{AreMet, IsCrossed, IsMet, IsWholeGrown, going, logged_scan, puts_of}
 use Rattle.kd_mark.proofs.TakenApart.{apart}
 use Rattle.kd_update.proofs.Grown.{GoBeside, IsLive, IsStep, distinct_back, distinct_front, grown_first, grown_moved, grown_none, grown_put, live_of, new_first, step_grown}

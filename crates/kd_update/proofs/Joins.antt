@@ -7,10 +7,10 @@ use Rattle.std.proofs.lemmas.List.Sums.{sum_by-cons}
 use Rattle.point_geom.specs.Place.{Place}
 use Rattle.node_labels.specs.Labels.{keep_tag}
 use Rattle.node_labels.specs.declared.label.Label.TheVariants.{Live}
-use Rattle.map_fold.specs.declared.item.Item.{Item}
-use Rattle.map_fold.specs.Contents.{AreContents, live_at, put}
-use Rattle.map_fold.specs.Fold.{add_points}
-use Rattle.map_fold.proofs.Numbered.{contents_length, contents_push}
+use Rattle.map_items.specs.declared.item.Item.{Item}
+use Rattle.map_items.specs.Contents.{AreContents, live_at, put}
+use Rattle.map_items.specs.Fold.{add_points}
+use Rattle.map_items.proofs.Numbered.{contents_length, contents_push}
 use Rattle.kd_tree.specs.Shape.{Shape, levels, nodes, numbers}
 use Rattle.kd_tree.specs.Walk.{walk, times}
 use Rattle.kd_tree.specs.Contents.{AreDistinct, by_number, contents, insert_item}

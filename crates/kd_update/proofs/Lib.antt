@@ -9,3 +9,6 @@ pub mod Route
 pub mod Several
 pub mod Watched
 pub mod ApartPaths
+pub mod Settling
+pub mod StandsFor
+pub mod OpRuns

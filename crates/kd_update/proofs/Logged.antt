@@ -3,14 +3,14 @@ use Rattle.std.proofs.Common.{◌≡◌, ℕ, ◌+◌, ◌≤◌, Bool, cond, re
 use Rattle.std.proofs.lemmas.List.Elements.{All-cons, All-nil}
 use Rattle.std.proofs.lemmas.Bool.{cond_both}
 use Rattle.point_geom.specs.Place.{Place}
-use Rattle.map_fold.specs.declared.choice.Choice.{Choice}
+use Rattle.map_items.specs.declared.choice.Choice.{Choice}
 use Rattle.kd_mark.specs.Reach.{reach_of}
 use Rattle.node_labels.specs.Labels.{composed}
 use Rattle.node_labels.specs.declared.tag.Tag.{Tag}
-use Rattle.map_fold.specs.Contents.{all_items}
-use Rattle.map_fold.specs.declared.op.Op.{Op}
-use Rattle.map_fold.specs.declared.op.Op.TheVariants.{Mark, Put}
-use Rattle.map_fold.specs.Ops.{numbers_put}
+use Rattle.map_items.specs.Contents.{all_items}
+use Rattle.map_items.specs.declared.op.Op.{Op}
+use Rattle.map_items.specs.declared.op.Op.TheVariants.{Mark, Put}
+use Rattle.map_items.specs.Ops.{numbers_put}
 use Rattle.kd_tree.specs.Shape.{Head, Shape, leaf, fork}
 use Rattle.kd_tree.specs.Walk.{tagged}
 use Rattle.kd_tree.specs.declared.path.Side.{Side}

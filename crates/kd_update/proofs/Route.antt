@@ -12,8 +12,8 @@ use Rattle.point_geom.specs.declared.axis.Axis.{Axis}
 use Rattle.node_labels.specs.Labels.{composed, keep_tag}
 use Rattle.node_labels.specs.declared.tag.Tag.{Tag}
 use Rattle.node_labels.proofs.Laws.{composed-keep_right}
-use Rattle.map_fold.specs.declared.item.Item.{Item}
-use Rattle.map_fold.specs.Contents.{live_at, put, relabelled, kept}
+use Rattle.map_items.specs.declared.item.Item.{Item}
+use Rattle.map_items.specs.Contents.{live_at, put, relabelled, kept}
 use Rattle.kd_tree.specs.Shape.{Head, Shape, leaf, fork, nodes, levels, numbers}
 use Rattle.kd_tree.specs.Walk.{walk, tagged, AllKept, times}
 use Rattle.kd_tree.specs.Sound.{IsSound, IsSoundFork, IsTopSound}

@@ -3,7 +3,7 @@ use Rattle.std.proofs.Common.{◌≡◌, ℕ, ◌≤◌, ◌<◌, true, false, r
 use Rattle.std.specs.Prelude.{◌==◌}
 use Rattle.std.proofs.lemmas.Bool.{eqb-true}
 use Rattle.point_geom.specs.Place.{Place}
-use Rattle.map_fold.specs.declared.choice.Choice.{Choice}
+use Rattle.map_items.specs.declared.choice.Choice.{Choice}
 use Rattle.point_geom.specs.Axes.{next_axis}
 use Rattle.point_geom.specs.declared.axis.Axis.{Axis}
 use Rattle.node_labels.specs.Labels.{keep_tag}
@@ -16,7 +16,7 @@ use Rattle.kd_tree.specs.Apart.{is_here, onward}
 use Rattle.kd_tree.specs.declared.change.Fork.{Fork}
 use Rattle.kd_tree.specs.declared.path.Side.{Side}
 use Rattle.kd_tree.specs.declared.path.Side.TheVariants.{Left, Right}
-use Rattle.map_fold.specs.Contents.{live_at}
+use Rattle.map_items.specs.Contents.{live_at}
 use Rattle.kd_mark.specs.Mark.{marked_shape}
 use Rattle.kd_update.specs.Put.{leaf_of, put_from, put_under, RebuildsNoneOnRoute}
 use Rattle.kd_mark.specs.Refresh.{IsNotDue, RefreshesIfDue}

@@ -7,10 +7,10 @@ use Rattle.point_geom.specs.declared.axis.Axis.{Axis}
 use Rattle.node_labels.specs.Labels.{composed, keep_tag}
 use Rattle.node_labels.specs.declared.tag.Tag.{Tag}
 use Rattle.node_labels.proofs.Laws.{composed-keep_right}
-use Rattle.map_fold.specs.declared.item.Item.{Item}
-use Rattle.map_fold.specs.declared.op.Op.{Op}
-use Rattle.map_fold.specs.Contents.{relabelled}
-use Rattle.map_fold.specs.Ops.{IsUnheld}
+use Rattle.map_items.specs.declared.item.Item.{Item}
+use Rattle.map_items.specs.declared.op.Op.{Op}
+use Rattle.map_items.specs.Contents.{relabelled}
+use Rattle.map_items.specs.Ops.{IsUnheld}
 use Rattle.kd_tree.specs.Shape.{Head, Shape, leaf, fork, nodes}
 use Rattle.kd_tree.specs.Walk.{tagged, times, walk}
 use Rattle.kd_tree.specs.Contents.{contents}

@@ -5,3 +5,5 @@ pub mod Watch
 pub mod Watches
 pub mod Crossing
 pub mod Parts
+pub mod Replace
+pub mod Replay

@@ -1,10 +1,10 @@
 -- Detached subtrees: what a state keeps of each, and what a step leaves of them.
 use Rattle.std.specs.Prelude.{◌≡◌, ℕ, ◌+◌, ◌<◌, ◌≤◌, ◌⊎◌, List, [], ◌∷◌, ◌++◌, length, map, All, Option, ◌==◌, if◌then◌else◌}
 use Rattle.std.specs.List.{find}
-use Rattle.map_fold.specs.declared.item.Item.{Item}
-use Rattle.map_fold.specs.declared.op.Op.{Op}
-use Rattle.map_fold.specs.Contents.{AreContents}
-use Rattle.map_fold.specs.Ops.{Extends, Fit, numbers_put, replay}
+use Rattle.map_items.specs.declared.item.Item.{Item}
+use Rattle.map_items.specs.declared.op.Op.{Op}
+use Rattle.map_items.specs.Contents.{AreContents}
+use Rattle.map_items.specs.Ops.{Extends, Fit, numbers_put, replay}
 use Rattle.kd_tree.specs.Shape.{Shape}
 use Rattle.kd_tree.specs.Contents.{contents}
 use Rattle.kd_tree.specs.Apart.{AreAllApart}

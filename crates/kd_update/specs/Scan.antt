@@ -3,8 +3,8 @@ use Rattle.std.specs.Prelude.{◌≡◌, ℕ, ◌+◌, ◌<◌, ◌≤◌, max, 
 use Rattle.point_geom.specs.Place.{Place}
 use Rattle.node_labels.specs.Labels.{keep_tag}
 use Rattle.node_labels.specs.declared.label.Label.TheVariants.{Live}
-use Rattle.map_fold.specs.declared.item.Item.{Item}
-use Rattle.map_fold.specs.Contents.{live_at, put}
+use Rattle.map_items.specs.declared.item.Item.{Item}
+use Rattle.map_items.specs.Contents.{live_at, put}
 use Rattle.kd_tree.specs.Shape.{Shape, leaf, fork, levels, nodes, numbers}
 use Rattle.kd_tree.specs.Walk.{walk}
 use Rattle.kd_tree.specs.Contents.{AreDistinct, contents}

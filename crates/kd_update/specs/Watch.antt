@@ -1,8 +1,8 @@
 -- What a point that is put does to the subtree at a path, as operations on that subtree's own items.
 use Rattle.std.specs.Prelude.{ℕ, Bool, not, List, [], ◌∷◌, ◌++◌, if◌then◌else◌}
 use Rattle.point_geom.specs.Place.{Place}
-use Rattle.map_fold.specs.declared.op.Op.{Op}
-use Rattle.map_fold.specs.declared.op.Op.TheVariants.{Put}
+use Rattle.map_items.specs.declared.op.Op.{Op}
+use Rattle.map_items.specs.declared.op.Op.TheVariants.{Put}
 use Rattle.kd_tree.specs.Shape.{Shape, leaf, fork}
 use Rattle.kd_tree.specs.Walk.{tagged}
 use Rattle.kd_tree.specs.Parts.{son}

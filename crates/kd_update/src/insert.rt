@@ -2,7 +2,7 @@
 //! Nothing here knows what is logged of watched subtrees.
 ghost use Rattle.std.specs.Prelude.{◌≡◌, ◌+◌, ◌*◌, ◌<◌, ◌≤◌, ◌∷◌, IfOk};
 ghost use Rattle.node_labels.specs.Labels.{keep_tag};
-ghost use Rattle.map_fold.specs.Contents.{live_at, put};
+ghost use Rattle.map_items.specs.Contents.{live_at, put};
 ghost use Rattle.kd_tree.specs.Shape.{levels, nodes, numbers};
 ghost use Rattle.kd_tree.specs.Walk.{times};
 ghost use Rattle.kd_tree.specs.Contents.{contents};
@@ -15,7 +15,7 @@ ghost use Rattle.kd_mark.specs.Several.{AreLargeAt, IsUpdatedClear};
 use crate::sides::by_side;
 use kd_mark::{Unwatched, Ways, rejoined, spared_from};
 use kd_tree::{Block, MAX_LEVELS, MAX_NODES, OpenNode, Side, Steps, Tree};
-use map_fold::{Item, NoMemory};
+use map_items::{Item, NoMemory};
 use point_geom::{Axis, Point};
 use std::alloc::Global;
 use std::sync::ledger::Ledger;

@@ -1,7 +1,7 @@
 //! Points put into a tree, while subtrees are watched: what each meets is logged first, and then the tree is changed.
 ghost use Rattle.std.specs.Prelude.{◌≡◌, ◌+◌, ◌*◌, ◌<◌, ◌≤◌, ◌∷◌, IfOk, OnOk};
 ghost use Rattle.node_labels.specs.Labels.{keep_tag};
-ghost use Rattle.map_fold.specs.Contents.{put};
+ghost use Rattle.map_items.specs.Contents.{put};
 ghost use Rattle.kd_tree.specs.Shape.{levels, nodes, numbers};
 ghost use Rattle.kd_tree.specs.Walk.{times};
 ghost use Rattle.kd_tree.specs.Contents.{contents};
@@ -19,7 +19,7 @@ use crate::insert::{put, put_below};
 use crate::log_put::log_puts;
 use kd_mark::Watched;
 use kd_tree::{Block, MAX_LEVELS, MAX_NODES, Steps, Tree};
-use map_fold::{Item, NoMemory};
+use map_items::{Item, NoMemory};
 use point_geom::{Axis, Point};
 use std::alloc::Global;
 use std::sync::ledger::Ledger;

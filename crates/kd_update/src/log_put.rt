@@ -1,6 +1,6 @@
 //! What a point that is put does to watched subtrees, logged before it is put. Nothing here takes a node apart.
 ghost use Rattle.std.specs.Prelude.{◌≡◌, ◌+◌, ◌≤◌, ◌++◌, length, OnOk};
-ghost use Rattle.map_fold.specs.Ops.{Extends};
+ghost use Rattle.map_items.specs.Ops.{Extends};
 ghost use Rattle.kd_tree.specs.Walk.{tagged};
 ghost use Rattle.kd_update.specs.Watch.{logged_put};
 ghost use Rattle.kd_mark.specs.Watches.{AreExtended, AreFewMore, HaveRoom};
@@ -11,7 +11,7 @@ use crate::insert::goes_left;
 use crate::sides::goes_to;
 use kd_mark::{Watch, note, note_owed};
 use kd_tree::{Side, Tree};
-use map_fold::{NoMemory, Op, Tag};
+use map_items::{NoMemory, Op, Tag};
 use op_logger::{MAX_LOGGED, OpLog};
 use point_geom::Point;
 

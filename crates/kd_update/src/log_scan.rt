@@ -1,6 +1,6 @@
 //! What the points of a scan do to watched subtrees, logged in their order before they are put. Nothing here takes a node apart.
 ghost use Rattle.std.specs.Prelude.{◌≡◌, ◌+◌, ◌≤◌, true, false, [], ◌++◌, length, OnOk};
-ghost use Rattle.map_fold.specs.Ops.{Extends};
+ghost use Rattle.map_items.specs.Ops.{Extends};
 ghost use Rattle.kd_tree.specs.Walk.{tagged};
 ghost use Rattle.kd_mark.specs.Watches.{AreExtended, AreMore};
 ghost use Rattle.kd_update.specs.Crossing.{HaveRoomAtOnce, going, logged_scan, puts_of, with_scan};
@@ -10,7 +10,7 @@ use crate::insert::goes_left;
 use crate::sides::goes_to;
 use kd_mark::{Watch, note, note_owed};
 use kd_tree::{Side, Tree};
-use map_fold::{Item, NoMemory, Op, Tag};
+use map_items::{Item, NoMemory, Op, Tag};
 use op_logger::{MAX_LOGGED, OpLog};
 use point_geom::{Axis, Point};
 use std::alloc::Global;

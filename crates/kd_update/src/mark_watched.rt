@@ -1,6 +1,6 @@
 //! Actions on chosen items, while subtrees are watched: what each meets is logged first, and then the tree is changed.
 ghost use Rattle.std.specs.Prelude.{◌≡◌, ◌+◌, ◌*◌, ◌≤◌, IfOk, OnOk};
-ghost use Rattle.map_fold.specs.Contents.{chosen_by, mark};
+ghost use Rattle.map_items.specs.Contents.{chosen_by, mark};
 ghost use Rattle.kd_tree.specs.Shape.{numbers};
 ghost use Rattle.kd_tree.specs.Contents.{contents};
 ghost use Rattle.kd_mark.specs.Refresh.{AreAmong, IsRefresh};
@@ -13,7 +13,7 @@ ghost use Rattle.kd_mark.specs.Watches.{AreExtended, AreFewMore, HaveRoom, paths
 use crate::Watches;
 use kd_mark::{Watched, log_each_mark, marked, marked_within};
 use kd_tree::{Steps, Tree};
-use map_fold::{Choice, NoMemory, Tag};
+use map_items::{Choice, NoMemory, Tag};
 use std::alloc::Global;
 use std::sync::ledger::Ledger;
 

@@ -1,7 +1,7 @@
 //! Points put into a tree under the numbers that come next.
 ghost use Rattle.std.specs.Prelude.{◌≡◌, ◌+◌, ◌≤◌, ◌++◌, length, IfOk};
-ghost use Rattle.map_fold.specs.Contents.{AreContents};
-ghost use Rattle.map_fold.specs.Fold.{add_points};
+ghost use Rattle.map_items.specs.Contents.{AreContents};
+ghost use Rattle.map_items.specs.Fold.{add_points};
 ghost use Rattle.kd_tree.specs.Shape.{nodes, numbers};
 ghost use Rattle.kd_tree.specs.Contents.{contents};
 ghost use Rattle.kd_mark.specs.Refresh.{AreAmong};
@@ -10,7 +10,7 @@ ghost use Rattle.kd_update.specs.Scan.{live_from, numbers_in};
 
 use crate::put_all;
 use kd_tree::{Scratch, Steps, Tree};
-use map_fold::{Item, MAX_POINTS, NoMemory};
+use map_items::{Item, MAX_POINTS, NoMemory};
 use point_geom::Point;
 use std::alloc::Global;
 use std::sync::ledger::Ledger;

@@ -13,7 +13,7 @@ use crate::insert::leaf;
 use crate::part_items::parted;
 use kd_mark::rejoined;
 use kd_tree::{MAX_NODES, OpenNode, Scratch, Steps, Tree};
-use map_fold::{Item, NoMemory};
+use map_items::{Item, NoMemory};
 use point_geom::Axis;
 use std::alloc::Global;
 use std::sync::ledger::Ledger;

@@ -7,7 +7,7 @@ ghost use Rattle.kd_update.specs.Scan.{IsParted};
 use crate::insert::goes_left;
 use kd_mark::LEAST;
 use kd_tree::{MAX_NODES, Tree};
-use map_fold::Item;
+use map_items::Item;
 use point_geom::{Axis, Point};
 
 // How many of the items go left of the top: they are moved to the front. None where the tree is to be rebuilt with the

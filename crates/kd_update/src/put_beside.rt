@@ -11,7 +11,7 @@ use crate::one_pass::{put_at_once, put_first};
 use crate::part_items::moved_left;
 use kd_mark::{Watched, Ways, joined};
 use kd_tree::{OpenNode, Scratch, Side, Steps, Tree};
-use map_fold::{Item, NoMemory};
+use map_items::{Item, NoMemory};
 use point_geom::Axis;
 use std::alloc::Global;
 use std::sync::ledger::Ledger;

@@ -7,7 +7,7 @@ ghost use Rattle.kd_mark.specs.Update.{KeepsBalance};
 
 use kd_mark::rebuilt;
 use kd_tree::{MAX_LEVELS, MAX_NODES, Steps, Tree};
-use map_fold::NoMemory;
+use map_items::NoMemory;
 use std::alloc::Global;
 use std::sync::ledger::Ledger;
 

@@ -11,7 +11,7 @@ use crate::one_pass::put_at_once;
 use crate::roomy;
 use kd_mark::Unwatched;
 use kd_tree::{Block, MAX_LEVELS, MAX_NODES, Scratch, Steps, Tree};
-use map_fold::{Item, NoMemory};
+use map_items::{Item, NoMemory};
 use point_geom::Axis;
 use std::alloc::Global;
 use std::sync::ledger::Ledger;

@@ -16,7 +16,7 @@ use crate::log_scan::log_scans;
 use crate::put_beside::put_beside;
 use kd_mark::Watched;
 use kd_tree::{MAX_NODES, Scratch, Steps, Tree};
-use map_fold::{Item, NoMemory};
+use map_items::{Item, NoMemory};
 use point_geom::Axis;
 use std::alloc::Global;
 use std::sync::ledger::Ledger;

@@ -3,7 +3,7 @@ ghost use Rattle.std.specs.Prelude.{◌≡◌, ◌==◌, ◌<◌, ◌≤◌, [],
 ghost use Rattle.std.specs.List.{remove};
 
 use kd_mark::Watch;
-use map_fold::NoMemory;
+use map_items::NoMemory;
 use std::alloc::Global;
 use std::marker::Model;
 

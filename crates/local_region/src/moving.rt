@@ -3,12 +3,12 @@ ghost use Rattle.std.specs.Prelude.{◌≡◌, ℕ, IfOk};
 ghost use Rattle.local_region.specs.Moves.{Moves, after};
 ghost use Rattle.local_region.specs.Removed.{AreLeftBehind, removed};
 ghost use Rattle.local_region.specs.Map.{AreHeld, not_left};
-ghost use Rattle.map_fold.specs.Fold.{MapAt, step};
-ghost use Rattle.map_fold.specs.declared.update.Update.TheVariants as update;
+ghost use Rattle.map_items.specs.Fold.{MapAt, step};
+ghost use Rattle.map_items.specs.declared.update.Update.TheVariants as update;
 
 use crate::Region;
 use crate::removing::removed;
-use map_fold::{Cuboids, NoMemory};
+use map_items::{Cuboids, NoMemory};
 use point_geom::Point;
 use std::alloc::Global;
 

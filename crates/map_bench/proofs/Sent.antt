@@ -9,7 +9,7 @@ use Rattle.core.proofs.time.Duration.TheSendSync as duration
 use Rattle.point_geom.proofs.point.Point.TheSendSync as point
 use Rattle.point_geom.proofs.cuboid.Corner.TheSendSync as corner
 use Rattle.point_geom.proofs.cuboid.Cuboid.TheSendSync as cuboid
-use Rattle.map_fold.proofs.sequence.Sequence.TheSendSync as sequence
+use Rattle.map_items.proofs.sequence.Sequence.TheSendSync as sequence
 use Rattle.rebuild_worker.proofs.bell.Bell.TheSendSync as bell
 use Rattle.rebuild_worker.proofs.bell.Rest.TheSendSync as rest
 use Rattle.published_map.proofs.Crossing as map

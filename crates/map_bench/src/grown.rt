@@ -1,7 +1,7 @@
 //! A tree that grows scan by scan.
 ghost use Rattle.std.specs.Prelude.{◌<◌, ◌≤◌, ℕ, Contains};
 ghost use Rattle.kd_tree.specs.Shape.{numbers};
-ghost use Rattle.map_fold.specs.declared.limits.TheConstants.{MAX_POINTS};
+ghost use Rattle.map_items.specs.declared.limits.TheConstants.{MAX_POINTS};
 
 use crate::bench::Bench;
 use crate::course::Scan;
@@ -10,7 +10,7 @@ use crate::stop::Stop;
 use kd_mark::marked;
 use kd_tree::{Scratch, Steps, Tree};
 use kd_update::put_points;
-use map_fold::{Choice, MAX_POINTS, NoMemory, Points, Tag};
+use map_items::{Choice, MAX_POINTS, NoMemory, Points, Tag};
 use std::alloc::Global;
 use std::mem;
 use std::sync::ledger::Ledger;

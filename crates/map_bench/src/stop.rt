@@ -1,5 +1,5 @@
 //! Why a measurement stopped.
-use map_fold::NoMemory;
+use map_items::NoMemory;
 use rebuild_parts::StateFault;
 use std::alloc::AllocError;
 use std::io;

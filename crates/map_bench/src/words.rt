@@ -1,10 +1,10 @@
 //! What the words ask for.
 ghost use Rattle.std.specs.Prelude.{◌≤◌};
-ghost use Rattle.map_fold.specs.declared.limits.TheConstants.{MAX_POINTS};
+ghost use Rattle.map_items.specs.declared.limits.TheConstants.{MAX_POINTS};
 
 use crate::course::Lie;
 use crate::threads::company::Sharing;
-use map_fold::MAX_POINTS;
+use map_items::MAX_POINTS;
 
 /// What is measured.
 #[derive(Clone, Copy)]

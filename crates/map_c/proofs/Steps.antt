@@ -4,10 +4,10 @@ use Rattle.rebuild_core.specs.Known.{undone}
 use Rattle.rebuild_core.specs.Detach.{IsLogAfter}
 use Rattle.rebuild_core.specs.Lawful.{StateAt}
 use Rattle.rebuild_core.specs.Swap.{IsSwapStep, MaySwap}
-use Rattle.c_handles.specs.declared.content.Content.{Content}
-use Rattle.c_handles.specs.declared.content.Content.TheVariants as content
-use Rattle.c_handles.specs.Building.{built_in}
-use Rattle.c_handles.specs.Done.{DoneAt}
+use Rattle.map_c.specs.declared.content.Content.{Content}
+use Rattle.map_c.specs.declared.content.Content.TheVariants as content
+use Rattle.map_c.specs.Building.{built_in}
+use Rattle.map_c.specs.Done.{DoneAt}
 use Rattle.map_c.specs.Maps.{map_in}
 use Rattle.map_c.specs.Swapping.{IsLeft, IsSwapped}
 

@@ -1,9 +1,9 @@
 -- What is told of a question that is refused.
 use Rattle.std.proofs.Common.{◌≡◌, ℤ, Option, to_z, of_z, w32, rules}
-use Rattle.c_handles.specs.declared.content.Content.{Content}
-use Rattle.c_handles.specs.declared.refusal.Refusal.{Refusal}
-use Rattle.c_handles.specs.Answers.{IsTold}
-use Rattle.c_handles.specs.Status.{code}
+use Rattle.map_c.specs.declared.content.Content.{Content}
+use Rattle.map_c.specs.declared.refusal.Refusal.{Refusal}
+use Rattle.map_c.specs.Answers.{IsTold}
+use Rattle.map_c.specs.Status.{code}
 
 -- A question that is refused so, with nothing counted. No refusal's status is that of a call that is done, and each crosses to C as
 -- it is: the search sees both, refusal by refusal.

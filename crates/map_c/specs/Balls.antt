@@ -1,14 +1,14 @@
 -- The live points of a ball.
 use Rattle.std.specs.Prelude.{◌≡◌, ◌<◌, ◌≤◌, ◌⊎◌, ℕ, ℤ, List, map, length, take, Option, None, Some}
-use Rattle.map_fold.specs.declared.limits.TheConstants.{MAX_FOUND, MAX_WITHIN}
-use Rattle.map_answers.specs.Neighbours.{ball}
+use Rattle.map_items.specs.declared.limits.TheConstants.{MAX_FOUND, MAX_WITHIN}
+use Rattle.map_fold.specs.Neighbours.{ball}
 use Rattle.kd_tree.specs.Contents.{contents}
 use Rattle.rebuild_parts.specs.Seen.{VersionAt}
-use Rattle.c_handles.specs.Answers.{shown_in}
-use Rattle.c_handles.specs.Forms.{IsRightPlace, place_at}
-use Rattle.c_handles.specs.Status.{bad_number, empty, no_memory, no_room, out_of_range}
-use Rattle.c_handles.specs.declared.content.Content.{Content}
-use Rattle.c_handles.specs.declared.forms.Place.{Place}
+use Rattle.map_c.specs.Answers.{shown_in}
+use Rattle.map_c.specs.Forms.{IsRightPlace, place_at}
+use Rattle.map_c.specs.Status.{bad_number, empty, no_memory, no_room, out_of_range}
+use Rattle.map_c.specs.declared.content.Content.{Content}
+use Rattle.map_c.specs.declared.forms.Place.{Place}
 use Rattle.map_c.specs.declared.all_items.HeldPoint.{HeldPoint}
 use Rattle.map_c.specs.Renewal.{c_held}
 

@@ -3,3 +3,9 @@ pub mod Logged
 pub mod Maps
 pub mod Renewal
 pub mod Swapping
+pub mod Answers
+pub mod Building
+pub mod Done
+pub mod Forms
+pub mod Held
+pub mod Status

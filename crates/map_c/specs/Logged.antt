@@ -6,8 +6,8 @@ use Rattle.scan_log.specs.Written.{script_text}
 use Rattle.history_log.specs.Lines.{IsLogFault, script_of}
 use Rattle.history_log.specs.declared.fault.LogFault.{LogFault}
 use Rattle.history_log.specs.declared.fault.LogFault.TheVariants as fault
-use Rattle.c_handles.specs.Status.{empty, no_memory, no_room, too_many_updates}
-use Rattle.c_handles.specs.declared.content.Content.{Content}
+use Rattle.map_c.specs.Status.{empty, no_memory, no_room, too_many_updates}
+use Rattle.map_c.specs.declared.content.Content.{Content}
 use Rattle.map_c.specs.Maps.{map_in}
 
 -- no line of a log says an update

@@ -2,18 +2,18 @@
 use Rattle.std.specs.Prelude.{◌≡◌, ◌⊎◌, ℕ, ℤ, List, map, length, min, take, Option, None, Some}
 use Rattle.node_labels.specs.declared.label.Label.{Label}
 use Rattle.node_labels.specs.declared.label.Label.TheVariants.{Live, Suspended, Dropped}
-use Rattle.map_fold.specs.declared.item.Item as held
-use Rattle.map_fold.specs.Sizes.{Sizes, AreSizes}
-use Rattle.map_fold.specs.Contents.{live_items}
+use Rattle.map_items.specs.declared.item.Item as held
+use Rattle.map_items.specs.Sizes.{Sizes, AreSizes}
+use Rattle.map_items.specs.Contents.{live_items}
 use Rattle.kd_tree.specs.Contents.{contents}
 use Rattle.rebuild_parts.specs.Seen.{VersionAt}
 use Rattle.rebuild_core.specs.Lawful.{StateAt}
 use Rattle.map_renewal.specs.Listed.{numbered_from}
 use Rattle.map_renewal.specs.Renewed.{points_of, renewed_items, suspended_items}
-use Rattle.c_handles.specs.Answers.{c_point, shown_in}
-use Rattle.c_handles.specs.Status.{bad_number, empty, full, no_memory}
-use Rattle.c_handles.specs.declared.content.Content.{Content}
-use Rattle.c_handles.specs.declared.content.Content.TheVariants as content
+use Rattle.map_c.specs.Answers.{c_point, shown_in}
+use Rattle.map_c.specs.Status.{bad_number, empty, full, no_memory}
+use Rattle.map_c.specs.declared.content.Content.{Content}
+use Rattle.map_c.specs.declared.content.Content.TheVariants as content
 use Rattle.map_c.specs.declared.all_items.HeldPoint.{HeldPoint}
 
 -- 1 where it is suspended

@@ -7,12 +7,12 @@ use Rattle.kd_update.specs.Parts.{PartAt}
 use Rattle.rebuild_core.specs.Swap.{IsSwapStep, MaySwap}
 use Rattle.rebuild_parts.specs.declared.fault.SwapFault.{SwapFault}
 use Rattle.rebuild_parts.specs.declared.fault.SwapFault.TheVariants as fault
-use Rattle.c_handles.specs.declared.content.Content.{Content}
-use Rattle.c_handles.specs.declared.content.Content.TheVariants as content
-use Rattle.c_handles.specs.declared.work.Work.{Work}
-use Rattle.c_handles.specs.Building.{built_in}
-use Rattle.c_handles.specs.Done.{DoneAt}
-use Rattle.c_handles.specs.Status.{bad_number, behind, empty, full, no_memory, nothing_to_detach, stale}
+use Rattle.map_c.specs.declared.content.Content.{Content}
+use Rattle.map_c.specs.declared.content.Content.TheVariants as content
+use Rattle.map_c.specs.declared.work.Work.{Work}
+use Rattle.map_c.specs.Building.{built_in}
+use Rattle.map_c.specs.Done.{DoneAt}
+use Rattle.map_c.specs.Status.{bad_number, behind, empty, full, no_memory, nothing_to_detach, stale}
 use Rattle.map_c.specs.Maps.{map_in}
 
 -- The handle held a map, and holds it with a subtree detached into the slot, of which the other handle holds the job.

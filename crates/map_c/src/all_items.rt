@@ -1,11 +1,11 @@
 //! All points of what a handle shows, listed by number.
 ghost use Rattle.std.specs.Prelude.{◌≡◌, IfErr, IfOk, Some, length, map, min, take};
-ghost use Rattle.c_handles.specs.Answers.{IsTold, c_point};
-ghost use Rattle.c_handles.specs.Status.{code};
+ghost use Rattle.map_c.specs.Answers.{IsTold, c_point};
+ghost use Rattle.map_c.specs.Status.{code};
 ghost use Rattle.map_c.specs.Renewal.{IsListing, IsListingRefusal, c_held, c_suspended};
 
-use c_handles::{Content, DONE, Handle, Point, Refusal, shown};
-use map_fold::{Item, Label};
+use crate::{Content, DONE, Handle, Point, Refusal, shown};
+use map_items::{Item, Label};
 use map_renewal::items_from;
 use std::alloc::Global;
 

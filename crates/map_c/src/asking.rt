@@ -1,9 +1,9 @@
 //! Questions to a map. What is asked of a handle that holds a view is answered of that.
 ghost use Rattle.std.specs.Prelude.{length};
-ghost use Rattle.c_handles.specs.Answers.{AreTold, IsCount, IsCountRefusal, IsInside, IsInsideRefusal, IsNearest, IsNearestEach, IsNearestEachRefusal, IsNearestRefusal, IsTold};
+ghost use Rattle.map_c.specs.Answers.{AreTold, IsCount, IsCountRefusal, IsInside, IsInsideRefusal, IsNearest, IsNearestEach, IsNearestEachRefusal, IsNearestRefusal, IsTold};
 
 use crate::searching::{search, search_each};
-use c_handles::{
+use crate::{
     Bounds, DONE, Handle, Hit, Item, Place, Refusal, Totals, count_in_box, list, totals_of,
 };
 use std::alloc::Global;

@@ -1,12 +1,12 @@
 //! The live points of a ball, written where C wants them.
 ghost use Rattle.std.specs.Prelude.{◌≡◌, IfErr, IfOk, Some, false, length, true};
-ghost use Rattle.c_handles.specs.Answers.{IsTold};
-ghost use Rattle.c_handles.specs.Status.{code};
+ghost use Rattle.map_c.specs.Answers.{IsTold};
+ghost use Rattle.map_c.specs.Status.{code};
 ghost use Rattle.map_c.specs.Balls.{IsBall, IsBallAsked, IsBallRefusal};
 
 use crate::all_items::{HeldPoint, write_all};
-use c_handles::{Content, DONE, Handle, Place, Refusal, read_place, shown};
-use map_fold::{MAX_FOUND, MAX_WITHIN};
+use crate::{Content, DONE, Handle, Place, Refusal, read_place, shown};
+use map_items::{MAX_FOUND, MAX_WITHIN};
 use neighbour_sets::in_ball;
 use std::alloc::Global;
 

@@ -1,9 +1,9 @@
 //! Detached subtrees, rebuilt and brought up to date. Nothing here asks the map.
 ghost use Rattle.std.specs.Prelude.{◌≡◌, ◌≢◌, None};
-ghost use Rattle.c_handles.specs.Building.{IsBuildRefusal, IsJobBuilt, IsReplayRefusal, IsReplayed};
-ghost use Rattle.c_handles.specs.Status.{done};
+ghost use Rattle.map_c.specs.Building.{IsBuildRefusal, IsJobBuilt, IsReplayRefusal, IsReplayed};
+ghost use Rattle.map_c.specs.Status.{done};
 
-use c_handles::{DONE, Handle, Refusal, build, replay, status_of};
+use crate::{DONE, Handle, Refusal, build, replay, status_of};
 use std::alloc::Global;
 
 /// Rebuilds the job's subtree, and leaves the job's handle empty.

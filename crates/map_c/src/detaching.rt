@@ -2,10 +2,10 @@
 ghost use Rattle.std.specs.Prelude.{◌≡◌, ◌≢◌, ◌≤◌, IfErr, IfOk, None, OnErr, Some};
 ghost use Rattle.rebuild_core.specs.Detach.{IsSlot};
 ghost use Rattle.map_c.specs.Swapping.{IsDetachRefusal, IsDetached};
-ghost use Rattle.c_handles.specs.Status.{code, done};
-ghost use Rattle.c_handles.specs.declared.content.Content.TheVariants as is;
+ghost use Rattle.map_c.specs.Status.{code, done};
+ghost use Rattle.map_c.specs.declared.content.Content.TheVariants as is;
 
-use c_handles::{Content, DONE, Handle, Kept, Refusal, Work, boxed};
+use crate::{Content, DONE, Handle, Kept, Refusal, Work, boxed};
 use std::alloc::Global;
 
 /// Gives out the subtree of the slot, from 1 to 4: the one that was given out under it before, or else the first large one that

@@ -1,10 +1,10 @@
 //! What happened to a map, as a log.
 ghost use Rattle.std.specs.Prelude.{◌≡◌, ◌≢◌, ◌<◌, IfErr, IfOk, IfSome, IsNone, Some, length, take};
-ghost use Rattle.c_handles.specs.Answers.{IsTold};
-ghost use Rattle.c_handles.specs.Status.{done};
+ghost use Rattle.map_c.specs.Answers.{IsTold};
+ghost use Rattle.map_c.specs.Status.{done};
 ghost use Rattle.map_c.specs.Logged.{IsLogRefusal, IsLogged, log_code};
 
-use c_handles::{Content, DONE, Handle, Refusal};
+use crate::{Content, DONE, Handle, Refusal};
 use history_log::{LogFault, history_log};
 use std::alloc::Global;
 

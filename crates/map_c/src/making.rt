@@ -1,13 +1,13 @@
 //! Maps, made and freed.
 ghost use Rattle.std.specs.Prelude.{◌≡◌, ◌≢◌, IfOk, None};
-ghost use Rattle.map_fold.specs.Sizes.{AreSizes};
+ghost use Rattle.map_items.specs.Sizes.{AreSizes};
 ghost use Rattle.rebuild_core.specs.Lawful.{new_state};
 ghost use Rattle.map_c.specs.Maps.{IsNew, IsNewRefusal};
-ghost use Rattle.c_handles.specs.Status.{done};
-ghost use Rattle.c_handles.specs.declared.content.Content.TheVariants as content_is;
+ghost use Rattle.map_c.specs.Status.{done};
+ghost use Rattle.map_c.specs.declared.content.Content.TheVariants as content_is;
 
-use c_handles::{Content, DONE, Handle, Kept, Refusal, boxed};
-use map_fold::{NoMemory, Settings};
+use crate::{Content, DONE, Handle, Kept, Refusal, boxed};
+use map_items::{NoMemory, Settings};
 use rebuild_core::MapState;
 use std::alloc::Global;
 

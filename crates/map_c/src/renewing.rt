@@ -1,11 +1,11 @@
 //! New maps that hold what a handle shows.
 ghost use Rattle.std.specs.Prelude.{◌≡◌, ◌≢◌, IfErr, IfOk, None, Some};
-ghost use Rattle.map_fold.specs.Sizes.{AreSizes};
+ghost use Rattle.map_items.specs.Sizes.{AreSizes};
 ghost use Rattle.map_c.specs.Renewal.{IsRenewRefusal, IsRenewed, IsRenewedOf};
-ghost use Rattle.c_handles.specs.Status.{code, done};
+ghost use Rattle.map_c.specs.Status.{code, done};
 
-use c_handles::{Content, DONE, Handle, Kept, Refusal, boxed, shown};
-use map_fold::{NoMemory, Settings};
+use crate::{Content, DONE, Handle, Kept, Refusal, boxed, shown};
+use map_items::{NoMemory, Settings};
 use map_renewal::renewed;
 use rebuild_parts::Version;
 use std::alloc::Global;

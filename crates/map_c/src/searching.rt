@@ -2,13 +2,13 @@
 ghost use Rattle.std.specs.Prelude.{◌≡◌, ◌+◌, ◌*◌, ◌<◌, ◌≤◌, ◌⊎◌, ◌≤ℤ◌, ◌++◌, All, Any, IfErr, IfOk, OnOk, Some, None, false, length, pos, take, true};
 ghost use Rattle.std.specs.Option.{ForSome};
 ghost use Rattle.kd_search.specs.Query.{IsQuery};
-ghost use Rattle.c_handles.specs.Answers.{IsNearest, IsNearestEach, IsNearestEachRefusal, IsNearestRefusal, IsSearch, all_hits, hit_counts, nearest_hits, within_at};
-ghost use Rattle.c_handles.specs.Forms.{IsRightPlace};
-ghost use Rattle.c_handles.specs.Status.{code, no_memory, out_of_range};
+ghost use Rattle.map_c.specs.Answers.{IsNearest, IsNearestEach, IsNearestEachRefusal, IsNearestRefusal, IsSearch, all_hits, hit_counts, nearest_hits, within_at};
+ghost use Rattle.map_c.specs.Forms.{IsRightPlace};
+ghost use Rattle.map_c.specs.Status.{code, no_memory, out_of_range};
 
-use c_handles::{Content, Hit, Place, Refusal, read_place, shown, write_hits};
+use crate::{Content, Hit, Place, Refusal, read_place, shown, write_hits};
 use kd_search::nearest;
-use map_fold::{MAX_FOUND, MAX_WITHIN};
+use map_items::{MAX_FOUND, MAX_WITHIN};
 use rebuild_parts::Version;
 use std::alloc::Global;
 

@@ -2,17 +2,17 @@
 ghost use Rattle.std.specs.Prelude.{◌≡◌, ◌≢◌, ◌==◌, ◌⊎◌, IfErr, IfOk, None, OnErr, OnOk, Some, not};
 ghost use Rattle.kd_tree.specs.Counter.{IsBlankOf};
 ghost use Rattle.map_c.specs.Swapping.{IsBehind, IsLeft, IsStaleAs, IsSwapRefusal, IsSwapped};
-ghost use Rattle.c_handles.specs.Status.{behind, code, done};
-ghost use Rattle.map_fold.specs.Ops.{Fit};
+ghost use Rattle.map_c.specs.Status.{behind, code, done};
+ghost use Rattle.map_items.specs.Ops.{Fit};
 ghost use Rattle.kd_tree.specs.Contents.{contents};
 ghost use Rattle.rebuild_core.specs.Known.{IsStale};
 ghost use Rattle.rebuild_core.specs.Detach.{IsLogAfter};
 ghost use Rattle.rebuild_core.specs.Swap.{IsSwapFault, IsSwapStep, MaySwap};
-ghost use Rattle.c_handles.specs.declared.refusal.Refusal.TheVariants as refused_as;
+ghost use Rattle.map_c.specs.declared.refusal.Refusal.TheVariants as refused_as;
 
-use c_handles::{Content, DONE, Done, Handle, Refusal};
+use crate::{Content, DONE, Done, Handle, Refusal};
 use kd_tree::Steps;
-use map_fold::Ops;
+use map_items::Ops;
 use rebuild_core::{MapState, SwapLeft};
 use rebuild_parts::{Built, LogAsk, SwapFault};
 use std::alloc::Global;

@@ -1,15 +1,15 @@
 //! Updates of a map. All updates of C are those of one caller.
 ghost use Rattle.std.specs.Prelude.{◌≡◌, IfErr, OnOk, OnErr, Some};
-ghost use Rattle.map_fold.specs.declared.update.Update.TheVariants.{Add, Delete, Expire, Restore, Suspend, Thin};
+ghost use Rattle.map_items.specs.declared.update.Update.TheVariants.{Add, Delete, Expire, Restore, Suspend, Thin};
 ghost use Rattle.kd_tree.specs.Counter.{IsBlankOf};
 ghost use Rattle.rebuild_core.specs.Steps.{HasRoom, IsFault, IsUpdateStep};
-ghost use Rattle.c_handles.specs.Forms.{boxes_at, points_at};
+ghost use Rattle.map_c.specs.Forms.{boxes_at, points_at};
 ghost use Rattle.map_c.specs.Maps.{IsAnswer, IsBoxesAnswer, IsUpdated, IsPointsAnswer, IsUpdateRefusal};
-ghost use Rattle.c_handles.specs.Status.{code};
+ghost use Rattle.map_c.specs.Status.{code};
 
-use c_handles::{Bounds, Content, Handle, Point, Refusal, read_boxes, read_points, status_of};
+use crate::{Bounds, Content, Handle, Point, Refusal, read_boxes, read_points, status_of};
 use kd_tree::Steps;
-use map_fold::Update;
+use map_items::Update;
 use rebuild_core::MapState;
 use rebuild_parts::StateFault;
 use std::alloc::Global;

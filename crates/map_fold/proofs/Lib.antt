@@ -1,5 +1,8 @@
-pub mod Numbered
-pub mod Folds
-pub mod Replays
-pub mod Same
-pub mod Puts
+pub mod Ranking
+pub mod Order
+pub mod FirstOnes
+pub mod Found
+pub mod Ranked
+mod Vectors
+pub mod Centre
+pub mod Thinning

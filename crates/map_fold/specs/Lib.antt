@@ -1,4 +1,6 @@
-pub mod Sizes
-pub mod Contents
-pub mod Fold
-pub mod Ops
+pub mod Answers
+pub mod Nearest
+pub mod Thinned
+pub mod Neighbours
+pub mod Clusters
+pub mod Rivals

@@ -1,23 +1,17 @@
-//! What updates make of a map: items, operations on them, updates and entries of a history, and the definitions that all above stands on.
+//! What queries answer of a map, as definitions and as values: hits in their order, lists of them, groups, and replies.
 #![tactic(auto)]
 
-mod choice;
-mod entry;
-mod item;
-mod limits;
-mod memory;
-mod op;
-mod sequence;
-mod settings;
-mod update;
+mod group;
+mod hits;
+mod plain_map;
+mod reply;
+mod thin;
 
-pub use choice::Choice;
-pub use entry::Entry;
-pub use item::{Item, Items};
-pub use limits::{MAX_FOUND, MAX_LARGE, MAX_POINTS, MAX_WITHIN, MIN_LARGE};
-pub use memory::NoMemory;
-pub use node_labels::{Counts, Label, Tag};
-pub use op::{Op, Ops};
-pub use sequence::Sequence;
-pub use settings::Settings;
-pub use update::{Cuboids, Points, Update};
+pub use group::{Group, Groups};
+pub use hits::{Hit, HitLists, Hits};
+pub use map_items::{
+    Choice, Counts, Cuboids, Entry, Item, Items, Label, MAX_FOUND, MAX_LARGE, MAX_POINTS,
+    MAX_WITHIN, MIN_LARGE, NoMemory, Op, Ops, Points, Sequence, Settings, Tag, Update,
+};
+pub use plain_map::PlainMap;
+pub use reply::{BoxReply, ClusterReply, NearReply, NearsReply};

@@ -5,7 +5,7 @@ use Rattle.std.specs.List.{AllByRecursion}
 use Rattle.std.proofs.lemmas.Bool.Decides.{nat_tests}
 use Rattle.std.proofs.lemmas.List.Elements.{recursion_from_All}
 use Rattle.node_labels.specs.declared.tag.Tag.{Tag}
-use Rattle.map_fold.specs.declared.item.Item.{Item}
+use Rattle.map_items.specs.declared.item.Item.{Item}
 use Rattle.kd_tree.specs.Shape.{Shape, numbers}
 use Rattle.kd_tree.specs.Walk.{walk}
 use Rattle.kd_tree.proofs.Held.{walk_numbers}

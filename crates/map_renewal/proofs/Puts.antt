@@ -5,10 +5,10 @@ use Rattle.point_geom.specs.Place.{Place, Bounds}
 use Rattle.point_geom.specs.Boxes.{holds}
 use Rattle.node_labels.specs.Labels.{suspend_tag}
 use Rattle.node_labels.specs.declared.label.Label.TheVariants.{Live, Suspended}
-use Rattle.map_fold.specs.declared.item.Item.{Item}
-use Rattle.map_fold.specs.Contents.{AreContents, mark, in_box, live_at}
-use Rattle.map_fold.specs.Fold.{MapAt, add_points}
-use Rattle.map_fold.proofs.Numbered.{put-above, contents_push}
+use Rattle.map_items.specs.declared.item.Item.{Item}
+use Rattle.map_items.specs.Contents.{AreContents, mark, in_box, live_at}
+use Rattle.map_items.specs.Fold.{MapAt, add_points}
+use Rattle.map_items.proofs.Numbered.{put-above, contents_push}
 use Rattle.map_renewal.specs.Renewed.{numbered_as}
 
 map_same : (a b : List Item) (i j : ℕ) → a ≡ b → i ≡ j → ◌≡◌ {A = MapAt} (record { items = a; next = i }) (record { items = b; next = j })

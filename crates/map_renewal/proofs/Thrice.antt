@@ -7,13 +7,13 @@ use Rattle.point_geom.specs.Place.{Place, Bounds, IsPlace}
 use Rattle.node_labels.specs.Labels.{is_dropped, is_live, is_suspended, suspend_tag}
 use Rattle.node_labels.specs.declared.label.Label.{Label}
 use Rattle.node_labels.specs.declared.label.Label.TheVariants.{Live, Suspended, Dropped}
-use Rattle.map_fold.specs.declared.item.Item.{Item}
-use Rattle.map_fold.specs.declared.update.Update.TheVariants.{Suspend}
-use Rattle.map_fold.specs.declared.update.Update.{Update}
-use Rattle.map_fold.specs.Contents.{put, live_items, suspended_count}
-use Rattle.map_fold.specs.Fold.{MapAt, add_points, mark_boxes, points_in}
-use Rattle.map_fold.specs.Sizes.{Sizes}
-use Rattle.map_fold.proofs.Folds.{add_next}
+use Rattle.map_items.specs.declared.item.Item.{Item}
+use Rattle.map_items.specs.declared.update.Update.TheVariants.{Suspend}
+use Rattle.map_items.specs.declared.update.Update.{Update}
+use Rattle.map_items.specs.Contents.{put, live_items, suspended_count}
+use Rattle.map_items.specs.Fold.{MapAt, add_points, mark_boxes, points_in}
+use Rattle.map_items.specs.Sizes.{Sizes}
+use Rattle.map_items.proofs.Folds.{add_next}
 use Rattle.kd_tree.specs.Shape.{Shape}
 use Rattle.kd_tree.specs.Contents.{contents}
 use Rattle.kd_tree.specs.Maps.{map_of}

@@ -5,9 +5,9 @@ use Rattle.point_geom.specs.declared.cuboid.Corner.{Corner}
 use Rattle.node_labels.specs.Labels.{is_live, is_suspended, is_dropped}
 use Rattle.node_labels.specs.declared.label.Label.{Label}
 use Rattle.node_labels.specs.declared.label.Label.TheVariants.{Live, Suspended, Dropped}
-use Rattle.map_fold.specs.declared.item.Item.{Item}
-use Rattle.map_fold.specs.Contents.{live_items, suspended_count}
-use Rattle.map_fold.specs.Fold.{add_points}
+use Rattle.map_items.specs.declared.item.Item.{Item}
+use Rattle.map_items.specs.Contents.{live_items, suspended_count}
+use Rattle.map_items.specs.Fold.{add_points}
 use Rattle.kd_tree.specs.Maps.{map_of}
 use Rattle.rebuild_core.specs.Lawful.{StateAt}
 

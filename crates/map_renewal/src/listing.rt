@@ -1,12 +1,12 @@
 //! All points of a tree by number, from a number on.
 ghost use Rattle.std.specs.Prelude.{◌≡◌, [], ◌∷◌, ◌++◌, IfOk, OnOk};
-ghost use Rattle.map_fold.specs.Contents.{kept};
+ghost use Rattle.map_items.specs.Contents.{kept};
 ghost use Rattle.kd_tree.specs.Walk.{walk};
 ghost use Rattle.kd_tree.specs.Contents.{contents};
 ghost use Rattle.map_renewal.specs.Listed.{numbered_from};
 
 use kd_tree::Tree;
-use map_fold::{Item, Items, Label, NoMemory, Tag};
+use map_items::{Item, Items, Label, NoMemory, Tag};
 use std::alloc::Global;
 
 /// The items of a number from this one on, live and suspended, in the order of their numbers. A subtree whose numbers are all

@@ -1,8 +1,8 @@
 //! A new map that holds what a version holds.
 ghost use Rattle.std.specs.Prelude.{◌≡◌, ◌+◌, ◌<◌, ◌≤◌, [], ◌∷◌, ◌++◌, length, IfOk, OnOk};
 ghost use Rattle.node_labels.specs.declared.label.Label.TheVariants.{Live, Suspended};
-ghost use Rattle.map_fold.specs.Contents.{live_items};
-ghost use Rattle.map_fold.specs.Fold.{add_points};
+ghost use Rattle.map_items.specs.Contents.{live_items};
+ghost use Rattle.map_items.specs.Fold.{add_points};
 ghost use Rattle.kd_tree.specs.Maps.{map_of};
 ghost use Rattle.kd_tree.specs.Counter.{IsBlankOf};
 ghost use Rattle.kd_tree.specs.Contents.{contents};
@@ -11,7 +11,7 @@ ghost use Rattle.map_renewal.specs.Renewed.{IsAdded, all_places, numbered_as, po
 
 use crate::everywhere::{everywhere, look_at};
 use kd_tree::Steps;
-use map_fold::{Cuboids, Item, Label, MAX_POINTS, NoMemory, Points, Settings, Update};
+use map_items::{Cuboids, Item, Label, MAX_POINTS, NoMemory, Points, Settings, Update};
 use point_geom::Point;
 use rebuild_core::{MAX_UPDATES, MapState};
 use rebuild_parts::{StateFault, Version};

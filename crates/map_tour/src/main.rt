@@ -5,8 +5,8 @@ ghost use Rattle.kd_tree.specs.Counter.{IsBlankOf};
 
 use kd_search::nearest;
 use kd_tree::Steps;
-use map_answers::Hits;
-use map_fold::{Cuboids, NoMemory, Points, Settings, Update};
+use map_fold::Hits;
+use map_items::{Cuboids, NoMemory, Points, Settings, Update};
 use point_geom::{Corner, Cuboid, Point};
 use rebuild_core::MapState;
 use rebuild_parts::StateFault;

@@ -6,14 +6,14 @@ use Rattle.point_geom.specs.Place.{Place, Bounds}
 use Rattle.point_geom.specs.Boxes.{holds, voxel}
 use Rattle.point_geom.proofs.Laws.{voxel_held}
 use Rattle.node_labels.specs.Labels.{is_live}
-use Rattle.map_fold.specs.declared.item.Item.{Item}
-use Rattle.map_fold.specs.Contents.{AreContents, IsRising, comes_before, live_at, thin, winner, Member}
-use Rattle.map_fold.specs.Fold.{thin_points}
-use Rattle.map_answers.specs.Thinned.{rivals}
-use Rattle.map_answers.proofs.Centre.{items_alike, not_itself, one_best, order}
-use Rattle.map_fold.proofs.Numbered.{contents_rise, contents_within}
-use Rattle.map_answers.proofs.Thinning.{inside_is, is_live_in, rival_inside, rival_live, winner_first, winner_is, winner_rival}
-use Rattle.map_answers.proofs.Found.{one_number}
+use Rattle.map_items.specs.declared.item.Item.{Item}
+use Rattle.map_items.specs.Contents.{AreContents, IsRising, comes_before, live_at, thin, winner, Member}
+use Rattle.map_items.specs.Fold.{thin_points}
+use Rattle.map_fold.specs.Thinned.{rivals}
+use Rattle.map_fold.proofs.Centre.{items_alike, not_itself, one_best, order}
+use Rattle.map_items.proofs.Numbered.{contents_rise, contents_within}
+use Rattle.map_fold.proofs.Thinning.{inside_is, is_live_in, rival_inside, rival_live, winner_first, winner_is, winner_rival}
+use Rattle.map_fold.proofs.Found.{one_number}
 use Rattle.kd_tree.proofs.Numbered.{same_rising}
 use Rattle.kd_update.specs.Scan.{live_from}
 use Rattle.map_update.specs.Entrants.{AreEntrants, AreFirsts, IsBeaten, MayEnter, thin_each}

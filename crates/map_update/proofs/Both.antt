@@ -10,13 +10,13 @@ use Rattle.std.specs.Prelude.{Contains}
 use Rattle.point_geom.specs.Place.{Bounds}
 use Rattle.node_labels.specs.Labels.{is_live, thin_tag}
 use Rattle.node_labels.specs.declared.label.Label.TheVariants.{Live}
-use Rattle.map_fold.specs.declared.item.Item.{Item}
-use Rattle.map_answers.specs.Answers.{count, inside_all}
-use Rattle.map_fold.specs.Contents.{AreContents, in_box, mark, put}
-use Rattle.map_fold.specs.Ops.{IsUnheld}
-use Rattle.map_fold.proofs.Numbered.{contents_length}
-use Rattle.map_fold.proofs.Puts.{filter_none}
-use Rattle.map_answers.proofs.Thinning.{inside_by, is_live_in, left_out, mark-thin}
+use Rattle.map_items.specs.declared.item.Item.{Item}
+use Rattle.map_fold.specs.Answers.{count, inside_all}
+use Rattle.map_items.specs.Contents.{AreContents, in_box, mark, put}
+use Rattle.map_items.specs.Ops.{IsUnheld}
+use Rattle.map_items.proofs.Numbered.{contents_length}
+use Rattle.map_items.proofs.Puts.{filter_none}
+use Rattle.map_fold.proofs.Thinning.{inside_by, is_live_in, left_out, mark-thin}
 use Rattle.kd_tree.specs.Shape.{Shape}
 use Rattle.kd_tree.specs.Sound.{IsSound}
 use Rattle.kd_tree.specs.Contents.{AreDistinct, by_number, contents, insert_item}

@@ -3,11 +3,11 @@ use Rattle.std.proofs.Common.{◌≡◌, ℕ, ◌+◌, ◌<◌, ◌≤◌, List,
 use Rattle.std.specs.Prelude.{All}
 use Rattle.std.proofs.lemmas.List.Elements.{All-append, All-weaker}
 use Rattle.std.proofs.lemmas.Option.{same_Some}
-use Rattle.map_fold.specs.declared.item.Item.{Item}
-use Rattle.map_fold.specs.declared.op.Op.{Op}
-use Rattle.map_fold.specs.Contents.{AreContents}
-use Rattle.map_fold.specs.Ops.{Extends, Fit, numbers_put, replay}
-use Rattle.map_fold.proofs.Replays.{extends_itself, extends_on, fit_append, numbers_put-append, replay-append}
+use Rattle.map_items.specs.declared.item.Item.{Item}
+use Rattle.map_items.specs.declared.op.Op.{Op}
+use Rattle.map_items.specs.Contents.{AreContents}
+use Rattle.map_items.specs.Ops.{Extends, Fit, numbers_put, replay}
+use Rattle.map_items.proofs.Replays.{extends_itself, extends_on, fit_append, numbers_put-append, replay-append}
 use Rattle.kd_tree.specs.Shape.{Shape, nodes}
 use Rattle.kd_tree.specs.Contents.{contents}
 use Rattle.kd_tree.specs.Parts.{at}

@@ -4,10 +4,10 @@ use Rattle.std.specs.Prelude.{All, Contains}
 use Rattle.std.proofs.lemmas.List.Elements.{All-contains, All-contains_itself, All-weaker}
 use Rattle.node_labels.specs.declared.tag.Tag.{Tag}
 use Rattle.point_geom.specs.Place.{Place, Bounds}
-use Rattle.map_fold.specs.Contents.{inside_box}
-use Rattle.map_fold.specs.declared.op.Op.{Op}
-use Rattle.map_fold.specs.declared.op.Op.TheVariants.{Mark, Put}
-use Rattle.map_fold.specs.declared.update.Update.TheVariants.{Add}
+use Rattle.map_items.specs.Contents.{inside_box}
+use Rattle.map_items.specs.declared.op.Op.{Op}
+use Rattle.map_items.specs.declared.op.Op.TheVariants.{Mark, Put}
+use Rattle.map_items.specs.declared.update.Update.TheVariants.{Add}
 use Rattle.kd_tree.specs.Shape.{Shape}
 use Rattle.kd_mark.specs.Refresh.{AreAmong}
 use Rattle.map_update.specs.Single.{RebuildsNothing, entered_nodes, only_mark, only_op}

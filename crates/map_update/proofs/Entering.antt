@@ -6,16 +6,16 @@ use Rattle.std.specs.Cmp.Derive.{both_true}
 use Rattle.point_geom.specs.Place.{Place, Bounds}
 use Rattle.point_geom.specs.Boxes.{voxel}
 use Rattle.node_labels.specs.Labels.{thin_tag}
-use Rattle.map_fold.specs.declared.item.Item.{Item}
-use Rattle.map_fold.specs.Contents.{AreContents, IsRising, centre_cmp, comes_before, in_box, least, live_at, mark, put, thin, winner, Member}
-use Rattle.map_answers.specs.Answers.{inside_all}
-use Rattle.map_fold.specs.Ops.{IsUnheld}
-use Rattle.map_answers.specs.Thinned.{NoneBefore, rivals}
-use Rattle.map_answers.proofs.Centre.{items_alike, live_is, not_itself}
-use Rattle.map_answers.proofs.Found.{member-filter, member-filter_of, one_number}
-use Rattle.map_fold.proofs.Numbered.{contents_mark, contents_rise}
-use Rattle.map_fold.proofs.Puts.{contents_put, unheld_cons, unheld_parts}
-use Rattle.map_answers.proofs.Thinning.{inside_by, inside_is, is_live_in, item_below, left_out, mark-thin, rival_live, winner_is, winner_rival}
+use Rattle.map_items.specs.declared.item.Item.{Item}
+use Rattle.map_items.specs.Contents.{AreContents, IsRising, centre_cmp, comes_before, in_box, least, live_at, mark, put, thin, winner, Member}
+use Rattle.map_fold.specs.Answers.{inside_all}
+use Rattle.map_items.specs.Ops.{IsUnheld}
+use Rattle.map_fold.specs.Thinned.{NoneBefore, rivals}
+use Rattle.map_fold.proofs.Centre.{items_alike, live_is, not_itself}
+use Rattle.map_fold.proofs.Found.{member-filter, member-filter_of, one_number}
+use Rattle.map_items.proofs.Numbered.{contents_mark, contents_rise}
+use Rattle.map_items.proofs.Puts.{contents_put, unheld_cons, unheld_parts}
+use Rattle.map_fold.proofs.Thinning.{inside_by, inside_is, is_live_in, item_below, left_out, mark-thin, rival_live, winner_is, winner_rival}
 use Rattle.kd_tree.specs.Contents.{by_number, insert_item}
 use Rattle.kd_tree.proofs.Numbered.{Above, Rises, by_number_rising, insert-put, numbered_from, numbered_in, same_rising}
 use Rattle.map_update.specs.Entrants.{AreEntrants, MayEnter, thin_each}

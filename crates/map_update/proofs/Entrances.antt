@@ -6,8 +6,8 @@ use Rattle.std.proofs.lemmas.List.Elements.{All-append, All-cons, All-head, All-
 use Rattle.point_geom.specs.Place.{Place, Bounds}
 use Rattle.point_geom.specs.Boxes.{holds, voxel}
 use Rattle.point_geom.proofs.Laws.{voxel_held}
-use Rattle.map_fold.specs.declared.item.Item.{Item}
-use Rattle.map_fold.specs.Contents.{in_box}
+use Rattle.map_items.specs.declared.item.Item.{Item}
+use Rattle.map_items.specs.Contents.{in_box}
 use Rattle.map_update.specs.declared.waiting.Waiting.{Waiting}
 use Rattle.map_update.specs.Waiting.{AreClear, NoneWaitsIn, IsJoined}
 use Rattle.map_update.proofs.Voxels.{voxel_of}

@@ -7,9 +7,9 @@ use Rattle.point_geom.specs.Place.{Place}
 use Rattle.point_geom.specs.Boxes.{holds, voxel}
 use Rattle.point_geom.proofs.Laws.{voxel_held}
 use Rattle.node_labels.specs.declared.label.Label.TheVariants.{Live}
-use Rattle.map_fold.specs.declared.item.Item.{Item}
-use Rattle.map_fold.specs.Contents.{AreContents, Member}
-use Rattle.map_fold.proofs.Numbered.{unheld_above}
+use Rattle.map_items.specs.declared.item.Item.{Item}
+use Rattle.map_items.specs.Contents.{AreContents, Member}
+use Rattle.map_items.proofs.Numbered.{unheld_above}
 use Rattle.kd_tree.proofs.Numbered.{member_of}
 use Rattle.kd_update.specs.Scan.{live_from}
 use Rattle.map_update.specs.Entrants.{HaveOwnVoxels, AreEntrants, AreFirsts, MayEnter}

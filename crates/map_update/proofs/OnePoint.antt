@@ -1,8 +1,8 @@
 -- Updates that thin the voxel of one point, and those that don't.
 use Rattle.std.proofs.Common.{◌≡◌, List, [], ◌∷◌, sym, ◌∙◌}
 use Rattle.point_geom.specs.Place.{Bounds, Place}
-use Rattle.map_fold.specs.declared.update.Update.{Update}
-use Rattle.map_fold.specs.declared.update.Update.TheVariants.{Thin, Add, Delete, Suspend, Restore}
+use Rattle.map_items.specs.declared.update.Update.{Update}
+use Rattle.map_items.specs.declared.update.Update.TheVariants.{Thin, Add, Delete, Suspend, Restore}
 
 -- the list of an update that thins the voxel of one point has that point
 pub points_one : (ps : List Place) (u : Update) (p : Place) → u ≡ Thin ps → u ≡ Thin (p ∷ []) → ps ≡ p ∷ []

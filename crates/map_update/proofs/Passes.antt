@@ -3,8 +3,8 @@ use Rattle.std.proofs.Common.{◌≡◌, ℕ, ◌+◌, ◌<◌, ◌≤◌, List,
 use Rattle.std.specs.Prelude.{All}
 use Rattle.std.proofs.lemmas.List.Elements.{All-append, All-cons, All-map, All-nil}
 use Rattle.point_geom.specs.Place.{Place}
-use Rattle.map_fold.specs.Contents.{live_at}
-use Rattle.map_fold.specs.declared.item.Item.{Item}
+use Rattle.map_items.specs.Contents.{live_at}
+use Rattle.map_items.specs.declared.item.Item.{Item}
 use Rattle.kd_tree.specs.Shape.{Shape, levels, nodes, numbers}
 use Rattle.kd_tree.specs.Apart.{AreAllApart}
 use Rattle.kd_mark.specs.declared.watch.Watch.{Watch}

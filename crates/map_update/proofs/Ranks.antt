@@ -22,11 +22,11 @@ use Rattle.point_geom.specs.contracts.cuboid.CuboidPartialEq.TheImpl as cuboid
 use Rattle.point_geom.proofs.Laws.{voxel_held}
 use Rattle.point_geom.proofs.Same.{bounds_Decides}
 use Rattle.point_geom.specs.declared.cuboid.Corner.{Corner}
-use Rattle.map_fold.specs.declared.item.Item.{Item}
-use Rattle.map_fold.specs.Contents.{centre_cmp, comes_before, Member}
-use Rattle.map_answers.proofs.Centre.{neither, not_itself, order}
-use Rattle.map_answers.proofs.Found.{member-map, member-map_of}
-use Rattle.map_answers.proofs.Order.{then_equal}
+use Rattle.map_items.specs.declared.item.Item.{Item}
+use Rattle.map_items.specs.Contents.{centre_cmp, comes_before, Member}
+use Rattle.map_fold.proofs.Centre.{neither, not_itself, order}
+use Rattle.map_fold.proofs.Found.{member-map, member-map_of}
+use Rattle.map_fold.proofs.Order.{then_equal}
 use Rattle.kd_tree.proofs.Medians.{then_first}
 use Rattle.kd_update.specs.Scan.{live_from}
 use Rattle.map_update.specs.declared.entrants.Entrant.{Entrant}

@@ -5,15 +5,15 @@ use Rattle.std.specs.declared.result.Result.{Result}
 use Rattle.std.specs.declared.result.Result.TheVariants.{Ok, Err}
 use Rattle.point_geom.specs.Place.{Place, Bounds}
 use Rattle.point_geom.specs.Boxes.{voxel}
-use Rattle.map_fold.specs.declared.item.Item.{Item}
-use Rattle.map_fold.specs.declared.memory.NoMemory.{NoMemory}
-use Rattle.map_answers.specs.Answers.{inside_all}
-use Rattle.map_fold.specs.Contents.{AreContents, IsRising, comes_before, in_box, live_at, live_items, winner, Member}
-use Rattle.map_fold.specs.Ops.{IsUnheld}
-use Rattle.map_answers.specs.Thinned.{NoneBefore, rivals}
-use Rattle.map_answers.proofs.Centre.{not_itself, order}
-use Rattle.map_answers.proofs.Found.{member-filter, member-filter_of}
-use Rattle.map_answers.proofs.Thinning.{winner_is}
+use Rattle.map_items.specs.declared.item.Item.{Item}
+use Rattle.map_items.specs.declared.memory.NoMemory.{NoMemory}
+use Rattle.map_fold.specs.Answers.{inside_all}
+use Rattle.map_items.specs.Contents.{AreContents, IsRising, comes_before, in_box, live_at, live_items, winner, Member}
+use Rattle.map_items.specs.Ops.{IsUnheld}
+use Rattle.map_fold.specs.Thinned.{NoneBefore, rivals}
+use Rattle.map_fold.proofs.Centre.{not_itself, order}
+use Rattle.map_fold.proofs.Found.{member-filter, member-filter_of}
+use Rattle.map_fold.proofs.Thinning.{winner_is}
 use Rattle.kd_tree.specs.Shape.{Shape}
 use Rattle.kd_tree.specs.Sound.{IsSound}
 use Rattle.kd_tree.specs.Contents.{contents}

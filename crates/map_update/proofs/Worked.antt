@@ -4,9 +4,9 @@ use Rattle.point_geom.specs.Place.{Place}
 use Rattle.point_geom.specs.declared.axis.Axis.TheVariants.{X}
 use Rattle.node_labels.specs.Labels.{keep_tag}
 use Rattle.node_labels.specs.declared.tag.Tag.{Tag}
-use Rattle.map_fold.specs.declared.choice.Choice.{Choice}
-use Rattle.map_fold.specs.declared.op.Op.{Op}
-use Rattle.map_fold.specs.declared.op.Op.TheVariants.{Mark, Put}
+use Rattle.map_items.specs.declared.choice.Choice.{Choice}
+use Rattle.map_items.specs.declared.op.Op.{Op}
+use Rattle.map_items.specs.declared.op.Op.TheVariants.{Mark, Put}
 use Rattle.kd_tree.specs.Shape.{Shape, levels, nodes}
 use Rattle.kd_tree.specs.declared.path.Side.{Side}
 use Rattle.kd_mark.specs.declared.watch.Watch.{Watch}

@@ -6,11 +6,11 @@ use Rattle.std.proofs.lemmas.List.{length-map}
 use Rattle.std.proofs.lemmas.List.Elements.{All-contains, All-cons, All-nil, All-weaker, Contains-append_cases, Contains-append_left, Contains-append_right}
 use Rattle.std.proofs.lemmas.Option.{same_Some}
 use Rattle.point_geom.specs.Place.{Place}
-use Rattle.map_fold.specs.declared.choice.Choice.{Choice}
+use Rattle.map_items.specs.declared.choice.Choice.{Choice}
 use Rattle.node_labels.specs.Labels.{keep_tag}
 use Rattle.node_labels.specs.declared.tag.Tag.{Tag}
-use Rattle.map_fold.specs.declared.op.Op.{Op}
-use Rattle.map_fold.specs.Ops.{numbers_put}
+use Rattle.map_items.specs.declared.op.Op.{Op}
+use Rattle.map_items.specs.Ops.{numbers_put}
 use Rattle.kd_tree.specs.Shape.{Shape, leaf, fork, levels, numbers}
 use Rattle.kd_tree.specs.Walk.{times}
 use Rattle.kd_tree.specs.Sound.{IsSound}

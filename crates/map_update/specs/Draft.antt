@@ -1,8 +1,8 @@
 -- Trees on which an update is at work, beside watched subtrees.
 use Rattle.std.specs.Prelude.{◌≡◌, ℕ, ◌+◌, ◌*◌, ◌<◌, ◌≤◌, List, [], ◌∷◌, length, All, Result, IfOk}
-use Rattle.map_fold.specs.declared.memory.NoMemory.{NoMemory}
-use Rattle.map_fold.specs.declared.op.Op.{Op}
-use Rattle.map_fold.specs.declared.op.Op.TheVariants.{Mark, Put}
+use Rattle.map_items.specs.declared.memory.NoMemory.{NoMemory}
+use Rattle.map_items.specs.declared.op.Op.{Op}
+use Rattle.map_items.specs.declared.op.Op.TheVariants.{Mark, Put}
 use Rattle.kd_tree.specs.Shape.{Shape, levels, nodes, numbers}
 use Rattle.kd_mark.specs.declared.watch.Watch.{Watch}
 use Rattle.kd_mark.specs.Several.{IsBalancedClear}

@@ -3,9 +3,9 @@ use Rattle.std.specs.Prelude.{◌≡◌, ◌≢◌, ℕ, ◌<◌, true, false, L
 use Rattle.point_geom.specs.Place.{Place}
 use Rattle.point_geom.specs.Boxes.{holds, voxel}
 use Rattle.node_labels.specs.declared.label.Label.TheVariants.{Live}
-use Rattle.map_fold.specs.declared.item.Item.{Item}
-use Rattle.map_fold.specs.Contents.{comes_before, thin, Member}
-use Rattle.map_fold.specs.Ops.{IsUnheld}
+use Rattle.map_items.specs.declared.item.Item.{Item}
+use Rattle.map_items.specs.Contents.{comes_before, thin, Member}
+use Rattle.map_items.specs.Ops.{IsUnheld}
 use Rattle.kd_update.specs.Scan.{live_from}
 
 -- the items in turn thin their voxels, each under its own number

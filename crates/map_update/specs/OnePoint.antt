@@ -2,10 +2,10 @@
 use Rattle.std.specs.Prelude.{◌≡◌, ℕ, false, [], ◌∷◌}
 use Rattle.point_geom.specs.Place.{Place}
 use Rattle.point_geom.specs.Boxes.{voxel}
-use Rattle.map_fold.specs.declared.item.Item.{Item}
-use Rattle.map_fold.specs.Contents.{comes_before, live_at}
-use Rattle.map_answers.specs.Answers.{inside_all}
-use Rattle.map_fold.specs.Fold.{MapAt}
+use Rattle.map_items.specs.declared.item.Item.{Item}
+use Rattle.map_items.specs.Contents.{comes_before, live_at}
+use Rattle.map_fold.specs.Answers.{inside_all}
+use Rattle.map_items.specs.Fold.{MapAt}
 
 -- One item alone is live in the voxel of p, and p under the next number doesn't come before it.
 pub record IsTurnedAway (edge : ℕ) (m : MapAt) (p : Place) : Type 0 where

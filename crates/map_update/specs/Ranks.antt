@@ -4,7 +4,7 @@ use Rattle.std.specs.Ordering.{int_cmp, nat_cmp, ordering_then}
 use Rattle.std.specs.declared.cmp.Ordering.{Ordering}
 use Rattle.point_geom.specs.Boxes.{voxel}
 use Rattle.point_geom.specs.Distances.{centre_dist2}
-use Rattle.map_fold.specs.declared.item.Item.{Item}
+use Rattle.map_items.specs.declared.item.Item.{Item}
 use Rattle.map_update.specs.declared.entrants.Entrant.{Entrant}
 
 -- an item with its voxel

@@ -1,10 +1,10 @@
 //! What an update makes of a tree and the subtrees that are watched in it, operation by operation.
 ghost use Rattle.std.specs.Prelude.{◌≡◌, ◌+◌, ◌<◌, ◌≤◌, [], ◌∷◌, Some, length, IfOk};
 ghost use Rattle.point_geom.specs.Place.{Place};
-ghost use Rattle.map_fold.specs.declared.op.Op.{Op};
-ghost use Rattle.map_fold.specs.declared.op.Op.TheVariants.{Put};
-ghost use Rattle.map_fold.specs.Contents.{put};
-ghost use Rattle.map_fold.specs.Fold.{add_points, mark_boxes, points_in, step};
+ghost use Rattle.map_items.specs.declared.op.Op.{Op};
+ghost use Rattle.map_items.specs.declared.op.Op.TheVariants.{Put};
+ghost use Rattle.map_items.specs.Contents.{put};
+ghost use Rattle.map_items.specs.Fold.{add_points, mark_boxes, points_in, step};
 ghost use Rattle.kd_tree.specs.Contents.{contents};
 ghost use Rattle.kd_tree.specs.Maps.{map_of};
 ghost use Rattle.map_update.specs.Draft.{DoesPlainly, IsWork, IsWorked, KeepsDraft, KeepsWatched, MakesFew};
@@ -16,7 +16,7 @@ use crate::thin::thinned;
 use crate::work::{Work, Worked};
 use kd_tree::{Scratch, Steps};
 use kd_update::live_items;
-use map_fold::{Choice, Cuboids, MAX_POINTS, Points, Settings, Tag, Update};
+use map_items::{Choice, Cuboids, MAX_POINTS, Points, Settings, Tag, Update};
 use point_geom::Point;
 use std::alloc::Global;
 use std::sync::ledger::Ledger;

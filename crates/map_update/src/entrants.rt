@@ -6,7 +6,7 @@ ghost use Rattle.kd_update.specs.Scan.{live_from};
 ghost use Rattle.map_update.specs.Entrants.{AreFirsts};
 ghost use Rattle.map_update.specs.Ranks.{HaveVoxels, entrant_of, items_in, rank_of};
 
-use map_fold::{Item, MAX_POINTS, NoMemory, Settings};
+use map_items::{Item, MAX_POINTS, NoMemory, Settings};
 use point_geom::{Cuboid, MAX_EDGE, Point, centre_dist2, voxel};
 use std::alloc::Global;
 

@@ -11,7 +11,7 @@ use crate::work::{Work, Worked};
 use kd_mark::Watch;
 use kd_tree::{MAX_NODES, Scratch, Steps};
 use kd_update::{put_all, put_all_watched};
-use map_fold::Item;
+use map_items::Item;
 use std::alloc::Global;
 use std::sync::ledger::Ledger;
 

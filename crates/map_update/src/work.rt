@@ -1,8 +1,8 @@
 //! Work on a tree beside watched subtrees. Each operation either crosses them, and is logged, or they are forgotten before.
 ghost use Rattle.std.specs.Prelude.{◌≡◌, ℕ, ◌<◌, ◌≤◌, List, Some, length, IfOk, IfSome, IsNone, ◌↔◌};
 ghost use Rattle.node_labels.specs.Labels.{keep_tag};
-ghost use Rattle.map_fold.specs.Contents.{chosen_by, mark, put};
-ghost use Rattle.map_fold.specs.declared.op.Op.TheVariants.{Mark, Put};
+ghost use Rattle.map_items.specs.Contents.{chosen_by, mark, put};
+ghost use Rattle.map_items.specs.declared.op.Op.TheVariants.{Mark, Put};
 ghost use Rattle.kd_tree.specs.Shape.{levels, nodes, numbers};
 ghost use Rattle.kd_tree.specs.Criteria.{AllMeetCriteria};
 ghost use Rattle.kd_mark.specs.Refresh.{AreAmong};
@@ -13,10 +13,9 @@ ghost use Rattle.map_update.specs.Draft.{DoesPlainly, IsDraft, IsDraftLeft, IsWo
 ghost use Rattle.kd_update.specs.Parts.{PartAt};
 
 use kd_mark::{Watch, rebuilt};
-use kd_replace::{Replaced, replaced};
 use kd_tree::{MAX_LEVELS, MAX_NODES, Path, Steps, Tree};
-use kd_update::{Watches, marked_watched, put_watched};
-use map_fold::{Choice, NoMemory, Tag};
+use kd_update::{Replaced, Watches, marked_watched, put_watched, replaced};
+use map_items::{Choice, NoMemory, Tag};
 use point_geom::Point;
 use std::alloc::Global;
 use std::sync::ledger::Ledger;

@@ -2,3 +2,10 @@ pub mod Printed
 pub mod Placed
 pub mod Scans
 pub mod Ways
+pub mod FewWords
+pub mod Digits
+pub mod Taken
+pub mod OneAsk
+pub mod Passed
+pub mod InOrder
+pub mod Turns

@@ -6,7 +6,7 @@ use Rattle.point_geom.specs.Place.{Place}
 use Rattle.scan_log.specs.declared.format.Format.{Format}
 use Rattle.scan_log.specs.declared.format.Format.TheVariants.{One}
 use Rattle.scan_log.specs.Scripts.{IsScannedPlace}
-use Rattle.map_fold.specs.Sizes.{Sizes}
+use Rattle.map_items.specs.Sizes.{Sizes}
 use Rattle.scan_log.specs.declared.command.Command.{Command}
 use Rattle.scan_log.specs.Scripts.{ScriptAt, IsScript, IsCommand, points_of, hits_of, submitted, asked, with_command}
 use Rattle.scan_log.proofs.Growth.{points_of-push, hits_of-push}

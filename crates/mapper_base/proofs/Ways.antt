@@ -13,9 +13,9 @@ use Rattle.scan_log.specs.Written.{script_text}
 use Rattle.mapper_base.specs.declared.ending.Ending.{Ending}
 use Rattle.mapper_base.specs.declared.ending.Ending.TheVariants.{Done, Usage, ReadFault, TooLong, Bad, WriteFault, NoMemory}
 use Rattle.mapper_base.specs.declared.status.Status.TheVariants as status
-use Rattle.mapper_words.specs.declared.words.Ask.{Ask}
-use Rattle.mapper_words.specs.declared.words.Ask.TheVariants.{Run, Serial, Make, Drive, Check}
-use Rattle.mapper_words.specs.Asks.{Asks, AskForRun, AskForScans, AskNothing, AskOfLog, IsOfLog, log_of, most_of}
+use Rattle.mapper_base.specs.declared.words.Ask.{Ask}
+use Rattle.mapper_base.specs.declared.words.Ask.TheVariants.{Run, Serial, Make, Drive, Check}
+use Rattle.mapper_base.specs.Asks.{Asks, AskForRun, AskForScans, AskNothing, AskOfLog, IsOfLog, log_of, most_of}
 use Rattle.mapper_base.specs.Causes.{Says, NotRead, IsDoneOn, IsTextOf, HasPrinted, HasRefused, Ended}
 use Rattle.mapper_base.specs.Done.{IsChecked, IsDriven, IsScriptMade, IsTranscribed, IsTranscribedInOrder}
 use Rattle.mapper_base.specs.Endings.{IsOrNoMemory, status_of}
@@ -24,7 +24,7 @@ use Rattle.byte_streams.specs.Outside.{NoFault, HasRead, AppendsFront}
 use Rattle.mapper_base.specs.Seen.{RunSeen, LogSeen}
 use Rattle.mapper_base.specs.Summary.{summary_of}
 use Rattle.mapper_base.specs.Verdicts.{IsFound}
-use Rattle.mapper_words.proofs.OneAsk.{same_ask}
+use Rattle.mapper_base.proofs.OneAsk.{same_ask}
 
 -- a fault's status isn't the one of all done
 bad_status : (b : Bool) → (if b then status.OverLimit else status.BadLog) ≡ status.Done → ⊥

@@ -1,7 +1,7 @@
 -- The generated script: a robot that moves a metre along x from scan to scan, and sees points around it.
 use Rattle.std.specs.Prelude.{ℕ, zero, suc, ◌+◌, ◌*◌, ◌/◌, ◌%◌, ◌^◌, ◌==◌, pos, ◌-ℤ◌, neg_ℤ, List, [], ◌∷◌, ◌++◌, take, drop, None, Some, if◌then◌else◌}
 use Rattle.point_geom.specs.Place.{Place, Bounds}
-use Rattle.map_fold.specs.declared.update.Update.TheVariants.{Thin, Delete}
+use Rattle.map_items.specs.declared.update.Update.TheVariants.{Thin, Delete}
 use Rattle.scan_log.specs.declared.command.Command.{Command}
 use Rattle.scan_log.specs.declared.command.Command.TheVariants.{Change, Near, Sync}
 use Rattle.scan_log.specs.declared.format.Format.TheVariants.{One}

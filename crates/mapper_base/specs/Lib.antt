@@ -7,3 +7,6 @@ pub mod Prints
 pub mod Inputs
 pub mod Done
 pub mod Causes
+pub mod Asks
+pub mod CommandLine
+pub mod Turns

@@ -4,7 +4,7 @@ ghost use Rattle.mapper_base.specs.Endings.{status_of};
 ghost use Rattle.mapper_base.specs.declared.ending.Ending.TheVariants as ending;
 
 use crate::status::Status;
-use map_fold::NoMemory;
+use map_items::NoMemory;
 use scan_log::LogCause;
 
 /// How a run ended, with what is told of it.

@@ -7,7 +7,7 @@ ghost use Rattle.scan_log.specs.Scripts.{IsCaller, IsCallerBox, IsCommand, IsSca
 ghost use Rattle.mapper_base.specs.Generated.{after, box_behind, deletions, generated, next_draws, points_of_draws, robot, scan_commands};
 
 use crate::draws::{Draws, point_at};
-use map_fold::{Cuboids, MAX_POINTS, NoMemory, Points, Settings, Update};
+use map_items::{Cuboids, MAX_POINTS, NoMemory, Points, Settings, Update};
 use point_geom::{Corner, Cuboid};
 use scan_log::{Command, Format, MAX_COMMANDS, Script};
 use std::alloc::Global;

@@ -1,12 +1,12 @@
 //! Reading an input, and the log in it.
 ghost use Rattle.std.specs.Prelude.{◌≡◌, drop, IfOk, IfErr, IfSome};
-ghost use Rattle.mapper_words.specs.Asks.{CanBeDone, IsOfLog, log_of, most_of};
+ghost use Rattle.mapper_base.specs.Asks.{CanBeDone, IsOfLog, log_of, most_of};
 ghost use Rattle.mapper_base.specs.Causes.{NotRead, ReadsInLimit, Says};
 ghost use Rattle.mapper_base.specs.Seen.{log_seen};
 
 use crate::ending::Ending;
+use crate::{Ask, MAX_LOG};
 use byte_streams::{ReadStop, Source, read_all};
-use mapper_words::{Ask, MAX_LOG};
 use scan_log::{ParseFault, Script, parse};
 use std::alloc::Global;
 

@@ -4,7 +4,7 @@ ghost use Rattle.scan_log.specs.Scripts.{points_of};
 ghost use Rattle.mapper_base.specs.Summary.{held_at_end, hits_in, hits_in_reply, sum_text, summary_text};
 
 use itoa::Buffer;
-use map_fold::NoMemory;
+use map_items::NoMemory;
 use scan_log::{PlainScript, Reply};
 use std::alloc::Global;
 

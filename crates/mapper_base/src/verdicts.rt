@@ -3,7 +3,7 @@ ghost use Rattle.std.specs.Prelude.{◌≡◌, ◌++◌, ◌∷◌, [], decimal,
 ghost use Rattle.mapper_base.specs.Verdicts.{verdict_line};
 
 use itoa::Buffer;
-use map_fold::NoMemory;
+use map_items::NoMemory;
 use std::alloc::Global;
 use transcript_check::Verdict;
 

@@ -1,13 +1,15 @@
 //! The program: its words, standard input, output and error, and its exit status.
 #![tactic(auto)]
 
+mod streams;
+
 ghost use Rattle.std.specs.Prelude.{◌≡◌};
 ghost use Rattle.std.specs.Process.{exit_status};
 ghost use Rattle.mapper_cli.specs.Codes.{code_of};
 
+use crate::streams::{Input, Output};
 use byte_streams::Sink;
 use mapper_core::{Status, run};
-use process_streams::{Input, Output};
 use rebuild_worker::FreeGate;
 use std::alloc::AllocError;
 use std::env;

@@ -3,9 +3,9 @@ use Rattle.std.proofs.Common.{◌≡◌, ℕ, zero, suc, ◌+◌, ◌<◌, ◌�
 use Rattle.std.specs.Option.{option_to_list}
 use Rattle.std.proofs.lemmas.List.{length-map, map-append}
 use mathlib.Core.List.{IsPrefix}
-use Rattle.map_fold.specs.declared.entry.Entry.{Entry}
-use Rattle.map_fold.specs.declared.update.Update.{Update}
-use Rattle.map_fold.specs.Fold.{fold, points_in}
+use Rattle.map_items.specs.declared.entry.Entry.{Entry}
+use Rattle.map_items.specs.declared.update.Update.{Update}
+use Rattle.map_items.specs.Fold.{fold, points_in}
 use Rattle.rebuild_parts.specs.History.{updates}
 use Rattle.shown_versions.specs.Marks.{Seen, times_listed, AllOf, callers_of, AllMet, AllGrown, AllMetNow}
 use Rattle.scan_log.specs.Commands.{Concerns, command_update, is_by, updates_made}

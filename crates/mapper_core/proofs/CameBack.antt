@@ -1,6 +1,6 @@
 -- What came back from all threads.
 use Rattle.std.proofs.Common.{◌≡◌, ◌⊎◌, inl, inr, ⊎_elim, length-append, ℕ, zero, suc, List, [], ◌∷◌, ◌++◌, length, Some, Ok, Err, Result, slice_get, IfOk, refl, sym, ap, subst, arith}
-use Rattle.map_fold.specs.declared.memory.NoMemory.{NoMemory}
+use Rattle.map_items.specs.declared.memory.NoMemory.{NoMemory}
 use Rattle.shown_versions.specs.Marks.{Seen, callers_of}
 use Rattle.published_map.proofs.Marking.{get_length}
 use Rattle.scan_log.specs.declared.command.Command.{Command}

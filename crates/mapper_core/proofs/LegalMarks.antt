@@ -4,8 +4,8 @@ use Rattle.std.proofs.lemmas.Bool.Decides.{nat_tests}
 use Rattle.std.specs.Prelude.{MatchOption}
 use Rattle.std.specs.List.{AllByRecursion}
 use Rattle.std.specs.Option.{option_to_list}
-use Rattle.map_fold.specs.declared.entry.Entry.{Entry}
-use Rattle.map_fold.specs.declared.update.Update.{Update}
+use Rattle.map_items.specs.declared.entry.Entry.{Entry}
+use Rattle.map_items.specs.declared.update.Update.{Update}
 use Rattle.rebuild_parts.specs.History.{updates}
 use Rattle.published_map.proofs.Marking.{get_length}
 use Rattle.scan_log.specs.Commands.{Concerns, command_caller, command_update, updates_made}

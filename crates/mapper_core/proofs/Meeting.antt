@@ -5,8 +5,8 @@ use Rattle.std.proofs.lemmas.Bool.Decides.{nat_tests}
 use Rattle.std.proofs.lemmas.List.{take-map}
 use Rattle.std.specs.Prelude.{MatchOption}
 use mathlib.Core.List.{IsPrefix}
-use Rattle.map_fold.specs.declared.entry.Entry.{Entry}
-use Rattle.map_fold.specs.declared.update.Update.{Update}
+use Rattle.map_items.specs.declared.entry.Entry.{Entry}
+use Rattle.map_items.specs.declared.update.Update.{Update}
 use Rattle.rebuild_parts.specs.History.{updates}
 use Rattle.shown_versions.specs.Marks.{Seen, times_listed, IsDistinct, AllOf, callers_of, AllMet, AllGrown, AllMetNow, seen_by_new}
 use Rattle.shown_versions.proofs.Counting.{grown_callers}
@@ -22,7 +22,7 @@ use Rattle.mapper_core.specs.Mine.{keep_made, updates_by, Mine, Ran}
 use Rattle.mapper_core.specs.Meetings.{AllMine, MergedFrom, MergedTo, AllDone, Standing, IsTotal}
 use Rattle.mapper_core.proofs.Beginnings.{prefix_trans, prefix_length, take_early}
 use Rattle.scan_log.proofs.Whose.{later_less}
-use Rattle.mapper_serial.proofs.Passed.{reply_take}
+use Rattle.mapper_base.proofs.Passed.{reply_take}
 use Rattle.mapper_core.proofs.Whose.{keep_append}
 use Rattle.mapper_core.proofs.LegalMarks.{placed_below}
 use Rattle.mapper_core.proofs.OneCaller.{mine_other, mine_next, mine_skip}

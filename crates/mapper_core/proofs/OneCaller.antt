@@ -3,9 +3,9 @@ use Rattle.std.proofs.Common.{◌≡◌, ℕ, ◌+◌, ◌≤◌, ◌==◌, Bool
 use Rattle.std.proofs.lemmas.Bool.Decides.{nat_tests}
 use Rattle.std.proofs.lemmas.List.{take-map}
 use mathlib.Core.List.{IsPrefix}
-use Rattle.map_fold.specs.declared.entry.Entry.{Entry}
-use Rattle.map_fold.specs.declared.update.Update.{Update}
-use Rattle.map_fold.specs.Fold.{MapAt, fold}
+use Rattle.map_items.specs.declared.entry.Entry.{Entry}
+use Rattle.map_items.specs.declared.update.Update.{Update}
+use Rattle.map_items.specs.Fold.{MapAt, fold}
 use Rattle.kd_tree.specs.Contents.{contents}
 use Rattle.rebuild_parts.specs.History.{updates, entry_by}
 use Rattle.rebuild_parts.specs.Seen.{VersionAt}
@@ -23,7 +23,7 @@ use Rattle.scan_log.proofs.Serial.{mark_of-reply_on}
 use Rattle.mapper_core.specs.Told.{Answers, StandsInHistory}
 use Rattle.mapper_core.specs.Mine.{keep_made, updates_by, Mine, Answered, Tried, RanTo, Turned}
 use Rattle.mapper_core.proofs.Beginnings.{prefix_self, prefix_trans, prefix_length, take_prefix}
-use Rattle.mapper_serial.proofs.Passed.{all_taken, reply_take}
+use Rattle.mapper_base.proofs.Passed.{all_taken, reply_take}
 use Rattle.mapper_core.proofs.Whose.{keep_append, passed_by}
 
 keep_own : (c : ℕ) (u : Update) (us : List Update) → keep_if (c == c) u us ≡ u ∷ us

@@ -6,7 +6,7 @@ use Rattle.core.proofs.option.Option.TheSendSync as option
 use Rattle.core.proofs.result.Result.TheSendSync as result
 use Rattle.core.proofs.rt.Memory.TheSendSync as memory
 use Rattle.core.proofs.marker.PhantomData.TheSendSync as phantom
-use Rattle.map_fold.proofs.memory.NoMemory.TheSendSync as none
+use Rattle.map_items.proofs.memory.NoMemory.TheSendSync as none
 use Rattle.published_map.proofs.Crossing as map
 use Rattle.scan_log.proofs.command.Command.TheSendSync as command
 use Rattle.mapper_core.proofs.callers.alarm.Post.TheSendSync as post

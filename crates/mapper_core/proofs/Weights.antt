@@ -2,10 +2,10 @@
 use Rattle.std.proofs.Common.{◌≡◌, ℕ, ◌+◌, ◌≤◌, ◌==◌, Bool, true, false, List, [], ◌∷◌, ◌++◌, length, Option, Some, None, inl, inr, refl, ap, sym, ◌∙◌, subst, arith}
 use Rattle.std.proofs.lemmas.Bool.Decides.{nat_tests}
 use Rattle.std.specs.Option.{option_map, option_to_list, unwrap_or}
-use Rattle.map_fold.specs.declared.entry.Entry.{Entry}
-use Rattle.map_fold.specs.declared.update.Update.{Update}
-use Rattle.map_fold.specs.Fold.{MapAt, step, fold, fold_from, no_points, points_in}
-use Rattle.map_fold.proofs.Folds.{step_next}
+use Rattle.map_items.specs.declared.entry.Entry.{Entry}
+use Rattle.map_items.specs.declared.update.Update.{Update}
+use Rattle.map_items.specs.Fold.{MapAt, step, fold, fold_from, no_points, points_in}
+use Rattle.map_items.proofs.Folds.{step_next}
 use Rattle.rebuild_parts.specs.History.{updates}
 use Rattle.shown_versions.specs.Marks.{Seen, keep_if, own_updates, one_if, times_listed, IsDistinct, AllOf, callers_of, AllMet}
 use Rattle.scan_log.specs.declared.command.Command.{Command}
@@ -15,7 +15,7 @@ use Rattle.scan_log.specs.Scripts.{points_of}
 use Rattle.scan_log.proofs.Whose.{change_or_none}
 use Rattle.mapper_core.specs.Mine.{updates_by}
 use Rattle.mapper_core.specs.Meetings.{AllDone}
-use Rattle.mapper_serial.proofs.Passed.{passed}
+use Rattle.mapper_base.proofs.Passed.{passed}
 use Rattle.mapper_core.proofs.Whose.{passed_by}
 
 unfoldable pub weigh : (Update → ℕ) → List Update → ℕ

@@ -1,7 +1,7 @@
 -- What is asked before callers run a script, and known once all have ended.
 use Rattle.std.specs.Prelude.{◌≡◌, ℕ, ◌<◌, List, [], ◌∷◌, length}
 use Rattle.std.specs.List.{AllByRecursion}
-use Rattle.map_fold.specs.declared.entry.Entry.{Entry}
+use Rattle.map_items.specs.declared.entry.Entry.{Entry}
 use Rattle.rebuild_parts.specs.History.{updates}
 use Rattle.shown_versions.specs.Marks.{Seen, AllMet, AllOf, callers_of}
 use Rattle.scan_log.specs.declared.command.Command.{Command}

@@ -1,8 +1,8 @@
 -- What all callers did and were told, from one meeting to the next. Cited by private functions alone.
 use Rattle.std.specs.Prelude.{◌≡◌, Bool, ℕ, ◌+◌, ◌<◌, ◌≤◌, List, [], ◌∷◌, ◌++◌, length, slice_get, set, Some, Result, Ok, IfOk, is_none, IfSome}
 use Rattle.std.specs.List.{AllByRecursion}
-use Rattle.map_fold.specs.declared.entry.Entry.{Entry}
-use Rattle.map_fold.specs.declared.memory.NoMemory.{NoMemory}
+use Rattle.map_items.specs.declared.entry.Entry.{Entry}
+use Rattle.map_items.specs.declared.memory.NoMemory.{NoMemory}
 use Rattle.rebuild_parts.specs.History.{updates}
 use Rattle.shown_versions.specs.Marks.{Seen, AllMet, AllOf, callers_of, seen_by_new}
 use Rattle.scan_log.specs.Commands.{IsBy, command_caller}

@@ -1,7 +1,7 @@
 -- What callers were told, seen from one history.
 use Rattle.std.specs.Prelude.{◌≡◌, ℕ, ◌+◌, ◌≤◌, List, [], ◌∷◌, length, slice_get, Option, Some, if◌then◌else◌, IfSome, MatchOption}
-use Rattle.map_fold.specs.declared.entry.Entry.{Entry}
-use Rattle.map_fold.specs.declared.update.Update.{Update}
+use Rattle.map_items.specs.declared.entry.Entry.{Entry}
+use Rattle.map_items.specs.declared.update.Update.{Update}
 use Rattle.rebuild_parts.specs.History.{updates}
 use Rattle.scan_log.specs.Commands.{Concerns, command_caller, command_update, is_for}
 use Rattle.scan_log.specs.declared.command.Command.{Command}

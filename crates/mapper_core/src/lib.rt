@@ -6,6 +6,5 @@ mod running;
 
 pub use byte_streams::{Failed, MemSink, MemSource, Sink, SinkFault, Source, SureSink, SureSource};
 pub use callers::{run_callers, threaded};
-pub use mapper_base::{Status, made};
-pub use mapper_serial::{Replies, serial};
+pub use mapper_base::{Replies, Status, made, serial};
 pub use running::run;

@@ -2,7 +2,7 @@
 ghost use Rattle.std.specs.Prelude.{◌≡◌, ℕ, IfOk, IfErr};
 ghost use Rattle.scan_log.specs.Legal.{AreLegalLines};
 ghost use Rattle.byte_streams.specs.Outside.{NoFault};
-ghost use Rattle.mapper_words.specs.Asks.{AskForLog, AskForRun, AskForScans, AskNothing, Asks, CanBeDone, IsOfLog, texts};
+ghost use Rattle.mapper_base.specs.Asks.{AskForLog, AskForRun, AskForScans, AskNothing, Asks, CanBeDone, IsOfLog, texts};
 ghost use Rattle.mapper_base.specs.Causes.{Ended, Ends, HasNoText, IsTextOf, ReadsInLimit};
 ghost use Rattle.mapper_base.specs.Done.{IsChecked, IsDriven, IsScriptMade, IsTranscribed, IsTranscribedInOrder};
 ghost use Rattle.mapper_base.specs.Endings.{IsOrNoMemory};
@@ -11,10 +11,11 @@ ghost use Rattle.mapper_base.specs.Seen.{log_seen, out_seen, run_seen};
 
 use crate::callers::threaded_plain;
 use byte_streams::{Sink, SinkFault, Source, write_all};
-use map_fold::NoMemory;
-use mapper_base::{Ending, Status, read_script, tell};
-use mapper_serial::{checked_text, driven_text, in_order_text, made_text, transcript};
-use mapper_words::{Ask, asked};
+use map_items::NoMemory;
+use mapper_base::{
+    Ask, Ending, Status, asked, checked_text, driven_text, in_order_text, made_text, read_script,
+    tell, transcript,
+};
 use rebuild_worker::Gate;
 use scan_log::{PlainScript, Script};
 use std::alloc::{AllocError, Global};

@@ -4,7 +4,7 @@ ghost use Rattle.op_logger.specs.declared.fault.PushFault.TheVariants.{Full};
 
 use crate::PushFault;
 use crate::block::{Block, add_after, again_all, begin_with, cut_blocks};
-use map_fold::{NoMemory, Op};
+use map_items::{NoMemory, Op};
 use std::alloc::{AllocError, Global};
 use std::marker::Model;
 use std::mem;
@@ -30,7 +30,7 @@ pub struct OpLog {
 impl Model for OpLog {
     ghost use Rattle.std.specs.Prelude.{List, ◌≡◌, ◌+◌, ◌≤◌, ◌++◌, length};
     ghost use Rattle.op_logger.specs.Blocks.{ops_in};
-    ghost use Rattle.map_fold.specs.declared.op.Op.{Op};
+    ghost use Rattle.map_items.specs.declared.op.Op.{Op};
     ghost use Rattle.op_logger.specs.declared.log.TheConstants.{MAX_LOGGED};
 
     ghost Value = { List Op };

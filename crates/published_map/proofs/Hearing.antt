@@ -1,7 +1,7 @@
 -- What an entry shows.
 use Rattle.std.proofs.Common.{◌≡◌, List, subst}
 use mathlib.Core.List.{IsPrefix}
-use Rattle.map_fold.specs.declared.entry.Entry.{Entry}
+use Rattle.map_items.specs.declared.entry.Entry.{Entry}
 use Rattle.shown_versions.proofs.Prefixes.{prefix_self, prefix_trans}
 
 -- what a seat knew begins what it got

@@ -1,7 +1,7 @@
 -- Of several pending versions the last one counts.
 use Rattle.std.proofs.Common.{◌≡◌, List, [], ◌∷◌, ◌++◌, fold, refl, sym, ap, ◌∙◌}
 use mathlib.Core.List.{IsPrefix}
-use Rattle.map_fold.specs.declared.entry.Entry.{Entry}
+use Rattle.map_items.specs.declared.entry.Entry.{Entry}
 
 last_counts : {A : Type 0} (b : A) (xs : List A) (x : A) → fold (λ _ s. s) b (xs ++ x ∷ []) ≡ x
 last_counts b [] x = refl

@@ -1,18 +1,18 @@
 -- What a call with a pass answers, and leaves of what the pass has seen.
 use Rattle.std.specs.Prelude.{◌≡◌, ℕ, ◌+◌, ◌<◌, List, length, Option, Result, Ok, Err}
 use Rattle.point_geom.specs.Place.{Place, Bounds}
-use Rattle.map_fold.specs.declared.entry.Entry.{Entry}
-use Rattle.map_answers.specs.declared.reply.NearReply.{NearReply}
-use Rattle.map_answers.specs.declared.reply.BoxReply.{BoxReply}
-use Rattle.map_fold.specs.declared.update.Update.{Update}
-use Rattle.map_answers.specs.Answers.{nearest, inside, count}
-use Rattle.map_fold.specs.Fold.{fold, points_in}
+use Rattle.map_items.specs.declared.entry.Entry.{Entry}
+use Rattle.map_fold.specs.declared.reply.NearReply.{NearReply}
+use Rattle.map_fold.specs.declared.reply.BoxReply.{BoxReply}
+use Rattle.map_items.specs.declared.update.Update.{Update}
+use Rattle.map_fold.specs.Answers.{nearest, inside, count}
+use Rattle.map_items.specs.Fold.{fold, points_in}
 use Rattle.rebuild_parts.specs.History.{updates}
 use Rattle.rebuild_parts.specs.declared.fault.StateFault.{StateFault}
 use Rattle.rebuild_parts.specs.declared.fault.StateFault.TheVariants.{TooManyUpdates, TooManyPoints, NoMemory}
 use Rattle.shown_versions.specs.Marks.{Seen, Grown, Added}
 use Rattle.shown_versions.specs.Versions.{held}
-use Rattle.map_fold.specs.declared.limits.TheConstants.{MAX_POINTS}
+use Rattle.map_items.specs.declared.limits.TheConstants.{MAX_POINTS}
 use Rattle.rebuild_core.specs.declared.plan.TheConstants.{MAX_UPDATES}
 
 -- An update ends what its pass has seen. A refusal by a limit shows the history that is full; lack of memory leaves all.

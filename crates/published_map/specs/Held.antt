@@ -3,8 +3,8 @@ use Rattle.std.specs.Prelude.{◌≡◌, ℕ, ◌≤◌, List, [], length}
 use mathlib.Core.List.{IsPrefix}
 use Rattle.std.specs.declared.sync.ledger.Blank.{Blank}
 use Rattle.logbook.specs.Pages.{Book}
-use Rattle.map_fold.specs.declared.entry.Entry.{Entry}
-use Rattle.map_fold.specs.declared.item.Item.{Item}
+use Rattle.map_items.specs.declared.entry.Entry.{Entry}
+use Rattle.map_items.specs.declared.item.Item.{Item}
 use Rattle.shown_versions.specs.Marks.{AreOwnPlaces}
 use Rattle.rebuild_core.specs.declared.plan.TheConstants.{MAX_UPDATES}
 

@@ -1,7 +1,7 @@
 -- What detached subtrees held, as the lock keeps it. Cited by private functions alone.
 use Rattle.std.specs.Prelude.{ℕ, ◌≤◌, List, [], ◌∷◌, Option, ◌==◌, if◌then◌else◌}
 use Rattle.std.specs.List.{find}
-use Rattle.map_fold.specs.declared.item.Item.{Item}
+use Rattle.map_items.specs.declared.item.Item.{Item}
 use Rattle.rebuild_core.specs.Lawful.{StateAt}
 use Rattle.kd_update.specs.Parts.{AreItemsOf}
 

@@ -1,6 +1,6 @@
 -- Why a value isn't swapped into a shared map, and how far behind it may be. Cited by private functions alone.
 use Rattle.std.specs.Prelude.{◌≡◌, ℕ, ◌<◌, ◌≤◌, ⊤, Bool, length, if◌then◌else◌}
-use Rattle.map_fold.specs.Ops.{Fit}
+use Rattle.map_items.specs.Ops.{Fit}
 use Rattle.kd_tree.specs.Contents.{contents}
 use Rattle.rebuild_parts.specs.Built.{BuiltAt}
 use Rattle.rebuild_parts.specs.declared.fault.Late.{Late}

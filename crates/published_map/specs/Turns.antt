@@ -1,6 +1,6 @@
 -- What a turn of the lock makes of the history. Cited by private functions alone.
 use Rattle.std.specs.Prelude.{List, ◌++◌}
-use Rattle.map_fold.specs.declared.entry.Entry.{Entry}
+use Rattle.map_items.specs.declared.entry.Entry.{Entry}
 use Rattle.rebuild_core.specs.Lawful.{StateAt}
 use Rattle.rebuild_core.specs.Steps.{PlannedAt}
 use Rattle.rebuild_parts.specs.History.{listed}

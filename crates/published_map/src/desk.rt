@@ -5,7 +5,7 @@ ghost use Rattle.rebuild_core.specs.Desk.{IsSwapCause};
 ghost use Rattle.published_map.specs.Late.{IsLateCause, most_done};
 
 use crate::shared::Shared;
-use map_fold::{NoMemory, Ops};
+use map_items::{NoMemory, Ops};
 use op_logger::MAX_LOGGED;
 use rebuild_core::{Desk, SwapLeft, SwapOrLate, Swapped};
 use rebuild_parts::{Built, Job, Late, LogAsk, SwapFault};

@@ -3,7 +3,7 @@ ghost use Rattle.std.specs.Prelude.{◌≡◌, IfOk, map};
 ghost use Rattle.published_map.specs.Ends.{ended_of};
 
 use crate::pass::Pass;
-use map_fold::NoMemory;
+use map_items::NoMemory;
 use shown_versions::MapName;
 use std::alloc::Global;
 

@@ -13,7 +13,7 @@ use crate::turn::{catch_up, take_step};
 use core::mem::replace;
 use kd_tree::Steps;
 use left_right::Absorb;
-use map_fold::{Entry, NoMemory, Update};
+use map_items::{Entry, NoMemory, Update};
 use rebuild_core::{MapState, Planned};
 use rebuild_parts::{Holding, StateFault, Version};
 use shown_versions::{MapName, MapWriter, MarkList, Shown};

@@ -1,7 +1,7 @@
 //! Maps that aren't shared yet.
 ghost use Rattle.std.specs.Prelude.{◌≡◌, ◌≤◌, [], IfOk};
 
-use map_fold::{NoMemory, Settings};
+use map_items::{NoMemory, Settings};
 use rebuild_core::MapState;
 use shown_versions::MarkList;
 use std::alloc::Global;

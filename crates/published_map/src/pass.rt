@@ -6,8 +6,8 @@ ghost use Rattle.shown_versions.specs.Versions.{IsVersionOf};
 ghost use Rattle.published_map.specs.Answers.{box_reply, near_reply};
 
 use kd_search::{count_in, in_cuboid, nearest};
-use map_answers::{BoxReply, NearReply};
-use map_fold::{MAX_FOUND, NoMemory};
+use map_fold::{BoxReply, NearReply};
+use map_items::{MAX_FOUND, NoMemory};
 use point_geom::{Cuboid, Point};
 use rebuild_parts::Version;
 use shown_versions::{MapName, MapReader, Shown, look};

@@ -12,7 +12,7 @@ use crate::meet::{meet, meet_last};
 use crate::opened::Opened;
 use crate::pass::Pass;
 use crate::start::{made_passes, opened_pair};
-use map_fold::{NoMemory, Update};
+use map_items::{NoMemory, Update};
 use rebuild_core::MapState;
 use rebuild_parts::StateFault;
 use shown_versions::MapName;

@@ -4,7 +4,7 @@ ghost use Rattle.left_right.specs.Sides.{view};
 ghost use Rattle.shown_versions.specs.Marks.{seen_by_new};
 
 use crate::pass::Pass;
-use map_fold::NoMemory;
+use map_items::NoMemory;
 use rebuild_core::MapState;
 use shown_versions::{
     MapName, MapWriter, Mark, MarkList, Shown, ShownHistory, make_pair, place_reader,

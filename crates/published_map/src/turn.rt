@@ -7,7 +7,7 @@ ghost use Rattle.rebuild_core.specs.Steps.{entered};
 ghost use Rattle.shown_versions.specs.Rules.{IsPublishedAs};
 ghost use Rattle.published_map.specs.Turns.{history_after};
 
-use map_fold::NoMemory;
+use map_items::NoMemory;
 use rebuild_core::{MapState, Planned};
 use shown_versions::{
     MapName, MapReader, MapWriter, Mark, MarkList, Shown, ShownHistory, look, show,

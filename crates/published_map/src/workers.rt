@@ -10,7 +10,7 @@ ghost use Rattle.published_map.specs.Late.{IsLateCause};
 use crate::hold::{Hold, hold_of, keep_hold};
 use crate::locked::Locked;
 use kd_tree::Steps;
-use map_fold::{NoMemory, Ops};
+use map_items::{NoMemory, Ops};
 use rebuild_core::SwapOrLate;
 use rebuild_parts::{Built, Holding, Late, LogAsk, Snapshot, Version};
 use shown_versions::{MapName, Mark, Shown, ShownHistory};

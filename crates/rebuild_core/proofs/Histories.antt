@@ -1,10 +1,10 @@
 -- Histories that grow by one entry.
 use Rattle.std.proofs.Common.{◌≡◌, ℕ, ◌≤◌, List, [], ◌∷◌, ◌++◌, length, length-append, append_assoc, append-nil, ap, sym, ◌∙◌, arith, subst, Option, Some, None}
 use Rattle.std.proofs.lemmas.List.{map-append}
-use Rattle.map_fold.specs.Fold.{fold, no_points, step}
-use Rattle.map_fold.specs.declared.update.Update.{Update}
-use Rattle.map_fold.proofs.Folds.{fold_from-push}
-use Rattle.map_fold.specs.declared.entry.Entry.{Entry}
+use Rattle.map_items.specs.Fold.{fold, no_points, step}
+use Rattle.map_items.specs.declared.update.Update.{Update}
+use Rattle.map_items.proofs.Folds.{fold_from-push}
+use Rattle.map_items.specs.declared.entry.Entry.{Entry}
 use Rattle.rebuild_parts.specs.History.{AreEntries, entries_of, entry_by, listed, MayComeNext, updates}
 use Rattle.rebuild_core.specs.StateView.{IsNextOf}
 

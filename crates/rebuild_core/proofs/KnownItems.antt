@@ -3,8 +3,8 @@ use Rattle.std.proofs.Common.{◌≡◌, ℕ, ◌<◌, ◌≤◌, List, [], ◌�
 use Rattle.std.specs.Prelude.{◌==◌}
 use Rattle.std.proofs.lemmas.Bool.{cond_both, eqb-false, eqb-true}
 use Rattle.std.proofs.lemmas.List.{get_or_at, set_at}
-use Rattle.map_fold.specs.declared.item.Item.{Item}
-use Rattle.map_fold.specs.declared.op.Op.{Op}
+use Rattle.map_items.specs.declared.item.Item.{Item}
+use Rattle.map_items.specs.declared.op.Op.{Op}
 use Rattle.rebuild_parts.specs.Built.{JobAt}
 use Rattle.rebuild_core.specs.Detach.{IsDetachStep, with_part}
 use Rattle.rebuild_core.specs.Lawful.{IsLawful, StateAt}

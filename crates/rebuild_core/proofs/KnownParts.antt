@@ -3,8 +3,8 @@ use Rattle.std.proofs.Common.{◌≡◌, ℕ, ◌≤◌, List, [], ◌∷◌, �
 use Rattle.std.specs.Prelude.{◌==◌}
 use Rattle.std.proofs.lemmas.Bool.{cond_both}
 use Rattle.std.proofs.lemmas.List.{take-append-drop}
-use Rattle.map_fold.specs.Ops.{Fit, replay}
-use Rattle.map_fold.proofs.Replays.{fit_second, replay-append}
+use Rattle.map_items.specs.Ops.{Fit, replay}
+use Rattle.map_items.proofs.Replays.{fit_second, replay-append}
 use Rattle.kd_tree.specs.Shape.{Shape}
 use Rattle.kd_tree.specs.Contents.{contents}
 use Rattle.rebuild_parts.specs.Built.{BuiltAt, IsLawfulBuilt}

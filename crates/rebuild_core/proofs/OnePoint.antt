@@ -1,12 +1,12 @@
 -- Updates that thin the voxel of one point.
 use Rattle.std.proofs.Common.{◌≡◌, ℕ, [], ◌∷◌, ap, sym, subst, ◌∙◌}
 use Rattle.point_geom.specs.Place.{Place}
-use Rattle.map_fold.specs.declared.update.Update.{Update}
-use Rattle.map_fold.specs.declared.update.Update.TheVariants.{Thin}
-use Rattle.map_fold.specs.Contents.{thin}
-use Rattle.map_fold.specs.Fold.{MapAt, step}
-use Rattle.map_answers.specs.Thinned.{IsThinned}
-use Rattle.map_answers.proofs.Thinning.{thinned_is}
+use Rattle.map_items.specs.declared.update.Update.{Update}
+use Rattle.map_items.specs.declared.update.Update.TheVariants.{Thin}
+use Rattle.map_items.specs.Contents.{thin}
+use Rattle.map_items.specs.Fold.{MapAt, step}
+use Rattle.map_fold.specs.Thinned.{IsThinned}
+use Rattle.map_fold.proofs.Thinning.{thinned_is}
 use Rattle.kd_tree.specs.Shape.{Shape}
 use Rattle.kd_tree.specs.Contents.{contents}
 use Rattle.kd_tree.proofs.Held.{are_contents}

@@ -1,9 +1,9 @@
 -- What updates leave and how many nodes they make, said of equal states.
 use Rattle.std.proofs.Common.{◌≡◌, ℕ, ◌+◌, ◌*◌, ◌≤◌, List, [], ◌∷◌, ◌∙◌, arith, subst, sym, Some}
 use Rattle.point_geom.specs.Place.{Place}
-use Rattle.map_fold.specs.declared.op.Op.{Op}
-use Rattle.map_fold.specs.declared.update.Update.{Update}
-use Rattle.map_fold.specs.declared.update.Update.TheVariants.{Thin}
+use Rattle.map_items.specs.declared.op.Op.{Op}
+use Rattle.map_items.specs.declared.update.Update.{Update}
+use Rattle.map_items.specs.declared.update.Update.TheVariants.{Thin}
 use Rattle.kd_tree.specs.Shape.{Shape}
 use Rattle.kd_mark.specs.declared.watch.Watch.{Watch}
 use Rattle.kd_mark.specs.Watches.{HaveRoom}

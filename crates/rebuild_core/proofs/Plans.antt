@@ -1,9 +1,9 @@
 -- Plans that leave a lawful state.
 use Rattle.std.proofs.Common.{◌≡◌, ℕ, ◌+◌, ◌*◌, ◌<◌, ◌≤◌, List, [], ◌∷◌, ◌++◌, length, length-append, append-nil, refl, ap, sym, ◌∙◌, arith, subst, Some}
 use Rattle.std.specs.Prelude.{All}
-use Rattle.map_fold.specs.Fold.{points_in, step}
-use Rattle.map_fold.specs.declared.op.Op.{Op}
-use Rattle.map_fold.specs.declared.update.Update.{Update}
+use Rattle.map_items.specs.Fold.{points_in, step}
+use Rattle.map_items.specs.declared.op.Op.{Op}
+use Rattle.map_items.specs.declared.update.Update.{Update}
 use Rattle.kd_tree.specs.Shape.{Shape, numbers}
 use Rattle.kd_tree.specs.Sound.{IsSound}
 use Rattle.kd_tree.specs.Contents.{contents}
@@ -14,7 +14,7 @@ use Rattle.kd_mark.specs.Several.{IsBalancedClear}
 use Rattle.kd_mark.specs.Watches.{HaveRoom}
 use Rattle.kd_mark.proofs.Several.{balanced_clear}
 use Rattle.kd_mark.proofs.Update.{criteria_balanced}
-use Rattle.map_fold.specs.declared.entry.Entry.{Entry}
+use Rattle.map_items.specs.declared.entry.Entry.{Entry}
 use Rattle.rebuild_parts.specs.History.{entry_by}
 use Rattle.rebuild_core.specs.Lawful.{IsLawful, StateAt}
 use Rattle.rebuild_parts.specs.Seen.{VersionAt}

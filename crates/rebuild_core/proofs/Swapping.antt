@@ -2,18 +2,18 @@
 use Rattle.std.proofs.Common.{◌≡◌, ℕ, ◌+◌, ◌-◌, ◌<◌, Bool, true, false, List, [], ◌∷◌, ◌++◌, length, length-drop, map, refl, ap, sym, ◌∙◌, subst, inl, inr, arith}
 use Rattle.std.specs.Prelude.{All, Contains, ◌↔◌}
 use Rattle.std.proofs.lemmas.List.Elements.{All-append, All-cons, All-contains, All-contains_itself, All-nil, All-weaker, Contains-append_cases, Contains-append_left, Contains-append_right}
-use Rattle.map_fold.specs.declared.item.Item.{Item}
-use Rattle.map_fold.specs.declared.op.Op.{Op}
-use Rattle.map_fold.specs.Contents.{AreContents}
-use Rattle.map_fold.specs.Ops.{Fit, numbers_put, replay}
-use Rattle.map_fold.proofs.Replays.{numbers_put-append}
+use Rattle.map_items.specs.declared.item.Item.{Item}
+use Rattle.map_items.specs.declared.op.Op.{Op}
+use Rattle.map_items.specs.Contents.{AreContents}
+use Rattle.map_items.specs.Ops.{Fit, numbers_put, replay}
+use Rattle.map_items.proofs.Replays.{numbers_put-append}
 use Rattle.kd_tree.specs.Shape.{Shape, numbers}
 use Rattle.kd_tree.specs.Sound.{IsSound}
 use Rattle.kd_tree.specs.Contents.{contents}
 use Rattle.kd_tree.specs.Criteria.{AllMeetCriteria}
 use Rattle.kd_tree.specs.Apart.{AreAllApart, IsClear}
 use Rattle.kd_mark.specs.Refresh.{AreAmong}
-use Rattle.kd_replace.specs.Replace.{HasRoomAt, StandsFor}
+use Rattle.kd_update.specs.Replace.{HasRoomAt, StandsFor}
 use Rattle.kd_mark.specs.Several.{AreLargeAt, AreSameAt, IsBalancedClear}
 use Rattle.kd_mark.proofs.Several.{balanced_clear}
 use Rattle.kd_mark.proofs.Update.{criteria_balanced}

@@ -1,6 +1,6 @@
 -- What a refusal says of the value that was handed in, where nobody sees the state.
 use Rattle.std.specs.Prelude.{◌≡◌, ◌<◌, ⊤, Bool, false}
-use Rattle.map_fold.specs.Ops.{Fit}
+use Rattle.map_items.specs.Ops.{Fit}
 use Rattle.kd_tree.specs.Contents.{contents}
 use Rattle.rebuild_parts.specs.Built.{BuiltAt}
 use Rattle.rebuild_parts.specs.declared.fault.LogAsk.{LogAsk}

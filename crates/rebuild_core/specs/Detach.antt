@@ -6,8 +6,8 @@ use Rattle.kd_tree.specs.Contents.{contents}
 use Rattle.kd_tree.specs.Parts.{at}
 use Rattle.kd_tree.specs.Apart.{AllClearMeetCriteria, IsFirstFree}
 use Rattle.kd_tree.specs.declared.path.Side.{Side}
-use Rattle.map_fold.specs.declared.memory.NoMemory as memory
-use Rattle.map_fold.specs.declared.op.Op.{Op}
+use Rattle.map_items.specs.declared.memory.NoMemory as memory
+use Rattle.map_items.specs.declared.op.Op.{Op}
 use Rattle.rebuild_parts.specs.Built.{BuiltAt, JobAt}
 use Rattle.rebuild_core.specs.Known.{IsPartOf, IsStale, undone}
 use Rattle.rebuild_core.specs.Lawful.{StateAt, Stored}

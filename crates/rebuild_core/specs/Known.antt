@@ -1,6 +1,6 @@
 -- Built values, and the parts that they are of.
 use Rattle.std.specs.Prelude.{◌≡◌, ◌≤◌, List, length, take, drop, Some}
-use Rattle.map_fold.specs.declared.op.Op.{Op}
+use Rattle.map_items.specs.declared.op.Op.{Op}
 use Rattle.kd_tree.specs.Shape.{Shape}
 use Rattle.kd_update.specs.Parts.{PartAt, part_of}
 use Rattle.op_logger.specs.declared.log.TheConstants.{MAX_LOGGED}

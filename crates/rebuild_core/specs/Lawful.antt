@@ -1,16 +1,16 @@
 -- When the state of a map is lawful.
 use Rattle.std.specs.Prelude.{◌≡◌, ℕ, ◌<◌, ◌≤◌, List, [], length, All}
-use Rattle.map_fold.specs.Sizes.{Sizes, AreSizes}
-use Rattle.map_fold.specs.Fold.{fold}
+use Rattle.map_items.specs.Sizes.{Sizes, AreSizes}
+use Rattle.map_items.specs.Fold.{fold}
 use Rattle.kd_tree.specs.Shape.{Shape, leaf, numbers}
 use Rattle.kd_tree.specs.Sound.{IsSound}
 use Rattle.kd_mark.specs.Several.{IsBalancedClear}
-use Rattle.map_fold.specs.declared.entry.Entry.{Entry}
+use Rattle.map_items.specs.declared.entry.Entry.{Entry}
 use Rattle.rebuild_parts.specs.History.{AreEntries, updates}
 use Rattle.rebuild_parts.specs.Seen.{VersionAt}
 use Rattle.kd_tree.specs.Maps.{map_of}
 use Rattle.kd_update.specs.Parts.{AreLawfulParts, PartAt, paths}
-use Rattle.map_fold.specs.declared.limits.TheConstants.{MAX_POINTS}
+use Rattle.map_items.specs.declared.limits.TheConstants.{MAX_POINTS}
 use Rattle.rebuild_core.specs.declared.plan.TheConstants.{MAX_UPDATES}
 
 -- the state of a map: the parts are in the order of their slots, and last is the last ticket that was given

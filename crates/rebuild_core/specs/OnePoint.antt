@@ -1,6 +1,6 @@
 -- One point that thins its voxel in a state.
 use Rattle.point_geom.specs.Place.{Place}
-use Rattle.map_answers.specs.Thinned.{IsThinned}
+use Rattle.map_fold.specs.Thinned.{IsThinned}
 use Rattle.kd_tree.specs.Shape.{Shape}
 use Rattle.kd_tree.specs.Contents.{contents}
 use Rattle.kd_tree.specs.Maps.{map_of}

@@ -1,9 +1,9 @@
 -- What an update leaves, and how many nodes it makes.
 use Rattle.std.specs.Prelude.{◌≡◌, ℕ, ◌+◌, ◌*◌, ◌≤◌, List, [], ◌∷◌}
 use Rattle.point_geom.specs.Place.{Place}
-use Rattle.map_fold.specs.declared.op.Op.{Op}
-use Rattle.map_fold.specs.declared.update.Update.{Update}
-use Rattle.map_fold.specs.declared.update.Update.TheVariants.{Thin}
+use Rattle.map_items.specs.declared.op.Op.{Op}
+use Rattle.map_items.specs.declared.update.Update.{Update}
+use Rattle.map_items.specs.declared.update.Update.TheVariants.{Thin}
 use Rattle.kd_tree.specs.Shape.{Shape}
 use Rattle.rebuild_core.specs.Lawful.{StateAt}
 use Rattle.rebuild_core.specs.OnePoint.{IsThinnedFrom, IsTurnedAwayFrom}

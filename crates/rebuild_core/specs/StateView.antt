@@ -1,6 +1,6 @@
 -- What contracts see of a state.
 use Rattle.std.specs.Prelude.{◌≡◌, ℕ, ◌+◌, ◌-◌, ◌<◌, List, length, slice_index_or, Option, Some, None}
-use Rattle.map_fold.specs.declared.entry.Entry.{Entry}
+use Rattle.map_items.specs.declared.entry.Entry.{Entry}
 use Rattle.rebuild_core.specs.declared.state.MapState.TheInside.{Inside}
 use Rattle.rebuild_parts.specs.History.{MayComeNext, entries_of}
 use Rattle.rebuild_core.specs.Lawful.{StateAt}

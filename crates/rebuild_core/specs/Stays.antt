@@ -1,9 +1,9 @@
 -- Parts that an update leaves where they are, and what it logs for them.
 use Rattle.std.specs.Prelude.{ℕ, ◌+◌, ◌*◌, ◌≤◌, List, [], ◌∷◌, ◌++◌, length, map}
-use Rattle.map_fold.specs.Fold.{points_in}
-use Rattle.map_fold.specs.declared.op.Op.{Op}
-use Rattle.map_fold.specs.declared.op.Op.TheVariants.{Mark, Put}
-use Rattle.map_fold.specs.declared.update.Update.{Update}
+use Rattle.map_items.specs.Fold.{points_in}
+use Rattle.map_items.specs.declared.op.Op.{Op}
+use Rattle.map_items.specs.declared.op.Op.TheVariants.{Mark, Put}
+use Rattle.map_items.specs.declared.update.Update.{Update}
 use Rattle.kd_tree.specs.Shape.{Shape, levels, nodes}
 use Rattle.kd_mark.specs.Watch.{logged_mark}
 use Rattle.kd_update.specs.Watch.{logged_put}

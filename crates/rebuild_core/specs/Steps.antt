@@ -1,13 +1,13 @@
 -- What steps make of a state.
 use Rattle.std.specs.Prelude.{◌≡◌, ℕ, ◌+◌, ◌<◌, ◌≤◌, List, [], ◌∷◌, ◌++◌, length, All, Option, Some, None}
-use Rattle.map_fold.specs.Fold.{step, points_in}
-use Rattle.map_fold.specs.declared.op.Op.{Op}
-use Rattle.map_fold.specs.declared.update.Update.{Update}
+use Rattle.map_items.specs.Fold.{step, points_in}
+use Rattle.map_items.specs.declared.op.Op.{Op}
+use Rattle.map_items.specs.declared.update.Update.{Update}
 use Rattle.kd_tree.specs.Shape.{Shape, numbers}
 use Rattle.kd_tree.specs.Contents.{contents}
 use Rattle.kd_tree.specs.Criteria.{AllMeetCriteria}
 use Rattle.kd_mark.specs.Several.{IsBalancedClear}
-use Rattle.map_fold.specs.declared.entry.Entry.{Entry}
+use Rattle.map_items.specs.declared.entry.Entry.{Entry}
 use Rattle.rebuild_parts.specs.declared.fault.StateFault.{StateFault}
 use Rattle.rebuild_parts.specs.declared.fault.StateFault.TheVariants.{TooManyUpdates, TooManyPoints, NoMemory}
 use Rattle.rebuild_parts.specs.History.{entry_by, listed}
@@ -18,7 +18,7 @@ use Rattle.rebuild_parts.specs.Logs.{LogPlan, planned_parts}
 use Rattle.kd_update.specs.Parts.{AreLawfulParts, AreLeft, HaveLogRoom, paths}
 use Rattle.rebuild_core.specs.declared.plan.Drafted.{Drafted}
 use Rattle.map_update.specs.Single.{RebuildsNothing, only_op}
-use Rattle.map_fold.specs.declared.limits.TheConstants.{MAX_POINTS}
+use Rattle.map_items.specs.declared.limits.TheConstants.{MAX_POINTS}
 use Rattle.rebuild_core.specs.declared.plan.TheConstants.{MAX_UPDATES}
 
 -- what a step stores

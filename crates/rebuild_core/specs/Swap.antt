@@ -1,11 +1,11 @@
 -- What swapping a built subtree in does to a state.
 use Rattle.std.specs.Prelude.{◌≡◌, ℕ, ◌+◌, ◌<◌, ◌≤◌, ◌⊎◌, Bool, false, List, [], length, None}
-use Rattle.map_fold.specs.declared.op.Op.{Op}
-use Rattle.map_fold.specs.Ops.{Fit, numbers_put, replay}
+use Rattle.map_items.specs.declared.op.Op.{Op}
+use Rattle.map_items.specs.Ops.{Fit, numbers_put, replay}
 use Rattle.kd_tree.specs.Shape.{Shape, levels, nodes}
 use Rattle.kd_tree.specs.Contents.{contents}
 use Rattle.kd_tree.specs.Parts.{replaced_at}
-use Rattle.kd_replace.specs.Replace.{HasRoomAt, RebuildsNoneAbove}
+use Rattle.kd_update.specs.Replace.{HasRoomAt, RebuildsNoneAbove}
 use Rattle.kd_mark.specs.Update.{IsBalancedBelow}
 use Rattle.rebuild_parts.specs.declared.fault.SwapFault.{SwapFault}
 use Rattle.rebuild_parts.specs.declared.fault.SwapFault.TheVariants.{Stale, Behind, NoMemory}

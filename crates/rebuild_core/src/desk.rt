@@ -4,7 +4,7 @@ ghost use Rattle.rebuild_parts.specs.Built.{CanBeDoneOn};
 ghost use Rattle.rebuild_core.specs.Desk.{IsAskCause, IsHandedBack, IsSwapCause};
 
 use crate::SwapLeft;
-use map_fold::{NoMemory, Ops};
+use map_items::{NoMemory, Ops};
 use rebuild_parts::{Built, Job, Late, LogAsk, SwapFault};
 use std::alloc::Global;
 use std::sync::Wait;

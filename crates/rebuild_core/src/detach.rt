@@ -8,7 +8,7 @@ ghost use Rattle.kd_update.specs.Parts.{AreItemsOf, PartAt, part_in};
 
 use crate::MapState;
 use kd_tree::Path;
-use map_fold::{NoMemory, Ops};
+use map_items::{NoMemory, Ops};
 use op_logger::OpLog;
 use rebuild_parts::{Built, Holding, Job, LogAsk, Part, Snapshot, part_in, part_of, paths_of};
 use std::alloc::Global;

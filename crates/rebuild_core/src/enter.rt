@@ -6,7 +6,7 @@ ghost use Rattle.rebuild_core.specs.Steps.{entered};
 ghost use Rattle.rebuild_parts.specs.History.{listed};
 
 use crate::{MapState, Planned};
-use map_fold::Entry;
+use map_items::Entry;
 use rebuild_parts::relog_all;
 use std::mem;
 

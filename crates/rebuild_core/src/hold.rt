@@ -3,7 +3,7 @@ ghost use Rattle.std.specs.Prelude.{◌≡◌, None, Some, IfOk, IfSome, IsNone}
 ghost use Rattle.kd_update.specs.Parts.{AreItemsOf, PartAt, part_in, part_of};
 
 use crate::MapState;
-use map_fold::NoMemory;
+use map_items::NoMemory;
 use rebuild_parts::{Holding, part_in, part_of, place_of};
 use std::mem;
 

@@ -1,6 +1,6 @@
 //! Steps of a state: worked out by a plan, which may be refused, and then entered, which may not.
 ghost use Rattle.std.specs.Prelude.{◌≡◌, ◌+◌, ◌≤◌, length, IfOk, IfErr, OnOk, OnErr};
-ghost use Rattle.map_fold.specs.Fold.{points_in};
+ghost use Rattle.map_items.specs.Fold.{points_in};
 ghost use Rattle.kd_update.specs.Parts.{watches_of};
 ghost use Rattle.kd_tree.specs.Counter.{IsBlankOf};
 ghost use Rattle.rebuild_parts.specs.Logs.{planned_parts};
@@ -8,9 +8,9 @@ ghost use Rattle.rebuild_core.specs.Outcome.{IsLeftByUpdate, MakesNodes};
 ghost use Rattle.rebuild_core.specs.Steps.{HasRoom, IsDrafted, IsFault, IsSettlePlan, IsSettleStep, IsUpdatePlan, IsUpdateStep};
 
 use crate::{MapState, Planned};
-use kd_replace::settled;
 use kd_tree::{Scratch, Steps, Tree};
-use map_fold::{Entry, MAX_POINTS, NoMemory, Update};
+use kd_update::settled;
+use map_items::{Entry, MAX_POINTS, NoMemory, Update};
 use map_update::{Work, changed};
 use rebuild_parts::{PartLog, StateFault, Version, forgotten, logs_of, watched};
 use std::alloc::Global;

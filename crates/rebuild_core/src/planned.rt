@@ -4,7 +4,7 @@ ghost use Rattle.rebuild_core.specs.Steps.{plan_with};
 
 use crate::MapState;
 use kd_tree::{Steps, Tree};
-use map_fold::{Entry, NoMemory};
+use map_items::{Entry, NoMemory};
 use rebuild_parts::{PartLog, Version};
 use std::alloc::Global;
 use std::marker::Model;

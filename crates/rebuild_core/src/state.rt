@@ -5,7 +5,7 @@ ghost use Rattle.kd_update.specs.Parts.{part_in};
 ghost use Rattle.rebuild_core.specs.StateView.{info_of};
 
 use kd_tree::{Scratch, Tree};
-use map_fold::{Entry, NoMemory, Settings};
+use map_items::{Entry, NoMemory, Settings};
 use rebuild_parts::{Part, PartInfo, Version, part_in};
 use std::alloc::Global;
 use std::marker::Model;

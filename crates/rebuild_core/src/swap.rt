@@ -8,9 +8,9 @@ ghost use Rattle.kd_update.specs.Parts.{AreItemsOf};
 ghost use Rattle.rebuild_core.specs.Swap.{IsLate, IsLeftUnrebuilt, IsNear, IsUnrebuiltSwap, IsSwapFault, IsSwapPlan, IsSwapStep, MakesPath, MaySwap};
 
 use crate::{MapState, Planned};
-use kd_replace::{Replaced, replaced};
 use kd_tree::{Steps, Tree};
-use map_fold::{NoMemory, Op, Ops};
+use kd_update::{Replaced, replaced};
+use map_items::{NoMemory, Op, Ops};
 use rebuild_parts::{Built, Late, Part, SwapFault, caught_up, forgotten_for, others_of};
 use std::alloc::Global;
 use std::sync::ledger::Ledger;

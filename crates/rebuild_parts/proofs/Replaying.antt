@@ -3,10 +3,10 @@ use Rattle.std.proofs.Common.{◌≡◌, ℕ, ◌≤◌, List, [], ◌∷◌, �
 use Rattle.std.specs.Prelude.{IsPermutation, ◌==◌}
 use Rattle.std.proofs.lemmas.List.Elements.{Contains-append_cases, Contains-append_left, Contains-append_right}
 use Rattle.std.proofs.lemmas.List.Sorted.{Contains-permutation, IsPermutation-sym}
-use Rattle.map_fold.specs.declared.item.Item.{Item}
-use Rattle.map_fold.specs.declared.op.Op.{Op}
-use Rattle.map_fold.specs.Ops.{Fit, numbers_put, replay}
-use Rattle.map_fold.proofs.Replays.{fit_append, numbers_put-append, replay-append}
+use Rattle.map_items.specs.declared.item.Item.{Item}
+use Rattle.map_items.specs.declared.op.Op.{Op}
+use Rattle.map_items.specs.Ops.{Fit, numbers_put, replay}
+use Rattle.map_items.proofs.Replays.{fit_append, numbers_put-append, replay-append}
 use Rattle.kd_tree.specs.Shape.{Shape, numbers}
 use Rattle.kd_tree.specs.Contents.{contents}
 use Rattle.kd_mark.specs.Refresh.{AreAmong}

@@ -11,9 +11,9 @@ use Rattle.std.proofs.lemmas.List.Sorted.{IsNonDecreasingBy-from_default}
 use Rattle.node_labels.specs.Labels.{is_dropped, keep_tag}
 use Rattle.node_labels.specs.declared.label.Label.{Label}
 use Rattle.node_labels.specs.declared.label.Label.TheVariants.{Live, Suspended, Dropped}
-use Rattle.map_fold.specs.declared.item.Item.{Item}
-use Rattle.map_fold.specs.Contents.{AreContents, IsRising, kept, live_count, suspended_count, Member}
-use Rattle.map_fold.proofs.Numbered.{contents_rise as are_rising}
+use Rattle.map_items.specs.declared.item.Item.{Item}
+use Rattle.map_items.specs.Contents.{AreContents, IsRising, kept, live_count, suspended_count, Member}
+use Rattle.map_items.proofs.Numbered.{contents_rise as are_rising}
 use Rattle.kd_tree.specs.Shape.{Shape}
 use Rattle.kd_tree.specs.Sound.{IsSound}
 use Rattle.kd_tree.specs.Contents.{contents}

@@ -1,7 +1,7 @@
 -- Histories: each caller's entries are counted.
 use Rattle.std.specs.Prelude.{◌≡◌, ℕ, ◌≤◌, List, [], ◌∷◌, ◌++◌, map, count_by, ◌==◌, Option, Some, None}
-use Rattle.map_fold.specs.declared.update.Update.{Update}
-use Rattle.map_fold.specs.declared.entry.Entry.{Entry}
+use Rattle.map_items.specs.declared.update.Update.{Update}
+use Rattle.map_items.specs.declared.entry.Entry.{Entry}
 
 -- the updates of the entries, in their order
 abbrev pub updates : List Entry → List Update

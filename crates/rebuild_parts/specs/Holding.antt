@@ -1,7 +1,7 @@
 -- What a detached subtree held, as a tree or as a list.
 use Rattle.std.specs.Prelude.{List}
-use Rattle.map_fold.specs.declared.item.Item.{Item}
-use Rattle.map_fold.specs.Contents.{Member}
+use Rattle.map_items.specs.declared.item.Item.{Item}
+use Rattle.map_items.specs.Contents.{Member}
 use Rattle.kd_tree.specs.Contents.{contents}
 use Rattle.rebuild_parts.specs.declared.holding.Held.{Held}
 use Rattle.rebuild_parts.specs.declared.holding.Held.TheVariants.{Unlisted, Listed}

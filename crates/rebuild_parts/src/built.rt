@@ -1,6 +1,6 @@
 //! Detached subtrees that were rebuilt, and are brought up to date. Nothing here knows the state that they come from.
 ghost use Rattle.std.specs.Prelude.{◌≡◌, ◌+◌, ◌≤◌, [], ◌++◌, length, IfErr, IfOk};
-ghost use Rattle.map_fold.specs.Ops.{Fit, numbers_put, replay};
+ghost use Rattle.map_items.specs.Ops.{Fit, numbers_put, replay};
 ghost use Rattle.kd_tree.specs.Shape.{levels, nodes, numbers};
 ghost use Rattle.kd_tree.specs.Contents.{contents};
 ghost use Rattle.kd_tree.specs.Criteria.{AllMeetCriteria};
@@ -13,9 +13,9 @@ use crate::Job;
 use crate::balanced::is_balanced;
 use crate::holding::twin_by;
 use kd_mark::rebuilt;
-use kd_replay::replayed;
 use kd_tree::{Steps, Tree};
-use map_fold::{Item, NoMemory, Op};
+use kd_update::replayed;
+use map_items::{Item, NoMemory, Op};
 use std::alloc::Global;
 use std::marker::{Brand, Model};
 use std::sync::ledger::{Blank, Ledger};

@@ -1,13 +1,13 @@
 //! What detached subtrees held: trees as long as nobody has listed them, and then lists.
 ghost use Rattle.std.specs.Prelude.{◌≡◌, ◌↔◌, true, IfOk};
-ghost use Rattle.map_fold.specs.Contents.{AreContents};
+ghost use Rattle.map_items.specs.Contents.{AreContents};
 ghost use Rattle.kd_tree.specs.Contents.{contents};
 ghost use Rattle.kd_tree.specs.Counter.{IsBlankOf};
 
 use crate::Built;
 use crate::same_items::{are_same, holds};
 use kd_tree::{Steps, Tree};
-use map_fold::{Items, MAX_POINTS, NoMemory};
+use map_items::{Items, MAX_POINTS, NoMemory};
 use std::alloc::Global;
 use std::marker::{Brand, Model};
 use std::sync::Arc;
@@ -34,8 +34,8 @@ enum Held {
 
 impl Model for Holding {
     ghost use Rattle.std.specs.Prelude.{List};
-    ghost use Rattle.map_fold.specs.declared.item.Item.{Item};
-    ghost use Rattle.map_fold.specs.Contents.{AreContents};
+    ghost use Rattle.map_items.specs.declared.item.Item.{Item};
+    ghost use Rattle.map_items.specs.Contents.{AreContents};
 
     ghost Value = { List Item };
 
@@ -43,7 +43,7 @@ impl Model for Holding {
 
     ghost view = { λ h. items_held h.held };
 
-    ghost use Rattle.map_fold.specs.declared.limits.TheConstants.{MAX_POINTS};
+    ghost use Rattle.map_items.specs.declared.limits.TheConstants.{MAX_POINTS};
 
     ghost invariant = { λ h. AreContents 0 MAX_POINTS (items_held h.held) };
 }

@@ -7,7 +7,7 @@ ghost use Rattle.rebuild_parts.specs.Built.{AreNumbersOf, IsBuiltOf};
 
 use crate::{Built, Holding};
 use kd_tree::{Steps, Tree};
-use map_fold::{Item, Items, MAX_POINTS, NoMemory};
+use map_items::{Item, Items, MAX_POINTS, NoMemory};
 use std::alloc::Global;
 use std::marker::{Brand, Model};
 use std::sync::Arc;
@@ -30,14 +30,14 @@ impl Drop for Job {
 }
 
 impl Model for Job {
-    ghost use Rattle.map_fold.specs.Contents.{AreContents};
+    ghost use Rattle.map_items.specs.Contents.{AreContents};
     ghost use Rattle.rebuild_parts.specs.Built.{JobAt};
 
     ghost Value = { JobAt };
 
     ghost view = { λ j. record { ticket = j.ticket; items = j.items.value } };
 
-    ghost use Rattle.map_fold.specs.declared.limits.TheConstants.{MAX_POINTS};
+    ghost use Rattle.map_items.specs.declared.limits.TheConstants.{MAX_POINTS};
 
     ghost invariant = { λ j. AreContents 0 MAX_POINTS j.items.value };
 }

@@ -7,7 +7,7 @@ use crate::Holding;
 use kd_mark::Watch;
 use kd_tree::Path;
 use kd_update::Watches;
-use map_fold::NoMemory;
+use map_items::NoMemory;
 use op_logger::OpLog;
 use std::alloc::Global;
 use std::marker::Model;

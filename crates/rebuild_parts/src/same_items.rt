@@ -1,12 +1,12 @@
 //! Lists and trees, compared without memory.
 ghost use Rattle.std.specs.Prelude.{◌≡◌, ◌∷◌, [], ◌↔◌, true};
-ghost use Rattle.map_fold.specs.Contents.{AreContents, kept, Member};
+ghost use Rattle.map_items.specs.Contents.{AreContents, kept, Member};
 ghost use Rattle.kd_tree.specs.Contents.{contents};
 ghost use Rattle.kd_tree.specs.Walk.{walk};
 ghost use Rattle.rebuild_parts.specs.Holding.{AreAllFrom};
 
 use kd_tree::Tree;
-use map_fold::{Item, Label, MAX_POINTS, Tag};
+use map_items::{Item, Label, MAX_POINTS, Tag};
 
 pub(crate) fn are_same(items: &[Item], others: &[Item]) -> bool
     ensures { result ≡ true ↔ (items.now ≡ others.now) }

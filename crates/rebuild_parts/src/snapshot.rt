@@ -2,7 +2,7 @@
 ghost use Rattle.std.specs.Prelude.{◌≡◌, IfErr, IfOk};
 
 use crate::{Holding, Job};
-use map_fold::NoMemory;
+use map_items::NoMemory;
 use std::alloc::Global;
 use std::marker::Model;
 

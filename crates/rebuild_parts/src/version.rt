@@ -1,11 +1,11 @@
 //! Versions of a map: what queries see.
 ghost use Rattle.std.specs.Prelude.{◌≡◌, IfOk};
-ghost use Rattle.map_fold.specs.Contents.{totals};
+ghost use Rattle.map_items.specs.Contents.{totals};
 ghost use Rattle.kd_tree.specs.Shape.{leaf};
 ghost use Rattle.kd_tree.specs.Contents.{contents};
 
 use kd_tree::{Scratch, Steps, Tree};
-use map_fold::{Counts, NoMemory};
+use map_items::{Counts, NoMemory};
 use std::alloc::Global;
 use std::marker::Model;
 use std::mem;

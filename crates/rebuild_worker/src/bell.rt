@@ -1,7 +1,7 @@
 //! A bell that wakes a worker.
 use crossbeam_utils::atomic::AtomicCell;
 use crossbeam_utils::sync::{Parker, Unparker};
-use map_fold::NoMemory;
+use map_items::NoMemory;
 use std::alloc::Global;
 use std::sync::{Arc, Wait};
 

@@ -6,7 +6,7 @@ ghost use Rattle.rebuild_core.specs.Desk.{IsSwapCause};
 ghost use Rattle.rebuild_core.specs.Swap.{IsSwapStep};
 
 use kd_tree::Steps;
-use map_fold::{NoMemory, Ops};
+use map_items::{NoMemory, Ops};
 use rebuild_core::{Desk, MapState, SwapLeft, Swapped};
 use rebuild_parts::{Built, Job, LogAsk, SwapFault};
 use std::alloc::Global;

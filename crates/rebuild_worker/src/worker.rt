@@ -1,12 +1,12 @@
 //! What a worker does.
 ghost use Rattle.std.specs.Prelude.{◌≡◌, ◌≤◌, ◌↔◌, ◌⊎◌, List, IfOk, IfSome};
-ghost use Rattle.map_fold.specs.declared.op.Op.{Op};
+ghost use Rattle.map_items.specs.declared.op.Op.{Op};
 ghost use Rattle.rebuild_parts.specs.Built.{IsReplayOf};
 ghost use Rattle.rebuild_worker.specs.declared.worker.Round.TheVariants.{Idle, OutOfMemory};
 
 use crate::bell::Rest;
 use crate::gate::Gate;
-use map_fold::{MAX_LARGE, MIN_LARGE, NoMemory};
+use map_items::{MAX_LARGE, MIN_LARGE, NoMemory};
 use rebuild_core::{Desk, SwapLeft};
 use rebuild_parts::{Built, Job, Late, SwapFault};
 use std::alloc::Global;

@@ -12,9 +12,9 @@ use Rattle.point_geom.specs.Place.{Place, Bounds, IsUpright, bare}
 use Rattle.point_geom.specs.Boxes.{unit_box}
 use Rattle.point_geom.specs.declared.cuboid.Corner.{Corner}
 use Rattle.local_region.specs.Rules.{Rules}
-use Rattle.map_fold.specs.Sizes.{Sizes, AreSizes}
-use Rattle.map_fold.specs.declared.update.Update.{Update}
-use Rattle.map_fold.specs.declared.update.Update.TheVariants.{Add, Thin, Delete, Suspend, Restore, Expire}
+use Rattle.map_items.specs.Sizes.{Sizes, AreSizes}
+use Rattle.map_items.specs.declared.update.Update.{Update}
+use Rattle.map_items.specs.declared.update.Update.TheVariants.{Add, Thin, Delete, Suspend, Restore, Expire}
 use Rattle.scan_log.specs.declared.format.Format.{Format}
 use Rattle.scan_log.specs.Formats.{farthest, width}
 use Rattle.scan_log.specs.declared.format.Format.TheVariants.{One, Two}

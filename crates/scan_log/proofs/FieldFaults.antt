@@ -8,9 +8,9 @@ use Rattle.std.proofs.lemmas.Slice.Eq.{bytes_eq-Decides}
 use Rattle.point_geom.specs.Place.{Place, Bounds}
 use Rattle.point_geom.specs.Boxes.{unit_box}
 use Rattle.point_geom.specs.declared.cuboid.Corner.{Corner}
-use Rattle.map_fold.specs.declared.update.Update.{Update}
-use Rattle.map_fold.specs.declared.update.Update.TheVariants.{Add, Thin, Delete, Suspend, Restore}
-use Rattle.map_fold.specs.Sizes.{Sizes}
+use Rattle.map_items.specs.declared.update.Update.{Update}
+use Rattle.map_items.specs.declared.update.Update.TheVariants.{Add, Thin, Delete, Suspend, Restore}
+use Rattle.map_items.specs.Sizes.{Sizes}
 use Rattle.log_numbers.specs.Numerals.{is_numeral}
 use Rattle.scan_log.specs.declared.format.Format.{Format}
 use Rattle.scan_log.specs.Formats.{is_version, format_of, lowest, highest, box_highest, farthest, width, has_expiry}

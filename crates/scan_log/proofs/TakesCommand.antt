@@ -7,10 +7,10 @@ use Rattle.std.proofs.lemmas.Bool.Decides.{nat_tests}
 use Rattle.std.proofs.lemmas.Fmt.{decimal_digit}
 use Rattle.point_geom.specs.Place.{Place, Bounds}
 use Rattle.point_geom.specs.Boxes.{unit_box}
-use Rattle.map_fold.specs.Sizes.{Sizes, AreSizes}
-use Rattle.map_fold.specs.Fold.{points_in}
-use Rattle.map_fold.specs.declared.update.Update.{Update}
-use Rattle.map_fold.specs.declared.update.Update.TheVariants.{Add, Thin, Delete, Suspend, Restore, Expire}
+use Rattle.map_items.specs.Sizes.{Sizes, AreSizes}
+use Rattle.map_items.specs.Fold.{points_in}
+use Rattle.map_items.specs.declared.update.Update.{Update}
+use Rattle.map_items.specs.declared.update.Update.TheVariants.{Add, Thin, Delete, Suspend, Restore, Expire}
 use Rattle.scan_log.specs.declared.format.Format.{Format}
 use Rattle.scan_log.specs.Formats.{version_field, is_version, format_of, has_expiry, farthest, width}
 use Rattle.scan_log.specs.declared.format.Format.TheVariants.{One, Two}

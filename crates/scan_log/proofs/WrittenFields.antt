@@ -15,9 +15,9 @@ use Rattle.std.proofs.lemmas.Str.Parse.{tells_digits}
 use Rattle.point_geom.specs.Place.{Place, Bounds, bare}
 use Rattle.point_geom.specs.Corners.{corner_of}
 use Rattle.point_geom.specs.declared.cuboid.Corner.{Corner}
-use Rattle.map_fold.specs.Sizes.{Sizes, AreSizes}
-use Rattle.map_fold.specs.declared.update.Update.{Update}
-use Rattle.map_fold.specs.declared.update.Update.TheVariants.{Add, Thin, Delete, Suspend, Restore, Expire}
+use Rattle.map_items.specs.Sizes.{Sizes, AreSizes}
+use Rattle.map_items.specs.declared.update.Update.{Update}
+use Rattle.map_items.specs.declared.update.Update.TheVariants.{Add, Thin, Delete, Suspend, Restore, Expire}
 use Rattle.scan_log.specs.declared.format.Format.{Format}
 use Rattle.scan_log.proofs.NumbersAgain.{farthest_fits}
 use Rattle.scan_log.specs.Formats.{version_field, highest, box_highest, farthest}

@@ -3,7 +3,7 @@ use Rattle.std.specs.Prelude.{◌≡◌, ℕ, ◌==◌, Bool, true, false, List,
 use Rattle.std.specs.Option.{option_to_list}
 use Rattle.std.specs.declared.option.Option.{Option}
 use Rattle.std.specs.declared.option.Option.TheVariants.{None, Some}
-use Rattle.map_fold.specs.declared.update.Update.{Update}
+use Rattle.map_items.specs.declared.update.Update.{Update}
 use Rattle.scan_log.specs.declared.command.Command.{Command}
 use Rattle.scan_log.specs.declared.command.Command.TheVariants.{Change, Near, Nears, Inside, Ball, Lonely, Clusters, Pose, Sync}
 

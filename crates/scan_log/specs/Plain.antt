@@ -1,12 +1,12 @@
 -- Scripts as they are run: without poses.
 use Rattle.std.specs.Prelude.{◌≤◌, length}
 use Rattle.std.specs.List.{AllByRecursion}
-use Rattle.map_fold.specs.Sizes.{AreSizes}
+use Rattle.map_items.specs.Sizes.{AreSizes}
 use Rattle.scan_log.specs.declared.format.Format.TheVariants.{Two}
 use Rattle.scan_log.specs.declared.command.Command.{Command}
 use Rattle.scan_log.specs.declared.command.Command.TheVariants.{Change, Pose}
 use Rattle.scan_log.specs.Scripts.{IsCaller, IsCommand, ScriptAt, points_of}
-use Rattle.map_fold.specs.declared.limits.TheConstants.{MAX_POINTS}
+use Rattle.map_items.specs.declared.limits.TheConstants.{MAX_POINTS}
 use Rattle.scan_log.specs.declared.commands.TheConstants.{MAX_COMMANDS}
 
 -- A command that can be run, in the limits of version 2. A deletion may have no boxes, as that of a region that stays.

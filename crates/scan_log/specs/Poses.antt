@@ -3,7 +3,7 @@ use Rattle.std.specs.Prelude.{ℕ, ◌-◌, ◌==◌, Bool, ◌&&◌, List, [], 
 use Rattle.std.specs.declared.option.Option.{Option}
 use Rattle.std.specs.declared.option.Option.TheVariants.{None, Some}
 use Rattle.point_geom.specs.Place.{Place, Bounds}
-use Rattle.map_fold.specs.declared.update.Update.TheVariants.{Delete}
+use Rattle.map_items.specs.declared.update.Update.TheVariants.{Delete}
 use Rattle.local_region.specs.Rules.{Rules}
 use Rattle.local_region.specs.Regions.{RegionAt, begun}
 use Rattle.local_region.specs.Moves.{after}

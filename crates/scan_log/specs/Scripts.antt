@@ -5,17 +5,17 @@ use Rattle.std.specs.Option.{ForSome, option_map, unwrap_or}
 use Rattle.point_geom.specs.Place.{Place, Bounds, IsUpright}
 use Rattle.point_geom.specs.declared.cuboid.Corner.{Corner}
 use Rattle.local_region.specs.Rules.{AreRules}
-use Rattle.map_fold.specs.Sizes.{Sizes, AreSizes}
-use Rattle.map_fold.specs.Fold.{points_in}
-use Rattle.map_fold.specs.declared.update.Update.{Update}
-use Rattle.map_fold.specs.declared.update.Update.TheVariants.{Add, Thin, Delete, Suspend, Restore, Expire}
+use Rattle.map_items.specs.Sizes.{Sizes, AreSizes}
+use Rattle.map_items.specs.Fold.{points_in}
+use Rattle.map_items.specs.declared.update.Update.{Update}
+use Rattle.map_items.specs.declared.update.Update.TheVariants.{Add, Thin, Delete, Suspend, Restore, Expire}
 use Rattle.scan_log.specs.declared.format.Format.{Format}
 use Rattle.scan_log.specs.declared.format.Format.TheVariants.{One, Two}
 use Rattle.scan_log.specs.Commands.{command_update}
 use Rattle.scan_log.specs.Formats.{HasNewer, lowest, highest, box_highest, farthest, greatest_intensity}
 use Rattle.scan_log.specs.declared.command.Command.{Command}
 use Rattle.scan_log.specs.declared.command.Command.TheVariants.{Change, Near, Nears, Inside, Ball, Lonely, Clusters, Pose, Sync}
-use Rattle.map_fold.specs.declared.limits.TheConstants.{MAX_POINTS}
+use Rattle.map_items.specs.declared.limits.TheConstants.{MAX_POINTS}
 use Rattle.scan_log.specs.declared.commands.TheConstants.{MAX_COMMANDS}
 
 -- what a log says: its version, the settings, and the commands in order

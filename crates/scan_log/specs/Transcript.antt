@@ -4,19 +4,19 @@ use Rattle.std.specs.List.{flat_map}
 use Rattle.std.specs.declared.option.Option.{Option}
 use Rattle.std.specs.declared.option.Option.TheVariants.{None, Some}
 use Rattle.point_geom.specs.Place.{Place}
-use Rattle.map_answers.specs.declared.hits.Hit.{Hit}
-use Rattle.map_fold.specs.declared.item.Item.{Item}
-use Rattle.map_answers.specs.declared.reply.NearReply.{NearReply}
-use Rattle.map_answers.specs.declared.reply.NearsReply.{NearsReply}
-use Rattle.map_answers.specs.declared.reply.BoxReply.{BoxReply}
-use Rattle.map_answers.specs.declared.reply.ClusterReply.{ClusterReply}
-use Rattle.map_answers.specs.declared.group.Group.{Group}
-use Rattle.map_fold.specs.declared.update.Update.{Update}
-use Rattle.map_answers.specs.Answers.{nearest, nears, inside, count}
-use Rattle.map_fold.specs.Contents.{live_count, suspended_count}
-use Rattle.map_answers.specs.Neighbours.{ball, lonely}
-use Rattle.map_answers.specs.Clusters.{clusters}
-use Rattle.map_fold.specs.Fold.{fold}
+use Rattle.map_fold.specs.declared.hits.Hit.{Hit}
+use Rattle.map_items.specs.declared.item.Item.{Item}
+use Rattle.map_fold.specs.declared.reply.NearReply.{NearReply}
+use Rattle.map_fold.specs.declared.reply.NearsReply.{NearsReply}
+use Rattle.map_fold.specs.declared.reply.BoxReply.{BoxReply}
+use Rattle.map_fold.specs.declared.reply.ClusterReply.{ClusterReply}
+use Rattle.map_fold.specs.declared.group.Group.{Group}
+use Rattle.map_items.specs.declared.update.Update.{Update}
+use Rattle.map_fold.specs.Answers.{nearest, nears, inside, count}
+use Rattle.map_items.specs.Contents.{live_count, suspended_count}
+use Rattle.map_fold.specs.Neighbours.{ball, lonely}
+use Rattle.map_fold.specs.Clusters.{clusters}
+use Rattle.map_items.specs.Fold.{fold}
 use Rattle.scan_log.specs.Commands.{command_update, updates_made}
 use Rattle.scan_log.specs.declared.format.Format.{Format}
 use Rattle.scan_log.specs.declared.command.Command.{Command}

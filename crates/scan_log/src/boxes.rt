@@ -11,7 +11,7 @@ use crate::number::corner_number;
 use crate::points::{groups, points};
 use crate::room::Room;
 use crate::{Format, LogCause};
-use map_fold::Cuboids;
+use map_items::Cuboids;
 use point_geom::{Corner, Cuboid, Point};
 use std::alloc::Global;
 

@@ -3,7 +3,7 @@ ghost use Rattle.std.specs.Prelude.{◌≡◌};
 ghost use Rattle.scan_log.specs.Scripts.{room_of};
 
 use local_region::RegionRules;
-use map_fold::{NoMemory, Points, Update};
+use map_items::{NoMemory, Points, Update};
 use point_geom::{Cuboid, Point};
 use std::alloc::Global;
 

@@ -14,7 +14,7 @@ use crate::poses::pose;
 use crate::queries::{ball, inside, near, nears, reach};
 use crate::room::Room;
 use crate::{Command, Format, LogCause};
-use map_fold::{MAX_POINTS, Update};
+use map_items::{MAX_POINTS, Update};
 use std::alloc::Global;
 
 /// The most commands of a log: 65,536.

@@ -2,7 +2,7 @@
 ghost use Rattle.std.specs.Prelude.{◌≡◌};
 ghost use Rattle.scan_log.specs.declared.fault.ParseFault.TheVariants as parse_fault;
 
-use map_fold::NoMemory;
+use map_items::NoMemory;
 use std::fmt::{Display, Error, Formatter, Write};
 
 /// What is wrong with a line of a log.

@@ -8,7 +8,7 @@ use crate::fields::Fields;
 use crate::number::natural_in;
 use crate::piece::is_word;
 use crate::{Format, LogCause};
-use map_fold::Settings;
+use map_items::Settings;
 
 /// The version and the settings that the header spells.
 #[tactic(auto, unfolding(crate::specs::Reading::header_of))]

@@ -12,7 +12,7 @@ use crate::header::settings;
 use crate::lines::Lines;
 use crate::piece::count_of;
 use crate::{Format, LogCause, ParseFault, Script};
-use map_fold::{MAX_POINTS, Settings};
+use map_items::{MAX_POINTS, Settings};
 use std::alloc::Global;
 
 // Of all replies together, which are kept in memory.

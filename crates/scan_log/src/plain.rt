@@ -8,7 +8,7 @@ ghost use Rattle.scan_log.specs.Poses.{left_by, no_regions, plain, plain_command
 
 use crate::{Command, Format, Script};
 use local_region::{Moved, Region, RegionRules};
-use map_fold::{Cuboids, NoMemory, Settings, Update};
+use map_items::{Cuboids, NoMemory, Settings, Update};
 use point_geom::Point;
 use std::alloc::Global;
 use std::marker::Model;

@@ -10,7 +10,7 @@ use crate::line_fault::LineFault;
 use crate::number::coordinate;
 use crate::room::Room;
 use crate::{Format, LogCause};
-use map_fold::Points;
+use map_items::Points;
 use point_geom::Point;
 use std::alloc::Global;
 

@@ -7,8 +7,8 @@ ghost use Rattle.scan_log.specs.Transcript.{clusters_text, done_text, items_text
 
 use crate::putting::{Listed, put, put_all, put_head, put_named, put_spaced};
 use crate::{Command, Format, Reply};
-use map_answers::{BoxReply, ClusterReply, Group, Hit, Hits, NearReply, NearsReply};
-use map_fold::{Item, NoMemory};
+use map_fold::{BoxReply, ClusterReply, Group, Hit, Hits, NearReply, NearsReply};
+use map_items::{Item, NoMemory};
 
 /// Puts the line of a reply at the end, as it is for logs of this version. No command stands for the end of the log. A reply
 /// that isn't of the command's kind has no line. Where memory runs out, nothing is put. The line takes memory of its own while

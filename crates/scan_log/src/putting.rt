@@ -9,7 +9,7 @@ ghost use Rattle.scan_log.specs.Transcript.{all_spaced, point_text, spaced};
 
 use crate::Format;
 use itoa::{Buffer, Integer};
-use map_fold::NoMemory;
+use map_items::NoMemory;
 use point_geom::Point;
 
 /// What may stand several times in a row.

@@ -1,5 +1,5 @@
 //! Replies.
-use map_answers::{BoxReply, ClusterReply, NearReply, NearsReply};
+use map_fold::{BoxReply, ClusterReply, NearReply, NearsReply};
 
 /// The reply to a command, or the one at the end.
 pub enum Reply {

@@ -5,7 +5,7 @@ ghost use Rattle.scan_log.specs.declared.format.Format.TheVariants.{Two};
 ghost use Rattle.scan_log.specs.Scripts.{IsCommand, IsScript, ScriptAt, with_command};
 
 use crate::{Command, Format};
-use map_fold::{NoMemory, Settings};
+use map_items::{NoMemory, Settings};
 use std::alloc::Global;
 use std::marker::Model;
 

@@ -13,7 +13,7 @@ use crate::putting::{
 };
 use crate::{Command, Format, Script};
 use local_region::RegionRules;
-use map_fold::{NoMemory, Settings, Update};
+use map_items::{NoMemory, Settings, Update};
 use point_geom::{Corner, Cuboid, Point};
 use std::alloc::Global;
 

@@ -2,8 +2,8 @@
 use Rattle.std.proofs.Common.{◌≡◌, ℕ, zero, suc, ◌+◌, ◌≤◌, ◌==◌, ◌⊎◌, Bool, true, false, List, [], ◌∷◌, ◌++◌, length, Some, slice_get, refl, ap, sym, ◌∙◌, subst, inl, inr, arith}
 use Rattle.std.proofs.lemmas.Bool.Decides.{nat_tests}
 use mathlib.Core.List.{IsPrefix}
-use Rattle.map_fold.specs.declared.entry.Entry.{Entry}
-use Rattle.map_fold.specs.declared.update.Update.{Update}
+use Rattle.map_items.specs.declared.entry.Entry.{Entry}
+use Rattle.map_items.specs.declared.update.Update.{Update}
 use Rattle.shown_versions.specs.Marks.{Seen, update_in, at_places, AreOwnPlaces, keep_if, own_updates, one_if, times_listed, IsDistinct, AllOf, callers_of, made_by, AllMet, AllSeen, IsMade, AllMade, AllGrown, AllBegin, AllOwn, AllEnded}
 
 -- xs is ys with some items left out

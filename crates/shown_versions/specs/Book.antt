@@ -1,8 +1,8 @@
 -- The book of marks: its pages, and, cited by private functions alone, its rule and what its step tells.
 use Rattle.std.specs.Prelude.{ℕ, ◌≡◌, ◌==◌, true, List, [], ◌∷◌, ◌++◌, length, fold, MatchBool, Option, Some, None}
 use Rattle.logbook.specs.Pages.{Cell, Step, View, Book, Named}
-use Rattle.map_fold.specs.declared.entry.Entry.{Entry}
-use Rattle.map_fold.specs.declared.item.Item.{Item}
+use Rattle.map_items.specs.declared.entry.Entry.{Entry}
+use Rattle.map_items.specs.declared.item.Item.{Item}
 
 -- what a mark is of: a version, which has a history, or a detached subtree, which held items. Either leaves the other list empty.
 pub record Page : Type 0 where

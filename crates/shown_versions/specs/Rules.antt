@@ -3,7 +3,7 @@ use Rattle.std.specs.Prelude.{◌≡◌, ℕ, List}
 use mathlib.Core.List.{IsPrefix}
 use mathlib.Core.Option.{some}
 use lib.ListN.{get_elem?}
-use Rattle.map_fold.specs.declared.entry.Entry.{Entry}
+use Rattle.map_items.specs.declared.entry.Entry.{Entry}
 
 -- what is published begins with what each seat knows
 abbrev pub Keeps : List Entry → List (List Entry) → Type 0

@@ -1,8 +1,8 @@
 -- Which version shows a history.
 use Rattle.std.specs.Prelude.{◌≡◌, ℕ, List, length}
-use Rattle.map_fold.specs.declared.entry.Entry.{Entry}
-use Rattle.map_fold.specs.declared.item.Item.{Item}
-use Rattle.map_fold.specs.Fold.{fold}
+use Rattle.map_items.specs.declared.entry.Entry.{Entry}
+use Rattle.map_items.specs.declared.item.Item.{Item}
+use Rattle.map_items.specs.Fold.{fold}
 use Rattle.rebuild_parts.specs.History.{updates}
 use Rattle.rebuild_parts.specs.Seen.{VersionAt}
 use Rattle.kd_tree.specs.Maps.{map_of}

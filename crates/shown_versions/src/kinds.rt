@@ -9,7 +9,7 @@ use crate::shown::Shown;
 use core::mem::replace_with;
 use left_right::reader::Reader;
 use left_right::writer::Writer;
-use map_fold::Entry;
+use map_items::Entry;
 use std::alloc::{AllocError, Global};
 use std::collections::LinkedList;
 use std::sync::Wait;

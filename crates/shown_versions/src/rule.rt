@@ -2,7 +2,7 @@
 use crate::name::MapName;
 use crate::shown::Shown;
 use crossbeam_utils::rule::{Outcome, Protocol};
-use map_fold::Entry;
+use map_items::Entry;
 use std::collections::LinkedList;
 
 /// The history of the published version begins with each list that a seat knows.

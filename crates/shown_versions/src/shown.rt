@@ -5,7 +5,7 @@ ghost use Rattle.shown_versions.specs.Versions.{IsVersionOf};
 use crate::mark::Mark;
 use crate::name::MapName;
 use left_right::Absorb;
-use map_fold::Entry;
+use map_items::Entry;
 use rebuild_parts::Version;
 use std::alloc::AllocError;
 use std::marker::Model;
@@ -19,7 +19,7 @@ pub struct Shown<L: MapName> {
 
 impl<L: MapName> Model for Shown<L> {
     ghost use Rattle.std.specs.Prelude.{List};
-    ghost use Rattle.map_fold.specs.declared.entry.Entry.{Entry};
+    ghost use Rattle.map_items.specs.declared.entry.Entry.{Entry};
     ghost use Rattle.shown_versions.specs.Versions.{IsVersionOf};
 
     ghost Value = { List Entry };

@@ -2,7 +2,7 @@
 ghost use Rattle.std.specs.Prelude.{◌≡◌, ◌++◌, []};
 ghost use Rattle.rebuild_parts.specs.History.{listed};
 
-use map_fold::Entry;
+use map_items::Entry;
 use rebuild_parts::Snapshot;
 use std::marker::Model;
 use std::snapshot;

@@ -1,9 +1,9 @@
 -- Folding a history part by part.
 use Rattle.std.proofs.Common.{◌≡◌, ℕ, zero, suc, ◌+◌, ◌-◌, ◌≤◌, Bool, true, false, cond, List, [], ◌∷◌, ◌++◌, take, drop, map, Option, Some, None, refl, sym, ap, ◌∙◌, arith, nat_lt}
 use Rattle.std.specs.Option.{option_map, unwrap_or}
-use Rattle.map_fold.specs.declared.update.Update.{Update}
-use Rattle.map_fold.specs.Fold.{MapAt, step, fold, fold_from, no_points, points_in}
-use Rattle.map_fold.proofs.Folds.{step_next}
+use Rattle.map_items.specs.declared.update.Update.{Update}
+use Rattle.map_items.specs.Fold.{MapAt, step, fold, fold_from, no_points, points_in}
+use Rattle.map_items.proofs.Folds.{step_next}
 use Rattle.scan_log.specs.declared.command.Command.{Command}
 use Rattle.scan_log.specs.Commands.{command_update}
 use Rattle.scan_log.specs.Scripts.{points_of}

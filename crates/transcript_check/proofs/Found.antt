@@ -3,8 +3,8 @@ use Rattle.std.proofs.Common.{◌≡◌, ℕ, suc, ◌-◌, ◌<◌, true, false
 use Rattle.std.specs.Prelude.{filter, ◌&&◌}
 use Rattle.point_geom.specs.Place.{Place}
 use Rattle.node_labels.specs.Labels.{is_live}
-use Rattle.map_fold.specs.declared.item.Item.{Item}
-use Rattle.map_answers.specs.Neighbours.{is_near}
+use Rattle.map_items.specs.declared.item.Item.{Item}
+use Rattle.map_fold.specs.Neighbours.{is_near}
 
 -- the live items that are near
 abbrev pub found_in : Place → ℕ → List Item → List Item

@@ -3,7 +3,7 @@ use Rattle.std.proofs.Common.{◌≡◌, ℕ, suc, ◌+◌, ◌≤◌, List, [],
 use Rattle.std.specs.Option.{option_to_list}
 use Rattle.std.proofs.lemmas.List.{length-map}
 use Rattle.std.proofs.lemmas.Option.{slice_get-get_or}
-use Rattle.map_fold.specs.declared.update.Update.{Update}
+use Rattle.map_items.specs.declared.update.Update.{Update}
 use Rattle.scan_log.specs.Commands.{command_update, updates_made}
 use Rattle.scan_log.specs.declared.command.Command.{Command}
 use Rattle.scan_log.specs.Legal.{IsLegal, numbers_from}

@@ -3,13 +3,13 @@ use Rattle.std.proofs.Common.{◌≡◌, ℕ, ◌+◌, ◌≤◌, List, [], ◌�
 use Rattle.std.specs.Prelude.{codes, decimal, take}
 use Rattle.std.specs.List.{AllByRecursion, flat_map}
 use Rattle.std.proofs.lemmas.List.{append-nil, append_assoc}
-use Rattle.map_answers.specs.declared.hits.Hit.{Hit}
-use Rattle.map_fold.specs.declared.item.Item.{Item}
-use Rattle.map_fold.specs.declared.update.Update.{Update}
-use Rattle.map_answers.specs.Answers.{nearest, nears, inside, count}
-use Rattle.map_fold.specs.Contents.{live_count, suspended_count}
-use Rattle.map_answers.specs.Neighbours.{ball, lonely}
-use Rattle.map_answers.specs.Clusters.{clusters}
+use Rattle.map_fold.specs.declared.hits.Hit.{Hit}
+use Rattle.map_items.specs.declared.item.Item.{Item}
+use Rattle.map_items.specs.declared.update.Update.{Update}
+use Rattle.map_fold.specs.Answers.{nearest, nears, inside, count}
+use Rattle.map_items.specs.Contents.{live_count, suspended_count}
+use Rattle.map_fold.specs.Neighbours.{ball, lonely}
+use Rattle.map_fold.specs.Clusters.{clusters}
 use Rattle.local_region.specs.Regions.{RegionAt}
 use Rattle.scan_log.specs.declared.format.Format.{Format}
 use Rattle.scan_log.specs.declared.command.Command.{Command}

@@ -2,9 +2,9 @@
 use Rattle.std.specs.Prelude.{◌≡◌, ℕ, ◌+◌, Bool, true, nat_lt, nat_le, List, [], ◌∷◌, map, slice_get, if◌then◌else◌, is_some}
 use Rattle.std.specs.declared.option.Option.{Option}
 use Rattle.std.specs.declared.option.Option.TheVariants.{None, Some}
-use Rattle.map_fold.specs.declared.item.Item.{Item}
-use Rattle.map_fold.specs.declared.update.Update.{Update}
-use Rattle.map_fold.specs.Fold.{points_in}
+use Rattle.map_items.specs.declared.item.Item.{Item}
+use Rattle.map_items.specs.declared.update.Update.{Update}
+use Rattle.map_items.specs.Fold.{points_in}
 use Rattle.scan_log.specs.Commands.{command_update, is_for}
 use Rattle.scan_log.specs.declared.command.Command.{Command}
 use Rattle.scan_log.specs.declared.reply.Reply.{Reply}

@@ -13,8 +13,8 @@ use crate::order::updates_by_mark;
 use crate::replaying::first_other;
 use crate::tree_map::TreeMap;
 use crate::verdict::Verdict;
-use map_fold::NoMemory;
-use plain_map::PlainMap;
+use map_fold::PlainMap;
+use map_items::NoMemory;
 use scan_log::{PlainScript, Script};
 use std::alloc::Global;
 

@@ -1,17 +1,17 @@
 //! What a history is replayed on.
 ghost use Rattle.std.specs.Prelude.{◌≡◌, ◌+◌, ◌≤◌, IfOk};
 ghost use Rattle.std.specs.Option.{ForSome, option_copied};
-ghost use Rattle.map_fold.specs.Fold.{no_points, points_in, step};
+ghost use Rattle.map_items.specs.Fold.{no_points, points_in, step};
 ghost use Rattle.scan_log.specs.Plain.{IsPlain};
 ghost use Rattle.transcript_check.specs.Told.{reply_at};
 
-use map_fold::{MAX_POINTS, NoMemory, Settings, Update};
+use map_items::{MAX_POINTS, NoMemory, Settings, Update};
 use scan_log::{Command, Reply};
 use std::alloc::Global;
 
 /// A map on which updates are made and commands are answered. How it keeps what it holds, and so what that costs, is its own.
 pub trait HeldMap: Drop {
-    ghost use Rattle.map_fold.specs.Fold.{MapAt};
+    ghost use Rattle.map_items.specs.Fold.{MapAt};
 
     /// What it holds, and how many points were submitted.
     ghost holds: { Self → MapAt };

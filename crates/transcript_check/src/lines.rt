@@ -7,7 +7,7 @@ ghost use Rattle.transcript_check.specs.Told.{lines_told, marks_of, WasUnspelled
 ghost use Rattle.transcript_check.specs.declared.lines.Stop.TheVariants as stop;
 
 use crate::heads::mark_in;
-use map_fold::NoMemory;
+use map_items::NoMemory;
 use memchr::memchr;
 use scan_log::Command;
 use std::alloc::{AllocFailed, Global};

@@ -2,16 +2,15 @@
 //! one for each item, so the items are put into a tree first.
 ghost use Rattle.std.specs.Prelude.{◌≡◌, ◌≤◌, ◌&&◌, filter, length, take, IfOk};
 ghost use Rattle.node_labels.specs.Labels.{is_live};
-ghost use Rattle.map_fold.specs.Contents.{AreContents};
-ghost use Rattle.map_answers.specs.Neighbours.{ball, is_near};
+ghost use Rattle.map_items.specs.Contents.{AreContents};
+ghost use Rattle.map_fold.specs.Neighbours.{ball, is_near};
 ghost use Rattle.kd_tree.specs.Contents.{contents};
 ghost use Rattle.kd_tree.specs.Counter.{IsBlankOf};
 ghost use Rattle.scan_log.specs.Transcript.{found_reply};
 
 use kd_tree::{Steps, Tree};
-use map_answers::BoxReply;
-use map_fold::{Item, Items, Label, MAX_FOUND, MAX_POINTS, MAX_WITHIN, NoMemory};
-use plain_map::PlainMap;
+use map_fold::{BoxReply, PlainMap};
+use map_items::{Item, Items, Label, MAX_FOUND, MAX_POINTS, MAX_WITHIN, NoMemory};
 use point_geom::{Point, dist2};
 use std::alloc::Global;
 use std::marker::Brand;

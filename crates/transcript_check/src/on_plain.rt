@@ -1,16 +1,15 @@
 //! The plain map, replayed on and asked. Tests run it beside the tree.
 ghost use Rattle.std.specs.Prelude.{◌≡◌, ◌≤◌, IfOk, Some, None};
-ghost use Rattle.map_answers.specs.Answers.{nears};
+ghost use Rattle.map_fold.specs.Answers.{nears};
 ghost use Rattle.kd_search.specs.Query.{IsQuery};
 ghost use Rattle.scan_log.specs.Plain.{IsPlain};
 ghost use Rattle.transcript_check.specs.Told.{reply_at};
 
 use crate::held_map::HeldMap;
 use crate::neighbours::{ball_reply, tree_of};
-use map_answers::{BoxReply, ClusterReply, HitLists, NearReply, NearsReply};
-use map_fold::{MAX_POINTS, NoMemory, Settings, Update};
+use map_fold::{BoxReply, ClusterReply, HitLists, NearReply, NearsReply, PlainMap};
+use map_items::{MAX_POINTS, NoMemory, Settings, Update};
 use neighbour_sets::{Found, Grouped, clusters, lonely};
-use plain_map::PlainMap;
 use point_geom::Point;
 use scan_log::{Command, Reply};
 use std::alloc::Global;

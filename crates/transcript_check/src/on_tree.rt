@@ -1,15 +1,15 @@
 //! Replies of one tree, at the mark that is given.
 ghost use Rattle.std.specs.Prelude.{◌≡◌, IfOk, None};
 ghost use Rattle.kd_tree.specs.Contents.{contents};
-ghost use Rattle.map_answers.specs.Answers.{nears};
+ghost use Rattle.map_fold.specs.Answers.{nears};
 ghost use Rattle.kd_search.specs.Query.{IsQuery};
 ghost use Rattle.scan_log.specs.Plain.{IsPlain};
 ghost use Rattle.scan_log.specs.Transcript.{reply_on, totals_on};
 
 use kd_search::{count_in, in_cuboid, nearest};
 use kd_tree::Tree;
-use map_answers::{BoxReply, ClusterReply, HitLists, NearReply, NearsReply};
-use map_fold::NoMemory;
+use map_fold::{BoxReply, ClusterReply, HitLists, NearReply, NearsReply};
+use map_items::NoMemory;
 use neighbour_sets::{Found, Grouped, clusters, count_ball, in_ball, lonely};
 use point_geom::Point;
 use scan_log::{Command, Reply};

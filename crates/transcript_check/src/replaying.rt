@@ -2,7 +2,7 @@
 ghost use Rattle.std.specs.Prelude.{◌≡◌, ◌+◌, ◌≤◌, length, IfOk, MatchOption};
 ghost use Rattle.std.specs.Bool.{Decides};
 ghost use Rattle.std.specs.Option.{ForSome, option_copied};
-ghost use Rattle.map_fold.specs.Fold.{fold_from};
+ghost use Rattle.map_items.specs.Fold.{fold_from};
 ghost use Rattle.scan_log.specs.Legal.{IsLegal};
 ghost use Rattle.scan_log.specs.Plain.{IsPlain};
 ghost use Rattle.scan_log.specs.Transcript.{reply_text, marked_updates};
@@ -12,7 +12,7 @@ ghost use Rattle.transcript_check.specs.Verdicts.{IsFirstOther};
 use crate::held_map::HeldMap;
 use crate::lines::{Told, command_at};
 use crate::order::{Marked, places_by_mark};
-use map_fold::{MAX_POINTS, NoMemory, Settings};
+use map_items::{MAX_POINTS, NoMemory, Settings};
 use scan_log::{Command, Format, PlainScript, reply_line};
 use std::alloc::Global;
 

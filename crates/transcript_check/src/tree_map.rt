@@ -1,13 +1,13 @@
 //! What updates make of a map, in a tree of its own. It is replayed on and asked.
 ghost use Rattle.std.specs.Prelude.{◌≡◌, ◌+◌, ◌≤◌, IfOk};
-ghost use Rattle.map_fold.specs.Fold.{points_in, step};
+ghost use Rattle.map_items.specs.Fold.{points_in, step};
 ghost use Rattle.kd_tree.specs.Counter.{IsBlankOf};
 
 use crate::held_map::HeldMap;
 use crate::on_tree::{tree_reply, tree_totals};
 use kd_tree::{Scratch, Steps, Tree};
 use kd_update::Watches;
-use map_fold::{MAX_LARGE, MAX_POINTS, NoMemory, Settings, Update};
+use map_items::{MAX_LARGE, MAX_POINTS, NoMemory, Settings, Update};
 use map_update::{Work, changed};
 use scan_log::{Command, Reply};
 use std::alloc::Global;
@@ -22,8 +22,8 @@ pub struct TreeMap {
 }
 
 impl Model for TreeMap {
-    ghost use Rattle.map_fold.specs.Fold.{MapAt};
-    ghost use Rattle.map_fold.specs.declared.limits.TheConstants.{MAX_LARGE};
+    ghost use Rattle.map_items.specs.Fold.{MapAt};
+    ghost use Rattle.map_items.specs.declared.limits.TheConstants.{MAX_LARGE};
     ghost use Rattle.kd_tree.specs.Maps.{map_of};
     ghost use Rattle.map_update.specs.Draft.{IsWork};
 

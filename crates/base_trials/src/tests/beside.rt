@@ -16,7 +16,7 @@ use crate::tests::watching::{Watching, are_large};
 use kd_mark::Watch;
 use kd_tree::{MAX_NODES, Path, Scratch, Side, Steps};
 use kd_update::{live_items, put_all_watched};
-use map_fold::MAX_POINTS;
+use map_items::MAX_POINTS;
 use point_geom::Point;
 use std::alloc::Global;
 use std::marker::Brand;

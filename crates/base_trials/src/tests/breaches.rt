@@ -7,7 +7,7 @@ use crate::tests::assertions::{made, same};
 use crate::tests::forty::{forty, forty_after};
 use kd_mark::marked;
 use kd_tree::{Fork, Path, Side, Steps, Tree};
-use map_fold::{Choice, Tag};
+use map_items::{Choice, Tag};
 use std::alloc::Global;
 use std::marker::Brand;
 use std::process::Abort;

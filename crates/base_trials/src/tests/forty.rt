@@ -1,13 +1,13 @@
 //! Forty items in a row, and the tree of them.
 ghost use Rattle.std.specs.Prelude.{◌≡◌, ◌≤◌, length, IfOk};
-ghost use Rattle.map_fold.specs.Contents.{live_at};
+ghost use Rattle.map_items.specs.Contents.{live_at};
 ghost use Rattle.kd_tree.specs.Contents.{AreDistinct, AreKept};
 ghost use Rattle.kd_tree.specs.Counter.{IsBlankOf};
 
 use crate::tests::assertions::{holds, made, same};
 use crate::tests::lists::{holds_all, top_of};
 use kd_tree::{Path, Side, Steps, Tree};
-use map_fold::{Item, Label, Tag};
+use map_items::{Item, Label, Tag};
 use point_geom::{Axis, Point};
 use std::alloc::{AllocError, Global};
 use std::marker::Brand;

@@ -2,7 +2,7 @@
 ghost use Rattle.std.specs.Prelude.{◌≤◌};
 
 use crate::tests::assertions::{holds, made};
-use map_answers::{Hit, Hits};
+use map_fold::{Hit, Hits};
 use std::process::Abort;
 
 fn put(rt: &impl Abort, hits: &mut Hits, k: usize, hit: Hit) {

@@ -4,10 +4,9 @@ ghost use Rattle.kd_tree.specs.Shape.{numbers};
 ghost use Rattle.kd_tree.specs.Counter.{IsBlankOf};
 
 use crate::tests::assertions::made;
-use kd_replace::settled;
 use kd_tree::{Steps, Tree};
-use kd_update::{put, roomy};
-use map_fold::{MAX_POINTS, NoMemory};
+use kd_update::{put, roomy, settled};
+use map_items::{MAX_POINTS, NoMemory};
 use point_geom::{Corner, Cuboid, CuboidError, Point};
 use std::alloc::Global;
 use std::marker::Brand;

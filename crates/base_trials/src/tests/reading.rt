@@ -1,7 +1,7 @@
 //! Logs and lines, by hand.
 use crate::tests::assertions::{are_bytes, holds, made, same};
-use map_answers::{Hit, Hits, NearReply};
-use map_fold::Settings;
+use map_fold::{Hit, Hits, NearReply};
+use map_items::Settings;
 use point_geom::Point;
 use scan_log::{Command, Format, ParseFault, Reply, Script, parse, reply_line};
 use std::alloc::Global;

@@ -3,9 +3,9 @@ use crate::tests::assertions::{holds, made, same};
 use crate::tests::draw::Draw;
 use crate::tests::script::Script;
 use crate::tests::watch::perform_plainly;
-use kd_replay::replayed;
 use kd_tree::Tree;
-use map_fold::Item;
+use kd_update::replayed;
+use map_items::Item;
 use std::alloc::Global;
 use std::process::Abort;
 

@@ -1,9 +1,9 @@
 //! Operations for tests, which fit an empty tree.
 ghost use Rattle.std.specs.Prelude.{◌≡◌, []};
-ghost use Rattle.map_fold.specs.Ops.{Fit};
+ghost use Rattle.map_items.specs.Ops.{Fit};
 
 use crate::tests::assertions::made;
-use map_fold::{Choice, NoMemory, Op, Tag};
+use map_items::{Choice, NoMemory, Op, Tag};
 use point_geom::Point;
 use std::alloc::Global;
 use std::marker::Model;
@@ -18,9 +18,9 @@ pub struct Script {
 
 impl Model for Script {
     ghost use Rattle.std.specs.Prelude.{List, []};
-    ghost use Rattle.map_fold.specs.declared.op.Op.{Op};
-    ghost use Rattle.map_fold.specs.Contents.{AreContents};
-    ghost use Rattle.map_fold.specs.Ops.{Fit, replay};
+    ghost use Rattle.map_items.specs.declared.op.Op.{Op};
+    ghost use Rattle.map_items.specs.Contents.{AreContents};
+    ghost use Rattle.map_items.specs.Ops.{Fit, replay};
 
     ghost Value = { List Op };
 

@@ -2,7 +2,7 @@
 use crate::tests::assertions::{made, same};
 use crate::tests::reading::{WIDE_HEADER, read};
 use crate::tests::written::{found, is_told, is_written_as};
-use map_answers::{ClusterReply, Group, Groups, Hit, HitLists, Hits, NearsReply};
+use map_fold::{ClusterReply, Group, Groups, Hit, HitLists, Hits, NearsReply};
 use point_geom::Point;
 use scan_log::Reply;
 use std::alloc::Global;

@@ -6,7 +6,7 @@ use crate::tests::watching::{Watching, is_large};
 use kd_mark::Watch;
 use kd_tree::{Path, Side, Tree};
 use kd_update::Watches;
-use map_fold::{Choice, Item, Label, Op, Tag};
+use map_items::{Choice, Item, Label, Op, Tag};
 use op_logger::OpLog;
 use point_geom::Point;
 use std::alloc::{AllocError, Global};

@@ -12,7 +12,7 @@ use crate::tests::numbered::Numbered;
 use kd_mark::Watch;
 use kd_tree::{MAX_LEVELS, MAX_NODES, Path, Steps, Tree};
 use kd_update::{Watches, marked_watched, put_watched};
-use map_fold::MAX_POINTS;
+use map_items::MAX_POINTS;
 use op_logger::OpLog;
 use point_geom::Point;
 use std::alloc::Global;

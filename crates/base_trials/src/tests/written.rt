@@ -1,14 +1,14 @@
 //! What is written, by hand: logs, and the lines of replies.
 ghost use Rattle.std.specs.Prelude.{◌≡◌, ◌≤◌, IfOk, IfErr};
-ghost use Rattle.map_fold.specs.Fold.{points_in};
+ghost use Rattle.map_items.specs.Fold.{points_in};
 ghost use Rattle.scan_log.specs.declared.format.Format.TheVariants.{One, Two};
 ghost use Rattle.scan_log.specs.Scripts.{AreBoxes, AreScanned, IsCaller, IsCallerBox, IsCommand, IsUpdate, asked, submitted};
 ghost use Rattle.scan_log.specs.declared.fault.ParseFault.TheVariants.{NoMemory as want};
 
 use crate::tests::assertions::{are_bytes, made};
 use crate::tests::reading::{HEADER, WIDE_HEADER, log_with, read, read_with};
-use map_answers::{BoxReply, Hit, Hits, NearReply};
-use map_fold::{Cuboids, Item, Items, Label, MAX_POINTS, Points, Settings, Update};
+use map_fold::{BoxReply, Hit, Hits, NearReply};
+use map_items::{Cuboids, Item, Items, Label, MAX_POINTS, Points, Settings, Update};
 use point_geom::{Corner, Cuboid, Point};
 use scan_log::{Command, Format, ParseFault, Reply, Script, parse, reply_line, write_script};
 use std::alloc::Global;

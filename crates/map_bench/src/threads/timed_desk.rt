@@ -2,7 +2,7 @@
 use super::plan::Plan;
 use super::times::{Kind, Times};
 use crate::bench::since;
-use map_fold::{NoMemory, Ops};
+use map_items::{NoMemory, Ops};
 use rebuild_core::{Desk, SwapLeft};
 use rebuild_parts::{Built, Job, Late, LogAsk};
 use std::alloc::Global;

@@ -2,8 +2,8 @@
 use crate::tests::assertions::{holds, made, same};
 use crate::tests::draws::Draws;
 use kd_search::{count_in, in_cuboid, nearest};
-use map_fold::{Settings, Update};
-use plain_map::PlainMap;
+use map_fold::PlainMap;
+use map_items::{Settings, Update};
 use point_geom::{Cuboid, Point};
 use rebuild_parts::Version;
 use std::alloc::Global;

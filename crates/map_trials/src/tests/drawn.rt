@@ -1,15 +1,15 @@
 //! A drawn schedule of updates and of subtrees that are detached, built, brought up to date and swapped in, beside the plain
 //! map.
 ghost use Rattle.std.specs.Prelude.{◌≤◌};
-ghost use Rattle.map_fold.specs.Ops.{Fit};
+ghost use Rattle.map_items.specs.Ops.{Fit};
 ghost use Rattle.kd_tree.specs.Contents.{contents};
 
 use crate::tests::assertions::{found, holds, made, same};
 use crate::tests::beside::{compare, updated_plainly};
 use crate::tests::draws::Draws;
 use crate::tests::steps::{new_map, settled, swapped, updated};
-use map_fold::{Op, Points, Settings, Update};
-use plain_map::PlainMap;
+use map_fold::PlainMap;
+use map_items::{Op, Points, Settings, Update};
 use rebuild_core::{MapState, SwapLeft};
 use rebuild_parts::{Built, Job, LogAsk, SwapFault};
 use std::alloc::Global;

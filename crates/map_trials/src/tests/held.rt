@@ -3,7 +3,7 @@ use crate::tests::assertions::{found, holds, made};
 use crate::tests::draws::Draws;
 use crate::tests::looks::live;
 use crate::tests::steps::{new_map, update};
-use map_fold::{Items, Settings, Update};
+use map_items::{Items, Settings, Update};
 use rebuild_core::MapState;
 use rebuild_parts::Version;
 use std::alloc::Global;

@@ -1,7 +1,7 @@
 //! Where a state refuses an update, and stays as it was.
 use crate::tests::assertions::{made, same};
 use crate::tests::steps::{new_map, update, updated};
-use map_fold::{Cuboids, Points, Settings, Update};
+use map_items::{Cuboids, Points, Settings, Update};
 use point_geom::Point;
 use rebuild_core::MapState;
 use rebuild_parts::{LogAsk, StateFault, SwapFault};

@@ -6,7 +6,7 @@ use crate::tests::steps::{
     swap_ends, update,
 };
 use kd_search::nearest;
-use map_fold::{Cuboids, Points, Settings, Update};
+use map_items::{Cuboids, Points, Settings, Update};
 use point_geom::Point;
 use rebuild_core::MapState;
 use rebuild_parts::{Job, SwapFault};

@@ -4,7 +4,7 @@ ghost use Rattle.std.specs.Prelude.{◌≡◌};
 use crate::tests::assertions::{found, holds, made, same};
 use crate::tests::looks::live;
 use crate::tests::steps::{add_row_and, built, new_map, swap_ends, update};
-use map_fold::{NoMemory, Settings, Update};
+use map_items::{NoMemory, Settings, Update};
 use rebuild_core::MapState;
 use rebuild_parts::{Built, Job, Snapshot, SwapFault};
 use std::alloc::Global;

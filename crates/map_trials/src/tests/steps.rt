@@ -4,7 +4,7 @@ ghost use Rattle.kd_tree.specs.Counter.{IsBlankOf};
 
 use crate::tests::assertions::{found, made, same};
 use kd_tree::Steps;
-use map_fold::{Points, Settings, Update};
+use map_items::{Points, Settings, Update};
 use point_geom::Point;
 use rebuild_core::{MapState, SwapLeft};
 use rebuild_parts::{Built, Job, LogAsk, StateFault, SwapFault};

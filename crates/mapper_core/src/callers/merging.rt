@@ -4,8 +4,8 @@ ghost use Rattle.scan_log.specs.Commands.{IsBy};
 ghost use Rattle.mapper_core.specs.Meetings.{AreReplies, HasReply, Takes, MergedTo};
 
 use super::queue::Queue;
-use map_fold::NoMemory;
-use mapper_serial::Replies;
+use map_items::NoMemory;
+use mapper_base::Replies;
 use scan_log::{Command, Reply};
 
 // The next reply of a caller, the first of whom is 1.

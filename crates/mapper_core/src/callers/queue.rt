@@ -1,7 +1,7 @@
 //! Replies that wait to be put in order.
 ghost use Rattle.std.specs.Prelude.{◌≡◌, [], ◌∷◌, ◌++◌, OnOk, OnErr, IfNone, option_to_list};
 
-use map_fold::NoMemory;
+use map_items::NoMemory;
 use scan_log::Reply;
 use std::alloc::Global;
 use std::collections::VecDeque;

@@ -7,8 +7,8 @@ ghost use Rattle.mapper_core.specs.Meetings.{AreNewcomers, HasCaller, StandingAt
 
 use super::phase::{barrier, held, phase};
 use super::stage::Stage;
-use map_fold::{MAX_POINTS, NoMemory};
-use mapper_serial::Replies;
+use map_items::{MAX_POINTS, NoMemory};
+use mapper_base::Replies;
 use published_map::{MapName, Pass};
 use rebuild_worker::Gate;
 use scan_log::{Command, MAX_COMMANDS};

@@ -1,11 +1,11 @@
 //! Subtrees that are detached behind the lock.
-ghost use Rattle.map_fold.specs.Ops.{Fit};
+ghost use Rattle.map_items.specs.Ops.{Fit};
 ghost use Rattle.kd_tree.specs.Contents.{contents};
 
 use crate::tests::assertions::{found, holds, made, same};
 use crate::tests::trial::{Site, Trial, added, cuboid, deleted, tried, updated};
 use kd_search::nearest;
-use map_fold::Op;
+use map_items::Op;
 use point_geom::Point;
 use published_map::{Ended, MapName, Pass};
 use rebuild_core::{Desk, MapState};

@@ -3,8 +3,8 @@ ghost use Rattle.std.specs.Prelude.{◌≤◌};
 
 use crate::tests::assertions::{found, holds, made, same};
 use crate::tests::trial::{Site, Trial, added, tried, updated};
-use map_answers::NearReply;
-use map_fold::{Points, Update};
+use map_fold::NearReply;
+use map_items::{Points, Update};
 use point_geom::Point;
 use published_map::{Ended, MapName, Pass};
 use rebuild_core::MapState;

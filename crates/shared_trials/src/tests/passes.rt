@@ -3,7 +3,7 @@ use crate::tests::assertions::{found, same};
 use crate::tests::trial::{
     Site, Trial, added, are_distinct, cuboid, deleted, in_box, near, tried, updated,
 };
-use map_answers::{BoxReply, NearReply};
+use map_fold::{BoxReply, NearReply};
 use published_map::{Ended, MapName, Pass};
 use rebuild_core::MapState;
 use std::process::Abort;

@@ -6,7 +6,7 @@ ghost use Rattle.rebuild_core.specs.Desk.{IsSwapCause};
 use crate::tests::assertions::{found, holds, made, same};
 use crate::tests::unbalanced::{add, with_forty, with_two_breaches};
 use kd_tree::Steps;
-use map_fold::{NoMemory, Ops, Points, Settings};
+use map_items::{NoMemory, Ops, Points, Settings};
 use point_geom::Point;
 use rebuild_core::{Desk, MapState, SwapLeft};
 use rebuild_parts::{Built, Job, LogAsk, StateFault, SwapFault};

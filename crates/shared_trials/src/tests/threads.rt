@@ -4,7 +4,7 @@ ghost use Rattle.published_map.specs.Held.{IsOpenedAs};
 
 use crate::tests::assertions::{found, holds, made, same};
 use crate::tests::trial::{Site, finished, push};
-use map_fold::{Points, Settings, Update};
+use map_items::{Points, Settings, Update};
 use point_geom::Point;
 use published_map::{Ended, MapName, Opened, Pass, Shared};
 use rebuild_core::{Desk, MapState};

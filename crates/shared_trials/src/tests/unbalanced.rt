@@ -4,7 +4,7 @@ ghost use Rattle.kd_tree.specs.Counter.{IsBlankOf};
 use crate::tests::assertions::made;
 use crate::tests::trial::push;
 use kd_tree::Steps;
-use map_fold::{Points, Settings, Update};
+use map_items::{Points, Settings, Update};
 use rebuild_core::MapState;
 use rebuild_parts::StateFault;
 use std::alloc::Global;

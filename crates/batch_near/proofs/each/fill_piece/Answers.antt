@@ -1,7 +1,7 @@
 use Rattle.std.proofs.Common.{◌≡◌, ◌≤◌, List, length, ◌∙◌, arith}
 use Rattle.point_geom.specs.Place.{Place}
-use Rattle.map_answers.specs.declared.hits.Hit.{Hit}
-use Rattle.map_answers.specs.Answers.{nearest}
+use Rattle.map_fold.specs.declared.hits.Hit.{Hit}
+use Rattle.map_fold.specs.Answers.{nearest}
 use Rattle.kd_tree.specs.Contents.{contents}
 use Rattle.batch_near.proofs.Slabs.{filled-map}
 use Rattle.batch_near.proofs.each.fill_piece.Goals as goal

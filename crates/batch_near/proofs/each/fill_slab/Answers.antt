@@ -1,7 +1,7 @@
 use Rattle.std.proofs.Common.{◌≡◌, ◌<◌, List, length, arith, rules}
 use Rattle.point_geom.specs.Place.{Place}
-use Rattle.map_answers.specs.declared.hits.Hit.{Hit}
-use Rattle.map_answers.specs.Answers.{nearest}
+use Rattle.map_fold.specs.declared.hits.Hit.{Hit}
+use Rattle.map_fold.specs.Answers.{nearest}
 use Rattle.kd_tree.specs.Contents.{contents}
 use Rattle.batch_near.specs.Slabs.{slab_of}
 use Rattle.batch_near.proofs.Slabs.{put_before, put_next, skip_next, all_filled}

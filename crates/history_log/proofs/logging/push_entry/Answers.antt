@@ -1,8 +1,8 @@
 use Rattle.std.proofs.Common.{◌+◌, ap, ◌∙◌, arith}
 use Rattle.scan_log.specs.Scripts.{ScriptAt, points_of, hits_of}
 use Rattle.scan_log.proofs.Growth.{points_of-push, hits_of-push}
-use Rattle.map_fold.specs.Fold.{points_in}
-use Rattle.map_fold.specs.declared.update.Update.{Update}
+use Rattle.map_items.specs.Fold.{points_in}
+use Rattle.map_items.specs.declared.update.Update.{Update}
 use Rattle.scan_log.specs.declared.command.Command.TheVariants.{Change}
 use Rattle.history_log.proofs.Lasting.{change_push}
 use Rattle.history_log.proofs.logging.push_entry.Goals as goal

@@ -1,7 +1,7 @@
 use Rattle.std.proofs.Common.{◌≡◌, Bool, true, false, not, cond, [], ◌∷◌, ◌++◌, length, sym, ap, ◌∙◌, subst, arith, OnOk, refl}
 use Rattle.std.proofs.lemmas.Bool.{and_left, and_right}
-use Rattle.map_fold.specs.declared.op.Op.TheVariants.{Mark}
-use Rattle.map_fold.proofs.Replays.{extends_itself, extends_on}
+use Rattle.map_items.specs.declared.op.Op.TheVariants.{Mark}
+use Rattle.map_items.proofs.Replays.{extends_itself, extends_on}
 use Rattle.kd_tree.specs.Shape.{Head}
 use Rattle.kd_tree.specs.Walk.{tagged}
 use Rattle.kd_mark.specs.Mark.{is_entered}

@@ -1,8 +1,8 @@
 use Rattle.std.proofs.Common.{◌≡◌, refl, sym, ◌∙◌, arith, subst, ap, Option, None, Some}
 use Rattle.std.specs.Prelude.{IfOk}
 use Rattle.std.proofs.lemmas.Result.{IfOk-weaker}
-use Rattle.map_fold.specs.declared.item.Item.{Item}
-use Rattle.map_fold.specs.Contents.{marked_item, chosen_by}
+use Rattle.map_items.specs.declared.item.Item.{Item}
+use Rattle.map_items.specs.Contents.{marked_item, chosen_by}
 use Rattle.kd_tree.specs.Shape.{fork}
 use Rattle.kd_tree.specs.Parts.{fork_in, fork_of}
 use Rattle.kd_tree.specs.declared.path.Side.TheVariants.{Left, Right}

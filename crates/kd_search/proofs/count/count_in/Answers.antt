@@ -1,6 +1,6 @@
 use Rattle.std.proofs.Common.{sym, ap, ◌∙◌}
 use Rattle.node_labels.specs.Labels.{keep_tag}
-use Rattle.map_answers.specs.Answers.{count}
+use Rattle.map_fold.specs.Answers.{count}
 use Rattle.kd_tree.specs.Walk.{walk}
 use Rattle.kd_search.proofs.Boxed.{count-by_number}
 use Rattle.kd_search.proofs.count.count_in.Goals as goal

@@ -1,6 +1,6 @@
 use Rattle.std.proofs.Common.{sym, ap, ◌∙◌, take}
 use Rattle.node_labels.specs.Labels.{keep_tag}
-use Rattle.map_answers.specs.Answers.{inside_all}
+use Rattle.map_fold.specs.Answers.{inside_all}
 use Rattle.kd_tree.specs.Walk.{walk}
 use Rattle.kd_search.specs.Inserted.{insert_all}
 use Rattle.kd_search.proofs.Boxed.{inside-by_number}

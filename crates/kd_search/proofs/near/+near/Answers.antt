@@ -2,8 +2,8 @@ use Rattle.std.proofs.Common.{◌≤◌, [], ◌∷◌, Some, refl, sym, subst, 
 use Rattle.std.proofs.lemmas.Result.{on_ok_weaker}
 use Rattle.std.proofs.lemmas.List.Elements.{All-cons, All-nil}
 use Rattle.point_geom.specs.Distances.{dist2}
-use Rattle.map_fold.specs.declared.item.Item.{Item}
-use Rattle.map_fold.specs.Contents.{relabelled}
+use Rattle.map_items.specs.declared.item.Item.{Item}
+use Rattle.map_items.specs.Contents.{relabelled}
 use Rattle.kd_tree.specs.Walk.{walk}
 use Rattle.kd_search.specs.Points.{AreAway}
 use Rattle.kd_search.proofs.Walks.{walk_in_extent}

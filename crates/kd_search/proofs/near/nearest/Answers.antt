@@ -1,8 +1,8 @@
 use Rattle.std.proofs.Common.{◌≡◌, sym, ap, ◌∙◌, subst, take}
 use Rattle.node_labels.specs.Labels.{keep_tag}
-use Rattle.map_answers.specs.Answers.{candidates, nearest}
-use Rattle.map_answers.specs.Nearest.{AreNearest}
-use Rattle.map_answers.proofs.Found.{nearest_are}
+use Rattle.map_fold.specs.Answers.{candidates, nearest}
+use Rattle.map_fold.specs.Nearest.{AreNearest}
+use Rattle.map_fold.proofs.Found.{nearest_are}
 use Rattle.kd_tree.specs.Walk.{walk}
 use Rattle.kd_tree.specs.Contents.{contents}
 use Rattle.kd_tree.proofs.Held.{contents_rising}

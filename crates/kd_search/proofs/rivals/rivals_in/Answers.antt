@@ -2,8 +2,8 @@ use Rattle.std.proofs.Common.{◌≡◌, arith, sym, ◌∙◌, subst, []}
 use Rattle.std.specs.Prelude.{IfSome, IsNone, ◌↔◌}
 use Rattle.std.specs.declared.option.Option.{Option}
 use Rattle.node_labels.specs.Labels.{keep_tag}
-use Rattle.map_fold.specs.declared.item.Item.{Item}
-use Rattle.map_answers.specs.Answers.{inside_all}
+use Rattle.map_items.specs.declared.item.Item.{Item}
+use Rattle.map_fold.specs.Answers.{inside_all}
 use Rattle.kd_tree.specs.Walk.{walk}
 use Rattle.kd_tree.specs.Contents.{contents}
 use Rattle.kd_search.specs.Best.{best_inside, IsBest}

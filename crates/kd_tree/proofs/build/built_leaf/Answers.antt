@@ -5,7 +5,7 @@ use Rattle.std.proofs.lemmas.List.Sorted.{IsPermutation-refl}
 use Rattle.std.proofs.lemmas.Result.{IfOk-weaker}
 use Rattle.point_geom.specs.declared.axis.Axis.TheVariants.{X}
 use Rattle.node_labels.specs.Labels.{keep_tag}
-use Rattle.map_fold.specs.declared.item.Item.{Item}
+use Rattle.map_items.specs.declared.item.Item.{Item}
 use Rattle.kd_tree.specs.Shape.{Shape, fork, leaf}
 use Rattle.kd_tree.specs.Build.{IsBuilt, greatest}
 use Rattle.kd_tree.proofs.build.built_leaf.Goals as goal

@@ -1,7 +1,7 @@
 use Rattle.std.proofs.Common.{◌≡◌, ◌+◌, ◌∷◌, List, ap, length, refl, sym, subst, arith}
 use Rattle.std.proofs.lemmas.List.{nil_from_length}
 use Rattle.node_labels.specs.Labels.{keep_tag}
-use Rattle.map_fold.specs.declared.item.Item.{Item}
+use Rattle.map_items.specs.declared.item.Item.{Item}
 use Rattle.kd_tree.specs.Walk.{tagged}
 use Rattle.kd_mark.specs.declared.watch.Watch.{Watch}
 use Rattle.kd_mark.specs.Watches.{AreExtended, AreMore}

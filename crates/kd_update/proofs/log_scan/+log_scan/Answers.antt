@@ -1,6 +1,6 @@
 use Rattle.std.proofs.Common.{◌≡◌, List, ◌++◌, sym, ap, ◌∙◌, arith, length, refl, subst, OnOk}
-use Rattle.map_fold.specs.declared.item.Item.{Item}
-use Rattle.map_fold.proofs.Replays.{extends_itself, extends_on}
+use Rattle.map_items.specs.declared.item.Item.{Item}
+use Rattle.map_items.proofs.Replays.{extends_itself, extends_on}
 use Rattle.kd_tree.specs.Shape.{Head}
 use Rattle.kd_tree.specs.Walk.{tagged}
 use Rattle.kd_mark.specs.Watch.{handed}

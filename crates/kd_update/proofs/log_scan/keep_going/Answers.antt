@@ -1,6 +1,6 @@
 use Rattle.std.proofs.Common.{rules}
 use Rattle.std.proofs.lemmas.Fn.{filter_same}
-use Rattle.map_fold.specs.declared.item.Item.{Item}
+use Rattle.map_items.specs.declared.item.Item.{Item}
 use Rattle.kd_update.specs.Put.{goes_left}
 use Rattle.kd_update.specs.Watch.{goes_to}
 use Rattle.kd_update.proofs.log_scan.keep_going.Goals as goal

@@ -1,9 +1,9 @@
 use Rattle.std.proofs.Common.{◌≡◌, ◌+◌, [], ◌∷◌, ◌++◌, List, drop, length, ap, sym, ◌∙◌, arith, length-append, append_assoc}
-use Rattle.map_fold.specs.declared.item.Item.{Item}
-use Rattle.map_fold.specs.declared.op.Op.{Op}
-use Rattle.map_fold.specs.declared.op.Op.TheVariants.{Put}
-use Rattle.map_fold.proofs.Numbered.{drop-at}
-use Rattle.map_fold.proofs.Replays.{extends_on}
+use Rattle.map_items.specs.declared.item.Item.{Item}
+use Rattle.map_items.specs.declared.op.Op.{Op}
+use Rattle.map_items.specs.declared.op.Op.TheVariants.{Put}
+use Rattle.map_items.proofs.Numbered.{drop-at}
+use Rattle.map_items.proofs.Replays.{extends_on}
 use Rattle.kd_update.specs.Crossing.{puts_of}
 use Rattle.kd_update.proofs.log_scan.note_puts.Goals as goal
 

@@ -1,5 +1,5 @@
 use Rattle.std.proofs.Common.{◌≡◌, ◌++◌, drop}
-use Rattle.map_fold.specs.Ops.{Extends}
+use Rattle.map_items.specs.Ops.{Extends}
 use Rattle.kd_update.specs.Crossing.{puts_of}
 use Rattle.kd_update.proofs.log_scan.note_puts.Given as goal
 

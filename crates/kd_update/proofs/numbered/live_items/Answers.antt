@@ -1,7 +1,7 @@
 use Rattle.std.proofs.Common.{◌≡◌, ◌+◌, List, [], ◌∷◌, ◌++◌, drop, ap, sym, ◌∙◌, arith, append_assoc}
 use Rattle.point_geom.specs.Place.{Place}
-use Rattle.map_fold.specs.declared.item.Item.{Item}
-use Rattle.map_fold.proofs.Numbered.{drop-at}
+use Rattle.map_items.specs.declared.item.Item.{Item}
+use Rattle.map_items.proofs.Numbered.{drop-at}
 use Rattle.kd_update.specs.Scan.{live_from}
 use Rattle.kd_update.proofs.numbered.live_items.Goals as goal
 

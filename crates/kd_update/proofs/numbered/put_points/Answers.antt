@@ -1,7 +1,7 @@
 use Rattle.std.proofs.Common.{◌≡◌, ◌+◌, ◌++◌, ◌≤◌, ◌∙◌, List, ap, sym, subst, arith, length, IfOk}
 use Rattle.std.proofs.lemmas.Result.{IfOk-weaker}
-use Rattle.map_fold.specs.declared.item.Item.{Item}
-use Rattle.map_fold.specs.Fold.{MapAt, add_points}
+use Rattle.map_items.specs.declared.item.Item.{Item}
+use Rattle.map_items.specs.Fold.{MapAt, add_points}
 use Rattle.kd_tree.specs.Shape.{nodes, numbers}
 use Rattle.kd_tree.specs.Contents.{contents}
 use Rattle.kd_mark.specs.Refresh.{AreAmong}

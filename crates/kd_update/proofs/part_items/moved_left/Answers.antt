@@ -2,7 +2,7 @@ use Rattle.std.proofs.Common.{◌≡◌, ℕ, ◌+◌, ◌<◌, ◌≤◌, Bool,
 use Rattle.std.specs.List.{AllWithin, SwappedAt}
 use Rattle.std.proofs.lemmas.List.{get_or_read}
 use Rattle.std.proofs.lemmas.List.Sorted.{IsPermutation-trans}
-use Rattle.map_fold.specs.declared.item.Item.{Item}
+use Rattle.map_items.specs.declared.item.Item.{Item}
 use Rattle.kd_update.specs.Put.{goes_left}
 use Rattle.kd_update.proofs.part_items.moved_left.Goals.{then-goes_left, else-goes_left}
 use Rattle.kd_update.proofs.part_items.moved_left.Goals as goal

@@ -1,5 +1,5 @@
 use Rattle.std.proofs.Common.{◌∙◌, List, sym, subst, arith}
-use Rattle.map_fold.specs.declared.item.Item.{Item}
+use Rattle.map_items.specs.declared.item.Item.{Item}
 use Rattle.kd_update.specs.Scan.{IsGrown, IsPiece, IsPut}
 use Rattle.kd_mark.proofs.Results.{ok_both}
 use Rattle.kd_update.proofs.Joins.{join_grown, join_piece}

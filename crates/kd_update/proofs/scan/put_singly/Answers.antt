@@ -1,7 +1,7 @@
 use Rattle.std.proofs.Common.{◌≡◌, ◌+◌, [], ◌∷◌, List, drop, sym, subst, arith}
 use Rattle.std.proofs.lemmas.List.{drop_all}
-use Rattle.map_fold.specs.declared.item.Item.{Item}
-use Rattle.map_fold.proofs.Numbered.{drop-at}
+use Rattle.map_items.specs.declared.item.Item.{Item}
+use Rattle.map_items.proofs.Numbered.{drop-at}
 use Rattle.kd_tree.specs.Contents.{contents}
 use Rattle.kd_update.specs.Scan.{IsPut, MayJoin}
 use Rattle.kd_update.proofs.Joins.{join_first, join_rest, put_none, put_then}

@@ -1,5 +1,5 @@
 use Rattle.std.proofs.Common.{arith}
-use Rattle.map_fold.proofs.Numbered.{contents_push}
+use Rattle.map_items.proofs.Numbered.{contents_push}
 use Rattle.map_bench.proofs.course.items.Goals as goal
 
 pub loop-number-preserved : goal.loop-number-preserved

@@ -1,5 +1,5 @@
 use Rattle.std.proofs.Common.{arith}
-use Rattle.map_fold.proofs.Numbered.{contents_length}
+use Rattle.map_items.proofs.Numbered.{contents_length}
 use Rattle.kd_tree.proofs.Held.{are_kept, are_distinct}
 use Rattle.map_bench.proofs.searches.build.Goals as goal
 

@@ -1,7 +1,7 @@
 use Rattle.std.proofs.Common.{◌≡◌, ◌∙◌, length, Some, ap, subst, sym, to_z, of_z, w64, rules}
 use Rattle.std.proofs.lemmas.Int.{to_z-of_z}
-use Rattle.c_handles.specs.Answers.{IsNearest, IsNearestRefusal}
-use Rattle.c_handles.specs.Status.{code}
+use Rattle.map_c.specs.Answers.{IsNearest, IsNearestRefusal}
+use Rattle.map_c.specs.Status.{code}
 use Rattle.map_c.proofs.Told.{refused_told}
 use Rattle.map_c.proofs.asking.corv_map_nearest.Goals as goal
 

@@ -1,6 +1,6 @@
 use Rattle.std.proofs.Common.{◌≡◌, ◌*◌, ◌≤◌, All, length, take}
-use Rattle.c_handles.specs.Answers.{all_hits, hit_counts}
-use Rattle.c_handles.specs.Forms.{IsRightPlace}
+use Rattle.map_c.specs.Answers.{all_hits, hit_counts}
+use Rattle.map_c.specs.Forms.{IsRightPlace}
 use Rattle.map_c.proofs.searching.add_each.Given as goal
 
 abbrev pub invariant-loop-i : goal.invariant-loop-i

@@ -1,8 +1,8 @@
 use Rattle.std.proofs.Common.{◌≡◌, ◌∙◌, ap, refl, sym}
 use Rattle.rebuild_core.specs.Detach.{IsLogAfter}
 use Rattle.rebuild_core.specs.Lawful.{StateAt}
-use Rattle.c_handles.specs.declared.content.Content.TheVariants as content
-use Rattle.c_handles.specs.Done.{DoneAt}
+use Rattle.map_c.specs.declared.content.Content.TheVariants as content
+use Rattle.map_c.specs.Done.{DoneAt}
 use Rattle.map_c.proofs.Steps.{left_in, swapped_in}
 use Rattle.map_c.proofs.swapping.swap.Goals as goal
 

@@ -1,5 +1,5 @@
 use Rattle.std.proofs.Common.{length, ap, ◌∙◌, arith}
-use Rattle.map_fold.specs.Fold.{MapAt}
+use Rattle.map_items.specs.Fold.{MapAt}
 use Rattle.rebuild_core.specs.Lawful.{StateAt}
 use Rattle.map_renewal.proofs.Thrice.{after_third, begun, first, next_of, room_next, second}
 use Rattle.map_renewal.proofs.renewing.of_points.Goals as goal

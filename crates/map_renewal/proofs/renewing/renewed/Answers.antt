@@ -1,8 +1,8 @@
 use Rattle.std.proofs.Common.{◌≡◌, ◌+◌, ◌≤◌, ◌++◌, length, ap, ◌∙◌, arith, List, sym}
 use Rattle.node_labels.specs.declared.label.Label.TheVariants.{Live, Suspended}
 use Rattle.point_geom.specs.Place.{Place}
-use Rattle.map_fold.specs.declared.item.Item.{Item}
-use Rattle.map_fold.specs.Contents.{live_items}
+use Rattle.map_items.specs.declared.item.Item.{Item}
+use Rattle.map_items.specs.Contents.{live_items}
 use Rattle.kd_tree.specs.Shape.{Shape, nodes}
 use Rattle.kd_tree.specs.Contents.{contents}
 use Rattle.kd_tree.proofs.Held.{contents_few}

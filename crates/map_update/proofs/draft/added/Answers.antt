@@ -2,10 +2,10 @@ use Rattle.std.proofs.Common.{◌≡◌, ◌∷◌, ◌+◌, ◌<◌, ◌∙◌,
 use Rattle.std.specs.Prelude.{All}
 use Rattle.std.proofs.lemmas.List.Elements.{All-contains}
 use Rattle.std.proofs.lemmas.Result.{IfOk-weaker}
-use Rattle.map_fold.proofs.Numbered.{drop-at}
-use Rattle.map_fold.specs.declared.item.Item.{Item}
-use Rattle.map_fold.specs.declared.op.Op.TheVariants.{Put}
-use Rattle.map_fold.specs.Fold.{MapAt, add_points}
+use Rattle.map_items.proofs.Numbered.{drop-at}
+use Rattle.map_items.specs.declared.item.Item.{Item}
+use Rattle.map_items.specs.declared.op.Op.TheVariants.{Put}
+use Rattle.map_items.specs.Fold.{MapAt, add_points}
 use Rattle.kd_tree.specs.Shape.{numbers}
 use Rattle.kd_tree.specs.Contents.{contents}
 use Rattle.kd_update.specs.Scan.{MayJoin, live_from, put_each}

@@ -1,7 +1,7 @@
 use Rattle.std.proofs.Common.{◌≡◌, ℕ, ◌+◌, ◌*◌, ◌≤◌, List, Some, length, drop}
-use Rattle.map_fold.specs.declared.op.Op.{Op}
-use Rattle.map_fold.specs.declared.update.Update.TheVariants.{Add}
-use Rattle.map_fold.specs.Fold.{add_points}
+use Rattle.map_items.specs.declared.op.Op.{Op}
+use Rattle.map_items.specs.declared.update.Update.TheVariants.{Add}
+use Rattle.map_items.specs.Fold.{add_points}
 use Rattle.kd_mark.specs.Watches.{HaveRoom}
 use Rattle.map_update.specs.Draft.{IsDraft, IsDraftLeft, IsWorked, plain_work}
 use Rattle.kd_tree.specs.Maps.{map_of}

@@ -1,7 +1,7 @@
 use Rattle.std.proofs.Common.{[], ◌∷◌, add-zero, arith, subst, sym}
 use Rattle.std.proofs.lemmas.Result.{IfOk-weaker}
-use Rattle.map_fold.specs.Fold.{points_in}
-use Rattle.map_fold.specs.declared.update.Update.{Update}
+use Rattle.map_items.specs.Fold.{points_in}
+use Rattle.map_items.specs.declared.update.Update.{Update}
 use Rattle.map_update.specs.Draft.{HasRoomFor, IsWork}
 use Rattle.map_update.specs.Single.{most_ops}
 use Rattle.map_update.proofs.OnePoint.{add_not_thin, delete_not_thin, points_one, restore_not_thin, suspend_not_thin}

@@ -1,7 +1,7 @@
 use Rattle.std.proofs.Common.{◌≡◌, ◌∷◌, ◌∙◌, ◌+◌, ap, arith, drop, length, refl, subst, sym}
-use Rattle.map_fold.specs.declared.choice.Choice.{Choice}
-use Rattle.map_fold.proofs.Numbered.{drop-at, mark-within}
-use Rattle.map_fold.specs.declared.op.Op.TheVariants.{Mark}
+use Rattle.map_items.specs.declared.choice.Choice.{Choice}
+use Rattle.map_items.proofs.Numbered.{drop-at, mark-within}
+use Rattle.map_items.specs.declared.op.Op.TheVariants.{Mark}
 use Rattle.kd_mark.specs.Watches.{HaveRoom}
 use Rattle.map_update.specs.declared.work.Work.{Work}
 use Rattle.map_update.proofs.Detached.{left_itself, left_trans}

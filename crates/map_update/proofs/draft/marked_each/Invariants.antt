@@ -1,6 +1,6 @@
 use Rattle.std.proofs.Common.{◌≡◌, ℕ, ◌+◌, ◌*◌, ◌≤◌, List, Some, drop}
-use Rattle.map_fold.specs.declared.op.Op.{Op}
-use Rattle.map_fold.specs.Fold.{mark_boxes}
+use Rattle.map_items.specs.declared.op.Op.{Op}
+use Rattle.map_items.specs.Fold.{mark_boxes}
 use Rattle.kd_mark.specs.Watches.{HaveRoom}
 use Rattle.map_update.specs.Draft.{IsDraft, IsDraftLeft, IsWorked, plain_work}
 use Rattle.kd_tree.specs.Maps.{map_of}

@@ -1,10 +1,10 @@
 use Rattle.std.proofs.Common.{◌≡◌, ◌+◌, ◌∙◌, List, ap, arith, subst, sym}
 use Rattle.std.proofs.lemmas.Result.{IfOk-weaker}
 use Rattle.node_labels.specs.Labels.{thin_tag}
-use Rattle.map_fold.specs.declared.item.Item.{Item}
-use Rattle.map_fold.specs.Contents.{in_box, mark, put}
-use Rattle.map_fold.specs.Ops.{IsUnheld}
-use Rattle.map_fold.proofs.Numbered.{mark-within}
+use Rattle.map_items.specs.declared.item.Item.{Item}
+use Rattle.map_items.specs.Contents.{in_box, mark, put}
+use Rattle.map_items.specs.Ops.{IsUnheld}
+use Rattle.map_items.proofs.Numbered.{mark-within}
 use Rattle.kd_tree.specs.Contents.{contents}
 use Rattle.map_update.specs.declared.work.Work.{Work}
 use Rattle.kd_tree.proofs.Contents.{unheld_free}

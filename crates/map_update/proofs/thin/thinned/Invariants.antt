@@ -1,6 +1,6 @@
 use Rattle.std.proofs.Common.{◌≡◌, ℕ, ◌+◌, ◌*◌, List, [], ◌∷◌, length, drop}
 use Rattle.point_geom.specs.Place.{Place}
-use Rattle.map_fold.specs.Fold.{thin_points}
+use Rattle.map_items.specs.Fold.{thin_points}
 use Rattle.map_update.specs.Draft.{IsDraft, IsDraftLeft, IsWorked}
 use Rattle.kd_tree.specs.Maps.{map_of}
 use Rattle.map_update.specs.OnePoint.{IsTurnedAway}

@@ -2,16 +2,16 @@ use Rattle.std.proofs.Common.{◌≡◌, ◌+◌, ◌<◌, ◌∙◌, true, fals
 use Rattle.point_geom.specs.Place.{Bounds}
 use Rattle.point_geom.specs.Boxes.{voxel}
 use Rattle.node_labels.specs.Labels.{thin_tag}
-use Rattle.map_fold.specs.declared.item.Item.{Item}
-use Rattle.map_answers.specs.Answers.{inside_all}
-use Rattle.map_fold.specs.Contents.{comes_before, in_box, live_at, mark, put, thin}
-use Rattle.map_fold.specs.Ops.{IsUnheld}
-use Rattle.map_answers.proofs.Thinning.{thin_none, thin_same, winner_number, winner_unheld}
+use Rattle.map_items.specs.declared.item.Item.{Item}
+use Rattle.map_fold.specs.Answers.{inside_all}
+use Rattle.map_items.specs.Contents.{comes_before, in_box, live_at, mark, put, thin}
+use Rattle.map_items.specs.Ops.{IsUnheld}
+use Rattle.map_fold.proofs.Thinning.{thin_none, thin_same, winner_number, winner_unheld}
 use Rattle.kd_tree.specs.Contents.{contents}
 use Rattle.kd_search.specs.Best.{IsBest}
 use Rattle.map_update.proofs.Detached.{left_itself}
 use Rattle.map_update.proofs.Working.{draft_more}
-use Rattle.map_fold.proofs.Numbered.{contents_rise, unheld_above}
+use Rattle.map_items.proofs.Numbered.{contents_rise, unheld_above}
 use Rattle.std.proofs.lemmas.Result.{IfOk-weaker}
 use Rattle.map_update.specs.Draft.{IsWork, IsWorked}
 use Rattle.map_update.proofs.Worked.{worked_itself, worked_more}

@@ -5,10 +5,10 @@ use Rattle.std.proofs.lemmas.List.Elements.{All-head, All-tail}
 use Rattle.std.proofs.lemmas.Result.{IfOk-weaker}
 use Rattle.point_geom.specs.Place.{Bounds}
 use Rattle.point_geom.specs.Boxes.{voxel}
-use Rattle.map_fold.specs.declared.item.Item.{Item}
-use Rattle.map_fold.specs.Fold.{MapAt, thin_points}
-use Rattle.map_fold.proofs.Folds.{thin_next}
-use Rattle.map_fold.proofs.Numbered.{drop-at}
+use Rattle.map_items.specs.declared.item.Item.{Item}
+use Rattle.map_items.specs.Fold.{MapAt, thin_points}
+use Rattle.map_items.proofs.Folds.{thin_next}
+use Rattle.map_items.proofs.Numbered.{drop-at}
 use Rattle.kd_tree.specs.Contents.{contents}
 use Rattle.kd_tree.proofs.Held.{are_contents}
 use Rattle.kd_mark.specs.Watches.{paths_in}

@@ -3,7 +3,7 @@ use Rattle.std.proofs.lemmas.List.{append-nil}
 use Rattle.std.specs.Io.KnownBytes.{Consumes, IsAtEnd}
 use Rattle.scan_log.specs.Spelling.{Spells}
 use Rattle.scan_log.specs.Faults.{first_fault}
-use Rattle.mapper_words.specs.Asks.{log_of, most_of}
+use Rattle.mapper_base.specs.Asks.{log_of, most_of}
 use Rattle.mapper_base.proofs.input.read_input.Goals as goal
 
 -- what is read to its end is all

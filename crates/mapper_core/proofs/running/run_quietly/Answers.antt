@@ -1,8 +1,8 @@
 use Rattle.std.proofs.Common.{◌≤◌, ◌+◌, ℕ, List, Option, subst}
-use Rattle.mapper_words.specs.declared.words.Ask.{Ask}
-use Rattle.mapper_words.specs.Asks.{Asks, most_of}
+use Rattle.mapper_base.specs.declared.words.Ask.{Ask}
+use Rattle.mapper_base.specs.Asks.{Asks, most_of}
 use Rattle.byte_streams.specs.Outside.{HasRead}
-use Rattle.mapper_words.proofs.OneAsk.{same_ask}
+use Rattle.mapper_base.proofs.OneAsk.{same_ask}
 use Rattle.mapper_core.proofs.running.run_quietly.Goals as goal
 
 -- what was read for one ask was read for the other, which is the same

@@ -5,7 +5,7 @@ use Rattle.kd_search.proofs.Tops.{walk_top}
 use Rattle.kd_search.proofs.Walks.{walk_in_extent}
 use Rattle.neighbour_sets.specs.Growth.{put_all_new}
 use Rattle.neighbour_sets.specs.Spent.{AreSpent}
-use Rattle.map_answers.specs.Neighbours.{near}
+use Rattle.map_fold.specs.Neighbours.{near}
 use Rattle.neighbour_sets.proofs.Near.{near_missed}
 use Rattle.neighbour_sets.proofs.Grown.{put_in_turn}
 use Rattle.neighbour_sets.proofs.Spending.{near_seen, spent_empty, spent_first, spent_joined, spent_more, spent_parts, grown_kept, whole_seen}

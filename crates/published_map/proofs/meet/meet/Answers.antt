@@ -1,5 +1,5 @@
 use Rattle.std.proofs.Common.{◌≡◌, List, length, sym, ◌∙◌, ap, subst, arith}
-use Rattle.map_fold.specs.declared.entry.Entry.{Entry}
+use Rattle.map_items.specs.declared.entry.Entry.{Entry}
 use Rattle.rebuild_core.specs.Lawful.{Stored}
 use Rattle.shown_versions.specs.Marks.{Seen, made_by, AllMet, AllOf, callers_of}
 use Rattle.shown_versions.proofs.Counting.{all_met_at}

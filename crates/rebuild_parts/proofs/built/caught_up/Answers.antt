@@ -1,8 +1,8 @@
 use Rattle.std.proofs.Common.{◌≡◌, ◌+◌, ◌≤◌, List, ◌++◌, ◌∙◌, ap, arith, length}
 use Rattle.std.proofs.lemmas.List.Elements.{Contains-append_right}
 use Rattle.std.proofs.lemmas.Result.{IfOk-weaker}
-use Rattle.map_fold.specs.declared.item.Item.{Item}
-use Rattle.map_fold.specs.Ops.{numbers_put, replay}
+use Rattle.map_items.specs.declared.item.Item.{Item}
+use Rattle.map_items.specs.Ops.{numbers_put, replay}
 use Rattle.kd_tree.specs.Shape.{levels, nodes, numbers}
 use Rattle.kd_tree.specs.Contents.{contents}
 use Rattle.kd_mark.specs.Refresh.{AreAmong}

@@ -1,6 +1,6 @@
 use Rattle.std.proofs.Common.{List, [], ◌∷◌, false, refl, sym, subst}
-use Rattle.map_fold.specs.declared.item.Item.{Item}
-use Rattle.map_fold.specs.Contents.{kept}
+use Rattle.map_items.specs.declared.item.Item.{Item}
+use Rattle.map_items.specs.Contents.{kept}
 use Rattle.kd_tree.specs.Walk.{walk}
 use Rattle.kd_search.proofs.Tops.{walk_top}
 use Rattle.rebuild_parts.specs.Holding.{AreAllFrom}

@@ -1,5 +1,5 @@
 use Rattle.std.proofs.lemmas.Slice.Eq.{slice_eq-Decides}
-use Rattle.map_fold.proofs.Same.{item_Decides}
+use Rattle.map_items.proofs.Same.{item_Decides}
 use Rattle.rebuild_parts.proofs.same_items.are_same.Goals as goal
 
 pub returns : goal.returns

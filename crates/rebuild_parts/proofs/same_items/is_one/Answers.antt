@@ -1,9 +1,9 @@
 use Rattle.std.proofs.Common.{◌≡◌, get_or, sym, ◌∙◌, subst, rules, Ok, Err}
 use Rattle.std.proofs.lemmas.List.{get_or_default}
 use Rattle.std.proofs.lemmas.List.Sorted.{answers_always}
-use Rattle.map_fold.specs.declared.item.Item.{Item}
-use Rattle.map_fold.specs.Contents.{Member}
-use Rattle.map_fold.proofs.Same.{item_Decides}
+use Rattle.map_items.specs.declared.item.Item.{Item}
+use Rattle.map_items.specs.Contents.{Member}
+use Rattle.map_items.proofs.Same.{item_Decides}
 use Rattle.rebuild_parts.proofs.SameItems.{found_is, member_at, searched}
 use Rattle.rebuild_parts.proofs.same_items.is_one.Goals as goal
 

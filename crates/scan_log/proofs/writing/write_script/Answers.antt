@@ -1,6 +1,6 @@
 use Rattle.std.proofs.Common.{◌≡◌, refl, ℕ, List, [], ◌++◌}
 use Rattle.std.specs.List.{flat_map}
-use Rattle.map_fold.specs.Sizes.{Sizes}
+use Rattle.map_items.specs.Sizes.{Sizes}
 use Rattle.scan_log.specs.declared.format.Format.{Format}
 use Rattle.scan_log.specs.declared.command.Command.{Command}
 use Rattle.scan_log.specs.Scripts.{ScriptAt}

@@ -1,7 +1,7 @@
 use Rattle.std.proofs.Common.{◌≡◌, ◌*◌, List, ap, refl, ◌∙◌, length, take}
 use Rattle.node_labels.specs.Labels.{is_live}
-use Rattle.map_fold.specs.declared.item.Item.{Item}
-use Rattle.map_answers.specs.Neighbours.{ball, is_near}
+use Rattle.map_items.specs.declared.item.Item.{Item}
+use Rattle.map_fold.specs.Neighbours.{ball, is_near}
 use Rattle.neighbour_sets.proofs.Others.{filter-filter}
 use Rattle.transcript_check.proofs.Found.{found_in}
 use Rattle.transcript_check.proofs.neighbours.ball_reply.Goals as goal

@@ -1,5 +1,5 @@
 use Rattle.std.proofs.Common.{◌≡◌, List, [], ◌∷◌, ◌++◌, ◌+◌, ◌-◌, ap, arith, drop, length, length-append, sym, take, ◌∙◌}
-use Rattle.map_fold.specs.declared.item.Item.{Item}
+use Rattle.map_items.specs.declared.item.Item.{Item}
 use Rattle.transcript_check.proofs.Found.{found_in, found_more, found_passed}
 use Rattle.transcript_check.proofs.Places.{drop_at_place}
 use Rattle.transcript_check.proofs.neighbours.first_near.Goals.{then-finds+in_ok-push, else-finds}

@@ -1,5 +1,5 @@
 use Rattle.std.proofs.Common.{arith, ◌≤◌, length, rules}
-use Rattle.map_fold.proofs.Numbered.{contents_length}
+use Rattle.map_items.proofs.Numbered.{contents_length}
 use Rattle.transcript_check.proofs.neighbours.near_count.Goals as goal
 
 pub overflow_cast-result : goal.overflow_cast-result

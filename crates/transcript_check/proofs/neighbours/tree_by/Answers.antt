@@ -1,6 +1,6 @@
 use Rattle.std.proofs.Common.{◌≡◌, ap, ◌∙◌, arith, length}
 use Rattle.std.proofs.lemmas.Result.{IfOk-weaker}
-use Rattle.map_fold.proofs.Numbered.{contents_length}
+use Rattle.map_items.proofs.Numbered.{contents_length}
 use Rattle.kd_tree.specs.Contents.{by_number, contents}
 use Rattle.kd_tree.proofs.Held.{are_distinct, are_kept, by_number-are}
 use Rattle.transcript_check.proofs.neighbours.tree_by.Goals as goal

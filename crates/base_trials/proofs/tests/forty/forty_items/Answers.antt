@@ -1,7 +1,7 @@
 use Rattle.std.proofs.Common.{◌+◌, [], ◌∷◌, ◌++◌, arith, subst, sym}
-use Rattle.map_fold.specs.declared.item.Item.{Item}
-use Rattle.map_fold.specs.Contents.{AreContents}
-use Rattle.map_fold.proofs.Numbered.{contents_push, contents_length}
+use Rattle.map_items.specs.declared.item.Item.{Item}
+use Rattle.map_items.specs.Contents.{AreContents}
+use Rattle.map_items.proofs.Numbered.{contents_push, contents_length}
 use Rattle.kd_tree.proofs.Held.{are_kept, are_distinct}
 use Rattle.base_trials.proofs.tests.forty.forty_items.Goals as goal
 

@@ -1,4 +1,4 @@
-use Rattle.map_fold.specs.Contents.{AreContents}
+use Rattle.map_items.specs.Contents.{AreContents}
 use Rattle.base_trials.proofs.tests.forty.forty_items.Given as goal
 
 abbrev pub invariant-loop-number : goal.invariant-loop-number

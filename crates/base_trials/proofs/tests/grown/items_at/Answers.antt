@@ -1,8 +1,8 @@
 use Rattle.std.proofs.Common.{◌≡◌, ℕ, ◌+◌, ◌≤◌, false, List, [], ◌∷◌, ◌++◌, refl, arith}
 use Rattle.node_labels.specs.Labels.{is_dropped}
-use Rattle.map_fold.specs.declared.item.Item.{Item}
-use Rattle.map_fold.specs.Contents.{AreContents}
-use Rattle.map_fold.proofs.Numbered.{contents_length}
+use Rattle.map_items.specs.declared.item.Item.{Item}
+use Rattle.map_items.specs.Contents.{AreContents}
+use Rattle.map_items.proofs.Numbered.{contents_length}
 use Rattle.kd_tree.proofs.Held.{are_kept, are_distinct}
 use Rattle.base_trials.proofs.tests.grown.items_at.Goals as goal
 

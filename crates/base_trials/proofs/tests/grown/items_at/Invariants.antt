@@ -1,5 +1,5 @@
 use Rattle.std.proofs.Common.{◌≡◌}
-use Rattle.map_fold.specs.Contents.{AreContents}
+use Rattle.map_items.specs.Contents.{AreContents}
 use Rattle.base_trials.proofs.tests.grown.items_at.Given as goal
 
 abbrev pub invariant-loop-point : goal.invariant-loop-point

@@ -1,8 +1,8 @@
 use Rattle.std.proofs.Common.{◌≡◌, refl, ◌∙◌, sym}
 use Rattle.std.specs.Cmp.Lexicographic.{pointwise}
 use Rattle.std.proofs.lemmas.Slice.Eq.{slice_eq-Decides}
-use Rattle.map_fold.specs.contracts.item.ItemPartialEq.TheImpl as item
-use Rattle.map_fold.proofs.Same.{item_Decides}
+use Rattle.map_items.specs.contracts.item.ItemPartialEq.TheImpl as item
+use Rattle.map_items.proofs.Same.{item_Decides}
 use Rattle.kd_tree.specs.Contents.{contents}
 use Rattle.base_trials.proofs.tests.replacing.hold_the_same.Goals as goal
 

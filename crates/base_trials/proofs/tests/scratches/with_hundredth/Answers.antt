@@ -2,9 +2,9 @@ use Rattle.std.proofs.Common.{◌≡◌, ◌∙◌, ◌<◌, ◌≤◌, List, []
 use Rattle.std.specs.List.{AllByRecursion}
 use Rattle.std.proofs.lemmas.List.Elements.{recursion_from_All}
 use Rattle.node_labels.specs.Labels.{is_dropped, keep_tag}
-use Rattle.map_fold.specs.declared.item.Item.{Item}
-use Rattle.map_fold.specs.Contents.{AreContents, live_at}
-use Rattle.map_fold.proofs.Numbered.{contents_length, contents_push}
+use Rattle.map_items.specs.declared.item.Item.{Item}
+use Rattle.map_items.specs.Contents.{AreContents, live_at}
+use Rattle.map_items.proofs.Numbered.{contents_length, contents_push}
 use Rattle.kd_tree.specs.Shape.{Shape}
 use Rattle.kd_tree.specs.Walk.{walk}
 use Rattle.kd_tree.specs.Sound.{IsSound}

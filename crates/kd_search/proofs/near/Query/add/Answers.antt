@@ -1,7 +1,7 @@
 use Rattle.std.proofs.Common.{[], ◌∷◌, ◌≤◌, arith}
 use Rattle.std.proofs.lemmas.List.Elements.{All-cons, All-nil}
 use Rattle.point_geom.specs.Distances.{dist2}
-use Rattle.map_fold.specs.declared.item.Item.{Item}
+use Rattle.map_items.specs.declared.item.Item.{Item}
 use Rattle.kd_search.specs.Points.{AreAway}
 use Rattle.kd_search.proofs.Bounds.{left_out}
 use Rattle.kd_search.proofs.near.Query.add.Goals as goal

@@ -1,6 +1,6 @@
 use Rattle.std.proofs.Common.{[], ◌∷◌, subst, sym, ap, ◌∙◌, ◌++◌, arith}
 use Rattle.node_labels.specs.declared.tag.Tag.{Tag}
-use Rattle.map_fold.specs.Contents.{kept, relabelled}
+use Rattle.map_items.specs.Contents.{kept, relabelled}
 use Rattle.kd_tree.specs.Shape.{Head, nodes}
 use Rattle.kd_tree.specs.Walk.{walk}
 use Rattle.kd_search.specs.Points.{AreBelow, AreAbove}

@@ -3,7 +3,7 @@ use Rattle.std.specs.Prelude.{IfOk, IsPermutation}
 use Rattle.std.proofs.lemmas.Result.{IfOk-weaker, on_ok_weaker}
 use Rattle.std.proofs.lemmas.List.Elements.{All-append}
 use Rattle.node_labels.specs.Labels.{is_dropped, keep_tag}
-use Rattle.map_fold.specs.declared.item.Item.{Item}
+use Rattle.map_items.specs.declared.item.Item.{Item}
 use Rattle.kd_tree.specs.Shape.{Shape, levels, nodes, numbers}
 use Rattle.kd_tree.specs.Walk.{walk}
 use Rattle.kd_tree.specs.Contents.{AreDistinct, AreKept, by_number, contents}

@@ -1,6 +1,6 @@
 use Rattle.std.proofs.Common.{◌≡◌, ℕ, List, Option, ap, sym, ◌∙◌, subst}
 use Rattle.std.specs.Prelude.{IfSome}
-use Rattle.map_fold.specs.declared.item.Item.{Item}
+use Rattle.map_items.specs.declared.item.Item.{Item}
 use Rattle.rebuild_parts.specs.Built.{JobAt}
 use Rattle.rebuild_core.specs.Detach.{IsDetachStep}
 use Rattle.kd_update.specs.Parts.{AreItemsOf}

@@ -1,7 +1,7 @@
 use Rattle.std.proofs.Common.{◌≡◌, ◌∙◌, subst, sym}
 use Rattle.node_labels.specs.Labels.{thin_tag}
-use Rattle.map_fold.specs.Contents.{AreContents, in_box, mark}
-use Rattle.map_fold.proofs.Numbered.{contents_mark, mark-within}
+use Rattle.map_items.specs.Contents.{AreContents, in_box, mark}
+use Rattle.map_items.proofs.Numbered.{contents_mark, mark-within}
 use Rattle.kd_tree.proofs.Held.{are_contents}
 use Rattle.map_update.specs.Waiting.{held_by}
 use Rattle.map_update.proofs.Both.{both, cleared_clear}

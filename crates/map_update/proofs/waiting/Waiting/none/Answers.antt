@@ -1,8 +1,8 @@
 use Rattle.std.proofs.Common.{◌<◌, List, subst, sym}
 use Rattle.std.specs.Prelude.{All}
 use Rattle.std.proofs.lemmas.List.Elements.{All-nil}
-use Rattle.map_fold.specs.declared.item.Item.{Item}
-use Rattle.map_fold.specs.Contents.{AreContents}
+use Rattle.map_items.specs.declared.item.Item.{Item}
+use Rattle.map_items.specs.Contents.{AreContents}
 use Rattle.kd_tree.proofs.Held.{are_contents}
 use Rattle.kd_update.specs.Scan.{AreLive}
 use Rattle.kd_update.proofs.Grown.{IsLive}

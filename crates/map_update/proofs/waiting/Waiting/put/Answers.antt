@@ -1,7 +1,7 @@
 use Rattle.std.proofs.Common.{◌≡◌, ◌<◌, ◌∙◌, List, ap, length, subst, sym}
 use Rattle.std.specs.Prelude.{All}
 use Rattle.std.proofs.lemmas.Result.{IfOk-weaker}
-use Rattle.map_fold.specs.declared.item.Item.{Item}
+use Rattle.map_items.specs.declared.item.Item.{Item}
 use Rattle.kd_tree.specs.Contents.{contents}
 use Rattle.kd_update.specs.Scan.{MayJoin, put_each}
 use Rattle.map_update.specs.Draft.{HasRoomFor}

@@ -1,8 +1,8 @@
 use Rattle.std.proofs.Common.{◌≡◌, [], subst, sym, ◌∙◌}
 use Rattle.std.specs.Prelude.{IfSome, IsNone, ◌↔◌}
 use Rattle.std.specs.declared.option.Option.{Option}
-use Rattle.map_fold.specs.declared.item.Item.{Item}
-use Rattle.map_answers.specs.Answers.{inside_all}
+use Rattle.map_items.specs.declared.item.Item.{Item}
+use Rattle.map_fold.specs.Answers.{inside_all}
 use Rattle.kd_search.specs.Best.{best_inside, IsBest}
 use Rattle.kd_search.proofs.Least.{best_is, best_none}
 use Rattle.map_update.specs.Waiting.{held_by}

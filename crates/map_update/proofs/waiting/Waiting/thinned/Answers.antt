@@ -7,18 +7,18 @@ use Rattle.point_geom.specs.Boxes.{holds, voxel}
 use Rattle.point_geom.proofs.Laws.{voxel_held}
 use Rattle.node_labels.specs.Labels.{is_live, thin_tag}
 use Rattle.node_labels.specs.declared.label.Label.TheVariants.{Live}
-use Rattle.map_fold.specs.declared.item.Item.{Item}
-use Rattle.map_answers.specs.Answers.{inside_all}
-use Rattle.map_fold.specs.Contents.{comes_before, in_box, live_at, mark, put, thin}
-use Rattle.map_fold.specs.Ops.{IsUnheld}
-use Rattle.map_answers.proofs.Centre.{live_is}
-use Rattle.map_answers.proofs.Found.{member-filter}
+use Rattle.map_items.specs.declared.item.Item.{Item}
+use Rattle.map_fold.specs.Answers.{inside_all}
+use Rattle.map_items.specs.Contents.{comes_before, in_box, live_at, mark, put, thin}
+use Rattle.map_items.specs.Ops.{IsUnheld}
+use Rattle.map_fold.proofs.Centre.{live_is}
+use Rattle.map_fold.proofs.Found.{member-filter}
 use Rattle.kd_search.specs.Best.{IsBest}
 use Rattle.kd_update.proofs.Grown.{live_of}
 use Rattle.map_update.specs.Waiting.{IsJoined, held_by}
 use Rattle.map_update.proofs.Both.{distinct_both}
 use Rattle.map_update.proofs.Entering.{entered_none, entered_same, winner_below, winner_new}
-use Rattle.map_fold.proofs.Numbered.{contents_rise}
+use Rattle.map_items.proofs.Numbered.{contents_rise}
 use Rattle.map_update.proofs.Winners.{alone_inside, held_wins, new_wins}
 use Rattle.map_update.specs.declared.waiting.Waiting.{Waiting}
 use Rattle.map_update.specs.Draft.{IsDraft, IsDraftLeft, IsWorked}

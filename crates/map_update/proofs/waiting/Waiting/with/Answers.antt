@@ -2,10 +2,10 @@ use Rattle.std.proofs.Common.{◌≡◌, ◌<◌, ◌++◌, ◌∙◌, ℕ, List
 use Rattle.std.specs.Prelude.{All}
 use Rattle.std.proofs.lemmas.List.Elements.{All-append, All-cons, All-nil}
 use Rattle.node_labels.specs.declared.label.Label.TheVariants.{Live}
-use Rattle.map_fold.specs.declared.item.Item.{Item}
-use Rattle.map_fold.specs.Contents.{AreContents, put}
-use Rattle.map_fold.specs.Ops.{IsUnheld}
-use Rattle.map_fold.proofs.Puts.{contents_put}
+use Rattle.map_items.specs.declared.item.Item.{Item}
+use Rattle.map_items.specs.Contents.{AreContents, put}
+use Rattle.map_items.specs.Ops.{IsUnheld}
+use Rattle.map_items.proofs.Puts.{contents_put}
 use Rattle.kd_update.specs.Scan.{AreLive}
 use Rattle.kd_update.proofs.Grown.{IsLive}
 use Rattle.map_update.specs.declared.waiting.Waiting.{Waiting}

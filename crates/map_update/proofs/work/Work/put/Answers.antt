@@ -1,6 +1,6 @@
 use Rattle.std.proofs.Common.{sym, ◌∙◌}
 use Rattle.node_labels.specs.Labels.{keep_tag}
-use Rattle.kd_replace.proofs.StandsFor.{same_times}
+use Rattle.kd_update.proofs.StandsFor.{same_times}
 use Rattle.map_update.proofs.Working.{draft_large, draft_on, draft_put}
 use Rattle.map_update.proofs.Worked.{plain_put, worked_put}
 use Rattle.map_update.proofs.work.Work.put.Goals as goal

@@ -6,7 +6,7 @@ use Rattle.kd_mark.specs.declared.watch.Watch.{Watch}
 use Rattle.kd_mark.specs.Refresh.{AreAmong}
 use Rattle.kd_mark.specs.Several.{AreLargeAt, AreSameAt, IsBalancedClear}
 use Rattle.kd_mark.specs.Watches.{paths_in}
-use Rattle.kd_replace.proofs.StandsFor.{replaced_nodes}
+use Rattle.kd_update.proofs.StandsFor.{replaced_nodes}
 use Rattle.kd_mark.proofs.Update.{criteria_balanced}
 use Rattle.map_update.specs.Draft.{IsDraftLeft}
 use Rattle.map_update.proofs.Working.{among_part, at_numbers, draft_anew, draft_without, levels_kept, without_of}

@@ -1,5 +1,5 @@
 use Rattle.std.proofs.Common.{◌≡◌, ℕ, List, refl, sym, ◌∙◌, ap, subst}
-use Rattle.map_fold.specs.declared.entry.Entry.{Entry}
+use Rattle.map_items.specs.declared.entry.Entry.{Entry}
 use Rattle.rebuild_core.specs.Lawful.{Stored}
 use Rattle.shown_versions.specs.Marks.{at_places, AreOwnPlaces}
 use Rattle.published_map.proofs.Marking.{marked_longer, pass_longer, places_longer}

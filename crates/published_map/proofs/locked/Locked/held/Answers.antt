@@ -1,6 +1,6 @@
 use Rattle.std.proofs.Common.{◌≡◌, List, sym, ◌∙◌, ap, subst, Option, Some}
 use Rattle.std.specs.Prelude.{IfSome}
-use Rattle.map_fold.specs.declared.item.Item.{Item}
+use Rattle.map_items.specs.declared.item.Item.{Item}
 use Rattle.rebuild_core.specs.Lawful.{StateAt}
 use Rattle.kd_update.specs.Parts.{PartAt, part_of}
 use Rattle.rebuild_core.proofs.KnownItems.{known_part}

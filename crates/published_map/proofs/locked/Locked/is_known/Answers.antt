@@ -1,5 +1,5 @@
 use Rattle.std.proofs.Common.{◌≡◌, List, sym, ◌∙◌, ap, subst}
-use Rattle.map_fold.specs.declared.item.Item.{Item}
+use Rattle.map_items.specs.declared.item.Item.{Item}
 use Rattle.rebuild_core.specs.Lawful.{StateAt, Stored}
 use Rattle.kd_update.specs.Parts.{AreItemsOf}
 use Rattle.published_map.specs.Holds.{hold_of}

@@ -1,6 +1,6 @@
 use Rattle.std.proofs.Common.{◌≡◌, ℕ, List, [], length, refl, sym, ◌∙◌, ap, subst, arith}
 use mathlib.Core.List.{IsPrefix}
-use Rattle.map_fold.specs.declared.entry.Entry.{Entry}
+use Rattle.map_items.specs.declared.entry.Entry.{Entry}
 use Rattle.left_right.specs.Sides.{view}
 use Rattle.shown_versions.specs.Marks.{AreOwnPlaces}
 use Rattle.published_map.proofs.pass.Pass.new.Goals as goal

@@ -1,6 +1,6 @@
 use Rattle.std.proofs.Common.{◌≡◌, List, ap, sym, ◌∙◌, subst, get_or, set}
 use Rattle.std.proofs.lemmas.List.{get_or_default}
-use Rattle.map_fold.specs.declared.item.Item.{Item}
+use Rattle.map_items.specs.declared.item.Item.{Item}
 use Rattle.rebuild_core.specs.Lawful.{IsLawful, Stored}
 use Rattle.kd_update.specs.Parts.{AreItemsOf, IsPlaceOf, PartAt}
 use Rattle.rebuild_core.specs.StateView.{spare_of, state_of}

@@ -1,5 +1,5 @@
 use Rattle.std.proofs.Common.{rules, ◌≡◌, List, Some, ap, sym, ◌∙◌, subst, take, length, length-append, arith}
-use Rattle.map_fold.specs.declared.op.Op.{Op}
+use Rattle.map_items.specs.declared.op.Op.{Op}
 use Rattle.rebuild_core.specs.Known.{IsPartOf, undone}
 use Rattle.rebuild_core.specs.Lawful.{Stored}
 use Rattle.kd_update.specs.Parts.{PartAt, part_of}

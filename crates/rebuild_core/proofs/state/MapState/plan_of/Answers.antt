@@ -1,5 +1,5 @@
 use Rattle.std.proofs.Common.{◌≡◌, ℕ, ◌+◌, ◌-◌, ◌<◌, ◌≤◌, ap, ◌∙◌, arith, length, slice_index_or, subst, sym}
-use Rattle.map_fold.specs.Fold.{points_in}
+use Rattle.map_items.specs.Fold.{points_in}
 use Rattle.rebuild_core.specs.Lawful.{StateAt, Stored}
 use Rattle.rebuild_parts.specs.Seen.{VersionAt}
 use Rattle.rebuild_core.specs.StateView.{state_of}

@@ -1,5 +1,5 @@
 use Rattle.std.proofs.Common.{◌≡◌, ◌+◌, ◌≤◌, IfOk, List, ap, refl, subst, sym, ◌∙◌}
-use Rattle.map_fold.specs.Fold.{points_in}
+use Rattle.map_items.specs.Fold.{points_in}
 use Rattle.kd_tree.specs.Shape.{Shape}
 use Rattle.rebuild_core.specs.Lawful.{StateAt}
 use Rattle.rebuild_parts.specs.Logs.{LogPlan, planned_parts}

@@ -1,6 +1,6 @@
 use Rattle.std.proofs.Common.{◌≡◌, ◌+◌, List, ap, ◌∙◌, sym, subst}
-use Rattle.map_fold.specs.declared.item.Item.{Item}
-use Rattle.map_fold.specs.declared.op.Op.{Op}
+use Rattle.map_items.specs.declared.item.Item.{Item}
+use Rattle.map_items.specs.declared.op.Op.{Op}
 use Rattle.kd_tree.specs.Contents.{contents}
 use Rattle.rebuild_core.specs.Detach.{IsDetachable, with_part}
 use Rattle.rebuild_core.specs.Lawful.{IsLawful, StateAt, Stored}

@@ -1,13 +1,13 @@
 use Rattle.std.proofs.Common.{◌≡◌, ◌<◌, List, [], ◌∷◌, ◌++◌, true, false, ap, ◌∙◌, sym, subst}
 use Rattle.std.specs.Prelude.{All, ◌↔◌}
 use Rattle.std.proofs.lemmas.Result.{IfOk-weaker}
-use Rattle.map_fold.specs.Ops.{replay}
+use Rattle.map_items.specs.Ops.{replay}
 use Rattle.kd_tree.specs.Shape.{Shape, numbers}
 use Rattle.kd_tree.specs.Contents.{contents}
 use Rattle.kd_tree.specs.Apart.{IsClear}
 use Rattle.kd_tree.specs.declared.path.Side.{Side}
 use Rattle.kd_mark.specs.Refresh.{AreAmong}
-use Rattle.kd_replace.specs.Replace.{HasRoomAt, StandsFor}
+use Rattle.kd_update.specs.Replace.{HasRoomAt, StandsFor}
 use Rattle.kd_mark.specs.Several.{AreLargeAt, AreSameAt, IsBalancedClear}
 use Rattle.rebuild_core.specs.Known.{undone}
 use Rattle.rebuild_core.specs.Swap.{IsCaughtUp, IsSwapPlan}

@@ -1,5 +1,5 @@
 use Rattle.std.proofs.Common.{List, sym, subst}
-use Rattle.map_fold.specs.declared.op.Op.{Op}
+use Rattle.map_items.specs.declared.op.Op.{Op}
 use Rattle.kd_mark.proofs.Update.{criteria_balanced}
 use Rattle.rebuild_parts.specs.Built.{IsLawfulBuilt}
 use Rattle.rebuild_parts.proofs.built.Built.new.Goals as goal

@@ -1,6 +1,6 @@
 use Rattle.std.proofs.Common.{◌≡◌, List, ap, sym, subst}
-use Rattle.map_fold.specs.declared.op.Op.{Op}
-use Rattle.map_fold.specs.Ops.{Fit}
+use Rattle.map_items.specs.declared.op.Op.{Op}
+use Rattle.map_items.specs.Ops.{Fit}
 use Rattle.kd_tree.specs.Shape.{Shape}
 use Rattle.kd_tree.specs.Contents.{contents}
 use Rattle.rebuild_parts.specs.Built.{BuiltAt, IsLawfulBuilt}

@@ -1,8 +1,8 @@
 use Rattle.std.proofs.Common.{◌≡◌, List, length, ap, ◌∙◌, sym, subst, arith}
 use Rattle.std.proofs.lemmas.Result.{IfOk-weaker}
-use Rattle.map_fold.specs.declared.item.Item.{Item}
-use Rattle.map_fold.specs.Contents.{AreContents}
-use Rattle.map_fold.proofs.Numbered.{contents_length}
+use Rattle.map_items.specs.declared.item.Item.{Item}
+use Rattle.map_items.specs.Contents.{AreContents}
+use Rattle.map_items.proofs.Numbered.{contents_length}
 use Rattle.kd_tree.specs.Contents.{AreDistinct, AreKept, contents}
 use Rattle.kd_tree.proofs.Held.{are_distinct, are_kept, by_number-are}
 use Rattle.rebuild_parts.specs.Built.{AreNumbersOf, JobAt}

@@ -1,11 +1,11 @@
 use Rattle.std.proofs.Common.{List, [], ◌∷◌, sym, subst}
-use Rattle.map_fold.specs.declared.item.Item.{Item}
-use Rattle.map_fold.specs.declared.op.Op.{Op}
-use Rattle.map_fold.specs.declared.op.Op.TheVariants.{Mark}
-use Rattle.map_fold.specs.Contents.{AreContents, chosen_by}
-use Rattle.map_fold.specs.Ops.{Fit, replay}
-use Rattle.map_fold.proofs.Numbered.{contents_mark}
-use Rattle.map_fold.proofs.Replays.{fit_append, replay-append}
+use Rattle.map_items.specs.declared.item.Item.{Item}
+use Rattle.map_items.specs.declared.op.Op.{Op}
+use Rattle.map_items.specs.declared.op.Op.TheVariants.{Mark}
+use Rattle.map_items.specs.Contents.{AreContents, chosen_by}
+use Rattle.map_items.specs.Ops.{Fit, replay}
+use Rattle.map_items.proofs.Numbered.{contents_mark}
+use Rattle.map_items.proofs.Replays.{fit_append, replay-append}
 use Rattle.base_trials.proofs.tests.script.Script.mark.Goals as goal
 
 pub invariant_of-result : goal.invariant_of-result

@@ -1,11 +1,11 @@
 use Rattle.std.proofs.Common.{◌+◌, List, [], ◌∷◌, ◌∙◌, sym, subst, arith}
-use Rattle.map_fold.specs.declared.item.Item.{Item}
-use Rattle.map_fold.specs.declared.op.Op.{Op}
-use Rattle.map_fold.specs.declared.op.Op.TheVariants.{Put}
-use Rattle.map_fold.specs.Contents.{AreContents}
-use Rattle.map_fold.specs.Ops.{Fit, replay}
-use Rattle.map_fold.proofs.Numbered.{contents_length, contents_push, put-above, unheld_above}
-use Rattle.map_fold.proofs.Replays.{fit_append, replay-append}
+use Rattle.map_items.specs.declared.item.Item.{Item}
+use Rattle.map_items.specs.declared.op.Op.{Op}
+use Rattle.map_items.specs.declared.op.Op.TheVariants.{Put}
+use Rattle.map_items.specs.Contents.{AreContents}
+use Rattle.map_items.specs.Ops.{Fit, replay}
+use Rattle.map_items.proofs.Numbered.{contents_length, contents_push, put-above, unheld_above}
+use Rattle.map_items.proofs.Replays.{fit_append, replay-append}
 use Rattle.base_trials.proofs.tests.script.Script.put.Goals as goal
 
 pub invariant_of-result : goal.invariant_of-result

@@ -1,5 +1,0 @@
-pub mod AsBox
-pub mod Crossing
-pub mod Holding
-pub mod Made
-pub mod Replayed

@@ -1,6 +1,0 @@
-pub mod Answers
-pub mod Building
-pub mod Done
-pub mod Forms
-pub mod Held
-pub mod Status

@@ -1,5 +1,0 @@
-use Rattle.std.proofs.Common.{length}
-use Rattle.kd_replace.proofs.replace.+levels_with.Given as goal
-
-abbrev pub decreases-levels_with : goal.decreases-levels_with
-decreases-levels_with l = length l.sides.now

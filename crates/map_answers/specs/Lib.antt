@@ -1,5 +1,0 @@
-pub mod Answers
-pub mod Nearest
-pub mod Thinned
-pub mod Neighbours
-pub mod Clusters

@@ -1,0 +1,170 @@
+//! What a search for the nearest points finds.
+ghost use Rattle.std.specs.Prelude.{◌≡◌, ◌<◌, ◌≤◌, [], ◌∷◌, ◌++◌, ◌-◌, length, take, IsOk, OnOk, OnErr};
+ghost use Rattle.std.specs.List.{insert};
+ghost use Rattle.map_fold.specs.Answers.{put_hit, is_nearer};
+ghost use Rattle.map_fold.specs.Nearest.{AreRanked};
+
+use map_items::{NoMemory, Sequence};
+use point_geom::Point;
+use smallvec::SmallVec;
+use std::alloc::Global;
+use std::marker::Model;
+
+/// A live point that was found.
+#[derive(Clone, Copy, Debug, Default, PartialEq, Eq)]
+pub struct Hit {
+    pub number: u32,
+    pub point: Point,
+    /// The squared distance from the query, in squared millimetres.
+    pub dist2: u128,
+}
+
+/// A list of hits, of which the first 16 take no memory.
+#[derive(Debug, Drop)]
+pub struct Hits {
+    hits: SmallVec<Hit, 16>,
+    // Each hit came by `put`, so they are in order.
+    ranked: bool,
+}
+
+/// The hits of each of several searches, in their order.
+pub type HitLists = Sequence<Hits>;
+
+impl Model for Hits {
+    ghost use Rattle.std.specs.Prelude.{List, ◌≡◌, ◌≤◌, true};
+    ghost use Rattle.map_fold.specs.declared.hits.Hit.{Hit};
+    ghost use Rattle.map_fold.specs.Nearest.{AreRanked};
+
+    ghost Value = { List Hit };
+
+    ghost view = { λ s. s.hits.items };
+
+    ghost invariant = { λ s. (16 ≤ s.hits.capacity) × (s.ranked ≡ true → AreRanked s.hits.items) };
+}
+
+impl Hits {
+    /// A list of nothing, which takes no memory.
+    pub fn new(alloc: Global) -> Self
+        ensures { result ≡ [] }
+    {
+        Hits {
+            hits: SmallVec::new(alloc),
+            ranked: true,
+        }
+    }
+
+    /// How many there are.
+    pub fn len(&self) -> usize
+        ensures { result ≡ length self.now }
+    {
+        self.hits.len()
+    }
+
+    /// All of them, in order.
+    pub fn as_slice(&self) -> &[Hit]
+        ensures { result.now ≡ self.now }
+    {
+        self.hits.as_slice()
+    }
+
+    /// Puts one more at the end. Where memory runs out, the list stays as it was.
+    pub fn push(&mut self, hit: Hit) -> Result<(), NoMemory>
+        ensures ok { OnOk result (self.new ≡ self.old ++ hit ∷ []) }
+        ensures err { OnErr result (self.new ≡ self.old) }
+        ensures succeeds { length self.old < 16 → IsOk result }
+    {
+        self.hits.push(hit)?;
+        self.ranked = false;
+        Ok(())
+    }
+
+    /// Puts a hit in its place among hits in order, of which the nearest k are kept. Costs as many steps as there are hits
+    /// after it, or k steps where `push` was called before.
+    pub fn put(&mut self, k: usize, hit: Hit) -> Result<(), NoMemory>
+        requires k_from { 1 ≤ k }
+        requires few { length self.old ≤ k }
+        ensures ok { OnOk result (self.new ≡ take k (put_hit hit self.old)) }
+        ensures err { OnErr result (self.new ≡ self.old) }
+        ensures succeeds { k ≤ 16 → IsOk result }
+    {
+        let at = self.place_of(&hit);
+        if at == k {
+            return Ok(());
+        }
+        put_at(&mut self.hits, k, at, &hit)
+    }
+
+    // Where the hit goes.
+    fn place_of(&self, hit: &Hit) -> usize
+        ensures bound { result ≤ length self.now }
+        ensures value { insert self.now result hit.now ≡ put_hit hit.now self.now }
+    {
+        if self.ranked {
+            place_from_end(self.hits.as_slice(), hit)
+        } else {
+            place_from_start(self.hits.as_slice(), hit)
+        }
+    }
+}
+
+fn place_from_start(hits: &[Hit], hit: &Hit) -> usize
+    ensures bound { result ≤ length hits.now }
+    ensures value { insert hits.now result hit.now ≡ put_hit hit.now hits.now }
+{
+    let mut at = 0;
+    while at < hits.len() && is_nearer(&hits[at], hit) {
+        at += 1;
+    }
+    at
+}
+
+fn place_from_end(hits: &[Hit], hit: &Hit) -> usize
+    requires { AreRanked hits.now }
+    ensures bound { result ≤ length hits.now }
+    ensures value { insert hits.now result hit.now ≡ put_hit hit.now hits.now }
+{
+    let mut at = hits.len();
+    while 0 < at && !is_nearer(&hits[at - 1], hit) {
+        at -= 1;
+    }
+    at
+}
+
+// Puts the hit at this place, and keeps the first k.
+fn put_at(hits: &mut SmallVec<Hit, 16>, k: usize, at: usize, hit: &Hit) -> Result<(), NoMemory>
+    requires kept { at < k }
+    requires bound { at ≤ length hits.old.items }
+    requires few { length hits.old.items ≤ k }
+    ensures ok { OnOk result (hits.new.items ≡ take k (insert hits.old.items at hit.now)) }
+    ensures err { OnErr result (hits.new ≡ hits.old) }
+    ensures capacity { hits.old.capacity ≤ hits.new.capacity }
+    ensures succeeds { k ≤ hits.old.capacity → IsOk result }
+{
+    if hits.len() < k {
+        hits.push(*hit)?;
+    }
+    put_before_last(hits.as_mut_slice(), at, *hit);
+    Ok(())
+}
+
+// Puts the hit at this place, and drops the last.
+fn put_before_last(hits: &mut [Hit], at: usize, hit: Hit)
+    requires { at < length hits.old }
+    ensures { hits.new ≡ insert (take (length hits.old - 1) hits.old) at hit }
+{
+    let last = hits.len() - 1;
+    hits.copy_within(at..last, at + 1);
+    hits[at] = hit;
+}
+
+// Most hits differ in their distance.
+fn is_nearer(a: &Hit, b: &Hit) -> bool
+    ensures { result ≡ is_nearer a.now b.now }
+{
+    a.dist2 < b.dist2
+        || a.dist2 == b.dist2
+            && a.point
+                .cmp_place(&b.point)
+                .then(a.number.cmp(&b.number))
+                .is_lt()
+}

@@ -1,0 +1,5 @@
+pub mod Numbered
+pub mod Folds
+pub mod Replays
+pub mod Same
+pub mod Puts

@@ -1,0 +1,4 @@
+pub mod Sizes
+pub mod Contents
+pub mod Fold
+pub mod Ops

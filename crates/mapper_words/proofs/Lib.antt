@@ -1,4 +1,0 @@
-pub mod FewWords
-pub mod Digits
-pub mod Taken
-pub mod OneAsk
