@@ -1,6 +1,6 @@
 -- Actions while several subtrees are watched, and nodes above these joined.
-use Rattle.std.proofs.Common.{◌≡◌, ℕ, true, false, inl, inr, refl, ap, ◌∙◌, sym, subst, arith, List, [], ◌∷◌, Option, Some, None}
-use Rattle.std.proofs.lemmas.Bool.{cond_both}
+use Rattle.std.proofs.Common.{◌≡◌, ℕ, true, false, inl, inr, refl, ap, ◌∙◌, sym, subst, arith, List, [], ◌∷◌, Option, Some, None, length}
+use Rattle.std.proofs.lemmas.Bool.{cond_both, eqb-true}
 use Rattle.map_items.specs.declared.choice.Choice.{Choice}
 use Rattle.kd_mark.specs.Reach.{covers, meets, reach}
 use Rattle.kd_mark.specs.declared.reach.Reach.{Reach}
@@ -18,8 +18,8 @@ use Rattle.map_items.specs.Contents.{chosen_by, marked_item}
 use Rattle.kd_mark.specs.Mark.{marked_shape, RebuildsNoneEntered}
 use Rattle.kd_mark.specs.Refresh.{IsNotDue, RefreshesIfDue}
 use Rattle.kd_mark.specs.Update.{IsBalancedBelow}
-use Rattle.kd_mark.specs.Watch.{IsLargeAt}
-use Rattle.kd_mark.specs.Several.{IsBalancedClear, AreLargeAt, AreSameAt, IsUpdatedClear, large_at}
+use Rattle.kd_mark.specs.Watch.{IsLargeAt, IsWatched, logged_mark}
+use Rattle.kd_mark.specs.Several.{IsBalancedClear, AreLargeAt, AreSameAt, IsUpdatedClear, large_at, AreWatched}
 use Rattle.kd_mark.proofs.InBox.{IsEntered, marked_none, marked_missed, marked_covered}
 use Rattle.kd_mark.proofs.Criteria.{criteria_none}
 use Rattle.kd_mark.proofs.Near.{near}
@@ -27,7 +27,10 @@ use Rattle.kd_mark.proofs.Trees.{at_pushed, forked}
 use Rattle.kd_mark.proofs.Refresh.{head, refresh_same, refresh_trans, refresh_fork, refreshed_refresh}
 use Rattle.kd_mark.proofs.Update.{criteria_balanced, sons_alike}
 use Rattle.kd_mark.proofs.WatchedMark.{watched-mark}
-use Rattle.kd_mark.proofs.Large.{large_nodes, large_same, large_after}
+use Rattle.kd_mark.proofs.Large.{large_nodes, large_same, large_after, watched_new}
+use Rattle.std.specs.Prelude.{◌==◌}
+use Rattle.kd_mark.specs.declared.watch.Watch.{Watch}
+use Rattle.kd_mark.specs.Watches.{paths_in}
 
 -- without a path
 
@@ -185,3 +188,13 @@ marked_joined large m c a ps lefts rights s f l r t w x k e el er u v done =
     (clear_fork large ps s (marked_item (chosen_by c) a f.item) f.axis f.left f.right (marked_shape c a f.left) (marked_shape c a f.right) l r t
     (λ n. RebuildsNoneEntered n c (marked_shape c a s)) (λ n. RebuildsNoneEntered n c (marked_shape c a f.left)) (λ n. RebuildsNoneEntered n c (marked_shape c a f.right))
     (passed_by large ps s f x k).balanced w.criteria (criteria_none c (marked_shape c a s)) there (rw (e, el) at u) (rw (e, er) at v) (rw e at done))
+
+-- where there is no watch, both are one
+pub balanced_unwatched : (large : ℕ) (ws : List Watch) (t : Shape) → (length ws == 0) ≡ true → (IsBalancedClear large (paths_in ws) t → IsBalancedBelow large t) × (IsBalancedBelow large t → IsBalancedClear large (paths_in ws) t)
+balanced_unwatched large [] t e = (clear_balanced large t, balanced_clear large t)
+balanced_unwatched large (w ∷ ws) t e = absurd (omega (arith, eqb-true (length (w ∷ ws)) 0 e))
+
+-- each watch by itself
+pub all_watched-mark : (large : ℕ) (c : Choice) (a : Tag) (ps : List (List Side)) (t new : Shape) → AreLargeAt large ps t → AreSameAt ps new (marked_shape c a t) → AreWatched (λ p. IsWatched p t new (logged_mark c a p t)) ps
+all_watched-mark large c a [] t new k e = tt
+all_watched-mark large c a (p ∷ ps) t new k e = (watched_new p t (marked_shape c a t) new _ e.0 (watched-mark c a p t k.0.node k.0.there), all_watched-mark large c a ps t new k.1 e.1)

@@ -4,13 +4,17 @@
 
 mod log_mark;
 mod mark;
+mod mark_watched;
 mod reach;
 mod rebuild;
 mod watch;
+mod watches;
 mod ways;
 
-pub use log_mark::{log_each_mark, note_owed};
-pub use mark::{marked, marked_within};
+pub use log_mark::note_owed;
+pub use mark::marked;
+pub use mark_watched::marked_watched;
 pub use rebuild::{LEAST, NEVER, joined, rebuilt, refreshed, rejoined};
 pub use watch::{Watch, note};
+pub use watches::Watches;
 pub use ways::{Unwatched, Watched, Ways, spared_from};

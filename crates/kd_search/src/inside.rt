@@ -7,6 +7,7 @@ ghost use Rattle.kd_search.specs.Inserted.{insert_all};
 ghost use Rattle.kd_search.specs.Part.{items_of};
 ghost use Rattle.kd_search.specs.Query.{IsQuery};
 
+use crate::by_number::insert_by_number;
 use crate::part::Part;
 use kd_tree::Tree;
 use map_items::{Item, Items, NoMemory};
@@ -60,34 +61,5 @@ fn add(item: &Item, c: &Cuboid, most: usize, items: &mut Vec<Item>) -> Result<()
     if !item.is_live_in(c) {
         return Ok(());
     }
-    put(item, most, items)
-}
-
-/// Puts an item in its place among items in the order of their numbers, of which the first `most` are kept.
-pub fn put(item: &Item, most: usize, items: &mut Vec<Item>) -> Result<(), NoMemory>
-    requires most_from { 1 ≤ most }
-    requires few { length items.old.items ≤ most }
-    ensures { OnOk result (items.new.items ≡ take most (insert_item item.now items.old.items)) }
-{
-    let at = place_of(items.as_slice(), item);
-    if at == most {
-        return Ok(());
-    }
-    if items.len() == most {
-        items.truncate(most - 1);
-    }
-    items.insert(at, *item)?;
-    Ok(())
-}
-
-// Where the item goes among items by number.
-fn place_of(items: &[Item], item: &Item) -> usize
-    ensures bound { result ≤ length items.now }
-    ensures value { insert items.now result item.now ≡ insert_item item.now items.now }
-{
-    let mut at = 0;
-    while at < items.len() && items[at].number <= item.number {
-        at += 1;
-    }
-    at
+    insert_by_number(item, most, items)
 }

@@ -2,6 +2,7 @@
 #![tactic(auto)]
 
 mod best;
+mod by_number;
 mod count;
 mod inside;
 mod near;
@@ -10,8 +11,9 @@ mod rivals;
 mod sides;
 
 pub use best::best_in;
+pub use by_number::insert_by_number;
 pub use count::count_in;
-pub use inside::{in_cuboid, put};
+pub use inside::in_cuboid;
 pub use near::nearest;
-pub use part::live;
+pub use part::live_under;
 pub use rivals::{Rivals, rivals_in};

@@ -7,7 +7,7 @@ ghost use Rattle.kd_tree.specs.Walk.{walk};
 ghost use Rattle.kd_search.specs.Nearest.{IsBound, put_all};
 ghost use Rattle.kd_search.specs.Query.{IsQuery};
 
-use crate::part::live;
+use crate::part::live_under;
 use crate::sides::Sides;
 use kd_tree::Tree;
 use map_fold::{Hit, Hits};
@@ -74,7 +74,7 @@ fn add_under(tree: &Tree, owed: Tag, query: &Query, found: &mut Found) -> Result
     ensures inline { query.now.k ≤ 16 → IsOk result }
 {
     let _size = tree.size();
-    if live(tree, owed) == 0 {
+    if live_under(tree, owed) == 0 {
         return Ok(());
     }
     let Some(top) = tree.top() else {

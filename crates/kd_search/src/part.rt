@@ -49,7 +49,7 @@ impl<'a> Part<'a> {
     pub(crate) fn live(&self) -> u32
         ensures { result ≡ length (live_items (items_of self.now)) }
     {
-        live(self.tree, self.owed)
+        live_under(self.tree, self.owed)
     }
 
     /// The top of a part in which some item is live.
@@ -83,7 +83,7 @@ impl<'a> Part<'a> {
 }
 
 /// How many items of a tree that owes this action are live, in the same time for each tree.
-pub fn live(tree: &Tree, owed: Tag) -> u32
+pub fn live_under(tree: &Tree, owed: Tag) -> u32
     ensures { result ≡ length (live_items (walk owed tree.now)) }
 {
     let _size = tree.size();

@@ -6,7 +6,7 @@ ghost use Rattle.kd_tree.specs.Shape.{nodes};
 ghost use Rattle.kd_tree.specs.Walk.{walk};
 ghost use Rattle.kd_search.specs.Best.{best_from, best_inside, IsBest};
 
-use crate::part::live;
+use crate::part::live_under;
 use kd_tree::{MAX_NODES, Tree};
 use map_items::{Item, Tag};
 use point_geom::Cuboid;
@@ -63,7 +63,7 @@ fn add_under(tree: &Tree, owed: Tag, c: &Cuboid, found: &mut Rivals)
     ensures count { found.new.count ≡ found.old.count + count (walk owed tree.now) c.now }
     ensures few { found.new.count ≤ found.old.count + nodes tree.now }
 {
-    if live(tree, owed) == 0 {
+    if live_under(tree, owed) == 0 {
         return;
     }
     let Some(top) = tree.top() else {

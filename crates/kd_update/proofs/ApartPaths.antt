@@ -6,7 +6,7 @@ use Rattle.kd_tree.specs.Apart.{AreAllApart, AreApart, IsClear, is_here, onward}
 use Rattle.kd_tree.specs.declared.path.Side.{Side}
 use Rattle.kd_tree.specs.declared.path.Side.TheVariants.{Left, Right}
 use Rattle.kd_mark.specs.Several.{IsBalancedClear}
-use Rattle.kd_update.specs.Parts.{PartAt, paths}
+use Rattle.kd_update.specs.Detached.{PartAt, paths}
 
 pub apart_sym : (p q : List Side) → AreApart p q → AreApart q p
 apart_sym [] q k = absurd k

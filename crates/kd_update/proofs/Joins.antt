@@ -23,6 +23,7 @@ use Rattle.kd_update.specs.Scan.{AreLive, IsGrown, IsPiece, IsPut, MayJoin, live
 use Rattle.kd_mark.proofs.Trees.{among_same}
 use Rattle.kd_mark.proofs.Among.{among_then}
 use Rattle.kd_update.proofs.Grown.{IsLive, all_first, all_last, distinct_front, live_of, new_first}
+use Rattle.kd_update.specs.declared.limits.TheConstants.{MAX_PASS_LEVELS}
 
 -- items put one after the other
 
@@ -69,7 +70,7 @@ walk_distinct s is d = once_moved _ _ (IsPermutation-append_left is _ _ (IsPermu
 pub contents_size : (s : Shape) → length (contents s) ≡ length (walk keep_tag s)
 contents_size s = length_permutation (walk keep_tag s) (contents s) (by_number_moves (walk keep_tag s))
 
-pub join_piece : (large : ℕ) (s : Shape) (is : List Item) → MayJoin (contents s) is → length is < max 2 large → length is < 4194304 → levels s ≤ 490 → nodes s + length is ≤ 4194304 → IsPiece large s is
+pub join_piece : (large : ℕ) (s : Shape) (is : List Item) → MayJoin (contents s) is → length is < max 2 large → length is < 4194304 → levels s ≤ MAX_PASS_LEVELS → nodes s + length is ≤ 4194304 → IsPiece large s is
 join_piece large s is k small short low few = record { live = k.live; distinct = walk_distinct s is k.distinct; small = small; short = short; low = low; few = few }
 
 -- what a tree that has grown by them holds, and what numbers it has

@@ -1,13 +1,9 @@
 -- Points that are put while several subtrees are watched, and what is watched of each.
-use Rattle.std.proofs.Common.{◌≡◌, ℕ, ◌≤◌, ◌<◌, true, false, refl, sym, subst, arith, length, List, [], ◌∷◌, Option, Some, None}
-use Rattle.std.specs.Prelude.{◌==◌}
-use Rattle.std.proofs.lemmas.Bool.{eqb-true}
+use Rattle.std.proofs.Common.{◌≡◌, ℕ, ◌≤◌, ◌<◌, false, refl, sym, subst, arith, List, [], ◌∷◌, Option, Some, None}
 use Rattle.point_geom.specs.Place.{Place}
-use Rattle.map_items.specs.declared.choice.Choice.{Choice}
 use Rattle.point_geom.specs.Axes.{next_axis}
 use Rattle.point_geom.specs.declared.axis.Axis.{Axis}
 use Rattle.node_labels.specs.Labels.{keep_tag}
-use Rattle.node_labels.specs.declared.tag.Tag.{Tag}
 use Rattle.kd_tree.specs.Shape.{Shape, leaf, fork, nodes}
 use Rattle.kd_tree.specs.Walk.{times}
 use Rattle.kd_tree.specs.Sound.{IsSound}
@@ -17,27 +13,17 @@ use Rattle.kd_tree.specs.declared.change.Fork.{Fork}
 use Rattle.kd_tree.specs.declared.path.Side.{Side}
 use Rattle.kd_tree.specs.declared.path.Side.TheVariants.{Left, Right}
 use Rattle.map_items.specs.Contents.{live_at}
-use Rattle.kd_mark.specs.Mark.{marked_shape}
 use Rattle.kd_update.specs.Put.{leaf_of, put_from, put_under, RebuildsNoneOnRoute}
 use Rattle.kd_mark.specs.Refresh.{IsNotDue, RefreshesIfDue}
-use Rattle.kd_mark.specs.Update.{IsBalancedBelow}
-use Rattle.kd_mark.specs.Watch.{IsWatched, logged_mark}
+use Rattle.kd_mark.specs.Watch.{IsWatched}
 use Rattle.kd_update.specs.Watch.{logged_put}
-use Rattle.kd_mark.specs.declared.watch.Watch.{Watch}
-use Rattle.kd_mark.specs.Watches.{paths_in}
-use Rattle.kd_mark.specs.Several.{IsBalancedClear, AreLargeAt, AreSameAt, AreWatched, IsUpdatedClear, large_at}
+use Rattle.kd_mark.specs.Several.{AreLargeAt, AreSameAt, AreWatched, IsUpdatedClear, large_at}
 use Rattle.kd_update.proofs.Route.{IsOnRoute, route_none}
 use Rattle.kd_mark.proofs.Near.{near}
 use Rattle.kd_update.proofs.Near.{with_near}
-use Rattle.kd_mark.proofs.WatchedMark.{watched-mark}
 use Rattle.kd_update.proofs.Watched.{watched-put}
 use Rattle.kd_mark.proofs.Large.{large_nodes, large_after, watched_new}
-use Rattle.kd_mark.proofs.Several.{balanced_clear, clear_balanced, clear_plain, IsPassedBy, passed_by, clear_fork}
-
--- where there is no watch, both are one
-pub balanced_unwatched : (large : ℕ) (ws : List Watch) (t : Shape) → (length ws == 0) ≡ true → (IsBalancedClear large (paths_in ws) t → IsBalancedBelow large t) × (IsBalancedBelow large t → IsBalancedClear large (paths_in ws) t)
-balanced_unwatched large [] t e = (clear_balanced large t, balanced_clear large t)
-balanced_unwatched large (w ∷ ws) t e = absurd (omega (arith, eqb-true (length (w ∷ ws)) 0 e))
+use Rattle.kd_mark.proofs.Several.{clear_plain, IsPassedBy, passed_by, clear_fork}
 
 -- the son on one side updated, the other as it was
 clear_son : (large : ℕ) (ps : List (List Side)) (s : Shape) (f : Fork) (side : Side) (plain y t : Shape) (C Cs : ℕ → Type 0) → IsPassedBy large ps s f
@@ -56,10 +42,6 @@ clear_son large ps s f Right plain y t C Cs pass criteria none there u done =
 pub large_all_put : (large n : ℕ) (p : Place) (axis : Axis) (ps : List (List Side)) (t : Shape) → IsSound t → times n keep_tag t ≡ 0 → nodes t < 4194304 → AreLargeAt large ps t → AreLargeAt large ps (put_from n p axis t)
 large_all_put large n p axis [] t s e f k = tt
 large_all_put large n p axis (q ∷ ps) t s e f k = (large_after large q t (put_from n p axis t) _ k.0 (watched-put n p axis q t k.0.node k.0.there s e f), large_all_put large n p axis ps t s e f k.1)
-
-pub all_watched-mark : (large : ℕ) (c : Choice) (a : Tag) (ps : List (List Side)) (t new : Shape) → AreLargeAt large ps t → AreSameAt ps new (marked_shape c a t) → AreWatched (λ p. IsWatched p t new (logged_mark c a p t)) ps
-all_watched-mark large c a [] t new k e = tt
-all_watched-mark large c a (p ∷ ps) t new k e = (watched_new p t (marked_shape c a t) new _ e.0 (watched-mark c a p t k.0.node k.0.there), all_watched-mark large c a ps t new k.1 e.1)
 
 pub all_watched-put : (large n : ℕ) (p : Place) (axis : Axis) (ps : List (List Side)) (t new : Shape) → IsSound t → times n keep_tag t ≡ 0 → nodes t < 4194304 → AreLargeAt large ps t → AreSameAt ps new (put_from n p axis t)
     → AreWatched (λ q. IsWatched q t new (logged_put n p q t)) ps

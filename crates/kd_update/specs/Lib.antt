@@ -4,6 +4,6 @@ pub mod Scan
 pub mod Watch
 pub mod Watches
 pub mod Crossing
-pub mod Parts
+pub mod Detached
 pub mod Replace
 pub mod Replay

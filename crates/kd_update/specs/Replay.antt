@@ -10,6 +10,7 @@ use Rattle.kd_tree.specs.Contents.{contents}
 use Rattle.kd_mark.specs.Refresh.{AreAmong}
 use Rattle.kd_mark.specs.Update.{IsBalancedBelow}
 use Rattle.kd_tree.specs.declared.limits.TheConstants.{MAX_NODES}
+use Rattle.kd_update.specs.declared.limits.TheConstants.{MAX_PASS_LEVELS}
 
 -- The second tree is the first with the operations done: each point that they put adds a level and a node at most, and it stays balanced.
 pub record IsPerformed (large : ℕ) (s : Shape) (ops : List Op) (t : Shape) : Type 0 where
@@ -41,5 +42,5 @@ pub record IsRun (large : ℕ) (ops : List Op) (s : Shape) : Type 0 where
   pub many : 22 ≤ length ops
   pub small : length ops < max 2 large
   pub short : length ops < MAX_NODES
-  pub low : levels s ≤ 490
+  pub low : levels s ≤ MAX_PASS_LEVELS
   pub few : nodes s + length ops ≤ MAX_NODES

@@ -12,6 +12,7 @@ use Rattle.kd_mark.specs.Refresh.{AreAmong}
 use Rattle.kd_mark.specs.Update.{IsBalancedBelow}
 use Rattle.kd_update.specs.Put.{goes_left}
 use Rattle.kd_tree.specs.declared.limits.TheConstants.{MAX_NODES}
+use Rattle.kd_update.specs.declared.limits.TheConstants.{MAX_PASS_LEVELS}
 
 -- the items put one after the other
 abbrev pub put_each : List Item → List Item → List Item
@@ -50,7 +51,7 @@ pub record IsPiece (large : ℕ) (s : Shape) (is : List Item) : Type 0 where
   pub distinct : AreDistinct (walk keep_tag s ++ is)
   pub small : length is < max 2 large
   pub short : length is < MAX_NODES
-  pub low : levels s ≤ 490
+  pub low : levels s ≤ MAX_PASS_LEVELS
   pub few : nodes s + length is ≤ MAX_NODES
 
 -- The second tree has what is left of the first and the items, on no more nodes than both and on few more levels.

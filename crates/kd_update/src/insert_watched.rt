@@ -14,10 +14,9 @@ ghost use Rattle.kd_update.specs.Watch.{logged_put};
 ghost use Rattle.kd_mark.specs.Watches.{AreExtended, AreFewMore, HaveRoom, paths_in};
 ghost use Rattle.kd_update.specs.Watches.{with_puts};
 
-use crate::Watches;
 use crate::insert::{put, put_below};
 use crate::log_put::log_puts;
-use kd_mark::Watched;
+use kd_mark::{Watched, Watches};
 use kd_tree::{Block, MAX_LEVELS, MAX_NODES, Steps, Tree};
 use map_items::{Item, NoMemory};
 use point_geom::{Axis, Point};

@@ -4,9 +4,9 @@
 
 mod insert;
 mod insert_watched;
+mod limits;
 mod log_put;
 mod log_scan;
-mod mark_watched;
 mod numbered;
 mod one_pass;
 mod part_items;
@@ -20,19 +20,17 @@ mod scan;
 mod scan_watched;
 mod settle;
 mod sides;
-mod watches;
 
 pub use insert::put;
 pub use insert_watched::put_watched;
-pub use kd_mark::{Watch, marked};
-pub use mark_watched::marked_watched;
+pub use kd_mark::{Watch, Watches, marked, marked_watched};
+pub use limits::{MAX_PASS_LEVELS, PASS_FROM};
 pub use numbered::{live_items, put_points};
 pub use one_pass::put_at_once;
 pub use replace::replaced;
 pub use replacement::Replaced;
 pub use replay::replayed;
 pub use room::roomy;
-pub use scan::{LOW, put_all};
+pub use scan::put_all;
 pub use scan_watched::put_all_watched;
 pub use settle::settled;
-pub use watches::Watches;

@@ -6,10 +6,9 @@ ghost use Rattle.kd_update.specs.Watch.{logged_put};
 ghost use Rattle.kd_mark.specs.Watches.{AreExtended, AreFewMore, HaveRoom};
 ghost use Rattle.kd_update.specs.Watches.{with_puts};
 
-use crate::Watches;
 use crate::insert::goes_left;
 use crate::sides::goes_to;
-use kd_mark::{Watch, note, note_owed};
+use kd_mark::{Watch, Watches, note, note_owed};
 use kd_tree::{Side, Tree};
 use map_items::{NoMemory, Op, Tag};
 use op_logger::{MAX_LOGGED, OpLog};

@@ -5,10 +5,9 @@ ghost use Rattle.kd_tree.specs.Walk.{tagged};
 ghost use Rattle.kd_mark.specs.Watches.{AreExtended, AreMore};
 ghost use Rattle.kd_update.specs.Crossing.{HaveRoomAtOnce, going, logged_scan, puts_of, with_scan};
 
-use crate::Watches;
 use crate::insert::goes_left;
 use crate::sides::goes_to;
-use kd_mark::{Watch, note, note_owed};
+use kd_mark::{Watch, Watches, note, note_owed};
 use kd_tree::{Side, Tree};
 use map_items::{Item, NoMemory, Op, Tag};
 use op_logger::{MAX_LOGGED, OpLog};

@@ -4,15 +4,12 @@ ghost use Rattle.map_items.specs.Ops.{Fit};
 ghost use Rattle.kd_tree.specs.Contents.{contents};
 ghost use Rattle.kd_update.specs.Replay.{ArePuts, IsPerformed, IsRun, is_put, items_put};
 
-use crate::{LOW, put_at_once};
+use crate::{MAX_PASS_LEVELS, PASS_FROM, put_at_once};
 use kd_tree::{MAX_NODES, Scratch, Steps, Tree};
 use map_items::{Item, NoMemory, Op};
 use point_geom::Axis;
 use std::alloc::Global;
 use std::sync::ledger::Ledger;
-
-// From so many points on a run is put in one pass. A pass may add 22 levels, which fewer points put one by one might not.
-const RUN: usize = 64;
 
 // How many of the operations are done next: a run, as far as one pass may take it, or one operation alone.
 pub(crate) fn most_at_once(tree: &Tree, large: u32, ops: &[Op]) -> usize
@@ -22,15 +19,15 @@ pub(crate) fn most_at_once(tree: &Tree, large: u32, ops: &[Op]) -> usize
     ensures run { 1 < result → IsRun large (take result ops.now) tree.now }
 {
     let size = tree.size();
-    if tree.levels() > LOW || size >= MAX_NODES {
+    if tree.levels() > MAX_PASS_LEVELS || size >= MAX_NODES {
         return 1;
     }
     let most = (large.clamp(2, MAX_NODES) - 1).min(MAX_NODES - size) as usize;
-    if most < RUN {
+    if most < PASS_FROM {
         return 1;
     }
     let count = run_length(ops, most);
-    if count < RUN {
+    if count < PASS_FROM {
         return 1;
     }
     count

@@ -8,16 +8,13 @@ ghost use Rattle.kd_update.specs.Scan.{IsPut, MayJoin, numbers_in, put_each};
 
 use crate::insert::put_below;
 use crate::one_pass::put_at_once;
-use crate::roomy;
+use crate::{MAX_PASS_LEVELS, roomy};
 use kd_mark::Unwatched;
 use kd_tree::{Block, MAX_LEVELS, MAX_NODES, Scratch, Steps, Tree};
 use map_items::{Item, NoMemory};
 use point_geom::Axis;
 use std::alloc::Global;
 use std::sync::ledger::Ledger;
-
-/// A pass adds at most 22 levels, so it begins with no more than these.
-pub const LOW: u32 = 490;
 
 /// The tree with these items put: each of them is live, and its number isn't held.
 ///
@@ -80,7 +77,7 @@ fn most_at_once(tree: &Tree, large: u32) -> usize
     ensures small { result < max 2 large }
     ensures short { result < MAX_NODES }
 {
-    if tree.levels() > LOW {
+    if tree.levels() > MAX_PASS_LEVELS {
         return 1;
     }
     large.clamp(2, MAX_NODES) as usize - 1
@@ -116,7 +113,7 @@ fn put_piece<L: Ledger>(
     ensures { IfOk result (λ t. IsPut large tree items.now t) }
 {
     let _size = tree.size();
-    if tree.levels() > LOW || tree.size() + items.len() as u32 > MAX_NODES {
+    if tree.levels() > MAX_PASS_LEVELS || tree.size() + items.len() as u32 > MAX_NODES {
         return put_singly(alloc, tree, large, items, steps);
     }
     let mut items = Vec::from_slice(alloc, items)?;

@@ -10,11 +10,11 @@ ghost use Rattle.kd_mark.specs.Several.{AreLargeAt, AreWatched, IsBalancedClear}
 ghost use Rattle.kd_mark.specs.Watch.{IsWatched};
 ghost use Rattle.kd_mark.specs.Watches.{AreExtended, AreMore, paths_in};
 ghost use Rattle.kd_update.specs.Crossing.{HaveRoomAtOnce, logged_scan, with_scan};
+ghost use Rattle.kd_update.specs.declared.limits.TheConstants.{MAX_PASS_LEVELS};
 
-use crate::Watches;
 use crate::log_scan::log_scans;
 use crate::put_beside::put_beside;
-use kd_mark::Watched;
+use kd_mark::{Watched, Watches};
 use kd_tree::{MAX_NODES, Scratch, Steps, Tree};
 use map_items::{Item, NoMemory};
 use point_geom::Axis;
@@ -38,7 +38,7 @@ pub fn put_all_watched<L: Ledger>(
     requires fit { MayJoin (contents tree) items.now }
     requires small { length items.now < max 2 large }
     requires short { length items.now < MAX_NODES }
-    requires low { levels tree ≤ 490 }
+    requires low { levels tree ≤ MAX_PASS_LEVELS }
     requires few { nodes tree + length items.now ≤ MAX_NODES }
     requires there { AreLargeAt large (paths_in watches.old) tree }
     requires apart { AreAllApart (paths_in watches.old) }

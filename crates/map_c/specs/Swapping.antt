@@ -3,7 +3,7 @@ use Rattle.std.specs.Prelude.{◌≡◌, ◌<◌, ◌⊎◌, ℕ, ℤ, Bool, fal
 use Rattle.rebuild_core.specs.Known.{IsPartOf, IsStale, undone}
 use Rattle.rebuild_core.specs.Detach.{IsDetachStep, IsNoDetach, IsSlot}
 use Rattle.rebuild_core.specs.Lawful.{StateAt}
-use Rattle.kd_update.specs.Parts.{PartAt}
+use Rattle.kd_update.specs.Detached.{PartAt}
 use Rattle.rebuild_core.specs.Swap.{IsSwapStep, MaySwap}
 use Rattle.rebuild_parts.specs.declared.fault.SwapFault.{SwapFault}
 use Rattle.rebuild_parts.specs.declared.fault.SwapFault.TheVariants as fault
@@ -14,6 +14,7 @@ use Rattle.map_c.specs.Building.{built_in}
 use Rattle.map_c.specs.Done.{DoneAt}
 use Rattle.map_c.specs.Status.{bad_number, behind, empty, full, no_memory, nothing_to_detach, stale}
 use Rattle.map_c.specs.Maps.{map_in}
+use Rattle.rebuild_parts.specs.declared.fault.TheConstants.{MAX_UNFORCED}
 
 -- The handle held a map, and holds it with a subtree detached into the slot, of which the other handle holds the job.
 pub record IsDetached (slot : ℕ) (old new job : Option Content) : Type 0 where
@@ -63,7 +64,7 @@ pub record IsBehindIn (force : Bool) (c built : Option Content) : Type 0 where
   pub unforced : force ≡ false
   pub part : PartAt
   pub of : IsPartOf value.built state.parts part
-  pub many : 64 < length (undone value.built part)
+  pub many : MAX_UNFORCED < length (undone value.built part)
 
 -- The operations that are left stand beside the built subtree, to be done on it next.
 pub record IsLeft (c old new : Option Content) : Type 0 where

@@ -7,7 +7,7 @@ use Rattle.kd_mark.specs.Update.{IsBalancedBelow}
 use Rattle.kd_mark.proofs.Several.{clear_balanced, balanced_clear}
 use Rattle.map_update.specs.Draft.{IsDraft, IsDraftLeft}
 use Rattle.map_update.specs.declared.work.Work.{Work}
-use Rattle.kd_update.specs.Parts.{PartAt, paths, watches_of}
+use Rattle.kd_update.specs.Detached.{PartAt, paths, watches_of}
 use Rattle.map_update.proofs.Detached.{left_none}
 
 none_watched : (ps : List PartAt) → [] ≡ watches_of ps → ps ≡ []

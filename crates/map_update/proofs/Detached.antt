@@ -15,7 +15,7 @@ use Rattle.kd_tree.specs.Apart.{AreAllApart, IsClear}
 use Rattle.kd_tree.specs.declared.path.Side.{Side}
 use Rattle.kd_mark.specs.Watch.{IsWatched}
 use Rattle.kd_mark.specs.Several.{AreLargeAt, AreSameAt, AreWatched}
-use Rattle.kd_update.specs.Parts.{AreEachLawful, AreInSlots, AreLawfulParts, AreLeft, HaveLogRoom, HaveOwnTickets, IsLawfulPart, IsNewTicket, PartAt, paths}
+use Rattle.kd_update.specs.Detached.{AreEachLawful, AreInSlots, AreLawfulParts, AreLeft, HaveLogRoom, HaveOwnTickets, IsLawfulPart, IsNewTicket, PartAt, paths}
 
 -- one part
 

@@ -16,7 +16,7 @@ use Rattle.kd_mark.specs.Several.{AreWatched, IsBalancedClear}
 use Rattle.kd_mark.specs.Watch.{IsWatched}
 use Rattle.kd_update.proofs.Crossing.{logged_scan_few, scan_puts}
 use Rattle.map_update.specs.Draft.{AreStill, IsDraft, IsDraftLeft, IsWorked}
-use Rattle.kd_update.specs.Parts.{PartAt, watch_of, watches_of}
+use Rattle.kd_update.specs.Detached.{PartAt, watch_of, watches_of}
 use Rattle.map_update.specs.declared.work.Work.{Work}
 use Rattle.map_update.proofs.Detached.{HaveLogRoomOf, logged}
 use Rattle.map_update.proofs.Drafts.{among_below}

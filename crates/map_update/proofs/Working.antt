@@ -33,7 +33,7 @@ use Rattle.kd_update.proofs.Numbers.{left_few, unheld}
 use Rattle.kd_mark.proofs.Several.{balanced_clear}
 use Rattle.kd_mark.proofs.Update.{criteria_balanced}
 use Rattle.map_update.specs.Draft.{IsDraft, IsDraftLeft}
-use Rattle.kd_update.specs.Parts.{AreLawfulParts, AreLeft, HaveLogRoom, PartAt, paths, watch_of, watches_of}
+use Rattle.kd_update.specs.Detached.{AreLawfulParts, AreLeft, HaveLogRoom, PartAt, paths, watch_of, watches_of}
 use Rattle.map_update.specs.declared.work.Work.{Work}
 use Rattle.kd_update.proofs.ApartPaths.{clear_of_others, balanced_more, ones_moved}
 use Rattle.map_update.proofs.Detached.{HaveLogRoomOf, each_at, each_large, each_logged, each_more, each_same, each_without, left_itself, left_lawful, left_logged, left_none, left_trans, left_without, logged, paths-logged, room_of_two}

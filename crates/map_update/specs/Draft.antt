@@ -8,7 +8,7 @@ use Rattle.kd_mark.specs.declared.watch.Watch.{Watch}
 use Rattle.kd_mark.specs.Several.{IsBalancedClear}
 use Rattle.kd_mark.specs.Watches.{HaveRoom, paths_in, with_marks}
 use Rattle.kd_update.specs.Watches.{with_puts}
-use Rattle.kd_update.specs.Parts.{AreLawfulParts, AreLeft, PartAt, paths, watches_of}
+use Rattle.kd_update.specs.Detached.{AreLawfulParts, AreLeft, PartAt, paths, watches_of}
 use Rattle.map_update.specs.Single.{RebuildsNothing, entered_nodes, unrebuilt}
 use Rattle.map_update.specs.declared.work.Work.{Work}
 use Rattle.kd_tree.specs.declared.limits.TheConstants.{MAX_LEVELS, MAX_NODES}

@@ -4,6 +4,7 @@ use Rattle.kd_tree.specs.Shape.{levels, nodes}
 use Rattle.kd_update.specs.Crossing.{HaveRoomAtOnce}
 use Rattle.map_update.specs.declared.work.Work.{Work}
 use Rattle.kd_tree.specs.declared.limits.TheConstants.{MAX_NODES}
+use Rattle.kd_update.specs.declared.limits.TheConstants.{MAX_PASS_LEVELS}
 
 -- So many items may be put in one pass: they are fewer than large nodes are, the tree's bounds aren't near, and each log has room.
 -- They are at least as many as a pass may add levels.
@@ -11,6 +12,6 @@ pub record MayPass (large n : ℕ) (w : Work) : Type 0 where
   pub many : 22 ≤ n
   pub small : n < max 2 large
   pub short : n < MAX_NODES
-  pub low : levels w.tree ≤ 490
+  pub low : levels w.tree ≤ MAX_PASS_LEVELS
   pub few : nodes w.tree + n ≤ MAX_NODES
   pub room : HaveRoomAtOnce n w.watches

@@ -11,11 +11,10 @@ ghost use Rattle.map_update.specs.Draft.{DoesPlainly, IsWork, IsWorked, KeepsDra
 ghost use Rattle.map_update.specs.OnePoint.{IsTurnedAway};
 ghost use Rattle.map_update.specs.Single.{most_ops, only_mark, only_op};
 
-use crate::pieces::SCAN;
 use crate::thin::thinned;
 use crate::work::{Work, Worked};
 use kd_tree::{Scratch, Steps};
-use kd_update::live_items;
+use kd_update::{PASS_FROM, live_items};
 use map_items::{Choice, Cuboids, MAX_POINTS, Points, Settings, Tag, Update};
 use point_geom::Point;
 use std::alloc::Global;
@@ -78,7 +77,7 @@ fn added<L: Ledger>(
     ensures unrebuilt { (op : Op) → only_op next (Update.Add points.now) ≡ Some op → DoesPlainly large op work result }
     ensures ticks { (op : Op) → only_op next (Update.Add points.now) ≡ Some op → MakesFew large op work steps.old steps.new }
 {
-    if points.len() >= SCAN {
+    if points.len() >= PASS_FROM {
         let _size = work.tree.size();
         let items = live_items(alloc, next, points.as_slice())?;
         return work.put_items(alloc, large, items.as_slice(), scratch, steps);

@@ -4,23 +4,16 @@ ghost use Rattle.kd_tree.specs.Contents.{contents};
 ghost use Rattle.kd_update.specs.Crossing.{HaveRoomAtOnce};
 ghost use Rattle.kd_update.specs.Scan.{MayJoin, put_each};
 ghost use Rattle.map_update.specs.Draft.{IsDraft, IsDraftLeft, IsWork, IsWorked, KeepsWatched};
-ghost use Rattle.kd_update.specs.Parts.{PartAt};
+ghost use Rattle.kd_update.specs.Detached.{PartAt};
 ghost use Rattle.map_update.specs.Pieces.{MayPass};
 
 use crate::work::{Work, Worked};
 use kd_mark::Watch;
 use kd_tree::{MAX_NODES, Scratch, Steps};
-use kd_update::{put_all, put_all_watched};
+use kd_update::{MAX_PASS_LEVELS, PASS_FROM, put_all, put_all_watched};
 use map_items::Item;
 use std::alloc::Global;
 use std::sync::ledger::Ledger;
-
-// From so many points on an update is put in one pass. Of fewer each has most of its way to itself, so that a pass would
-// save little, and one by one they leave every node where the last of them alone would.
-pub(crate) const SCAN: usize = 64;
-
-// A pass adds at most 22 levels, so it begins with no more than these.
-const LOW: u32 = 490;
 
 impl Work {
     // The work with these items put, in as few passes as may be. Where nothing is watched that is one, before which a full tree is
@@ -70,7 +63,7 @@ impl Work {
         ensures pass { 1 < result → MayPass large result self.now }
     {
         let size = self.tree.size();
-        if self.tree.levels() > LOW || size >= MAX_NODES {
+        if self.tree.levels() > MAX_PASS_LEVELS || size >= MAX_NODES {
             return 1;
         }
         let room = least_room(self.watches.as_slice());
@@ -78,7 +71,7 @@ impl Work {
             .min(MAX_NODES - size)
             .min(room) as usize;
         let count = most.min(wanted);
-        if count < SCAN {
+        if count < PASS_FROM {
             return 1;
         }
         count

@@ -12,11 +12,11 @@ ghost use Rattle.kd_tree.specs.Maps.{map_of};
 ghost use Rattle.map_update.specs.OnePoint.{IsTurnedAway};
 
 use crate::draft::added_one;
-use crate::pieces::SCAN;
 use crate::waiting::thinned_at_once;
 use crate::work::{Work, Worked};
 use kd_search::{Rivals, rivals_in};
 use kd_tree::{Scratch, Steps};
+use kd_update::PASS_FROM;
 use map_items::{Choice, Item, MAX_POINTS, Points, Settings, Tag};
 use point_geom::{Cuboid, Point, voxel};
 use std::alloc::Global;
@@ -42,7 +42,7 @@ pub(crate) fn thinned<L: Ledger>(
     ensures still { (p : Place) → points.now ≡ p ∷ [] → IsTurnedAway settings.now.voxel (map_of work.tree next) p
         → steps.new ≡ steps.old }
 {
-    if points.len() >= SCAN && work.may_thin_at_once(points.len()) {
+    if points.len() >= PASS_FROM && work.may_thin_at_once(points.len()) {
         let points = points.as_slice();
         return thinned_at_once(alloc, work, settings, next, points, scratch, steps);
     }

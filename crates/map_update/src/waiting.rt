@@ -12,7 +12,7 @@ ghost use Rattle.kd_tree.specs.Contents.{AreDistinct, contents};
 ghost use Rattle.kd_search.specs.Best.{IsBest};
 ghost use Rattle.map_update.specs.Draft.{IsDraft, IsDraftLeft, IsWork, IsWorked, KeepsDraft, KeepsWatched};
 ghost use Rattle.kd_tree.specs.Maps.{map_of};
-ghost use Rattle.kd_update.specs.Parts.{PartAt};
+ghost use Rattle.kd_update.specs.Detached.{PartAt};
 ghost use Rattle.map_update.specs.Waiting.{NoneWaitsIn, IsJoined, IsWaiting, held_by};
 
 use crate::entrants::{Entrant, firsts};

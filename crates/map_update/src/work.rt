@@ -10,7 +10,7 @@ ghost use Rattle.kd_tree.specs.Walk.{times};
 ghost use Rattle.kd_tree.specs.Contents.{contents};
 ghost use Rattle.kd_mark.specs.Watches.{HaveRoom, paths_in};
 ghost use Rattle.map_update.specs.Draft.{DoesPlainly, IsDraft, IsDraftLeft, IsWork, IsWorked, KeepsDraft, MakesFew};
-ghost use Rattle.kd_update.specs.Parts.{PartAt};
+ghost use Rattle.kd_update.specs.Detached.{PartAt};
 
 use kd_mark::{Watch, rebuilt};
 use kd_tree::{MAX_LEVELS, MAX_NODES, Path, Steps, Tree};

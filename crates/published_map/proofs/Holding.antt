@@ -7,7 +7,7 @@ use Rattle.map_items.specs.declared.item.Item.{Item}
 use Rattle.rebuild_parts.specs.Built.{JobAt}
 use Rattle.rebuild_core.specs.Detach.{IsDetachStep}
 use Rattle.rebuild_core.specs.Lawful.{IsLawful, StateAt}
-use Rattle.kd_update.specs.Parts.{AreItemsOf}
+use Rattle.kd_update.specs.Detached.{AreItemsOf}
 use Rattle.rebuild_core.specs.Steps.{PlannedAt, entered}
 use Rattle.rebuild_core.proofs.KnownItems.{items_of_detached, items_of_entered, items_of_job}
 use Rattle.published_map.specs.Held.{IsWhole}

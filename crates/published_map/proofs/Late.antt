@@ -7,7 +7,7 @@ use Rattle.std.proofs.lemmas.Option.{same_Some}
 use Rattle.kd_tree.specs.Shape.{Shape}
 use Rattle.rebuild_parts.specs.Built.{BuiltAt}
 use Rattle.rebuild_core.specs.Lawful.{IsLawful, StateAt}
-use Rattle.kd_update.specs.Parts.{AreEachLawful, PartAt, part_of}
+use Rattle.kd_update.specs.Detached.{AreEachLawful, PartAt, part_of}
 use Rattle.rebuild_core.specs.Swap.{IsLate}
 use Rattle.rebuild_parts.specs.declared.fault.Late.{Late}
 use Rattle.rebuild_parts.specs.declared.fault.Late.TheVariants.{Stale, Behind, NoMemory}

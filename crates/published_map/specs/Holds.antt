@@ -3,7 +3,7 @@ use Rattle.std.specs.Prelude.{ℕ, ◌≤◌, List, [], ◌∷◌, Option, ◌==
 use Rattle.std.specs.List.{find}
 use Rattle.map_items.specs.declared.item.Item.{Item}
 use Rattle.rebuild_core.specs.Lawful.{StateAt}
-use Rattle.kd_update.specs.Parts.{AreItemsOf}
+use Rattle.kd_update.specs.Detached.{AreItemsOf}
 
 -- what a subtree held that was detached into this slot with this ticket
 pub record HoldAt : Type 0 where

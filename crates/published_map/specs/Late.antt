@@ -6,6 +6,7 @@ use Rattle.rebuild_parts.specs.Built.{BuiltAt}
 use Rattle.rebuild_parts.specs.declared.fault.Late.{Late}
 use Rattle.rebuild_parts.specs.declared.fault.Late.TheVariants.{Stale, Behind, NoMemory}
 use Rattle.op_logger.specs.declared.log.TheConstants.{MAX_LOGGED}
+use Rattle.rebuild_parts.specs.declared.fault.TheConstants.{MAX_UNFORCED}
 
 -- Where at most so many operations are done: but for lack of memory the value is handed back, and one that is further behind with the
 -- operations that it lacks. They can be done on its tree, and are no more than a log has.
@@ -16,4 +17,4 @@ IsLateCause b most NoMemory = ⊤
 
 -- so many operations are done in a swap: where it is forced, as many as a log has
 abbrev pub most_done : Bool → ℕ
-most_done force = if force then MAX_LOGGED else 64
+most_done force = if force then MAX_LOGGED else MAX_UNFORCED

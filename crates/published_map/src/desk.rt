@@ -8,15 +8,12 @@ use crate::shared::Shared;
 use map_items::{NoMemory, Ops};
 use op_logger::MAX_LOGGED;
 use rebuild_core::{Desk, SwapLeft, SwapOrLate, Swapped};
-use rebuild_parts::{Built, Job, Late, LogAsk, SwapFault};
+use rebuild_parts::{Built, Job, Late, LogAsk, MAX_UNFORCED, SwapFault};
 use shown_versions::{MapName, Mark};
 use std::alloc::Global;
 use std::marker::Brand;
 use std::sync::ledger::Blank;
 use std::sync::{MutexGuard, Wait};
-
-// As many operations are done in a swap that isn't forced.
-const FEW: u32 = 64;
 
 impl<L: MapName> Desk for Shared<L> {
     /// The subtree is detached as a tree in one turn of the lock, listed after it, and in a second turn the map gets the list.
@@ -47,7 +44,7 @@ impl<L: MapName> Desk for Shared<L> {
 
     /// The operations are done on a copy of the value, which shares its nodes: so each node that they touch is copied.
     fn swap<R: Wait>(&self, rt: &R, alloc: Global, built: Built, force: bool) -> Swapped {
-        let most = if force { MAX_LOGGED } else { FEW };
+        let most = if force { MAX_LOGGED } else { MAX_UNFORCED };
         match self.swap_copy(rt, alloc, &built, most) {
             Ok(()) => Ok(()),
             Err(late) => {

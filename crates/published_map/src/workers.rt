@@ -4,7 +4,7 @@ ghost use Rattle.std.specs.Prelude.{◌≡◌, ◌≤◌, true, IfErr, IfOk, IfS
 ghost use Rattle.kd_tree.specs.Counter.{IsBlankOf};
 ghost use Rattle.rebuild_parts.specs.Built.{CanBeDoneOn};
 ghost use Rattle.rebuild_core.specs.Desk.{IsAskCause};
-ghost use Rattle.kd_update.specs.Parts.{AreItemsOf};
+ghost use Rattle.kd_update.specs.Detached.{AreItemsOf};
 ghost use Rattle.published_map.specs.Late.{IsLateCause};
 
 use crate::hold::{Hold, hold_of, keep_hold};

@@ -15,7 +15,7 @@ use Rattle.kd_tree.proofs.Held.{are_contents}
 use Rattle.kd_mark.specs.Watch.{IsLargeAt}
 use Rattle.rebuild_core.specs.Detach.{IsDetachedAt, IsNoneToDetach, with_part}
 use Rattle.rebuild_core.specs.Lawful.{IsLawful, StateAt}
-use Rattle.kd_update.specs.Parts.{AreEachLawful, AreInSlots, HaveOwnTickets, IsLawfulPart, IsNewTicket, PartAt, part_in, paths}
+use Rattle.kd_update.specs.Detached.{AreEachLawful, AreInSlots, HaveOwnTickets, IsLawfulPart, IsNewTicket, PartAt, part_in, paths}
 use Rattle.kd_update.proofs.ApartPaths.{AreOnesOf, IsOneOf, apart_sym, balanced_more}
 use Rattle.map_update.proofs.Detached.{each_more}
 use Rattle.map_update.proofs.Drafts.{among_below}

@@ -9,7 +9,7 @@ use Rattle.rebuild_parts.specs.Built.{JobAt}
 use Rattle.rebuild_core.specs.Detach.{IsDetachStep, with_part}
 use Rattle.rebuild_core.specs.Lawful.{IsLawful, StateAt}
 use Rattle.rebuild_parts.specs.Logs.{LogPlan, planned_parts, relogged, with_log}
-use Rattle.kd_update.specs.Parts.{AreItemsOf, HaveOwnTickets, IsNewTicket, IsPlaceOf, PartAt, part_of}
+use Rattle.kd_update.specs.Detached.{AreItemsOf, HaveOwnTickets, IsNewTicket, IsPlaceOf, PartAt, part_of}
 use Rattle.rebuild_core.specs.Steps.{PlannedAt, entered}
 use Rattle.rebuild_core.proofs.Detaching.{later_new, part_detached, with_cases}
 

@@ -10,7 +10,7 @@ use Rattle.kd_tree.specs.Contents.{contents}
 use Rattle.rebuild_parts.specs.Built.{BuiltAt, IsLawfulBuilt}
 use Rattle.rebuild_core.specs.Known.{IsPartOf, undone}
 use Rattle.rebuild_core.specs.Lawful.{IsLawful, StateAt}
-use Rattle.kd_update.specs.Parts.{AreEachLawful, IsLawfulPart, PartAt, part_of}
+use Rattle.kd_update.specs.Detached.{AreEachLawful, IsLawfulPart, PartAt, part_of}
 
 -- a value and its part
 

@@ -7,7 +7,7 @@ use Rattle.map_items.specs.declared.update.Update.TheVariants.{Thin}
 use Rattle.kd_tree.specs.Shape.{Shape}
 use Rattle.kd_mark.specs.declared.watch.Watch.{Watch}
 use Rattle.kd_mark.specs.Watches.{HaveRoom}
-use Rattle.kd_update.specs.Parts.{watches_of}
+use Rattle.kd_update.specs.Detached.{watches_of}
 use Rattle.rebuild_core.specs.Lawful.{StateAt}
 use Rattle.kd_tree.specs.Maps.{map_of}
 use Rattle.rebuild_parts.specs.Logs.{planned_parts}

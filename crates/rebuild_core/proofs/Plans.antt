@@ -19,7 +19,7 @@ use Rattle.rebuild_parts.specs.History.{entry_by}
 use Rattle.rebuild_core.specs.Lawful.{IsLawful, StateAt}
 use Rattle.rebuild_parts.specs.Seen.{VersionAt}
 use Rattle.rebuild_parts.specs.Logs.{LogPlan, planned_parts}
-use Rattle.kd_update.specs.Parts.{AreInSlots, AreLawfulParts, PartAt, paths, watches_of}
+use Rattle.kd_update.specs.Detached.{AreInSlots, AreLawfulParts, PartAt, paths, watches_of}
 use Rattle.map_update.specs.Single.{RebuildsNothing, entered_nodes, only_op, unrebuilt}
 use Rattle.rebuild_core.specs.StateView.{IsNextOf}
 use Rattle.rebuild_core.specs.Steps.{IsDrafted, IsUnrebuiltUpdate, IsSettlePlan, IsUpdatePlan, PlannedAt, entered, plan_with}

@@ -14,7 +14,7 @@ use Rattle.kd_mark.specs.Watches.{HaveRoom, paths_in}
 use Rattle.map_update.specs.Draft.{HasRoomFor, HaveRoomFor, IsDraft, IsDraftLeft, plain_work, with_op}
 use Rattle.rebuild_core.specs.Lawful.{IsLawful, StateAt}
 use Rattle.rebuild_parts.specs.Logs.{LogPlan, planned_parts}
-use Rattle.kd_update.specs.Parts.{AreLawfulParts, AreLeft, PartAt, paths, watches_of}
+use Rattle.kd_update.specs.Detached.{AreLawfulParts, AreLeft, PartAt, paths, watches_of}
 use Rattle.map_update.specs.Single.{most_ops, only_op, RebuildsNothing}
 use Rattle.rebuild_core.specs.Stays.{HasRoomBeside, HaveLogRoomFor, logged_by}
 use Rattle.rebuild_core.specs.Steps.{IsUnrebuiltUpdate}

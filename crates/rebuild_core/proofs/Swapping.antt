@@ -21,7 +21,7 @@ use Rattle.rebuild_parts.specs.Built.{BuiltAt, IsLawfulBuilt}
 use Rattle.rebuild_core.specs.Known.{IsPartOf, IsTreeOf, undone}
 use Rattle.rebuild_core.specs.Lawful.{IsLawful, StateAt}
 use Rattle.rebuild_parts.specs.Logs.{LogPlan, planned_parts}
-use Rattle.kd_update.specs.Parts.{AreEachLawful, AreLawfulParts, AreLeft, PartAt, paths, without}
+use Rattle.kd_update.specs.Detached.{AreEachLawful, AreLawfulParts, AreLeft, PartAt, paths, without}
 use Rattle.rebuild_core.specs.Steps.{plan_with}
 use Rattle.rebuild_core.specs.Swap.{IsCaughtUp, IsLeftBySwap, IsSwapPlan}
 use Rattle.kd_update.proofs.ApartPaths.{clear_of_others, balanced_more, ones_moved}

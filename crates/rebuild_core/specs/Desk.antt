@@ -9,6 +9,7 @@ use Rattle.rebuild_parts.specs.declared.fault.SwapFault.{SwapFault}
 use Rattle.rebuild_parts.specs.declared.fault.SwapFault.TheVariants as fault_of
 use Rattle.rebuild_parts.specs.declared.fault.Late.{Late}
 use Rattle.rebuild_parts.specs.declared.fault.Late.TheVariants as late_of
+use Rattle.rebuild_parts.specs.declared.fault.TheConstants.{MAX_UNFORCED}
 
 -- a stale value's ticket is told
 abbrev pub IsAskCause : BuiltAt → LogAsk → Type 0
@@ -18,7 +19,7 @@ IsAskCause b ask_of.NoMemory = ⊤
 -- and a value is behind only where the swap isn't forced and more operations are left than are done then
 abbrev pub IsSwapCause : BuiltAt → Bool → SwapFault → Type 0
 IsSwapCause b force (fault_of.Stale ticket) = ticket ≡ b.ticket
-IsSwapCause b force (fault_of.Behind left) = (force ≡ false) × (64 < left)
+IsSwapCause b force (fault_of.Behind left) = (force ≡ false) × (MAX_UNFORCED < left)
 IsSwapCause b force fault_of.NoMemory = ⊤
 
 -- and one that is handed back is the value that was handed in: what it is told that it hasn't done can be done on its tree

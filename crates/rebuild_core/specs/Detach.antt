@@ -13,7 +13,7 @@ use Rattle.rebuild_core.specs.Known.{IsPartOf, IsStale, undone}
 use Rattle.rebuild_core.specs.Lawful.{StateAt, Stored}
 use Rattle.rebuild_parts.specs.declared.fault.LogAsk.{LogAsk}
 use Rattle.rebuild_parts.specs.declared.fault.LogAsk.TheVariants.{Stale, NoMemory}
-use Rattle.kd_update.specs.Parts.{PartAt, part_in, paths}
+use Rattle.kd_update.specs.Detached.{PartAt, part_in, paths}
 
 -- a subtree is detached afresh where its part stands, and else where the first node that is clear of the parts breaches a criterion
 abbrev pub IsDetachedAt : Option PartAt → StateAt → List Side → Type 0

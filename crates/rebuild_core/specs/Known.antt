@@ -2,7 +2,7 @@
 use Rattle.std.specs.Prelude.{◌≡◌, ◌≤◌, List, length, take, drop, Some}
 use Rattle.map_items.specs.declared.op.Op.{Op}
 use Rattle.kd_tree.specs.Shape.{Shape}
-use Rattle.kd_update.specs.Parts.{PartAt, part_of}
+use Rattle.kd_update.specs.Detached.{PartAt, part_of}
 use Rattle.op_logger.specs.declared.log.TheConstants.{MAX_LOGGED}
 use Rattle.rebuild_parts.specs.Built.{BuiltAt, CanBeDoneOn, IsLawfulBuilt}
 

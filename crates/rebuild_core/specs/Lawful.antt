@@ -9,7 +9,7 @@ use Rattle.map_items.specs.declared.entry.Entry.{Entry}
 use Rattle.rebuild_parts.specs.History.{AreEntries, updates}
 use Rattle.rebuild_parts.specs.Seen.{VersionAt}
 use Rattle.kd_tree.specs.Maps.{map_of}
-use Rattle.kd_update.specs.Parts.{AreLawfulParts, PartAt, paths}
+use Rattle.kd_update.specs.Detached.{AreLawfulParts, PartAt, paths}
 use Rattle.map_items.specs.declared.limits.TheConstants.{MAX_POINTS}
 use Rattle.rebuild_core.specs.declared.plan.TheConstants.{MAX_UPDATES}
 

@@ -7,7 +7,7 @@ use Rattle.map_items.specs.declared.update.Update.TheVariants.{Thin}
 use Rattle.kd_tree.specs.Shape.{Shape}
 use Rattle.rebuild_core.specs.Lawful.{StateAt}
 use Rattle.rebuild_core.specs.OnePoint.{IsThinnedFrom, IsTurnedAwayFrom}
-use Rattle.kd_update.specs.Parts.{PartAt, paths}
+use Rattle.kd_update.specs.Detached.{PartAt, paths}
 use Rattle.map_update.specs.Single.{entered_nodes, unrebuilt}
 use Rattle.rebuild_core.specs.Stays.{HasRoomBeside, logged_by}
 use Rattle.rebuild_core.specs.Steps.{IsUnrebuiltUpdate}

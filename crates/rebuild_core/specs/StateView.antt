@@ -4,7 +4,7 @@ use Rattle.map_items.specs.declared.entry.Entry.{Entry}
 use Rattle.rebuild_core.specs.declared.state.MapState.TheInside.{Inside}
 use Rattle.rebuild_parts.specs.History.{MayComeNext, entries_of}
 use Rattle.rebuild_core.specs.Lawful.{StateAt}
-use Rattle.kd_update.specs.Parts.{PartAt}
+use Rattle.kd_update.specs.Detached.{PartAt}
 use Rattle.rebuild_parts.specs.declared.part.PartInfo.{PartInfo}
 use Rattle.rebuild_core.specs.declared.plan.TheConstants.{MAX_UPDATES}
 

@@ -9,7 +9,7 @@ use Rattle.kd_mark.specs.Watch.{logged_mark}
 use Rattle.kd_update.specs.Watch.{logged_put}
 use Rattle.map_update.specs.Single.{most_ops}
 use Rattle.rebuild_core.specs.Lawful.{StateAt}
-use Rattle.kd_update.specs.Parts.{PartAt}
+use Rattle.kd_update.specs.Detached.{PartAt}
 use Rattle.kd_tree.specs.declared.limits.TheConstants.{MAX_LEVELS, MAX_NODES}
 use Rattle.op_logger.specs.declared.log.TheConstants.{MAX_LOGGED}
 

@@ -15,7 +15,7 @@ use Rattle.rebuild_core.specs.Lawful.{IsLawful, StateAt}
 use Rattle.rebuild_parts.specs.Seen.{VersionAt}
 use Rattle.kd_tree.specs.Maps.{map_of}
 use Rattle.rebuild_parts.specs.Logs.{LogPlan, planned_parts}
-use Rattle.kd_update.specs.Parts.{AreLawfulParts, AreLeft, HaveLogRoom, paths}
+use Rattle.kd_update.specs.Detached.{AreLawfulParts, AreLeft, HaveLogRoom, paths}
 use Rattle.rebuild_core.specs.declared.plan.Drafted.{Drafted}
 use Rattle.map_update.specs.Single.{RebuildsNothing, only_op}
 use Rattle.map_items.specs.declared.limits.TheConstants.{MAX_POINTS}

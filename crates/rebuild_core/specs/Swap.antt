@@ -16,17 +16,18 @@ use Rattle.rebuild_core.specs.Known.{IsPartOf, IsStale, undone}
 use Rattle.rebuild_core.specs.Detach.{IsLogAfter}
 use Rattle.rebuild_core.specs.Lawful.{IsLawful, StateAt}
 use Rattle.rebuild_parts.specs.Logs.{planned_parts}
-use Rattle.kd_update.specs.Parts.{PartAt, without}
+use Rattle.kd_update.specs.Detached.{PartAt, without}
 use Rattle.rebuild_core.specs.Steps.{PlannedAt, entered}
+use Rattle.rebuild_parts.specs.declared.fault.TheConstants.{MAX_UNFORCED}
 
--- the value is of one of the parts, and where the swap isn't forced it is at most 64 operations behind
+-- the value is of one of the parts, and where the swap isn't forced it lacks at most `MAX_UNFORCED` operations
 abbrev pub MaySwap : BuiltAt → Bool → StateAt → Type 0
-MaySwap b force s = (p : PartAt) × IsPartOf b s.parts p × (force ≡ false → length (undone b p) ≤ 64)
+MaySwap b force s = (p : PartAt) × IsPartOf b s.parts p × (force ≡ false → length (undone b p) ≤ MAX_UNFORCED)
 
 -- why a value isn't swapped in
 abbrev pub IsSwapFault : BuiltAt → Bool → StateAt → SwapFault → Type 0
 IsSwapFault b force s (Stale ticket) = (ticket ≡ b.ticket) × IsStale b s.parts
-IsSwapFault b force s (Behind n) = (force ≡ false) × (p : PartAt) × IsPartOf b s.parts p × (n ≡ length (undone b p)) × (64 < n)
+IsSwapFault b force s (Behind n) = (force ≡ false) × (p : PartAt) × IsPartOf b s.parts p × (n ≡ length (undone b p)) × (MAX_UNFORCED < n)
 IsSwapFault b force s NoMemory = MaySwap b force s
 
 -- the value is of one of the parts, and at most so many operations behind

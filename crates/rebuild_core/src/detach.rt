@@ -4,7 +4,7 @@ ghost use Rattle.std.specs.List.{insert};
 ghost use Rattle.rebuild_parts.specs.Built.{CanBeDoneOn};
 ghost use Rattle.rebuild_core.specs.Known.{IsFoundPart, IsStale};
 ghost use Rattle.rebuild_core.specs.Detach.{Detaches, IsDetachStep, IsDetachable, IsDetachedAt, IsLogAfter, IsLogFault, IsNoDetach, IsNoneToDetach, IsSlot, with_part};
-ghost use Rattle.kd_update.specs.Parts.{AreItemsOf, PartAt, part_in};
+ghost use Rattle.kd_update.specs.Detached.{AreItemsOf, PartAt, part_in};
 
 use crate::MapState;
 use kd_tree::Path;

@@ -1,6 +1,6 @@
 //! What the parts of a state held, handed out and put in. Nothing here changes what contracts see of a state.
 ghost use Rattle.std.specs.Prelude.{◌≡◌, None, Some, IfOk, IfSome, IsNone};
-ghost use Rattle.kd_update.specs.Parts.{AreItemsOf, PartAt, part_in, part_of};
+ghost use Rattle.kd_update.specs.Detached.{AreItemsOf, PartAt, part_in, part_of};
 
 use crate::MapState;
 use map_items::NoMemory;

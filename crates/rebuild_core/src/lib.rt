@@ -15,8 +15,8 @@ pub use desk::{Desk, SwapOrLate, Swapped};
 pub use plan::MAX_UPDATES;
 pub use planned::Planned;
 pub use rebuild_parts::{
-    Built, BuiltLeft, Holding, Job, JobLeft, Late, LogAsk, PartInfo, Snapshot, SnapshotLeft,
-    StateFault, SwapFault, Version,
+    Built, BuiltLeft, Holding, Job, JobLeft, Late, LogAsk, MAX_UNFORCED, PartInfo, Snapshot,
+    SnapshotLeft, StateFault, SwapFault, Version,
 };
 pub use state::MapState;
 pub use swap::SwapLeft;

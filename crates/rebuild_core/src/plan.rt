@@ -1,7 +1,7 @@
 //! Steps of a state: worked out by a plan, which may be refused, and then entered, which may not.
 ghost use Rattle.std.specs.Prelude.{◌≡◌, ◌+◌, ◌≤◌, length, IfOk, IfErr, OnOk, OnErr};
 ghost use Rattle.map_items.specs.Fold.{points_in};
-ghost use Rattle.kd_update.specs.Parts.{watches_of};
+ghost use Rattle.kd_update.specs.Detached.{watches_of};
 ghost use Rattle.kd_tree.specs.Counter.{IsBlankOf};
 ghost use Rattle.rebuild_parts.specs.Logs.{planned_parts};
 ghost use Rattle.rebuild_core.specs.Outcome.{IsLeftByUpdate, MakesNodes};

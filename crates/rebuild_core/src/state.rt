@@ -1,7 +1,7 @@
 //! The state of a map.
 ghost use Rattle.std.specs.Prelude.{◌≡◌, IfOk};
 ghost use Rattle.rebuild_core.specs.Lawful.{IsLawful, new_state};
-ghost use Rattle.kd_update.specs.Parts.{part_in};
+ghost use Rattle.kd_update.specs.Detached.{part_in};
 ghost use Rattle.rebuild_core.specs.StateView.{info_of};
 
 use kd_tree::{Scratch, Tree};

@@ -4,19 +4,18 @@ ghost use Rattle.kd_tree.specs.Parts.{replaced_at};
 ghost use Rattle.kd_mark.specs.Update.{IsBalancedBelow};
 ghost use Rattle.rebuild_parts.specs.Built.{BuiltAt};
 ghost use Rattle.rebuild_core.specs.Known.{IsTreeOf};
-ghost use Rattle.kd_update.specs.Parts.{AreItemsOf};
+ghost use Rattle.kd_update.specs.Detached.{AreItemsOf};
 ghost use Rattle.rebuild_core.specs.Swap.{IsLate, IsLeftUnrebuilt, IsNear, IsUnrebuiltSwap, IsSwapFault, IsSwapPlan, IsSwapStep, MakesPath, MaySwap};
 
 use crate::{MapState, Planned};
 use kd_tree::{Steps, Tree};
 use kd_update::{Replaced, replaced};
 use map_items::{NoMemory, Op, Ops};
-use rebuild_parts::{Built, Late, Part, SwapFault, caught_up, forgotten_for, others_of};
+use rebuild_parts::{
+    Built, Late, MAX_UNFORCED, Part, SwapFault, caught_up, forgotten_for, others_of,
+};
 use std::alloc::Global;
 use std::sync::ledger::Ledger;
-
-// The most operations that an unforced swap replays.
-const MOST_LEFT: u32 = 64;
 
 /// A built value that wasn't swapped in, as it was.
 #[derive(Drop)]
@@ -31,7 +30,7 @@ impl MapState {
     /// nodes above the subtree: it is not rebuilt, unless the value was made with another `large` and is out of balance. Where
     /// operations are left, or a node above is to be rebuilt, no clause says so: that is what the code does.
     ///
-    /// Without force it is refused where more than 64 operations are left. Where the tree would have more than 512 levels or
+    /// Without force it is refused where more than `MAX_UNFORCED` operations are left. Where the tree would have more than 512 levels or
     /// 4,194,304 nodes, the whole tree is rebuilt and all detached subtrees are forgotten.
     pub fn swap<L: Ledger>(
         &mut self,
@@ -85,7 +84,7 @@ impl MapState {
         };
         let done = built.done().len() as u32;
         let left = part.log.len() - done;
-        if !force && MOST_LEFT < left {
+        if !force && MAX_UNFORCED < left {
             return Err(SwapFault::Behind { left });
         }
         let ops = part.log.after(alloc, done)?;

@@ -5,7 +5,7 @@ use Rattle.std.specs.List.{remove}
 use Rattle.std.proofs.lemmas.Bool.{cond_both, eq-eqb, eqb-false, eqb-true, ne_eqb}
 use Rattle.std.proofs.lemmas.List.{map-append, take_more}
 use Rattle.kd_tree.specs.declared.path.Side.{Side}
-use Rattle.kd_update.specs.Parts.{IsNewTicket, IsPlaceOf, PartAt, part_of, paths, without}
+use Rattle.kd_update.specs.Detached.{IsNewTicket, IsPlaceOf, PartAt, part_of, paths, without}
 
 -- the paths of the first parts, and that of the next one
 pub paths_next : (ps : List PartAt) (i : ℕ) (p : PartAt) (q : List Side) (old new : List (List Side)) → i < length ps → p ≡ get_or ps i p → q ≡ p.path → old ≡ paths (take i ps) → new ≡ old ++ q ∷ [] → new ≡ paths (take (i + 1) ps)

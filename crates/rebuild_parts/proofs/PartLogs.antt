@@ -12,7 +12,7 @@ use Rattle.kd_tree.specs.Apart.{AreApart, IsClear}
 use Rattle.kd_tree.specs.declared.path.Side.{Side}
 use Rattle.kd_mark.specs.declared.watch.Watch.{Watch}
 use Rattle.rebuild_parts.specs.Logs.{AddsLogs, IsUnnamed, LogPlan, planned_parts, relogged, with_log}
-use Rattle.kd_update.specs.Parts.{AreLeft, AreOwn, IsNewTicket, IsPlaceOf, PartAt, paths, watch_of, watches_of}
+use Rattle.kd_update.specs.Detached.{AreLeft, AreOwn, IsNewTicket, IsPlaceOf, PartAt, paths, watch_of, watches_of}
 use Rattle.kd_update.proofs.ApartPaths.{apart_itself}
 
 -- the plan is of the first part

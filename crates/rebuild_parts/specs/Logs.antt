@@ -1,7 +1,7 @@
 -- What a step makes of the logs of detached subtrees.
 use Rattle.std.specs.Prelude.{◌≡◌, ℕ, List, [], ◌∷◌, ◌++◌, Option, Some, None, ◌==◌, if◌then◌else◌}
 use Rattle.map_items.specs.declared.op.Op.{Op}
-use Rattle.kd_update.specs.Parts.{IsNewTicket, PartAt}
+use Rattle.kd_update.specs.Detached.{IsNewTicket, PartAt}
 
 -- what a plan says of the part of a ticket: the log that it is to have, or none where it is forgotten
 pub record LogPlan : Type 0 where

@@ -16,7 +16,7 @@ mod snapshot;
 mod version;
 
 pub use built::{Built, BuiltLeft, caught_up};
-pub use fault::{Late, LogAsk, StateFault, SwapFault};
+pub use fault::{Late, LogAsk, MAX_UNFORCED, StateFault, SwapFault};
 pub use holding::Holding;
 pub use job::{Job, JobLeft};
 pub use logs::{PartLog, forgotten, forgotten_for, logs_of, relog_all};

@@ -2,7 +2,7 @@
 ghost use Rattle.std.specs.Prelude.{◌≡◌, ◌↔◌, true, false, List, [], ◌∷◌, IfSome, IsNone, IfOk, OnOk};
 ghost use Rattle.kd_mark.specs.declared.watch.Watch.{Watch};
 ghost use Rattle.rebuild_parts.specs.Logs.{AddsLogs, planned_parts, relogged};
-ghost use Rattle.kd_update.specs.Parts.{AreLeft, AreOwn, PartAt, without, watches_of};
+ghost use Rattle.kd_update.specs.Detached.{AreLeft, AreOwn, PartAt, without, watches_of};
 
 use crate::part::{Part, place_of};
 use kd_mark::Watch;

@@ -1,7 +1,7 @@
 //! Detached subtrees, as a state keeps them.
 ghost use Rattle.std.specs.Prelude.{◌≡◌, ◌≤◌, length, IfOk, IfSome, IsNone};
 ghost use Rattle.std.specs.Option.{option_map};
-ghost use Rattle.kd_update.specs.Parts.{IsNewTicket, IsPlaceOf, part_in, part_of, paths, without, watches_of};
+ghost use Rattle.kd_update.specs.Detached.{IsNewTicket, IsPlaceOf, part_in, part_of, paths, without, watches_of};
 
 use crate::Holding;
 use kd_mark::Watch;
@@ -37,7 +37,7 @@ pub struct Part {
 }
 
 impl Model for Part {
-    ghost use Rattle.kd_update.specs.Parts.{PartAt};
+    ghost use Rattle.kd_update.specs.Detached.{PartAt};
 
     ghost Value = { PartAt };
 

@@ -8,22 +8,19 @@ use crate::bell::Rest;
 use crate::gate::Gate;
 use map_items::{MAX_LARGE, MIN_LARGE, NoMemory};
 use rebuild_core::{Desk, SwapLeft};
-use rebuild_parts::{Built, Job, Late, SwapFault};
+use rebuild_parts::{Built, Job, Late, MAX_UNFORCED, SwapFault};
 use std::alloc::Global;
 use std::sync::Wait;
 
 // How often a value is brought up to date before its swap is forced.
 const TRIES: u32 = 8;
 
-// As many operations are left at most in the first tries: a swap of these hardly takes the lock.
-const FEW: u32 = 64;
-
-// How many tries these are.
+// In how many tries no more operations may be left than a swap takes that isn't forced: such a swap hardly holds the lock.
 const FIRST: u32 = 2;
 
-// As many are left in the later ones: what a scan of 2,000 points and a deletion log for a subtree. Beside a caller that adds one scan
-// after the other no fewer are ever left.
-const SCAN: u32 = 2_560;
+// The most that may be left in the later tries: what a scan of 2,000 points and a deletion log for a subtree. While a caller adds one
+// scan after the other no fewer are ever left.
+const SCAN_OPS: u32 = 2_560;
 
 /// Works until it is told to end, as worker 1 or 2: it looks for subtrees to be rebuilt in two slots, 1 and 2 or 3 and 4, builds
 /// them, and swaps them in. Where there is none, or memory ran out, it sleeps until its bell rings. It looks whether it was told
@@ -135,7 +132,11 @@ impl<'a, D: Desk, G: Gate> Worker<'a, D, G> {
     fn swap_in<R: Wait>(&self, rt: &R, built: Built) -> Result<(), NoMemory> {
         let mut built = built;
         for attempt in 0..TRIES {
-            let most = if attempt < FIRST { FEW } else { SCAN };
+            let most = if attempt < FIRST {
+                MAX_UNFORCED
+            } else {
+                SCAN_OPS
+            };
             let Some(replayed) = self.catch_up(rt, built, most)? else {
                 return Ok(());
             };

@@ -5,7 +5,7 @@ ghost use Rattle.std.specs.Str.{bytes_eq};
 use memchr::memchr;
 
 // A count of so few bytes fits into one, so that many are compared at a time.
-const FEW: usize = 255;
+const BYTES_AT_A_TIME: usize = 255;
 
 /// Whether the field is this word.
 pub fn is_word(field: &[u8], word: &[u8]) -> bool
@@ -28,7 +28,7 @@ pub fn count_of(byte: u8, bytes: &[u8]) -> usize
     ensures bound { result ≤ length bytes.now }
 {
     let mut count = 0;
-    for part in bytes.chunks(FEW) {
+    for part in bytes.chunks(BYTES_AT_A_TIME) {
         count += few_of(byte, part) as usize;
     }
     count

@@ -6,6 +6,7 @@ ghost use Rattle.kd_tree.specs.Counter.{IsBlankOf};
 ghost use Rattle.kd_update.specs.Crossing.{HaveRoomAtOnce};
 ghost use Rattle.kd_mark.specs.Several.{AreLargeAt};
 ghost use Rattle.kd_mark.specs.Watches.{paths_in};
+ghost use Rattle.kd_update.specs.declared.limits.TheConstants.{MAX_PASS_LEVELS};
 
 use crate::tests::assertions::{found, holds, made, same};
 use crate::tests::draw::Draw;
@@ -34,7 +35,7 @@ fn put_scan_beside<L: Ledger>(
     requires next { at.map.next + length points.now ≤ MAX_POINTS }
     requires small { length points.now < max 2 at.map.large }
     requires short { length points.now < MAX_POINTS }
-    requires low { levels at.map.tree ≤ 490 }
+    requires low { levels at.map.tree ≤ MAX_PASS_LEVELS }
     requires few { nodes at.map.tree + length points.now ≤ MAX_NODES }
     requires there { AreLargeAt at.map.large (paths_in at.watches) at.map.tree }
     requires apart { AreAllApart (paths_in at.watches) }
@@ -142,7 +143,8 @@ impl Watching {
         assert!(rt; many <= (4_194_304 - self.map.next) as usize);
         assert!(rt; many <= (4_194_304 - self.map.tree.size()) as usize);
         assert!(rt;
-            self.map.tree.levels() <= 490 && are_large(&self.map.tree, self.map.large, watches)
+            self.map.tree.levels() <= MAX_PASS_LEVELS
+                && are_large(&self.map.tree, self.map.large, watches)
         );
         assert!(rt; are_all_apart(watches) && have_room_at_once(many, watches));
         put_scan_beside::<Brand>(rt, alloc, self, points, Blank::new(1))

@@ -16,7 +16,8 @@ use Rattle.kd_mark.specs.Ways.{paths_of}
 use Rattle.kd_update.proofs.Route.{put_contents, put_numbers}
 use Rattle.kd_mark.proofs.ManyLogs.{extended_itself, more_itself, watched_before}
 use Rattle.kd_mark.proofs.Several.{large_all_same}
-use Rattle.kd_update.proofs.Several.{balanced_unwatched, all_watched-put, large_all_put}
+use Rattle.kd_mark.proofs.Several.{balanced_unwatched}
+use Rattle.kd_update.proofs.Several.{all_watched-put, large_all_put}
 use Rattle.kd_update.proofs.insert_watched.put_watched.Goals as goal
 use Rattle.kd_update.proofs.insert_watched.put_watched.Goals.{After-of-ways, After-put_below}
 

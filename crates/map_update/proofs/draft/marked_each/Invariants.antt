@@ -4,7 +4,7 @@ use Rattle.map_items.specs.Fold.{mark_boxes}
 use Rattle.kd_mark.specs.Watches.{HaveRoom}
 use Rattle.map_update.specs.Draft.{IsDraft, IsDraftLeft, IsWorked, plain_work}
 use Rattle.kd_tree.specs.Maps.{map_of}
-use Rattle.kd_update.specs.Parts.{PartAt}
+use Rattle.kd_update.specs.Detached.{PartAt}
 use Rattle.map_update.specs.Single.{RebuildsNothing, entered_nodes, only_mark}
 use Rattle.map_update.proofs.draft.marked_each.Given as goal
 

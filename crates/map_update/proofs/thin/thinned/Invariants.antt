@@ -4,7 +4,7 @@ use Rattle.map_items.specs.Fold.{thin_points}
 use Rattle.map_update.specs.Draft.{IsDraft, IsDraftLeft, IsWorked}
 use Rattle.kd_tree.specs.Maps.{map_of}
 use Rattle.map_update.specs.OnePoint.{IsTurnedAway}
-use Rattle.kd_update.specs.Parts.{PartAt}
+use Rattle.kd_update.specs.Detached.{PartAt}
 use Rattle.map_update.proofs.thin.thinned.Given as goal
 
 abbrev pub invariant-loop-point : goal.invariant-loop-point

@@ -2,7 +2,7 @@ use Rattle.std.proofs.Common.{◌≡◌, ◌≤◌, ℕ, List, drop, length}
 use Rattle.kd_tree.specs.Contents.{contents}
 use Rattle.map_update.specs.Draft.{IsDraft, IsDraftLeft, IsWorked}
 use Rattle.map_update.specs.Entrants.{HaveOwnVoxels, AreEntrants, thin_each}
-use Rattle.kd_update.specs.Parts.{PartAt}
+use Rattle.kd_update.specs.Detached.{PartAt}
 use Rattle.map_update.specs.Ranks.{items_in}
 use Rattle.map_update.specs.Waiting.{AreClear, IsWaiting, held_by}
 use Rattle.map_update.proofs.waiting.thinned_at_once.Given as goal

@@ -1,7 +1,7 @@
 use Rattle.std.proofs.Common.{◌≡◌, List, ◌∷◌, ap, sym, ◌∙◌, subst}
 use Rattle.std.specs.Prelude.{OnOk}
 use Rattle.rebuild_parts.specs.Logs.{AddsLogs, LogPlan}
-use Rattle.kd_update.specs.Parts.{AreLeft, AreOwn, PartAt}
+use Rattle.kd_update.specs.Detached.{AreLeft, AreOwn, PartAt}
 use Rattle.rebuild_parts.proofs.PartLogs.{adds_nothing, logs_step}
 use Rattle.rebuild_parts.proofs.logs.+add_logs.Goals as goal
 

@@ -1,7 +1,7 @@
 use Rattle.std.proofs.Common.{List, [], ◌∷◌, ◌++◌, None, ap, sym, ◌∙◌, append-nil}
 use Rattle.std.proofs.lemmas.List.{take_all}
 use Rattle.rebuild_parts.specs.Logs.{planned_parts}
-use Rattle.kd_update.specs.Parts.{PartAt}
+use Rattle.kd_update.specs.Detached.{PartAt}
 use Rattle.rebuild_parts.proofs.PartLogs.{forget_next}
 use Rattle.rebuild_parts.proofs.logs.forgotten.Goals as goal
 

@@ -1,6 +1,6 @@
 use Rattle.std.proofs.Common.{◌≡◌, ◌++◌, List, take}
 use Rattle.rebuild_parts.specs.Logs.{planned_parts}
-use Rattle.kd_update.specs.Parts.{PartAt}
+use Rattle.kd_update.specs.Detached.{PartAt}
 use Rattle.rebuild_parts.proofs.logs.forgotten.Given as goal
 
 abbrev pub invariant-loop-part : goal.invariant-loop-part

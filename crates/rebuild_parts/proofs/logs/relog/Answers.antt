@@ -1,7 +1,7 @@
 use Rattle.std.proofs.Common.{◌≡◌, ap, ◌∙◌, subst, refl, get_or}
 use Rattle.std.proofs.lemmas.List.{get_or_default}
 use Rattle.rebuild_parts.specs.Logs.{LogPlan, relogged}
-use Rattle.kd_update.specs.Parts.{IsNewTicket, IsPlaceOf, PartAt}
+use Rattle.kd_update.specs.Detached.{IsNewTicket, IsPlaceOf, PartAt}
 use Rattle.rebuild_parts.proofs.PartLogs.{place_below, relog_forgotten, relog_none, relog_some}
 use Rattle.rebuild_parts.proofs.logs.relog.Goals as goal
 

@@ -1,5 +1,5 @@
 use Rattle.std.proofs.Common.{[], ◌∷◌, refl, sym, ap, ◌∙◌, arith, List}
-use Rattle.kd_update.specs.Parts.{PartAt}
+use Rattle.kd_update.specs.Detached.{PartAt}
 use Rattle.rebuild_parts.proofs.part.+place_of.Goals as goal
 
 pub returns-then-first-ticket-clause-some : goal.returns-then-first-ticket-clause-some

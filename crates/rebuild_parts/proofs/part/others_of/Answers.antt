@@ -1,7 +1,7 @@
 use Rattle.std.proofs.Common.{List, ap, ◌∙◌, refl, sym}
 use Rattle.std.specs.List.{remove}
 use Rattle.kd_tree.specs.declared.path.Side.{Side}
-use Rattle.kd_update.specs.Parts.{PartAt, paths}
+use Rattle.kd_update.specs.Detached.{PartAt, paths}
 use Rattle.rebuild_parts.proofs.OtherParts.{other_paths, without_new}
 use Rattle.rebuild_parts.proofs.part.others_of.Goals as goal
 

@@ -1,5 +1,5 @@
 use Rattle.std.proofs.Common.{ap}
-use Rattle.kd_update.specs.Parts.{PartAt}
+use Rattle.kd_update.specs.Detached.{PartAt}
 use Rattle.rebuild_parts.proofs.OtherParts.{paths_next}
 use Rattle.rebuild_parts.proofs.part.paths_of.Goals as goal
 

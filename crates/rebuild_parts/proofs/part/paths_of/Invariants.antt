@@ -1,5 +1,5 @@
 use Rattle.std.proofs.Common.{◌≡◌, take}
-use Rattle.kd_update.specs.Parts.{paths}
+use Rattle.kd_update.specs.Detached.{paths}
 use Rattle.rebuild_parts.proofs.part.paths_of.Given as goal
 
 abbrev pub invariant-loop-part : goal.invariant-loop-part

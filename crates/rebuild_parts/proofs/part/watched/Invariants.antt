@@ -1,5 +1,5 @@
 use Rattle.std.proofs.Common.{◌≡◌, take}
-use Rattle.kd_update.specs.Parts.{watches_of}
+use Rattle.kd_update.specs.Detached.{watches_of}
 use Rattle.rebuild_parts.proofs.part.watched.Given as goal
 
 abbrev pub invariant-loop-part : goal.invariant-loop-part

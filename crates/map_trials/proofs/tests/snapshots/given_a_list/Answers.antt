@@ -3,7 +3,7 @@ use Rattle.std.specs.Prelude.{IfSome}
 use Rattle.map_items.specs.declared.item.Item.{Item}
 use Rattle.rebuild_parts.specs.Built.{JobAt}
 use Rattle.rebuild_core.specs.Detach.{IsDetachStep}
-use Rattle.kd_update.specs.Parts.{AreItemsOf}
+use Rattle.kd_update.specs.Detached.{AreItemsOf}
 use Rattle.rebuild_core.proofs.KnownItems.{items_of_job}
 use Rattle.map_trials.proofs.tests.snapshots.given_a_list.Goals as goal
 

@@ -3,7 +3,7 @@ use Rattle.std.specs.Prelude.{All}
 use Rattle.kd_tree.specs.Contents.{contents}
 use Rattle.kd_update.specs.Scan.{MayJoin, put_each}
 use Rattle.map_update.specs.Draft.{IsDraft, IsDraftLeft, IsWorked}
-use Rattle.kd_update.specs.Parts.{PartAt}
+use Rattle.kd_update.specs.Detached.{PartAt}
 use Rattle.map_update.proofs.work.Work.put_items.Given as goal
 
 abbrev pub invariant-loop-rest : goal.invariant-loop-rest

@@ -2,7 +2,7 @@ use Rattle.std.proofs.Common.{◌≡◌, List, sym, ◌∙◌, ap, subst, Option
 use Rattle.std.specs.Prelude.{IfSome}
 use Rattle.map_items.specs.declared.item.Item.{Item}
 use Rattle.rebuild_core.specs.Lawful.{StateAt}
-use Rattle.kd_update.specs.Parts.{PartAt, part_of}
+use Rattle.kd_update.specs.Detached.{PartAt, part_of}
 use Rattle.rebuild_core.proofs.KnownItems.{known_part}
 use Rattle.published_map.specs.Holds.{hold_of}
 use Rattle.published_map.proofs.Holding.{true_found}

@@ -1,7 +1,7 @@
 use Rattle.std.proofs.Common.{◌≡◌, List, sym, ◌∙◌, ap, subst}
 use Rattle.map_items.specs.declared.item.Item.{Item}
 use Rattle.rebuild_core.specs.Lawful.{StateAt, Stored}
-use Rattle.kd_update.specs.Parts.{AreItemsOf}
+use Rattle.kd_update.specs.Detached.{AreItemsOf}
 use Rattle.published_map.specs.Holds.{hold_of}
 use Rattle.published_map.proofs.Holding.{true_found}
 use Rattle.published_map.proofs.locked.Locked.is_known.Goals as goal

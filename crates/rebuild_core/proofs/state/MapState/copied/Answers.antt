@@ -1,5 +1,5 @@
 use Rattle.std.proofs.Common.{ap, ◌∙◌}
-use Rattle.kd_update.specs.Parts.{watches_of}
+use Rattle.kd_update.specs.Detached.{watches_of}
 use Rattle.rebuild_core.specs.Lawful.{Stored}
 use Rattle.rebuild_core.specs.StateView.{state_of}
 use Rattle.rebuild_core.proofs.Plans.{parts_few}

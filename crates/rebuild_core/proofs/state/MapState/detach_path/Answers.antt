@@ -2,7 +2,7 @@ use Rattle.std.proofs.Common.{◌≡◌, List, Option, Some, None, ap, sym, ◌�
 use Rattle.std.specs.Prelude.{◌↔◌, IsNone}
 use Rattle.rebuild_core.specs.Detach.{IsDetachedAt, IsNoneToDetach}
 use Rattle.rebuild_core.specs.Lawful.{Stored}
-use Rattle.kd_update.specs.Parts.{PartAt, part_in, paths}
+use Rattle.kd_update.specs.Detached.{PartAt, part_in, paths}
 use Rattle.rebuild_core.proofs.Detaching.{first_free_path, none_free}
 use Rattle.rebuild_core.proofs.state.MapState.detach_path.Goals as goal
 

@@ -5,7 +5,7 @@ use Rattle.kd_tree.specs.Parts.{at}
 use Rattle.kd_tree.specs.declared.path.Side.{Side}
 use Rattle.rebuild_core.specs.Detach.{IsDetachedAt}
 use Rattle.rebuild_core.specs.Lawful.{IsLawful, StateAt, Stored}
-use Rattle.kd_update.specs.Parts.{part_in}
+use Rattle.kd_update.specs.Detached.{part_in}
 use Rattle.rebuild_core.specs.StateView.{state_of}
 use Rattle.map_update.proofs.Detached.{contents_more}
 use Rattle.rebuild_core.proofs.Detaching.{detach_items, detach_large}

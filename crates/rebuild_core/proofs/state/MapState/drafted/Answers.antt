@@ -1,6 +1,6 @@
 use Rattle.std.proofs.Common.{◌∙◌, ◌+◌, ap, sym}
 use Rattle.map_items.specs.Fold.{points_in}
-use Rattle.kd_update.specs.Parts.{watches_of}
+use Rattle.kd_update.specs.Detached.{watches_of}
 use Rattle.rebuild_core.specs.Lawful.{StateAt, Stored}
 use Rattle.rebuild_core.specs.StateView.{state_of}
 use Rattle.map_update.specs.declared.work.Work.{Work}

@@ -2,7 +2,7 @@ use Rattle.std.proofs.Common.{◌≡◌, List, ap, sym, ◌∙◌, subst, get_or
 use Rattle.std.proofs.lemmas.List.{get_or_default}
 use Rattle.map_items.specs.declared.item.Item.{Item}
 use Rattle.rebuild_core.specs.Lawful.{IsLawful, Stored}
-use Rattle.kd_update.specs.Parts.{AreItemsOf, IsPlaceOf, PartAt}
+use Rattle.kd_update.specs.Detached.{AreItemsOf, IsPlaceOf, PartAt}
 use Rattle.rebuild_core.specs.StateView.{spare_of, state_of}
 use Rattle.rebuild_core.proofs.KnownItems.{held_again}
 use Rattle.rebuild_parts.proofs.PartLogs.{place_below}

@@ -1,7 +1,7 @@
 use Rattle.std.proofs.Common.{◌≡◌, List, Some, ap, sym, ◌∙◌, subst}
 use Rattle.map_items.specs.declared.item.Item.{Item}
 use Rattle.rebuild_core.specs.Lawful.{Stored}
-use Rattle.kd_update.specs.Parts.{AreItemsOf, HaveOwnTickets, PartAt, part_of}
+use Rattle.kd_update.specs.Detached.{AreItemsOf, HaveOwnTickets, PartAt, part_of}
 use Rattle.rebuild_core.proofs.KnownItems.{items_of_part}
 use Rattle.rebuild_core.proofs.state.MapState.part_built.Goals as goal
 

@@ -2,7 +2,7 @@ use Rattle.std.proofs.Common.{rules, ◌≡◌, List, Some, ap, sym, ◌∙◌, 
 use Rattle.map_items.specs.declared.op.Op.{Op}
 use Rattle.rebuild_core.specs.Known.{IsPartOf, undone}
 use Rattle.rebuild_core.specs.Lawful.{Stored}
-use Rattle.kd_update.specs.Parts.{PartAt, part_of}
+use Rattle.kd_update.specs.Detached.{PartAt, part_of}
 use Rattle.rebuild_core.proofs.KnownItems.{known_part}
 use Rattle.rebuild_core.proofs.KnownParts.{log_parts, undone_fit}
 use Rattle.rebuild_core.proofs.state.MapState.part_known.Goals as goal

@@ -4,7 +4,7 @@ use Rattle.std.specs.declared.result.Result.{Result}
 use Rattle.std.specs.declared.result.Result.TheVariants.{Ok, Err}
 use Rattle.rebuild_parts.specs.declared.fault.SwapFault.{SwapFault}
 use Rattle.rebuild_parts.specs.declared.fault.SwapFault.TheVariants.{NoMemory}
-use Rattle.kd_update.specs.Parts.{PartAt}
+use Rattle.kd_update.specs.Detached.{PartAt}
 use Rattle.rebuild_core.specs.Steps.{PlannedAt}
 use Rattle.rebuild_core.specs.Swap.{IsSwapFault, MaySwap}
 use Rattle.rebuild_parts.proofs.SameItems.{not_both}

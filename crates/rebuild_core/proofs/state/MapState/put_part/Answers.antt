@@ -4,7 +4,7 @@ use Rattle.map_items.specs.declared.op.Op.{Op}
 use Rattle.kd_tree.specs.Contents.{contents}
 use Rattle.rebuild_core.specs.Detach.{IsDetachable, with_part}
 use Rattle.rebuild_core.specs.Lawful.{IsLawful, StateAt, Stored}
-use Rattle.kd_update.specs.Parts.{PartAt}
+use Rattle.kd_update.specs.Detached.{PartAt}
 use Rattle.rebuild_core.specs.StateView.{state_of}
 use Rattle.rebuild_core.proofs.Detaching.{detached_lawful, part_detached}
 use Rattle.rebuild_core.proofs.state.MapState.put_part.Goals as goal

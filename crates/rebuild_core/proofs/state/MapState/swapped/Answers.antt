@@ -13,7 +13,7 @@ use Rattle.rebuild_core.specs.Known.{undone}
 use Rattle.rebuild_core.specs.Swap.{IsCaughtUp, IsSwapPlan}
 use Rattle.rebuild_core.specs.Lawful.{IsLawful, Stored}
 use Rattle.rebuild_parts.specs.Logs.{planned_parts}
-use Rattle.kd_update.specs.Parts.{PartAt, paths, without}
+use Rattle.kd_update.specs.Detached.{PartAt, paths, without}
 use Rattle.rebuild_core.specs.Steps.{PlannedAt, plan_with}
 use Rattle.rebuild_parts.proofs.OtherParts.{part_among}
 use Rattle.rebuild_core.proofs.Swapping.{below_both, swap_among, swap_below, swap_caught, swap_clear, swap_fit, swap_outside, swap_stands, swap_there, swaps}

@@ -10,8 +10,10 @@ ghost use Rattle.kd_mark.specs.Several.{AreLargeAt, AreWatched, IsBalancedClear}
 ghost use Rattle.kd_mark.specs.Watch.{IsWatched, logged_mark};
 ghost use Rattle.kd_mark.specs.Watches.{AreExtended, AreFewMore, HaveRoom, paths_in, with_marks};
 
-use crate::Watches;
-use kd_mark::{Watched, log_each_mark, marked, marked_within};
+use crate::log_mark::log_each_mark;
+use crate::mark::{marked, marked_within};
+use crate::watches::Watches;
+use crate::ways::Watched;
 use kd_tree::{Steps, Tree};
 use map_items::{Choice, NoMemory, Tag};
 use std::alloc::Global;
@@ -60,7 +62,7 @@ pub fn marked_watched<L: Ledger>(
     marked_within(alloc, tree, large, choice, tag, &ways, steps)
 }
 
-// Each watch's log with what the action does to its subtree.
+// The same of all watches: a caller's proof then has their list in sight, and no borrow of it.
 fn log_marks(tree: &Tree, watches: &mut Watches, choice: &Choice, tag: Tag) -> Result<(), NoMemory>
     requires { HaveRoom watches.old }
     ensures logged { OnOk result (watches.new ≡ with_marks choice.now tag tree.now watches.old) }

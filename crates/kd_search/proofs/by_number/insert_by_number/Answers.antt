@@ -2,16 +2,16 @@ use Rattle.std.proofs.Common.{◌≡◌, ◌≤◌, ◌-◌, length, take, arith
 use Rattle.kd_search.proofs.Inserted.{insert_in_full, insert_in_room}
 use Rattle.std.specs.List.{insert}
 use Rattle.kd_tree.specs.Contents.{insert_item}
-use Rattle.kd_search.proofs.inside.put.Goals.{then-len-most, else-len-most}
-use Rattle.kd_search.proofs.inside.put.Goals as goal
+use Rattle.kd_search.proofs.by_number.insert_by_number.Goals.{then-len-most, else-len-most}
+use Rattle.kd_search.proofs.by_number.insert_by_number.Goals as goal
 
 pub returns : goal.returns
 returns c =
     let old = c.args.items.now.items in
-    let at = c.place_of-at.result in
+    let at = c.index_of-at.result in
     let i = c.args.item.now in
-    let placed : insert old at i ≡ insert_item i old = rw c.as_slice.ensures.value at c.place_of-at.ensures.value in
-    let bound : at ≤ length old = rw c.as_slice.ensures.value at c.place_of-at.ensures.bound in
+    let placed : insert old at i ≡ insert_item i old = rw c.as_slice.ensures.value at c.index_of-at.ensures.value in
+    let bound : at ≤ length old = rw c.as_slice.ensures.value at c.index_of-at.ensures.bound in
     let few : length old ≤ c.args.most = c.requires.few in
     elim c.if-len-most.branch [
       | then-len-most w ↦

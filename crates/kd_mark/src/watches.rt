@@ -2,15 +2,15 @@
 ghost use Rattle.std.specs.Prelude.{◌≡◌, ◌==◌, ◌<◌, ◌≤◌, [], ◌∷◌, ◌++◌, length, slice_index_or, OnOk, OnErr};
 ghost use Rattle.std.specs.List.{remove};
 
-use kd_mark::Watch;
+use crate::watch::Watch;
 use map_items::NoMemory;
 use std::alloc::Global;
 use std::marker::Model;
 
-/// At most four watches, in order.
+/// At most four watches, in order. Their logs are written where they are.
 #[derive(Drop)]
 pub struct Watches {
-    pub(crate) items: Vec<Watch>,
+    pub items: Vec<Watch>,
 }
 
 impl Model for Watches {

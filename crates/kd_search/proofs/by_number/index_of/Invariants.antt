@@ -1,6 +1,6 @@
 use Rattle.std.proofs.Common.{length, ◌-◌, ◌≡◌, ◌≤◌, ◌++◌, take, drop}
 use Rattle.kd_tree.specs.Contents.{insert_item}
-use Rattle.kd_search.proofs.inside.place_of.Given as goal
+use Rattle.kd_search.proofs.by_number.index_of.Given as goal
 
 abbrev pub invariant-loop-at : goal.invariant-loop-at
 invariant-loop-at l = record {

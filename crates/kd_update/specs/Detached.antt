@@ -1,4 +1,5 @@
--- Detached subtrees: what a state keeps of each, and what a step leaves of them.
+-- Detached subtrees as their state sees them: what it keeps of each, and what a step leaves of them. Here, since `map_update` and
+-- `rebuild_parts`, neither of which stands on the other, both cite it.
 use Rattle.std.specs.Prelude.{◌≡◌, ℕ, ◌+◌, ◌<◌, ◌≤◌, ◌⊎◌, List, [], ◌∷◌, ◌++◌, length, map, All, Option, ◌==◌, if◌then◌else◌}
 use Rattle.std.specs.List.{find}
 use Rattle.map_items.specs.declared.item.Item.{Item}

@@ -13,10 +13,9 @@ use Rattle.kd_mark.specs.Ways.{paths_of}
 use Rattle.kd_mark.proofs.InBox.{marked_contents, marked_numbers}
 use Rattle.kd_mark.proofs.Made.{made_few}
 use Rattle.kd_mark.proofs.ManyLogs.{extended_itself, more_itself, watched_before}
-use Rattle.kd_mark.proofs.Several.{large_all_marked, large_all_same}
-use Rattle.kd_update.proofs.Several.{balanced_unwatched, all_watched-mark}
-use Rattle.kd_update.proofs.mark_watched.marked_watched.Goals as goal
-use Rattle.kd_update.proofs.mark_watched.marked_watched.Goals.{After-marked_within, After-of-ways}
+use Rattle.kd_mark.proofs.Several.{all_watched-mark, balanced_unwatched, large_all_marked, large_all_same}
+use Rattle.kd_mark.proofs.mark_watched.marked_watched.Goals as goal
+use Rattle.kd_mark.proofs.mark_watched.marked_watched.Goals.{After-marked_within, After-of-ways}
 
 -- the ways are the paths of the watches
 ways : (g : _) (c : After-of-ways g) → paths_of c.of-ways.result ≡ paths_in c.args.watches.now
