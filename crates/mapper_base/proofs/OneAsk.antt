@@ -2,8 +2,8 @@
 use Rattle.std.proofs.Common.{◌≡◌, ℕ, ◌≤◌, ◌+◌, ◌*◌, ◌==◌, true, false, List, [], length, get_or, decimal, refl, sym, ap, ◌∙◌, arith}
 use Rattle.std.proofs.lemmas.Bool.Decides.{nat_tests}
 use Rattle.std.proofs.lemmas.Fmt.{decimal_injective}
-use Rattle.mapper_base.specs.declared.words.Ask.{Ask}
-use Rattle.mapper_base.specs.declared.words.Ask.TheVariants.{Run, Serial, Make, Drive, Check}
+use Rattle.mapper_base.specs.declared.command_line.words.Ask.{Ask}
+use Rattle.mapper_base.specs.declared.command_line.words.Ask.TheVariants.{Run, Serial, Make, Drive, Check}
 use Rattle.mapper_base.specs.Asks.{Asks}
 
 -- the number that is spelled is the number that was asked for

@@ -9,8 +9,8 @@ use Rattle.clap.specs.Words.{Text, Row, takes, first_of, one_of, subcommand_of, 
 use Rattle.clap.specs.declared.parser.matches.Found.{Found}
 use Rattle.clap.proofs.OnLiterals.{clap_on_literals}
 use Rattle.clap.proofs.WalkLemmas.{first_value-rows, one_text-rows}
-use Rattle.mapper_base.specs.declared.words.Ask.{Ask}
-use Rattle.mapper_base.specs.declared.words.Ask.TheVariants.{Run, Serial, Make, Drive, Check}
+use Rattle.mapper_base.specs.declared.command_line.words.Ask.{Ask}
+use Rattle.mapper_base.specs.declared.command_line.words.Ask.TheVariants.{Run, Serial, Make, Drive, Check}
 use Rattle.mapper_base.specs.Asks.{CanBeDone, spelled}
 use Rattle.mapper_base.specs.CommandLine.{IsSaid, mapper}
 use Rattle.mapper_base.proofs.Digits.{taken_number}

@@ -13,8 +13,8 @@ use Rattle.scan_log.specs.Written.{script_text}
 use Rattle.mapper_base.specs.declared.ending.Ending.{Ending}
 use Rattle.mapper_base.specs.declared.ending.Ending.TheVariants.{Done, Usage, ReadFault, TooLong, Bad, WriteFault, NoMemory}
 use Rattle.mapper_base.specs.declared.status.Status.TheVariants as status
-use Rattle.mapper_base.specs.declared.words.Ask.{Ask}
-use Rattle.mapper_base.specs.declared.words.Ask.TheVariants.{Run, Serial, Make, Drive, Check}
+use Rattle.mapper_base.specs.declared.command_line.words.Ask.{Ask}
+use Rattle.mapper_base.specs.declared.command_line.words.Ask.TheVariants.{Run, Serial, Make, Drive, Check}
 use Rattle.mapper_base.specs.Asks.{Asks, AskForRun, AskForScans, AskNothing, AskOfLog, IsOfLog, log_of, most_of}
 use Rattle.mapper_base.specs.Causes.{Says, NotRead, IsDoneOn, IsTextOf, HasPrinted, HasRefused, Ended}
 use Rattle.mapper_base.specs.Done.{IsChecked, IsDriven, IsScriptMade, IsTranscribed, IsTranscribedInOrder}

@@ -1,8 +1,8 @@
 -- What the words ask for.
 use Rattle.std.specs.Prelude.{◌≡◌, ◌≤◌, ◌+◌, ◌⊎◌, ℕ, List, [], ◌∷◌, map, codes, decimal, take, String}
 use Rattle.std.specs.String.{string_bytes}
-use Rattle.mapper_base.specs.declared.words.Ask.{Ask}
-use Rattle.mapper_base.specs.declared.words.Ask.TheVariants.{Run, Serial, Make, Drive, Check}
+use Rattle.mapper_base.specs.declared.command_line.words.Ask.{Ask}
+use Rattle.mapper_base.specs.declared.command_line.words.Ask.TheVariants.{Run, Serial, Make, Drive, Check}
 
 -- the bytes of each word
 abbrev pub texts : {A : Type 0} → List (String A) → List (List ℕ)

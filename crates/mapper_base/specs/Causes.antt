@@ -9,8 +9,8 @@ use Rattle.scan_log.specs.Refusal.{IsFirstFault}
 use Rattle.mapper_base.specs.declared.ending.Ending.{Ending}
 use Rattle.mapper_base.specs.declared.ending.Ending.TheVariants.{Done, Usage, ReadFault, TooLong, Bad, WriteFault, NoMemory}
 use Rattle.mapper_base.specs.declared.status.Status.{Status}
-use Rattle.mapper_base.specs.declared.words.Ask.{Ask}
-use Rattle.mapper_base.specs.declared.words.Ask.TheVariants as ask
+use Rattle.mapper_base.specs.declared.command_line.words.Ask.{Ask}
+use Rattle.mapper_base.specs.declared.command_line.words.Ask.TheVariants as ask
 use Rattle.mapper_base.specs.Asks.{Asks, AskOfLog, AskNothing, log_of, most_of}
 use Rattle.mapper_base.specs.Endings.{status_of, note_of}
 use Rattle.mapper_base.specs.Generated.{generated}

@@ -3,8 +3,8 @@ use Rattle.std.specs.Prelude.{◌≡◌, List, codes, decimal, Option, Some, Non
 use Rattle.clap.specs.Words.{App, Rule, Text, first_value, one_text, new_app, new_rule, with_rule, with_subcommand}
 use Rattle.clap.specs.declared.parser.matches.Found.{Found}
 use Rattle.clap.specs.declared.builder.ArgAction.TheVariants.{SetTrue, Set}
-use Rattle.mapper_base.specs.declared.words.Ask.{Ask}
-use Rattle.mapper_base.specs.declared.words.Ask.TheVariants.{Run, Serial, Make, Drive, Check}
+use Rattle.mapper_base.specs.declared.command_line.words.Ask.{Ask}
+use Rattle.mapper_base.specs.declared.command_line.words.Ask.TheVariants.{Run, Serial, Make, Drive, Check}
 use Rattle.mapper_base.specs.Asks.{spelled}
 
 -- the flag --serial

@@ -4,7 +4,7 @@ use Rattle.std.specs.declared.option.Option.{Option}
 use Rattle.scan_log.specs.Scripts.{ScriptAt}
 use Rattle.scan_log.specs.Spelling.{Spells}
 use Rattle.scan_log.specs.Faults.{FaultAt, first_fault, is_limit}
-use Rattle.mapper_base.specs.declared.words.Ask.{Ask}
+use Rattle.mapper_base.specs.declared.command_line.words.Ask.{Ask}
 use Rattle.mapper_base.specs.Asks.{AskOfLog, log_of, most_of}
 
 -- P holds, if the log in the input is spelled, whatever stands behind it

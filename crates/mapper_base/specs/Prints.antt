@@ -8,8 +8,8 @@ use Rattle.scan_log.specs.Poses.{plain_script}
 use Rattle.scan_log.specs.Written.{script_text}
 use Rattle.transcript_check.specs.declared.verdict.Verdict.{Verdict}
 use Rattle.transcript_check.specs.Verdicts.{IsVerdict}
-use Rattle.mapper_base.specs.declared.words.Ask.{Ask}
-use Rattle.mapper_base.specs.declared.words.Ask.TheVariants.{Run, Serial, Make, Drive, Check}
+use Rattle.mapper_base.specs.declared.command_line.words.Ask.{Ask}
+use Rattle.mapper_base.specs.declared.command_line.words.Ask.TheVariants.{Run, Serial, Make, Drive, Check}
 use Rattle.mapper_base.specs.Summary.{summary_of}
 use Rattle.mapper_base.specs.Verdicts.{verdict_line}
 

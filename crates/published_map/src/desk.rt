@@ -11,8 +11,6 @@ use rebuild_core::{Desk, SwapLeft, SwapOrLate, Swapped};
 use rebuild_parts::{Built, Job, Late, LogAsk, MAX_UNFORCED, SwapFault};
 use shown_versions::{MapName, Mark};
 use std::alloc::Global;
-use std::marker::Brand;
-use std::sync::ledger::Blank;
 use std::sync::{MutexGuard, Wait};
 
 impl<L: MapName> Desk for Shared<L> {
@@ -21,7 +19,7 @@ impl<L: MapName> Desk for Shared<L> {
     /// afresh.
     fn detach<R: Wait>(&self, rt: &R, alloc: Global, slot: u8) -> Result<Option<Job>, NoMemory> {
         let mut locked = self.lock.lock(rt);
-        let (left, holdings) = (locked.leave(), locked.holdings());
+        let (left, holdings) = (locked.retired.for_worker(), locked.holdings());
         let found = locked.detach(alloc, slot);
         MutexGuard::unlock(locked);
         drop((left, holdings));
@@ -112,10 +110,10 @@ impl<L: MapName> Shared<L> {
         ensures { IfErr result (IsLateCause built most) }
     {
         let mut locked = self.lock.lock(rt);
-        let (left, holdings) = (locked.leave(), locked.holdings());
+        let (left, holdings) = (locked.retired.for_worker(), locked.holdings());
         let former = locked.version();
-        let done = locked.swap::<Brand, R>(rt, alloc, built, mark, most, Blank::new(1));
-        let spent = locked.keep(former, done.is_ok(), false);
+        let done = locked.swap(rt, alloc, built, mark, most);
+        let spent = locked.retire_swapped(former, done.is_ok());
         MutexGuard::unlock(locked);
         drop((left, holdings, spent));
         done

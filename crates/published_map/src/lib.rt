@@ -15,6 +15,7 @@ mod locked;
 mod meet;
 mod opened;
 mod pass;
+mod retired;
 mod shared;
 mod start;
 mod turn;

@@ -1,25 +1,23 @@
 //! What lies under the lock.
 ghost use Rattle.std.specs.Prelude.{◌≡◌, ◌≤◌, None, IfErr, IfOk, OnErr, OnOk};
 ghost use mathlib.Core.List.{IsPrefix};
-ghost use Rattle.kd_tree.specs.Counter.{IsBlankOf};
 ghost use Rattle.rebuild_core.specs.Lawful.{IsLawful};
-ghost use Rattle.rebuild_core.specs.Steps.{HasRoom, IsFault, IsUpdatePlan, entered};
+ghost use Rattle.rebuild_core.specs.Steps.{IsFault, entered};
 ghost use Rattle.shown_versions.specs.Marks.{Added, Grown, IsMade};
 ghost use Rattle.published_map.specs.Answers.{Updated};
 
 use crate::hold::Hold;
 use crate::pass::Pass;
+use crate::retired::Retired;
 use crate::turn::{catch_up, take_step};
-use core::mem::replace;
-use kd_tree::Steps;
 use left_right::Absorb;
 use map_items::{Entry, NoMemory, Update};
 use rebuild_core::{MapState, Planned};
 use rebuild_parts::{Holding, StateFault, Version};
 use shown_versions::{MapName, MapWriter, MarkList, Shown};
 use std::alloc::Global;
-use std::marker::{Brand, Model};
-use std::sync::ledger::{Blank, Book, Ledger, Share};
+use std::marker::Model;
+use std::sync::ledger::{Book, Share};
 use std::sync::{Arc, Wait};
 
 /// The state, beside the writer's seat, the marks of the versions and the book of all updates. Contracts see the state.
@@ -33,17 +31,7 @@ where
     pub(crate) book: Book<L>,
     // It has no part, and lends itself to an audit.
     pub(crate) audit_share: Share<L>,
-    // The version before the published one. The next step writes over the last other copy of it, the one on the side that readers
-    // don't take, and would free it under the lock.
-    pub(crate) former: Option<Arc<Version>>,
-    // Whether an update, which makes few nodes, came after the former version.
-    pub(crate) by_update: bool,
-    // The version that the last swap or settling took the place of, once an update came after it. It may be the last to hold what
-    // was taken out of the tree, so a worker drops it, and not the caller that updates.
-    pub(crate) left: Option<Arc<Version>>,
-    // What the pass of an update kept before it, where that wasn't the version that was published last. After several swaps it may
-    // hold what the first of them took out, so a worker drops it as well.
-    pub(crate) kept: Option<Shown<L>>,
+    pub(crate) retired: Retired<L>,
     // What subtrees held that were detached, the last of each slot.
     pub(crate) holds: Vec<Hold<L>>,
 }
@@ -76,44 +64,32 @@ impl<L: MapName> Locked<L> {
         Arc::try_clone(self.state.version()).ok()
     }
 
-    /// Ends a turn before which this version was published, and in which an update was made or something else. What it answers may
-    /// be all that keeps a version now: it is to be dropped after the lock was given back. What an update left behind it is the
-    /// state's again, for the next one.
-    pub fn keep(
+    // Retires the version that was published before an update.
+    fn retire(&mut self, former: Option<Arc<Version>>) -> Option<Arc<Version>>
+        ensures same { self.new ≡ self.old }
+    {
+        self.retired.after_update(&mut self.state, former)
+    }
+
+    /// Retires the version that was published before a swap or settling, where that was published. After a refusal the other side still
+    /// shows what is kept already. What it returns is to be dropped after the lock was given back.
+    pub fn retire_swapped(
         &mut self,
         former: Option<Arc<Version>>,
         has_published: bool,
-        is_update: bool,
     ) -> Option<Arc<Version>>
         ensures same { self.new ≡ self.old }
     {
-        // After a refusal the other side still shows what is kept already.
-        if !has_published {
-            return former;
-        }
-        let spent = replace(&mut self.former, former);
-        let by_update = replace(&mut self.by_update, is_update);
-        match spent {
-            Some(version) if by_update => {
-                self.state.recycle(version);
-                None
-            }
-            Some(version) if is_update => replace(&mut self.left, Some(version)),
-            spent => spent,
+        if has_published {
+            self.retired.after_swap(&mut self.state, former)
+        } else {
+            former
         }
     }
 
     /// Whether this is the version that was published last.
     pub fn is_newest(&self, kept: &Shown<L>) -> bool {
         self.writer.published().mark().is_same(kept.mark())
-    }
-
-    /// Takes what the pass of an update kept before it, in the place of what an earlier pass did, which is to be dropped after the
-    /// lock was given back.
-    pub fn set_aside(&mut self, kept: Option<Shown<L>>) -> Option<Shown<L>>
-        ensures same { self.new ≡ self.old }
-    {
-        replace(&mut self.kept, kept)
     }
 
     /// What the detached subtrees held, held once more: a turn that may forget some drops it after the lock was given back.
@@ -145,8 +121,8 @@ impl<L: MapName> Locked<L> {
         pass.kept = catch_up(rt, self.writer.published(), &mut pass.reader);
     }
 
-    /// One turn of the lock for an update. All memory is taken before the version is published. It gives as well what `keep`
-    /// does.
+    /// One turn of the lock for an update. All memory is taken before the version is published. It returns as well
+    /// what is to be dropped after the lock was given back.
     pub fn update<R: Wait>(
         &mut self,
         rt: &R,
@@ -159,8 +135,8 @@ impl<L: MapName> Locked<L> {
         let former = self.version();
         let _history = self.state.history();
         self.agree(rt, pass);
-        let fault = match self.make::<Brand, R>(rt, alloc, pass, update, Blank::new(1)) {
-            Ok(mark) => return (Ok(mark), self.keep(former, true, true)),
+        let fault = match self.make(rt, alloc, pass, update) {
+            Ok(mark) => return (Ok(mark), self.retire(former)),
             Err(fault) => fault,
         };
         if fault != StateFault::NoMemory {
@@ -169,16 +145,14 @@ impl<L: MapName> Locked<L> {
         (Err(fault), former)
     }
 
-    // Makes the update, where the pass has seen no more than there is, with a counter that nothing looks at.
-    fn make<C: Ledger, R: Wait>(
+    // Makes the update, where the pass has seen no more than there is.
+    fn make<R: Wait>(
         &mut self,
         rt: &R,
         alloc: Global,
         pass: &mut Pass<L>,
         update: Update,
-        blank: Blank,
     ) -> Result<u64, StateFault>
-        requires blank { IsBlankOf C.name C.parts blank }
         requires begins { IsPrefix pass.old.seen self.old.state.history }
         ensures made { IfOk result (Added pass.old pass.new update) }
 
@@ -187,7 +161,9 @@ impl<L: MapName> Locked<L> {
         ensures pass { OnErr result (pass.new ≡ pass.old) }
     {
         let place = self.state.history().len() as u64;
-        let planned = plan_uncounted::<C>(&mut self.state, alloc, pass.caller, update, blank)?;
+        let planned = self
+            .state
+            .plan_update_uncounted(alloc, pass.caller, update)?;
         pass.marks.reserve(1)?;
         let (marks, state, writer) = (&mut self.marks, &mut self.state, &mut self.writer);
         let mark = take_step(rt, marks, state, writer, planned)?;
@@ -198,7 +174,8 @@ impl<L: MapName> Locked<L> {
         Ok(mark)
     }
 
-    /// One turn of the lock for a settled version of the same history. It gives as well what `keep` does.
+    /// One turn of the lock for a settled version of the same history. It returns as well what is to be dropped after
+    /// the lock was given back.
     pub fn settle<R: Wait>(
         &mut self,
         rt: &R,
@@ -211,7 +188,7 @@ impl<L: MapName> Locked<L> {
             Ok(planned) => self.step(rt, planned),
             Err(none) => Err(none),
         };
-        let spent = self.keep(former, done.is_ok(), false);
+        let spent = self.retire_swapped(former, done.is_ok());
         (done, spent)
     }
 
@@ -238,36 +215,11 @@ impl<L: MapName> Locked<L> {
             marks: _marks,
             book: _book,
             audit_share: _audit_share,
-            former: _former,
-            by_update: _by_update,
-            left: _left,
-            kept: _kept,
+            retired: _retired,
             holds: _holds,
         } = self;
         writer.take(rt);
         let _history = state.history();
         state
     }
-}
-
-// Plans an update, with a counter of nodes that nothing looks at.
-fn plan_uncounted<C: Ledger>(
-    state: &mut MapState,
-    alloc: Global,
-    caller: u8,
-    update: Update,
-    blank: Blank,
-) -> Result<Planned, StateFault>
-    requires blank { IsBlankOf C.name C.parts blank }
-    requires caller_from { 1 ≤ caller }
-    requires caller_to { caller ≤ 8 }
-    ensures same { state.new.state ≡ state.old.state }
-    ensures planned { IfOk result (IsUpdatePlan caller update state.old.state) }
-    ensures room { OnOk result (HasRoom update state.old.state) }
-    ensures spare { OnOk result (1 ≤ state.new.spare) }
-
-    ensures refused { IfErr result (IsFault update state.old.state) }
-{
-    let mut steps: Steps<C> = Steps::new(blank);
-    state.plan_update(alloc, caller, update, &mut steps)
 }

@@ -11,6 +11,7 @@ use crate::locked::Locked;
 use crate::meet::{meet, meet_last};
 use crate::opened::Opened;
 use crate::pass::Pass;
+use crate::retired::Retired;
 use crate::start::{made_passes, opened_pair};
 use map_items::{NoMemory, Update};
 use rebuild_core::MapState;
@@ -57,10 +58,7 @@ impl<L: MapName> Shared<L> {
                     marks,
                     book,
                     audit_share,
-                    former: None,
-                    by_update: false,
-                    left: None,
-                    kept: None,
+                    retired: Retired::new(),
                     holds: Vec::new(alloc),
                 });
                 Ok((Shared { lock }, passes))
@@ -92,7 +90,7 @@ impl<L: MapName> Shared<L> {
         let kept = if is_newest {
             kept
         } else {
-            locked.set_aside(kept)
+            locked.retired.after_pass(kept)
         };
         MutexGuard::unlock(locked);
         drop((kept, spent, holdings));

@@ -1,7 +1,6 @@
 //! The turns of the lock that workers take. Between two of them the lists of detached subtrees are made and compared: nothing here
 //! takes time that depends on how many points such a subtree holds.
 ghost use Rattle.std.specs.Prelude.{◌≡◌, ◌≤◌, true, IfErr, IfOk, IfSome};
-ghost use Rattle.kd_tree.specs.Counter.{IsBlankOf};
 ghost use Rattle.rebuild_parts.specs.Built.{CanBeDoneOn};
 ghost use Rattle.rebuild_core.specs.Desk.{IsAskCause};
 ghost use Rattle.kd_update.specs.Detached.{AreItemsOf};
@@ -9,24 +8,14 @@ ghost use Rattle.published_map.specs.Late.{IsLateCause};
 
 use crate::hold::{Hold, hold_of, keep_hold};
 use crate::locked::Locked;
-use kd_tree::Steps;
 use map_items::{NoMemory, Ops};
 use rebuild_core::SwapOrLate;
 use rebuild_parts::{Built, Holding, Late, LogAsk, Snapshot, Version};
 use shown_versions::{MapName, Mark, Shown, ShownHistory};
 use std::alloc::Global;
-use std::sync::ledger::{Blank, Ledger};
-use std::sync::{Arc, Wait};
+use std::sync::Wait;
 
 impl<L: MapName> Locked<L> {
-    /// What a swap left behind it, and what the pass of the last update kept before, if they are still here: they are to be let go
-    /// of after the lock was given back.
-    pub fn leave(&mut self) -> (Option<Arc<Version>>, Option<Shown<L>>)
-        ensures same { self.new ≡ self.old }
-    {
-        (self.left.take(), self.kept.take())
-    }
-
     /// One turn of the lock that detaches a subtree, and marks what it held. Nothing that queries see changes.
     pub fn detach(
         &mut self,
@@ -88,17 +77,15 @@ impl<L: MapName> Locked<L> {
     }
 
     /// One turn of the lock that swaps the value in, where it is at most so many operations behind. It was built of what the mark
-    /// is of. What comes back is to be dropped after the lock was given back. The counter of nodes is one that nothing looks at.
-    pub fn swap<C: Ledger, R: Wait>(
+    /// is of. What comes back is to be dropped after the lock was given back.
+    pub fn swap<R: Wait>(
         &mut self,
         rt: &R,
         alloc: Global,
         built: Built,
         mark: &Mark<L>,
         most: u32,
-        blank: Blank,
     ) -> SwapOrLate
-        requires blank { IsBlankOf C.name C.parts blank }
         requires of { mark.now.items ≡ built.items }
         ensures history { self.new.state.history ≡ self.old.state.history }
 
@@ -108,8 +95,7 @@ impl<L: MapName> Locked<L> {
             return Err(Late::Stale { built });
         }
         let _history = self.state.history();
-        let mut steps: Steps<C> = Steps::new(blank);
-        let planned = match self.state.plan_swap_or_log(alloc, built, most, &mut steps) {
+        let planned = match self.state.plan_swap_or_log_uncounted(alloc, built, most) {
             Ok(planned) => planned,
             Err(late) => return Err(late),
         };

@@ -10,6 +10,7 @@ mod planned;
 mod recycle;
 mod state;
 mod swap;
+mod uncounted;
 
 pub use desk::{Desk, SwapOrLate, Swapped};
 pub use plan::MAX_UPDATES;

@@ -1,17 +1,13 @@
 //! A map for tests of a worker.
 ghost use Rattle.std.specs.Prelude.{◌≡◌, ◌+◌, ◌<◌, ◌↔◌, true, IfErr, OnErr, OnOk};
 ghost use Rattle.std.specs.List.{Contains};
-ghost use Rattle.kd_tree.specs.Counter.{IsBlankOf};
 ghost use Rattle.rebuild_core.specs.Desk.{IsSwapCause};
 ghost use Rattle.rebuild_core.specs.Swap.{IsSwapStep};
 
-use kd_tree::Steps;
 use map_items::{NoMemory, Ops};
 use rebuild_core::{Desk, MapState, SwapLeft, Swapped};
 use rebuild_parts::{Built, Job, LogAsk, SwapFault};
 use std::alloc::Global;
-use std::marker::Brand;
-use std::sync::ledger::{Blank, Ledger};
 use std::sync::{Mutex, Wait};
 
 /// A map that counts what it is asked, from 1, and refuses some of it, so that a test sees what a worker does then. Threads may
@@ -69,7 +65,7 @@ impl Desk for CountDesk {
 
     fn swap<R: Wait>(&self, rt: &R, alloc: Global, built: Built, force: bool) -> Swapped {
         let mut counted = self.counted.lock(rt);
-        counted.swap::<Brand>(alloc, built, force, Blank::new(1))
+        counted.swap(alloc, built, force)
     }
 }
 
@@ -85,9 +81,8 @@ impl Counted {
         self.refused.as_slice().contains(&self.calls)
     }
 
-    // Swaps the value in, with a counter that nothing looks at, or refuses that.
-    fn swap<L: Ledger>(&mut self, alloc: Global, built: Built, force: bool, blank: Blank) -> Swapped
-        requires blank { IsBlankOf L.name L.parts blank }
+    // Swaps the value in, or refuses that.
+    fn swap(&mut self, alloc: Global, built: Built, force: bool) -> Swapped
         ensures swapped { OnOk result (IsSwapStep built self.old.state.state self.new.state.state) }
         ensures left { IfErr result (λ l. l.built ≡ built) }
         ensures refused { IfErr result (λ l. IsSwapCause built force l.fault) }
@@ -97,7 +92,6 @@ impl Counted {
             let fault = SwapFault::NoMemory;
             return Err(SwapLeft { built, fault });
         }
-        let mut steps: Steps<L> = Steps::new(blank);
-        self.state.swap(alloc, built, force, &mut steps)
+        self.state.swap_uncounted(alloc, built, force)
     }
 }

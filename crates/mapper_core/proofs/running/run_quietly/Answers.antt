@@ -1,5 +1,5 @@
 use Rattle.std.proofs.Common.{◌≤◌, ◌+◌, ℕ, List, Option, subst}
-use Rattle.mapper_base.specs.declared.words.Ask.{Ask}
+use Rattle.mapper_base.specs.declared.command_line.words.Ask.{Ask}
 use Rattle.mapper_base.specs.Asks.{Asks, most_of}
 use Rattle.byte_streams.specs.Outside.{HasRead}
 use Rattle.mapper_base.proofs.OneAsk.{same_ask}

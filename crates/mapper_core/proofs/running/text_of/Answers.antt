@@ -1,7 +1,7 @@
 use Rattle.std.proofs.Common.{◌≡◌, ℕ, List, refl, sym, subst}
 use Rattle.scan_log.specs.Written.{script_text}
-use Rattle.mapper_base.specs.declared.words.Ask.{Ask}
-use Rattle.mapper_base.specs.declared.words.Ask.TheVariants.{Make, Drive}
+use Rattle.mapper_base.specs.declared.command_line.words.Ask.{Ask}
+use Rattle.mapper_base.specs.declared.command_line.words.Ask.TheVariants.{Make, Drive}
 use Rattle.mapper_base.specs.Causes.{IsTextOf}
 use Rattle.mapper_base.specs.Generated.{generated}
 use Rattle.mapper_base.specs.Seen.{LogSeen}

@@ -1,4 +1,0 @@
-use Rattle.base_trials.proofs.tests.forty.forty_after.Given as goal
-
-abbrev pub ghosts-tagged_forty : goal.ghosts-tagged_forty
-ghosts-tagged_forty g a = record { name = a.blank.name; parts = a.blank.parts }

@@ -1,4 +1,0 @@
-use Rattle.base_trials.proofs.tests.grown.grown.Given as goal
-
-abbrev pub ghosts-built : goal.ghosts-built
-ghosts-built a b = record { name = b.blank.name; parts = b.blank.parts }

@@ -1,5 +1,0 @@
-use Rattle.kd_tree.specs.Shape.{nodes}
-use Rattle.kd_update.proofs.one_pass.+put_at_once.Given as goal
-
-abbrev pub decreases-put_at_once : goal.decreases-put_at_once
-decreases-put_at_once g l = nodes l.tree

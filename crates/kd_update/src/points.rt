@@ -1,0 +1,5 @@
+//! One point put into a tree.
+
+pub(crate) mod insert;
+pub(crate) mod room;
+pub(crate) mod sides;

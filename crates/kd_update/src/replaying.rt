@@ -1,0 +1,4 @@
+//! Operations done again, one after the other.
+
+pub(crate) mod replay;
+pub(crate) mod runs;

@@ -1,0 +1,51 @@
+//! What the words ask for.
+ghost use Rattle.std.specs.Prelude.{◌≡◌, ◌∷◌, [], codes, map, IfOk, IfSome, IfNone};
+ghost use Rattle.mapper_base.specs.Asks.{AskNothing, Asks, texts};
+
+use crate::command_line::hearing::heard;
+use crate::command_line::spelling::is_spelled;
+use std::alloc::{AllocError, Global};
+
+/// What the words ask for.
+#[derive(Clone, Copy)]
+pub enum Ask {
+    /// A run of a log.
+    Run,
+    /// A run of a log in its order.
+    Serial,
+    /// The log of a generated script of so many scans.
+    Make(u32),
+    /// A run of a generated script in its order, and one line of sums.
+    Drive(u32),
+    /// The verdict on what stands behind so many bytes, which are a log, as a transcript of it.
+    Check(u32),
+}
+
+/// What the words ask for, if it is something that can be done. `clap`'s reading counts only where the words are the one
+/// spelling of what it read.
+pub fn asked(alloc: Global, words: &[String]) -> Result<Option<Ask>, AllocError>
+    ensures found { IfOk result (λ r. IfSome r (λ a. Asks a (texts words.now))) }
+    ensures nothing { IfOk result (λ r. IfNone r (AskNothing (texts words.now))) }
+{
+    let argv = with_program(alloc, words)?;
+    let Some(ask) = heard(alloc, argv.as_slice())? else {
+        return Ok(None);
+    };
+    if is_spelled(words, ask) {
+        Ok(Some(ask))
+    } else {
+        Ok(None)
+    }
+}
+
+// The words after the program's name, which `clap` passes over.
+fn with_program<'a>(alloc: Global, words: &'a [String]) -> Result<Vec<&'a str>, AllocError>
+    ensures { IfOk result (λ v. map (λ w. w.now) v.items ≡ codes "mapper" ∷ texts words.now) }
+{
+    let mut argv = Vec::new(alloc);
+    argv.push("mapper")?;
+    for word in words {
+        argv.push(word.as_str())?;
+    }
+    Ok(argv)
+}

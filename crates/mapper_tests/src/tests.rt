@@ -1,0 +1,9 @@
+mod assertions;
+mod callers;
+mod doors;
+mod ended;
+mod outside;
+mod pieces;
+mod runs;
+mod scripts;
+mod verdicts;

@@ -1,8 +1,0 @@
-mod assertions;
-mod callers;
-mod ended;
-mod outside;
-mod pieces;
-mod runs;
-mod scripts;
-mod verdicts;
