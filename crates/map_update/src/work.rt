@@ -149,11 +149,8 @@ impl Work {
         };
         let with = rebuilt_copy(alloc, node, steps)?;
         let (path, others) = (&path, others.as_slice());
-        let Replaced {
-            tree,
-            whole_rebuilt,
-        } = replaced(alloc, tree, large, path, with, others, steps)?;
-        if whole_rebuilt {
+        let Replaced { tree, anew } = replaced(alloc, tree, large, path, with, others, steps)?;
+        if anew {
             return Ok(Work {
                 tree,
                 watches: Watches::new(alloc),

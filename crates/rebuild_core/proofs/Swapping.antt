@@ -107,8 +107,8 @@ below_both next new with old f k l = All-weaker (λ n. Contains new n) (λ n. n 
 -- the plan of a swap
 
 -- the parts that are left are lawful, and the tree is balanced outside them
-left_by_swap : (s : StateAt) (b : BuiltAt) (p : PartAt) (t : Shape) (whole_rebuilt : Bool) (ps : List PartAt) → IsLawful s → IsPartOf b s.parts p → (whole_rebuilt ≡ true → AllMeetCriteria 10 t) → (whole_rebuilt ≡ false → AreSameAt (paths (without b.ticket s.parts)) t s.tree)
-    → IsBalancedClear s.settings.large (paths (without b.ticket s.parts)) t → (whole_rebuilt ≡ true → ps ≡ []) → (whole_rebuilt ≡ false → ps ≡ without b.ticket s.parts) → AreLawfulParts s.settings.large s.next s.last t ps × IsBalancedClear s.settings.large (paths ps) t
+left_by_swap : (s : StateAt) (b : BuiltAt) (p : PartAt) (t : Shape) (anew : Bool) (ps : List PartAt) → IsLawful s → IsPartOf b s.parts p → (anew ≡ true → AllMeetCriteria 10 t) → (anew ≡ false → AreSameAt (paths (without b.ticket s.parts)) t s.tree)
+    → IsBalancedClear s.settings.large (paths (without b.ticket s.parts)) t → (anew ≡ true → ps ≡ []) → (anew ≡ false → ps ≡ without b.ticket s.parts) → AreLawfulParts s.settings.large s.next s.last t ps × IsBalancedClear s.settings.large (paths ps) t
 left_by_swap s b p t true ps k o criteria same balanced none one =
     subst (λ (qs : List PartAt). AreLawfulParts s.settings.large s.next s.last t qs × IsBalancedClear s.settings.large (paths qs) t) (sym (none refl))
     (left_lawful s.settings.large s.next s.next s.last s.last s.tree t s.parts [] (left_none s.parts) k.parts tt, balanced_clear s.settings.large t (criteria_balanced s.settings.large t (criteria refl)))
@@ -119,23 +119,23 @@ left_by_swap s b p t false ps k o criteria same balanced none one =
     subst (λ (qs : List PartAt). AreLawfulParts s.settings.large s.next s.last t qs × IsBalancedClear s.settings.large (paths qs) t) (sym (one refl))
     (left_lawful s.settings.large s.next s.next s.last s.last s.tree t s.parts (without b.ticket s.parts) left k.parts each, balanced)
 
-which_left : (s : StateAt) (b : BuiltAt) (p : PartAt) (with : Shape) (whole_rebuilt : Bool) (ps : List PartAt) → IsPartOf b s.parts p → IsCaughtUp s.settings.large b (undone b p) with → ((whole_rebuilt ≡ false) ↔ HasRoomAt p.path with s.tree)
-    → (whole_rebuilt ≡ true → ps ≡ []) → (whole_rebuilt ≡ false → ps ≡ without b.ticket s.parts) → IsLeftBySwap b s ps
+which_left : (s : StateAt) (b : BuiltAt) (p : PartAt) (with : Shape) (anew : Bool) (ps : List PartAt) → IsPartOf b s.parts p → IsCaughtUp s.settings.large b (undone b p) with → ((anew ≡ false) ↔ HasRoomAt p.path with s.tree)
+    → (anew ≡ true → ps ≡ []) → (anew ≡ false → ps ≡ without b.ticket s.parts) → IsLeftBySwap b s ps
 which_left s b p with true ps o held room none one = record { part = p; of = o; with = with; caught = held; left = inr ((λ r. let e = room.1 r in absurd cc), none refl) }
 which_left s b p with false ps o held room none one = record { part = p; of = o; with = with; caught = held; left = inl (room.0 refl, one refl) }
 
-pub swaps : (s : StateAt) (b : BuiltAt) (p : PartAt) (with t : Shape) (whole_rebuilt : Bool) (logs : List LogPlan) → IsLawful s → IsPartOf b s.parts p → IsSound t → IsCaughtUp s.settings.large b (undone b p) with
-    → contents t ≡ contents s.tree → All (λ n. n < s.next) (numbers t) → ((whole_rebuilt ≡ false) ↔ HasRoomAt p.path with s.tree) → (whole_rebuilt ≡ true → AllMeetCriteria 10 t) → (whole_rebuilt ≡ false → AreSameAt (paths (without b.ticket s.parts)) t s.tree)
-    → IsBalancedClear s.settings.large (paths (without b.ticket s.parts)) t → (whole_rebuilt ≡ true → planned_parts logs s.parts ≡ []) → (whole_rebuilt ≡ false → planned_parts logs s.parts ≡ without b.ticket s.parts)
+pub swaps : (s : StateAt) (b : BuiltAt) (p : PartAt) (with t : Shape) (anew : Bool) (logs : List LogPlan) → IsLawful s → IsPartOf b s.parts p → IsSound t → IsCaughtUp s.settings.large b (undone b p) with
+    → contents t ≡ contents s.tree → All (λ n. n < s.next) (numbers t) → ((anew ≡ false) ↔ HasRoomAt p.path with s.tree) → (anew ≡ true → AllMeetCriteria 10 t) → (anew ≡ false → AreSameAt (paths (without b.ticket s.parts)) t s.tree)
+    → IsBalancedClear s.settings.large (paths (without b.ticket s.parts)) t → (anew ≡ true → planned_parts logs s.parts ≡ []) → (anew ≡ false → planned_parts logs s.parts ≡ without b.ticket s.parts)
     → IsSwapPlan b s (plan_with t logs s)
-swaps s b p with t whole_rebuilt logs k o sound caught held below room criteria same balanced none one =
-    let left = left_by_swap s b p t whole_rebuilt (planned_parts logs s.parts) k o criteria same balanced none one in
+swaps s b p with t anew logs k o sound caught held below room criteria same balanced none one =
+    let left = left_by_swap s b p t anew (planned_parts logs s.parts) k o criteria same balanced none one in
     record {
       lawful = held_lawful s t (planned_parts logs s.parts) k sound held below left.0 left.1;
       held = held;
       next = refl;
       none = refl;
-      parts = which_left s b p with whole_rebuilt (planned_parts logs s.parts) o caught room none one;
+      parts = which_left s b p with anew (planned_parts logs s.parts) o caught room none one;
     }
 
 -- how many operations are left

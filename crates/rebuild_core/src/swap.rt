@@ -154,12 +154,9 @@ impl MapState {
         let others = others_of(alloc, parts, part.ticket)?;
         let tree = self.tree.copy(alloc, steps)?;
         let (path, others) = (&part.path, others.as_slice());
-        let Replaced {
-            tree,
-            whole_rebuilt,
-        } = replaced(alloc, tree, large, path, with, others, steps)?;
+        let Replaced { tree, anew } = replaced(alloc, tree, large, path, with, others, steps)?;
         let _size = tree.size();
-        let logs = forgotten_for(alloc, parts, part.ticket, whole_rebuilt)?;
+        let logs = forgotten_for(alloc, parts, part.ticket, anew)?;
         self.plan_with(alloc, tree, logs, steps)
     }
 }

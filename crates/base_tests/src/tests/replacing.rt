@@ -76,13 +76,13 @@ fn done(rt: &impl Abort, alloc: Global, script: Script) -> Tree {
 #[test]
 fn a_subtree_that_is_too_deep_has_the_whole_tree_built_anew(rt: HostRuntime) {
     let alloc = rt.alloc();
-    for (start, whole_rebuilt) in [(100, false), (112, false), (113, true), (200, true)] {
-        is_replaced(&rt, alloc, start, whole_rebuilt);
+    for (start, anew) in [(100, false), (112, false), (113, true), (200, true)] {
+        is_replaced(&rt, alloc, start, anew);
     }
 }
 
 // The subtree that starts there is replaced by a deeper one, in a tree rebuilt or in the old one.
-fn is_replaced(rt: &impl Abort, alloc: Global, start: i64, whole_rebuilt: bool) {
+fn is_replaced(rt: &impl Abort, alloc: Global, start: i64, anew: bool) {
     let tree = chain(rt, alloc, 400, 0);
     let with = chain(rt, alloc, 400, start);
     let held = made(rt, tree.flatten(alloc));
@@ -95,13 +95,9 @@ fn is_replaced(rt: &impl Abort, alloc: Global, start: i64, whole_rebuilt: bool) 
         rt,
         put_in::<Brand>(rt, alloc, tree, &path, with, none, Blank::new(1)),
     );
-    same(rt, "rebuilt", done.whole_rebuilt, whole_rebuilt);
+    same(rt, "rebuilt", done.anew, anew);
     holds_all(rt, alloc, &done.tree, held.as_slice());
-    let levels = if whole_rebuilt {
-        9
-    } else {
-        start.saturating_add(400)
-    };
+    let levels = if anew { 9 } else { start.saturating_add(400) };
     same(rt, "levels", i64::from(done.tree.levels()), levels);
 }
 
@@ -123,7 +119,7 @@ fn what_stands_at_another_path_stays(rt: HostRuntime) {
     let right = Path::root().down(Side::Right);
     let held = held_at(&rt, alloc, &tree, &right);
     let done = put_left(&rt, alloc, tree, with);
-    holds(&rt, "not rebuilt", !done.whole_rebuilt);
+    holds(&rt, "not rebuilt", !done.anew);
     is_put_left(&rt, alloc, &done.tree, held.as_slice());
 }
 

@@ -42,12 +42,12 @@ pub fn replaced<L: Ledger>(
     ensures balance { IsBalancedClear large (path.now ∷ others.now) tree → IsBalancedBelow large with
         → IfOk result (λ r. IsBalancedClear large others.now r.tree) }
     // Rebuilt exactly where the plain replacement has no room.
-    ensures whole_rebuilt { IfOk result (λ r. (r.whole_rebuilt ≡ false) ↔ HasRoomAt path.now with tree) }
-    ensures criteria { IfOk result (λ r. r.whole_rebuilt ≡ true → AllMeetCriteria 10 r.tree) }
-    ensures medians { IfOk result (λ r. r.whole_rebuilt ≡ true → nodes r.tree ≡ length (contents tree)) }
+    ensures anew { IfOk result (λ r. (r.anew ≡ false) ↔ HasRoomAt path.now with tree) }
+    ensures criteria { IfOk result (λ r. r.anew ≡ true → AllMeetCriteria 10 r.tree) }
+    ensures medians { IfOk result (λ r. r.anew ≡ true → nodes r.tree ≡ length (contents tree)) }
     // Otherwise the same subtrees stand at the other paths.
-    ensures others { IfOk result (λ r. r.whole_rebuilt ≡ false → AreSameAt others.now r.tree tree) }
-    ensures there { IfOk result (λ r. r.whole_rebuilt ≡ false → AreLargeAt large others.now r.tree) }
+    ensures others { IfOk result (λ r. r.anew ≡ false → AreSameAt others.now r.tree tree) }
+    ensures there { IfOk result (λ r. r.anew ≡ false → AreLargeAt large others.now r.tree) }
     // Where there is room, and no node above the path is to be rebuilt, none is.
     ensures unrebuilt { HasRoomAt path.now with tree → RebuildsNoneAbove large path.now (replaced_at path.now with tree)
         → IfOk result (λ r. r.tree ≡ replaced_at path.now with tree) }
@@ -57,16 +57,10 @@ pub fn replaced<L: Ledger>(
     let _size = tree.size();
     if !has_room(&tree, path, &with) {
         let tree = rebuilt(alloc, tree, steps)?;
-        return Ok(Replaced {
-            tree,
-            whole_rebuilt: true,
-        });
+        return Ok(Replaced { tree, anew: true });
     }
     let tree = replaced_along(alloc, tree, large, path.as_slice(), with, steps)?;
-    Ok(Replaced {
-        tree,
-        whole_rebuilt: false,
-    })
+    Ok(Replaced { tree, anew: false })
 }
 
 // The same by shape, where there is room.

@@ -6,5 +6,5 @@ use kd_tree::Tree;
 pub struct Replaced {
     pub tree: Tree,
     /// Whether the whole tree was rebuilt by medians, for want of room.
-    pub whole_rebuilt: bool,
+    pub anew: bool,
 }

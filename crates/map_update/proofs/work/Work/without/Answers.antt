@@ -33,26 +33,26 @@ replaced-requires-clause-apart g c =
     let others : c.as_slice-others.result.now ≡ paths_in c.remove-path.new.self = c.as_slice-others.ensures.value ∙ c.in_ok-others.ensures ∙ ap paths_in c.as_slice.ensures.value in
     subst (IsClear c.remove-path.result.path) (sym others) k.clear
 
-pub returns-then-whole_rebuilt-clause-draft : goal.returns-then-whole_rebuilt-clause-draft
-returns-then-whole_rebuilt-clause-draft g c = λ next last ps d.
+pub returns-then-anew-clause-draft : goal.returns-then-anew-clause-draft
+returns-then-anew-clause-draft g c = λ next last ps d.
     let t = c.args.self.tree in
     let u = c.in_ok-tree.field-0.tree in
     let node = c.in-Some.node.now in
     let with = c.in_ok-with.with in
     let of_node : AreAmong (numbers with) (numbers node) = c.in_ok-with.ensures.numbers in
     let among = among_part (numbers u) (numbers with) (numbers node) (numbers t) c.in_ok-tree.ensures.numbers of_node (at_numbers c.remove-path.result.path t node c.in-Some.ensures.some) in
-    subst (λ (ws : List Watch). IsDraftLeft c.args.large next last ps (record { tree = u; watches = ws })) (sym c.new.ensures) (draft_anew c.args.large next last c.args.self u ps d among (c.in_ok-tree.ensures.criteria c.if-whole_rebuilt.true))
+    subst (λ (ws : List Watch). IsDraftLeft c.args.large next last ps (record { tree = u; watches = ws })) (sym c.new.ensures) (draft_anew c.args.large next last c.args.self u ps d among (c.in_ok-tree.ensures.criteria c.if-anew.true))
 
-pub returns-then-whole_rebuilt-clause-low : goal.returns-then-whole_rebuilt-clause-low
-returns-then-whole_rebuilt-clause-low g c =
+pub returns-then-anew-clause-low : goal.returns-then-anew-clause-low
+returns-then-anew-clause-low g c =
     let t = c.args.self.tree in
     let node = c.in-Some.node.now in
     let with = c.in_ok-with.with in
     let low : levels with ≤ levels node = c.in_ok-with.ensures.low in
     omega (arith, c.in_ok-tree.ensures.size.low, levels_kept c.remove-path.result.path with t node c.in-Some.ensures.some low)
 
-pub returns-then-whole_rebuilt-clause-few : goal.returns-then-whole_rebuilt-clause-few
-returns-then-whole_rebuilt-clause-few g c =
+pub returns-then-anew-clause-few : goal.returns-then-anew-clause-few
+returns-then-anew-clause-few g c =
     let t = c.args.self.tree in
     let node = c.in-Some.node.now in
     let with = c.in_ok-with.with in
@@ -72,7 +72,7 @@ returns-clause-draft g c = λ next last ps d.
     let among = among_part (numbers u) (numbers with) (numbers node) (numbers t) c.in_ok-tree.ensures.numbers of_node (at_numbers c.remove-path.result.path t node c.in-Some.ensures.some) in
     let outside = subst (λ (qs : List (List Side)). IsBalancedClear c.args.large (c.remove-path.result.path ∷ qs) t) (sym others) k.outside in
     let balanced = subst (λ (qs : List (List Side)). IsBalancedClear c.args.large qs u) others (c.in_ok-tree.ensures.balance outside (criteria_balanced c.args.large with c.in_ok-with.ensures.criteria)) in
-    let same = subst (λ (qs : List (List Side)). AreSameAt qs u t) others (c.in_ok-tree.ensures.others c.if-whole_rebuilt.false) in
+    let same = subst (λ (qs : List (List Side)). AreSameAt qs u t) others (c.in_ok-tree.ensures.others c.if-anew.false) in
     draft_without c.args.large next last ps c.args.self c.remove-path.result ws u d k same balanced among
 
 pub returns-clause-low : goal.returns-clause-low

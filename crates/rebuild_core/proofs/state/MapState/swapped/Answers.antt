@@ -80,7 +80,7 @@ returns-clause-planned g c = λ b r.
     c.as_slice-others.ensures.value ∙ c.in_ok-others.ensures ∙ ap (λ n. paths (without n c.as_slice-parts.result.now)) ticket ∙ ap (λ (ps : List PartAt). paths (without b.ticket ps)) parts in
     let with = c.in_ok-with.with in
     let t = c.in_ok-tree-2.field-0.tree in
-    let whole_rebuilt = c.in_ok-tree-2.field-0.whole_rebuilt in
+    let anew = c.in_ok-tree-2.field-0.anew in
     let e = c.in_ok-with.ensures in
     let mine : IsCaughtUp c.large-large.result (record b { tree = c.args.tree }) c.args.ops.now with = record { held = e.contents; low = e.low; few = e.few; same = e.same } in
     let caught : IsCaughtUp s.settings.large b (undone b p) with = swap_caught s.settings.large b p s.parts c.args.tree with c.args.ops.now r (subst (λ n. IsCaughtUp n (record b { tree = c.args.tree }) c.args.ops.now with) large mine) in
@@ -88,8 +88,8 @@ returns-clause-planned g c = λ b r.
     let below : All (λ n. n < s.next) (numbers with) = swap_below s b p with lawful r.lawful r.of among in
     let from : AreAmong (numbers t) (numbers with ++ numbers s.tree) = subst (λ (x : Shape). AreAmong (numbers t) (numbers with ++ numbers x)) tree c.in_ok-tree-2.ensures.numbers in
     let held : contents t ≡ contents s.tree = c.in_ok-tree-2.ensures.contents ∙ ap contents tree in
-    let room : (whole_rebuilt ≡ false) ↔ HasRoomAt p.path with s.tree =
-    subst (λ (q : List Side). (whole_rebuilt ≡ false) ↔ HasRoomAt q with s.tree) path (subst (λ (x : Shape). (whole_rebuilt ≡ false) ↔ HasRoomAt c.part.inside.path with x) tree c.in_ok-tree-2.ensures.whole_rebuilt) in
+    let room : (anew ≡ false) ↔ HasRoomAt p.path with s.tree =
+    subst (λ (q : List Side). (anew ≡ false) ↔ HasRoomAt q with s.tree) path (subst (λ (x : Shape). (anew ≡ false) ↔ HasRoomAt c.part.inside.path with x) tree c.in_ok-tree-2.ensures.anew) in
     let outside = swap_outside s b p lawful r.of in
     let outside_here : IsBalancedClear c.large-large.result (c.part.inside.path ∷ c.as_slice-others.result.now) c.in_ok-tree.tree =
     subst (λ n. IsBalancedClear n (c.part.inside.path ∷ c.as_slice-others.result.now) c.in_ok-tree.tree) (sym large)
@@ -97,12 +97,12 @@ returns-clause-planned g c = λ b r.
     (subst (λ (qs : List (List Side)). IsBalancedClear s.settings.large (p.path ∷ qs) c.in_ok-tree.tree) (sym others) (subst (λ (x : Shape). IsBalancedClear s.settings.large (p.path ∷ paths (without b.ticket s.parts)) x) (sym tree) outside))) in
     let balanced : IsBalancedClear s.settings.large (paths (without b.ticket s.parts)) t =
     subst (λ n. IsBalancedClear n (paths (without b.ticket s.parts)) t) large (subst (λ (qs : List (List Side)). IsBalancedClear c.large-large.result qs t) others (c.in_ok-tree-2.ensures.balance outside_here c.in_ok-with.ensures.balance)) in
-    let same : whole_rebuilt ≡ false → AreSameAt (paths (without b.ticket s.parts)) t s.tree =
+    let same : anew ≡ false → AreSameAt (paths (without b.ticket s.parts)) t s.tree =
     λ e. subst (λ (qs : List (List Side)). AreSameAt qs t s.tree) others (subst (λ (x : Shape). AreSameAt c.as_slice-others.result.now t x) tree (c.in_ok-tree-2.ensures.others e)) in
     let logs = c.in_ok-logs.logs.items in
-    let none : whole_rebuilt ≡ true → planned_parts logs s.parts ≡ [] = λ e. ap (planned_parts logs) (sym parts) ∙ c.in_ok-logs.ensures.all e in
-    let one : whole_rebuilt ≡ false → planned_parts logs s.parts ≡ without b.ticket s.parts =
+    let none : anew ≡ true → planned_parts logs s.parts ≡ [] = λ e. ap (planned_parts logs) (sym parts) ∙ c.in_ok-logs.ensures.all e in
+    let one : anew ≡ false → planned_parts logs s.parts ≡ without b.ticket s.parts =
     λ e. ap (planned_parts logs) (sym parts) ∙ c.in_ok-logs.ensures.one e ∙ ap (λ n. without n c.as_slice-parts.result.now) ticket ∙ ap (without b.ticket) parts in
     let plan : IsSwapPlan b s (plan_with t logs s) =
-    swaps s b p with t whole_rebuilt logs lawful r.of c.size-size.ensures.sound caught held (below_both s.next (numbers t) (numbers with) (numbers s.tree) from below lawful.below) room c.in_ok-tree-2.ensures.criteria same balanced none one in
+    swaps s b p with t anew logs lawful r.of c.size-size.ensures.sound caught held (below_both s.next (numbers t) (numbers with) (numbers s.tree) from below lawful.below) room c.in_ok-tree-2.ensures.criteria same balanced none one in
     IfOk-weaker c.plan_with.result (λ (q : PlannedAt). q ≡ plan_with t logs s) (IsSwapPlan b s) (λ q is. subst (IsSwapPlan b s) (sym is) plan) c.plan_with.ensures.planned
