@@ -3,7 +3,7 @@ ghost use Rattle.std.specs.Prelude.{IfOk};
 ghost use Rattle.map_items.specs.Contents.{AreContents};
 
 use crate::draws::Draws;
-use map_items::{Cuboids, Item, Items, NoMemory, Points, Update};
+use map_fold::{Cuboids, Item, Items, NoMemory, Points, Update};
 use point_geom::{Corner, Cuboid, Point};
 use std::alloc::Global;
 use std::ops::Range;

@@ -8,7 +8,7 @@ use crate::told::Told;
 use crate::words::Look;
 use batch_near::nearest_each;
 use kd_tree::Tree;
-use map_items::{NoMemory, Points};
+use map_fold::{NoMemory, Points};
 use std::sync::ledger::Ledger;
 use std::thread::Threads;
 use std::time::{Clock, Instant};

@@ -4,7 +4,7 @@ use crate::course::{Scan, deletion};
 use crate::growing::Growing;
 use crate::stop::Stop;
 use kd_tree::{Steps, Tree};
-use map_items::{Settings, Update};
+use map_fold::{Settings, Update};
 use rebuild_core::MapState;
 use std::alloc::Global;
 use std::sync::ledger::Ledger;

@@ -1,6 +1,6 @@
 //! Why a measurement stopped.
-use map_items::NoMemory;
-use rebuild_parts::StateFault;
+use map_fold::NoMemory;
+use rebuild_core::StateFault;
 use std::alloc::AllocError;
 use std::io;
 

@@ -1,8 +1,7 @@
 //! Checksums of what was found and of what is held.
 use kd_search::nearest;
 use kd_tree::Tree;
-use map_fold::{Groups, HitLists, Hits};
-use map_items::{Items, NoMemory, Points};
+use map_fold::{Groups, HitLists, Hits, Items, NoMemory, Points};
 use point_geom::{Point, dist2};
 use std::alloc::Global;
 

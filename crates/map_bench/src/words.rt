@@ -4,7 +4,7 @@ ghost use Rattle.map_items.specs.declared.limits.TheConstants.{MAX_POINTS};
 
 use crate::course::Lie;
 use crate::threads::company::Sharing;
-use map_items::MAX_POINTS;
+use map_fold::MAX_POINTS;
 
 /// What is measured.
 #[derive(Clone, Copy)]

@@ -5,11 +5,9 @@ ghost use Rattle.kd_tree.specs.Counter.{IsBlankOf};
 
 use kd_search::nearest;
 use kd_tree::Steps;
-use map_fold::Hits;
-use map_items::{Cuboids, NoMemory, Points, Settings, Update};
+use map_fold::{Cuboids, Hits, NoMemory, Points, Settings, Update};
 use point_geom::{Corner, Cuboid, Point};
-use rebuild_core::MapState;
-use rebuild_parts::StateFault;
+use rebuild_core::{MapState, StateFault};
 use std::alloc::{AllocError, Global};
 use std::io;
 use std::marker::Brand;

@@ -8,7 +8,7 @@ use crate::tests::assertions::{made, same};
 use crate::tests::forty::{forty_after, is_suspended, item};
 use crate::tests::lists::holds_all;
 use kd_tree::{Fork, Path, Side, Steps, Tree};
-use map_items::{Item, Tag};
+use map_fold::{Item, Tag};
 use point_geom::Axis;
 use std::alloc::Global;
 use std::marker::Brand;

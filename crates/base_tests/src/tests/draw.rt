@@ -3,7 +3,7 @@ ghost use Rattle.std.specs.Prelude.{pos, ◌≤ℤ◌, ◌<ℤ◌};
 
 use crate::tests::assertions::made;
 use crate::tests::numbered::between;
-use map_items::{Choice, Item, Label, Tag};
+use map_fold::{Choice, Item, Label, Tag};
 use point_geom::{Cuboid, Point};
 use std::alloc::Global;
 use std::process::Abort;

@@ -7,7 +7,7 @@ use crate::tests::grown::restored;
 use batch_near::nearest_each;
 use kd_search::nearest;
 use kd_tree::Tree;
-use map_items::Points;
+use map_fold::Points;
 use point_geom::Point;
 use std::alloc::Global;
 use std::process::Abort;

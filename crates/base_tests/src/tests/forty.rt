@@ -7,7 +7,7 @@ ghost use Rattle.kd_tree.specs.Counter.{IsBlankOf};
 use crate::tests::assertions::{holds, made, same};
 use crate::tests::lists::{holds_all, top_of};
 use kd_tree::{Path, Side, Steps, Tree};
-use map_items::{Item, Label, Tag};
+use map_fold::{Item, Label, Tag};
 use point_geom::{Axis, Point};
 use std::alloc::{AllocError, Global};
 use std::marker::Brand;

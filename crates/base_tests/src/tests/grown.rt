@@ -6,7 +6,7 @@ ghost use Rattle.kd_tree.specs.Counter.{IsBlankOf};
 
 use crate::tests::assertions::made;
 use kd_tree::{MAX_NODES, Steps, Tree};
-use map_items::{Item, Label, NoMemory, Tag};
+use map_fold::{Item, Label, NoMemory, Tag};
 use point_geom::Point;
 use std::alloc::Global;
 use std::marker::Brand;

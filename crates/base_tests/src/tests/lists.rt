@@ -2,7 +2,7 @@
 use crate::tests::assertions::{found, holds, made, same};
 use crate::tests::numbered::Numbered;
 use kd_tree::{Path, Side, Tree};
-use map_items::Item;
+use map_fold::Item;
 use std::alloc::Global;
 use std::process::Abort;
 

@@ -1,7 +1,7 @@
 //! A logger with ample memory, up to its end.
 use crate::tests::assertions::{holds, made, same};
 use crate::tests::places::at;
-use map_items::{Choice, Op, Tag};
+use map_fold::{Choice, Op, Tag};
 use op_logger::{OpLog, PushFault};
 use point_geom::{Cuboid, Point};
 use std::alloc::Global;

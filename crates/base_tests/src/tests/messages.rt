@@ -1,7 +1,7 @@
 //! What refusals say to people.
 use crate::tests::assertions::{made, same};
 use local_region::RulesFault;
-use map_items::NoMemory;
+use map_fold::NoMemory;
 use point_geom::{Axis, CuboidError, OutOfRange};
 use scan_log::{LogCause, ParseFault};
 use std::alloc::Global;

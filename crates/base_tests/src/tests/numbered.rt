@@ -6,7 +6,7 @@ ghost use Rattle.kd_tree.specs.Counter.{IsBlankOf};
 use crate::tests::assertions::made;
 use kd_tree::{Steps, Tree};
 use kd_update::{put, roomy, settled};
-use map_items::{MAX_POINTS, NoMemory};
+use map_fold::{MAX_POINTS, NoMemory};
 use point_geom::{Corner, Cuboid, CuboidError, Point};
 use std::alloc::Global;
 use std::marker::Brand;

@@ -2,7 +2,7 @@
 use crate::tests::assertions::{made, same};
 use crate::tests::reading::{WIDE_HEADER, read};
 use crate::tests::written::{is_told, is_written_as};
-use map_items::Update;
+use map_fold::Update;
 use scan_log::{Command, PlainScript, Reply, Script};
 use std::alloc::Global;
 use std::process::Abort;

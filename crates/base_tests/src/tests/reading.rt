@@ -1,7 +1,6 @@
 //! Logs and lines, by hand.
 use crate::tests::assertions::{are_bytes, holds, made, same};
-use map_fold::{Hit, Hits, NearReply};
-use map_items::Settings;
+use map_fold::{Hit, Hits, NearReply, Settings};
 use point_geom::Point;
 use scan_log::{Command, Format, ParseFault, Reply, Script, parse, reply_line};
 use std::alloc::Global;

@@ -11,7 +11,7 @@ use crate::tests::script::Script;
 use crate::tests::watching::is_large;
 use kd_tree::{Path, Side, Steps, Tree};
 use kd_update::{Replaced, replaced, replayed};
-use map_items::{Choice, Item, Items, NoMemory, Tag};
+use map_fold::{Choice, Item, Items, NoMemory, Tag};
 use std::alloc::Global;
 use std::marker::Brand;
 use std::process::Abort;

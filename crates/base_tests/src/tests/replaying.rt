@@ -5,7 +5,7 @@ use crate::tests::script::Script;
 use crate::tests::watch::perform_plainly;
 use kd_tree::Tree;
 use kd_update::replayed;
-use map_items::Item;
+use map_fold::Item;
 use std::alloc::Global;
 use std::process::Abort;
 

@@ -8,7 +8,7 @@ use crate::tests::breaches::left_dropped;
 use crate::tests::forty::{forty, item};
 use crate::tests::lists::holds_all;
 use kd_tree::{Scratch, Steps, Tree};
-use map_items::{Item, Items, NoMemory, Tag};
+use map_fold::{Item, Items, NoMemory, Tag};
 use std::alloc::Global;
 use std::marker::Brand;
 use std::process::Abort;

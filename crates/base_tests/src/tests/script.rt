@@ -3,7 +3,7 @@ ghost use Rattle.std.specs.Prelude.{◌≡◌, []};
 ghost use Rattle.map_items.specs.Ops.{Fit};
 
 use crate::tests::assertions::made;
-use map_items::{Choice, NoMemory, Op, Tag};
+use map_fold::{Choice, NoMemory, Op, Tag};
 use point_geom::Point;
 use std::alloc::Global;
 use std::marker::Model;

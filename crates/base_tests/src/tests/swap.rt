@@ -2,7 +2,7 @@
 use crate::tests::assertions::{holds, made, same};
 use crate::tests::grown::grown;
 use kd_search::{best_in, count_in, in_cuboid, nearest};
-use map_items::{Label, Tag};
+use map_fold::{Label, Tag};
 use neighbour_sets::count_ball;
 use point_geom::{Cuboid, Point};
 

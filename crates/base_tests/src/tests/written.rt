@@ -7,8 +7,10 @@ ghost use Rattle.scan_log.specs.declared.fault.ParseFault.TheVariants.{NoMemory 
 
 use crate::tests::assertions::{are_bytes, made};
 use crate::tests::reading::{HEADER, WIDE_HEADER, log_with, read, read_with};
-use map_fold::{BoxReply, Hit, Hits, NearReply};
-use map_items::{Cuboids, Item, Items, Label, MAX_POINTS, Points, Settings, Update};
+use map_fold::{
+    BoxReply, Cuboids, Hit, Hits, Item, Items, Label, MAX_POINTS, NearReply, Points, Settings,
+    Update,
+};
 use point_geom::{Corner, Cuboid, Point};
 use scan_log::{Command, Format, ParseFault, Reply, Script, parse, reply_line, write_script};
 use std::alloc::Global;

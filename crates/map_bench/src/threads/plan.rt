@@ -3,7 +3,7 @@ use super::company::Company;
 use crate::course::{Lie, POINTS_OF_SCAN, Scan, places, scans};
 use crate::draws::Draws;
 use crate::stop::Stop;
-use map_items::Points;
+use map_fold::Points;
 use std::alloc::Global;
 use std::sync::atomic::{AtomicBool, Ordering};
 

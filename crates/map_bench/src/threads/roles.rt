@@ -7,7 +7,7 @@ use super::timed_desk::TimedDesk;
 use super::times::Times;
 use crate::robot::LARGE;
 use crate::stop::Stop;
-use map_items::NoMemory;
+use map_fold::NoMemory;
 use published_map::{MapName, Pass, Shared};
 use rebuild_worker::{Bell, FreeGate, Rest, pair, work};
 use std::alloc::Global;

@@ -2,9 +2,8 @@
 use super::plan::Plan;
 use super::times::{Kind, Times};
 use crate::bench::since;
-use map_items::{NoMemory, Ops};
-use rebuild_core::{Desk, SwapLeft};
-use rebuild_parts::{Built, Job, Late, LogAsk};
+use map_fold::{NoMemory, Ops};
+use rebuild_core::{Built, Desk, Job, Late, LogAsk, SwapLeft};
 use std::alloc::Global;
 use std::io;
 use std::sync::{Mutex, Wait};

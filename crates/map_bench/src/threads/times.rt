@@ -1,7 +1,7 @@
 //! How long steps took.
 use crate::bench::since;
 use crate::stop::Stop;
-use map_items::NoMemory;
+use map_fold::NoMemory;
 use std::alloc::Global;
 use std::fmt::{Display, Error, Formatter, Write};
 use std::io;

@@ -5,7 +5,7 @@ use crate::bench::since;
 use crate::course::{Scan, deletion};
 use crate::stop::Stop;
 use crate::sums::with_answers;
-use map_items::Update;
+use map_fold::Update;
 use published_map::{MapName, Pass};
 use std::sync::Wait;
 use std::thread::sleep;

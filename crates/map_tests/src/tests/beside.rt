@@ -2,10 +2,9 @@
 use crate::tests::assertions::{holds, made, same};
 use crate::tests::draws::Draws;
 use kd_search::{count_in, in_cuboid, nearest};
-use map_fold::PlainMap;
-use map_items::{Settings, Update};
+use map_fold::{PlainMap, Settings, Update};
 use point_geom::{Cuboid, Point};
-use rebuild_parts::Version;
+use rebuild_core::Version;
 use std::alloc::Global;
 use std::mem;
 use std::process::Abort;

@@ -8,10 +8,8 @@ use crate::tests::assertions::{found, holds, made, same};
 use crate::tests::beside::{compare, updated_plainly};
 use crate::tests::draws::Draws;
 use crate::tests::steps::{new_map, settled, swapped, updated};
-use map_fold::PlainMap;
-use map_items::{Op, Points, Settings, Update};
-use rebuild_core::{MapState, SwapLeft};
-use rebuild_parts::{Built, Job, LogAsk, SwapFault};
+use map_fold::{Op, PlainMap, Points, Settings, Update};
+use rebuild_core::{Built, Job, LogAsk, MapState, SwapFault, SwapLeft};
 use std::alloc::Global;
 use std::process::Abort;
 

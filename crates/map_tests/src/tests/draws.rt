@@ -2,7 +2,7 @@
 ghost use Rattle.std.specs.Prelude.{◌<◌, ◌^◌};
 
 use crate::tests::assertions::made;
-use map_items::{Cuboids, Points, Update};
+use map_fold::{Cuboids, Points, Update};
 use point_geom::{Corner, Cuboid, Point};
 use std::alloc::Global;
 use std::process::Abort;

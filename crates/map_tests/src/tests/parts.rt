@@ -6,10 +6,9 @@ use crate::tests::steps::{
     add, built, detached, is_balanced, is_of, is_stale, new_map, row, settled, swap_ends, swapped,
     update,
 };
-use map_items::{Cuboids, Points, Settings, Update};
+use map_fold::{Cuboids, Points, Settings, Update};
 use point_geom::Point;
-use rebuild_core::MapState;
-use rebuild_parts::{Built, Job, SwapFault};
+use rebuild_core::{Built, Job, MapState, SwapFault};
 use std::alloc::Global;
 use std::process::Abort;
 

@@ -1,10 +1,9 @@
 //! Where a state refuses an update, and stays as it was.
 use crate::tests::assertions::{made, same};
 use crate::tests::steps::{new_map, update, updated};
-use map_items::{Cuboids, Points, Settings, Update};
+use map_fold::{Cuboids, Points, Settings, Update};
 use point_geom::Point;
-use rebuild_core::MapState;
-use rebuild_parts::{LogAsk, StateFault, SwapFault};
+use rebuild_core::{LogAsk, MapState, StateFault, SwapFault};
 use std::alloc::Global;
 use std::fmt::Display;
 use std::process::Abort;

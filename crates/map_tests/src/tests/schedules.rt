@@ -6,10 +6,9 @@ use crate::tests::steps::{
     swap_ends, update,
 };
 use kd_search::nearest;
-use map_items::{Cuboids, Points, Settings, Update};
+use map_fold::{Cuboids, Points, Settings, Update};
 use point_geom::Point;
-use rebuild_core::MapState;
-use rebuild_parts::{Job, SwapFault};
+use rebuild_core::{Job, MapState, SwapFault};
 use std::alloc::Global;
 use std::process::Abort;
 

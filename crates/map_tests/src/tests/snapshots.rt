@@ -4,9 +4,8 @@ ghost use Rattle.std.specs.Prelude.{◌≡◌};
 use crate::tests::assertions::{found, holds, made, same};
 use crate::tests::looks::live;
 use crate::tests::steps::{add_row_and, built, new_map, swap_ends, update};
-use map_items::{NoMemory, Settings, Update};
-use rebuild_core::MapState;
-use rebuild_parts::{Built, Job, Snapshot, SwapFault};
+use map_fold::{NoMemory, Settings, Update};
+use rebuild_core::{Built, Job, MapState, Snapshot, SwapFault};
 use std::alloc::Global;
 use std::process::Abort;
 

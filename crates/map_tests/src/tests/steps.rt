@@ -4,10 +4,9 @@ ghost use Rattle.kd_tree.specs.Counter.{IsBlankOf};
 
 use crate::tests::assertions::{found, made, same};
 use kd_tree::Steps;
-use map_items::{Points, Settings, Update};
+use map_fold::{Points, Settings, Update};
 use point_geom::Point;
-use rebuild_core::{MapState, SwapLeft};
-use rebuild_parts::{Built, Job, LogAsk, StateFault, SwapFault};
+use rebuild_core::{Built, Job, LogAsk, MapState, StateFault, SwapFault, SwapLeft};
 use std::alloc::Global;
 use std::marker::Brand;
 use std::process::Abort;

@@ -5,7 +5,7 @@ ghost use Rattle.published_map.specs.Held.{IsOpenedAs};
 ghost use Rattle.mapper_core.specs.Meetings.{HasCaller};
 
 use crate::tests::assertions::{made, same};
-use map_items::NoMemory;
+use map_fold::NoMemory;
 use mapper_core::run_callers;
 use published_map::{Ended, MapName, Opened, Shared};
 use rebuild_core::MapState;

@@ -3,12 +3,10 @@ ghost use Rattle.std.specs.Prelude.{◌≤◌};
 
 use crate::tests::assertions::{found, holds, made, same};
 use crate::tests::trial::{Site, Trial, added, tried, updated};
-use map_fold::NearReply;
-use map_items::{Points, Update};
+use map_fold::{NearReply, Points, Update};
 use point_geom::Point;
 use published_map::{Ended, MapName, Pass};
-use rebuild_core::MapState;
-use rebuild_parts::Version;
+use rebuild_core::{MapState, Version};
 use std::alloc::Global;
 use std::process::Abort;
 use std::sync::Wait;

@@ -1,11 +1,10 @@
 //! Updates that are refused. For lack of memory none is in a plain run: allocations are refused from outside.
 use crate::tests::assertions::{found, made, same};
 use crate::tests::trial::{Site, Trial, added, row, tried};
-use map_items::{Points, Update};
+use map_fold::{Points, Update};
 use point_geom::Point;
 use published_map::{Ended, MapName, Pass};
-use rebuild_core::MapState;
-use rebuild_parts::StateFault;
+use rebuild_core::{MapState, StateFault};
 use std::alloc::Global;
 use std::process::Abort;
 use std::sync::Wait;

@@ -4,11 +4,10 @@ ghost use Rattle.published_map.specs.Held.{IsOpenedAs};
 
 use crate::tests::assertions::{found, holds, made, same};
 use crate::tests::trial::{Site, finished, push};
-use map_items::{Points, Settings, Update};
+use map_fold::{Points, Settings, Update};
 use point_geom::Point;
 use published_map::{Ended, MapName, Opened, Pass, Shared};
-use rebuild_core::{Desk, MapState};
-use rebuild_parts::{Built, SwapFault};
+use rebuild_core::{Built, Desk, MapState, SwapFault};
 use std::alloc::Global;
 use std::marker::Brand;
 use std::process::Abort;

@@ -5,8 +5,7 @@ ghost use Rattle.shown_versions.specs.Marks.{callers_of, times_listed, IsDistinc
 ghost use Rattle.published_map.specs.Held.{IsOpenedAs};
 
 use crate::tests::assertions::{found, made};
-use map_fold::{BoxReply, NearReply};
-use map_items::{Cuboids, Points, Settings, Update};
+use map_fold::{BoxReply, Cuboids, NearReply, Points, Settings, Update};
 use point_geom::{Corner, Cuboid, Point};
 use published_map::{Ended, MapName, Opened, Pass, Shared};
 use rebuild_core::MapState;
