@@ -105,6 +105,47 @@ fn callers_run_beside_each_other(rt: HostRuntime) {
     holds(&rt, "the end", out.bytes().ends_with(rest.as_bytes()));
 }
 
+// It looks whether each command is told under the caller that the script names for it.
+#[derive(Drop)]
+struct Names {
+    callers: Vec<u8>,
+    told: AtomicU64,
+    misnamed: AtomicBool,
+}
+
+impl Gate for Names {
+    fn before_build(&self, _ticket: u64) {}
+
+    fn replied(&self, caller: u8, index: u32) {
+        self.told.fetch_add(1, Ordering::SeqCst);
+        if self.callers.as_slice().get(index as usize) != Some(&caller) {
+            self.misnamed.store(true, Ordering::SeqCst);
+        }
+    }
+}
+
+#[test]
+fn a_gate_is_told_of_the_caller_that_was_replied_to(rt: HostRuntime) {
+    let alloc = rt.alloc();
+    let log = "ikdmap 1 voxel 200 large 1500\n\
+               @3 add 1 0 0\n\
+               @8 near 1 0 0 0\n\
+               @1 add 2 0 0\n\
+               @3 near 1 0 0 0\n";
+    let gate = Names {
+        callers: made(&rt, [3, 8, 1, 3].to_vec(alloc)),
+        told: AtomicU64::new(0),
+        misnamed: AtomicBool::new(false),
+    };
+    let _ = done(&rt, alloc, log, &gate);
+    same(&rt, "replies", gate.told.load(Ordering::SeqCst), 4);
+    holds(
+        &rt,
+        "each under its caller",
+        !gate.misnamed.load(Ordering::SeqCst),
+    );
+}
+
 // After forty points and a barrier, where the tree is balanced, one build is held up until the last begins, and each command that
 // waits for a build sees it begin.
 #[test]
