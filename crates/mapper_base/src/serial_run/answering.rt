@@ -1,6 +1,6 @@
 //! One command, on the state of a map.
 ghost use Rattle.std.specs.Prelude.{◌≡◌, ◌≤◌, ◌<◌, ◌+◌, length, IfOk, OnOk};
-ghost use Rattle.rebuild_core.specs.Steps.{HasRoom, IsUpdateStep};
+ghost use Rattle.rebuild_core.specs.Steps.{HasRoom, IsSettleStep, IsUpdateStep};
 ghost use Rattle.scan_log.specs.Plain.{IsPlain};
 ghost use Rattle.scan_log.specs.Scripts.{submitted};
 ghost use Rattle.mapper_base.specs.Turns.{Follows, IsTended, reply_of};
@@ -19,6 +19,7 @@ pub fn answer(alloc: Global, state: &mut MapState, command: &Command) -> Result<
     requires points { state.old.state.next + submitted command.now ≤ MAX_POINTS }
     ensures follows { OnOk result (Follows command.now state.old.state state.new.state) }
     ensures reply { IfOk result (λ r. r ≡ reply_of state.new.state command.now) }
+    ensures settled { command.now ≡ Command.Sync → OnOk result (IsSettleStep state.old.state state.new.state) }
 {
     match command {
         Command::Change { caller, update } => change(alloc, state, *caller, update),
