@@ -7,7 +7,7 @@ mod points;
 mod replacing;
 mod replaying;
 mod scans;
-mod watched;
+mod watching;
 
 pub use kd_mark::{Watch, Watches, marked, marked_watched};
 pub use limits::{MAX_PASS_LEVELS, PASS_FROM};
@@ -20,5 +20,5 @@ pub use replaying::replay::replayed;
 pub use scans::numbered::{live_items, put_points};
 pub use scans::one_pass::put_at_once;
 pub use scans::scan::put_all;
-pub use watched::insert_watched::put_watched;
-pub use watched::scan_watched::put_all_watched;
+pub use watching::insert_watched::put_watched;
+pub use watching::scan_watched::put_all_watched;
