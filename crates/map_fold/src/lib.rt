@@ -1,4 +1,4 @@
-//! What queries answer of a map, as definitions and as values: hits in their order, lists of them, groups, and replies.
+//! What queries answer, as definitions and as values, and the plain map; and all that `map_items` says.
 #![tactic(auto)]
 
 mod group;

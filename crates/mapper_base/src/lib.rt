@@ -1,4 +1,4 @@
-//! What the top call is made of beside its runs: the log that is read, generated scripts, what a tree answers, summaries, verdicts,
+//! The program but for its threads: what the words ask for, the log that is read, a script in its order, generated scripts, sums, verdicts,
 //! and how a run ends.
 #![tactic(auto)]
 
