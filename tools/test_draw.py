@@ -659,9 +659,10 @@ class Pictures(unittest.TestCase):
 class Statuses(unittest.TestCase):
     """How the program ends."""
 
-    def draw(self, *words):
+    def draw(self, *words, out=subprocess.PIPE):
         """Runs the program, and returns its status and what it told."""
-        ended = subprocess.run([TOP / "tools/draw", *words], cwd=TOP, capture_output=True, text=True, check=False)
+        words = [TOP / "tools/draw", *words]
+        ended = subprocess.run(words, cwd=TOP, stdout=out, stderr=subprocess.PIPE, text=True, check=False)
         return ended.returncode, ended.stderr
 
     def test_no_difference_is_0(self):
@@ -669,10 +670,18 @@ class Statuses(unittest.TestCase):
 
     def test_a_difference_is_1(self):
         status, told = self.draw("examples/first.log", "examples/ties.transcript")
-        self.assertEqual((status, told), (1, "draw: 7 lines where 3 are due\n"))
+        self.assertEqual((status, told), (1, "draw: examples/ties.transcript: 7 lines where 3 are due\n"))
 
     def test_a_refused_log_is_2(self):
-        self.assertEqual(self.draw("examples/first.transcript"), (2, "draw: line 1: no header\n"))
+        told = "draw: examples/first.transcript: line 1: no header\n"
+        self.assertEqual(self.draw("examples/first.transcript"), (2, told))
+        self.assertEqual(self.draw("none"), (2, "draw: none: No such file or directory\n"))
+        self.assertEqual(self.draw("examples/first.log", "none"), (2, "draw: none: No such file or directory\n"))
+
+    def test_a_picture_that_cant_be_written_is_1(self):
+        with open("/dev/full", "w") as full:
+            told = "draw: standard output: No space left on device\n"
+            self.assertEqual(self.draw("examples/first.log", out=full), (1, told))
 
 
 if __name__ == "__main__":

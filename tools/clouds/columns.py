@@ -1,6 +1,7 @@
 """Tables of numbers with a name over each column, in text or in bytes, and the points that are read from their rows."""
 
 import struct
+from itertools import chain
 from operator import itemgetter
 from typing import NamedTuple
 
@@ -26,16 +27,25 @@ class Column(NamedTuple):
 
 
 class Columns:
-    """The columns of a table, as a line of a header tells them. Those of x, y and z have to be there; that of the intensity may be."""
+    """The columns of a table, as a line of a header tells them.
+
+    Those of x, y and z have to be there; that of the intensity may be.
+    """
 
     def __init__(self, columns, intensity, line):
         self.all = columns
+        self.intensity = intensity
+        self.line = line
         self.single = [column for column in columns if not column.length]
         names = [column.name for column in columns]
         self.wanted = ["x", "y", "z"] + [intensity] * (intensity in names)
         for name in self.wanted:
             if names.count(name) != 1 or not columns[names.index(name)].is_one():
                 raise CloudFault(f"line {line}: there has to be one number {name} for each point")
+
+    def without(self, name):
+        """The same columns without those of a name."""
+        return Columns([column for column in self.all if column.name != name], self.intensity, self.line)
 
     def in_lines(self, lines):
         """The points of these lines of text, each of which comes with its number."""
@@ -66,6 +76,18 @@ class Columns:
         else:
             rows = (shape.unpack(row) for row, _ in rows_of_bytes(self.all, order, content, start, count))
         return map(with_intensity, map(take, rows))
+
+
+    def in_blocks(self, order, content, count):
+        """The points of `count` rows that are stored column by column, one column after the other."""
+        blocks, start = {}, 0
+        for column in self.all:
+            end = start + count * size(column)
+            if column.name in self.wanted:
+                numbers = struct.iter_unpack(order + column.code, memoryview(content)[start:end])
+                blocks[column.name] = chain.from_iterable(numbers)
+            start = end
+        return map(with_intensity, zip(*(blocks[name] for name in self.wanted)))
 
 
 def with_intensity(point):

@@ -1,7 +1,12 @@
-"""PCD, the files of the Point Cloud Library: ascii and binary. The viewpoint in their header is not looked at."""
+"""PCD, the files of the Point Cloud Library: ascii, binary and compressed. The viewpoint in their header is not looked at."""
 
-from .columns import CloudFault, Column, Columns, end_of_rows, is_count
+import re
+import struct
+
+from .columns import CloudFault, Column, Columns, end_of_rows, is_count, size
 from .header import read_header
+from .lzf import unpacked
+from .origin import counted_from, origin_in
 
 # The letter of the module struct for a type and a size in bytes.
 CODES = {("F", 4): "f", ("F", 8): "d"}
@@ -9,11 +14,15 @@ CODES |= {("I", size): code for size, code in zip((1, 2, 4, 8), "bhiq")}
 CODES |= {("U", size): code for size, code in zip((1, 2, 4, 8), "BHIQ")}
 # So many numbers of a field may belong to one point: more than any descriptor has.
 MOST_COUNT = 65_536
+# What the library calls bytes that belong to no field. They aren't stored where data is compressed.
+PADDING = "_"
+SIGNED = re.compile("-?[0-9]{1,15}")
 ONCE = {"VERSION", "FIELDS", "SIZE", "TYPE", "COUNT", "WIDTH", "HEIGHT", "VIEWPOINT", "POINTS", "DATA"}
 
 
-def read_pcd(content, intensity):
-    """The points of a file, as x, y, z and the intensity, which is the field of this name."""
+def read_pcd(content, intensity, origin):
+    """The points of a file, as x, y, z and the intensity, which is the field of this name, counted from an origin unless the file
+    has one of its own."""
     lines, start = read_header(content, "DATA")
     said = {}
     for number, (word, *fields) in lines:
@@ -22,17 +31,45 @@ def read_pcd(content, intensity):
         said[word] = Said(number, fields)
     count = point_count(said)
     columns = Columns(columns_of(said), intensity, said["FIELDS"].number)
-    data = said["DATA"]
-    if data.fields == ["ascii"]:
-        return columns.in_lines(kept_lines(content[start:], data.number, count))
-    if data.fields == ["binary"]:
-        end = end_of_rows(columns.all, "<", content, start, count)
-        if end < len(content):
-            raise CloudFault(f"byte {end}: {len(content) - end} bytes follow the last of {count} points")
-        return columns.in_bytes("<", content, start, count)
-    if data.fields == ["binary_compressed"]:
-        raise data.fault("binary_compressed is not read: pcl_convert_pcd_ascii_binary IN OUT 1 writes it as binary")
-    raise data.fault("DATA is ascii or binary")
+    points = points_of(columns, said["DATA"], content, start, count)
+    return counted_from(origin_in(content[:start], origin), points)
+
+
+def points_of(columns, data, content, start, count):
+    """The points of a file's data, in the form that the header's last line names."""
+    match data.fields:
+        case ["ascii"]:
+            return columns.in_lines(kept_lines(content[start:], data.number, count))
+        case ["binary"]:
+            end = end_of_rows(columns.all, "<", content, start, count)
+            check_rest(content, end, count)
+            return columns.in_bytes("<", content, start, count)
+        case ["binary_compressed"]:
+            stored = columns.without(PADDING)
+            return stored.in_blocks("<", block(stored, content, start, count), count)
+    raise data.fault("DATA is ascii, binary or binary_compressed")
+
+
+def block(columns, content, start, count):
+    """The columns of compressed data, one after the other: before it stand its size and the size that it has unpacked."""
+    first = start + 8
+    if first > len(content):
+        raise CloudFault(f"byte {len(content)}: the file ends within its data")
+    packed, whole = struct.unpack_from("<2I", content, start)
+    due = count * sum(map(size, columns.all))
+    if packed > len(content) - first:
+        raise CloudFault(f"byte {start}: {packed} packed bytes are announced, and {len(content) - first} follow")
+    if whole != due:
+        raise CloudFault(f"byte {start + 4}: {whole} unpacked bytes where {count} points have {due}")
+    check_rest(content, first + packed, count)
+    return unpacked(content, first, first + packed, whole)
+
+
+def check_rest(content, end, count):
+    """Refuses anything but zeros after the points: the library fills files up to a whole page of memory."""
+    rest = content[end:].lstrip(b"\0")
+    if rest:
+        raise CloudFault(f"byte {len(content) - len(rest)}: what follows the last of {count} points is more than zeros")
 
 
 class Said:
@@ -46,9 +83,9 @@ class Said:
         """The fault that this line has."""
         return CloudFault(f"line {self.number}: {cause}")
 
-    def numbers(self):
-        """The fields as numbers."""
-        if not all(map(is_count, self.fields)):
+    def numbers(self, spelled=is_count):
+        """The fields as numbers, each spelled so."""
+        if not all(map(spelled, self.fields)):
             raise self.fault("something is no number")
         return list(map(int, self.fields))
 
@@ -68,7 +105,7 @@ def said_of(said, word):
 
 
 def columns_of(said):
-    """The columns that a header names."""
+    """The columns that a header names, without those that it counts none of: the library passes over them."""
     names = said_of(said, "FIELDS").fields
     sizes, types = said_of(said, "SIZE"), said_of(said, "TYPE")
     counts = said.get("COUNT", Said(0, ["1"] * len(names)))
@@ -76,12 +113,13 @@ def columns_of(said):
         if len(line.fields) != len(names):
             raise line.fault(f"{len(line.fields)} of them where there are {len(names)} fields")
     columns = []
-    for name, kind, count in zip(names, zip(types.fields, sizes.numbers()), counts.numbers()):
+    for name, kind, count in zip(names, zip(types.fields, sizes.numbers()), counts.numbers(SIGNED.fullmatch)):
         if kind not in CODES:
             raise types.fault(f"no type {kind[0]} has {kind[1]} bytes")
-        if not 1 <= count <= MOST_COUNT:
-            raise counts.fault(f"a field has 1 to {MOST_COUNT} numbers")
-        columns.append(Column(name, CODES[kind], count))
+        if count > MOST_COUNT:
+            raise counts.fault(f"a field has at most {MOST_COUNT} numbers")
+        if count > 0:
+            columns.append(Column(name, CODES[kind], count))
     return columns
 
 

@@ -2,6 +2,7 @@
 
 from .columns import CloudFault, Column, Columns, end_of_rows, is_count
 from .header import read_header
+from .origin import counted_from, origin_in
 
 CODES = dict(char="b", uchar="B", short="h", ushort="H", int="i", uint="I", float="f", double="d")
 CODES |= dict(int8="b", uint8="B", int16="h", uint16="H", int32="i", uint32="I", float32="f", float64="d")
@@ -18,11 +19,17 @@ class Element:
         self.columns = []
 
 
-def read_ply(content, intensity):
-    """The points of a file, as x, y, z and the intensity, which is the property of this name."""
+def read_ply(content, intensity, origin):
+    """The points of a file, as x, y, z and the intensity, which is the property of this name, counted from an origin unless the
+    file has one of its own."""
     if not content.startswith((b"ply\n", b"ply\r\n")):
         raise CloudFault("line 1: it isn't the word ply")
     lines, start = read_header(content, "end_header")
+    return counted_from(origin_in(content[:start], origin), vertices(lines, content, start, intensity))
+
+
+def vertices(lines, content, start, intensity):
+    """The vertices, by the lines of the header and where the data begins."""
     order, elements = read_elements(lines)
     before = []
     for element in elements:

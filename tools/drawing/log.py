@@ -1,8 +1,11 @@
 """Logs: what their lines say, and which line is the first faulty one."""
 
 import re
-from dataclasses import dataclass, field
+from collections.abc import Sequence
+from dataclasses import dataclass
 from typing import NamedTuple
+
+from .points import FARTHEST, MOST_INTENSITY, Place, Point, Points
 
 MOST_BYTES = 268_435_456
 MOST_COMMANDS = 65_536
@@ -11,32 +14,16 @@ MOST_POINTS = 4_194_304
 MOST_HITS = 16_777_216
 # A list of hits counts as so many at least, since it has room for them in itself.
 LEAST_ROOM = 16
-MOST_INTENSITY = 65_535
 LONGEST_SIDE = 2**41
-# The farthest coordinate from 0, by the log's version. Boxes reach one farther, and queries four times as far.
-FARTHEST = {1: 1_000_000_000, 2: 2**40}
 
 NUMBER = re.compile(rb"0|-?[1-9][0-9]*")
 CALLER = re.compile(rb"@([1-8])")
+# What a line begins with that has points.
+POINTS = re.compile(rb"@([1-8]) (add|thin) ")
 
 
 class LogFault(Exception):
     """A log is refused: its text is the line's number and the cause, as the program tells them."""
-
-
-class Place(NamedTuple):
-    """A place in whole millimetres."""
-
-    x: int
-    y: int
-    z: int
-
-
-class Point(NamedTuple):
-    """What was seen: where, and with which intensity, which is 0 in version 1."""
-
-    place: Place
-    intensity: int = 0
 
 
 class Box(NamedTuple):
@@ -95,8 +82,8 @@ class Update:
 
     caller: int
     word: str
-    points: list[Point] = field(default_factory=list)
-    boxes: list[Box] = field(default_factory=list)
+    points: Sequence[Point] = ()
+    boxes: Sequence[Box] = ()
     below: int = 0
     region: Box | None = None
 
@@ -223,17 +210,26 @@ def read_log(content):
     """Reads the bytes of a log, and raises the LogFault of its first faulty line."""
     if len(content) > MOST_BYTES:
         raise LogFault("log too long")
-    lines = content.split(b"\n")
-    kept = [(number, line) for number, line in enumerate(lines, 1) if line and not line.startswith(b"#")]
-    if not kept:
-        raise LogFault(f"line {len(lines)}: no header")
-    reader = Reader()
-    for place, (number, line) in enumerate(kept):
-        try:
-            reader.take(line.split(b" ")) if place else reader.take_header(line.split(b" "))
-        except LogFault as fault:
-            raise LogFault(f"line {number}: {fault}") from None
+    reader, number, take = Reader(), 0, Reader.take_header
+    for number, line in enumerate(lines_of(content), 1):
+        if line and not line.startswith(b"#"):
+            try:
+                take(reader, line)
+            except LogFault as fault:
+                raise LogFault(f"line {number}: {fault}") from None
+            take = Reader.take
+    if take is Reader.take_header:
+        raise LogFault(f"line {number}: no header")
     return Log(reader.version, reader.voxel, reader.commands)
+
+
+def lines_of(content):
+    """The lines of a text in turn, so that it isn't held twice."""
+    start = end = 0
+    while end >= 0:
+        end = content.find(b"\n", start)
+        yield content[start : end if end >= 0 else len(content)]
+        start = end + 1
 
 
 class Reader:
@@ -248,8 +244,9 @@ class Reader:
         # The region of each caller.
         self.regions = {}
 
-    def take_header(self, fields):
+    def take_header(self, line):
         """Takes the first kept line."""
+        fields = line.split(b" ")
         if len(fields) != 6 or fields[::2] != [b"ikdmap", b"voxel", b"large"] or fields[1] not in (b"1", b"2"):
             raise LogFault("no header")
         self.version = int(fields[1])
@@ -257,15 +254,24 @@ class Reader:
         self.voxel = numbers.number(1, 1_000_000)
         numbers.number(16, 1_000_000)
 
-    def take(self, fields):
+    def take(self, line):
         """Takes a further kept line."""
         if len(self.commands) == MOST_COMMANDS:
             raise LogFault("too many commands")
-        command = self.command(fields)
+        command = self.many_points(line) or self.command(line.split(b" "))
         self.hits += room(command)
         if self.hits > MOST_HITS:
             raise LogFault("too many hits")
         self.commands.append(command)
+
+    def many_points(self, line):
+        """The update by points that a line spells, in a quick way where all is well with it; none else, and nothing is taken."""
+        spelled = POINTS.match(line)
+        points = spelled and Points.spelled(line[spelled.end() :], self.version)
+        if points is None or len(points) > MOST_IN_A_LINE or self.points + len(points) > MOST_POINTS:
+            return None
+        self.points += len(points)
+        return Update(int(spelled[1]), spelled[2].decode(), points=points)
 
     def command(self, fields):
         """The command that a line spells."""
@@ -295,7 +301,7 @@ class Reader:
             raise LogFault("too many points")
         self.points += count
         numbers = Fields(self.version, fields)
-        return Update(caller, word, points=[numbers.point() for _ in range(count)])
+        return Update(caller, word, points=Points.of([numbers.point() for _ in range(count)]))
 
     def boxes_in(self, caller, word, fields):
         """An update by boxes; to erase a point is to delete the box that holds it alone."""
