@@ -39,7 +39,14 @@ fn each_list_is_what_a_single_search_finds(rt: HostRuntime) {
     let alloc = rt.alloc();
     let tree = restored(&rt, alloc, &cloud(&rt, alloc, 2_000, 1));
     // How many queries, how many hits for each, and how far these may be.
-    for (count, k, within) in [(300, 17, Some(300)), (0, 1, None)] {
+    // Up to 16 hits for each of 256 places or more, lists are filled where they are.
+    for (count, k, within) in [
+        (300, 17, Some(300)),
+        (255, 16, Some(300)),
+        (256, 16, Some(300)),
+        (300, 5, None),
+        (0, 1, None),
+    ] {
         let queries = Points::from(cloud(&rt, alloc, count, 7));
         are_as_single(&rt, alloc, &tree, &queries, k, within);
     }
