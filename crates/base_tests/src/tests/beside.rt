@@ -15,7 +15,7 @@ use crate::tests::numbered::Numbered;
 use crate::tests::watch::{all_became, drawn_map, grandsons, held_at};
 use crate::tests::watching::{Watching, are_large};
 use kd_tree::{MAX_NODES, Path, Scratch, Side, Steps};
-use kd_update::{Watch, live_items, put_all_watched};
+use kd_update::{MAX_PASS_LEVELS, Watch, live_items, put_all_watched};
 use map_fold::MAX_POINTS;
 use point_geom::Point;
 use std::alloc::Global;
