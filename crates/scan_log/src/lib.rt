@@ -34,4 +34,4 @@ pub use plain::PlainScript;
 pub use printing::reply_line;
 pub use reply::Reply;
 pub use script::Script;
-pub use writing::write_script;
+pub use writing::{write_command, write_header, write_script};

@@ -5,7 +5,7 @@ ghost use Rattle.scan_log.specs.Formats.{version_field};
 ghost use Rattle.scan_log.specs.Faults.{line_feeds};
 ghost use Rattle.scan_log.specs.Spelling.{Spells, box_fields, caller_field, command_fields, header_fields, point_fields, update_fields, within_fields};
 ghost use Rattle.scan_log.specs.Transcript.{all_spaced, spaced};
-ghost use Rattle.scan_log.specs.Written.{corner_text, cuboid_text, joined_fields, written_line, script_text};
+ghost use Rattle.scan_log.specs.Written.{command_text, corner_text, cuboid_text, joined_fields, written_line, script_text};
 
 use crate::putting::{
     Listed, put, put_all, put_caller, put_head, put_named, put_point, put_spaced, put_three,
@@ -31,6 +31,20 @@ pub fn write_script(alloc: Global, script: &Script) -> Result<Vec<u8>, NoMemory>
     put_header(&mut log, format, script.settings())?;
     put_all(&mut log, format, script.commands())?;
     Ok(log)
+}
+
+/// Puts a log's header at the end, with its line feed.
+pub fn write_header(out: &mut Vec<u8>, format: Format, settings: &Settings) -> Result<(), NoMemory>
+    ensures { OnOk result (out.new.items ≡ out.old.items ++ written_line (header_fields format settings.now)) }
+{
+    put_header(out, format, settings)
+}
+
+/// Puts the command's line at the end, as a log of this version has it.
+pub fn write_command(out: &mut Vec<u8>, format: Format, command: &Command) -> Result<(), NoMemory>
+    ensures { OnOk result (out.new.items ≡ out.old.items ++ command_text format command.now) }
+{
+    command.put(out, format)
 }
 
 fn put_header(out: &mut Vec<u8>, format: Format, settings: &Settings) -> Result<(), NoMemory>
