@@ -50,7 +50,7 @@ longer u s t step = ap length step.history ∙ length_push s.history (entry_by 1
 pub begun : (sizes : Sizes) (s : StateAt) → s ≡ new_state sizes → (s.next ≡ 0) × (length s.history ≡ 0)
 begun sizes s e = rw e (refl, refl)
 
-pub first : (ps : List Place) (sizes : Sizes) (s t : StateAt) → s ≡ new_state sizes → IsAdded ps s t → Holds t (numbered_as Live 0 ps) (length ps) × (length t.history ≤ 16)
+pub first : (ps : List Place) (sizes : Sizes) (s t : StateAt) → s ≡ new_state sizes → IsAdded ps s t → Holds t (numbered_as Live 0 ps) (length ps) × (length t.history ≤ 1)
 first ps sizes s t e step =
     let k : IsAdded ps (new_state sizes) t = subst (λ x. IsAdded ps x t) e step in
     (after_first ps sizes t k, omega (arith, k.short))
@@ -58,8 +58,8 @@ first ps sizes s t e step =
 pub room_next : (u : Update) (s : StateAt) (m : List Item) (n k : ℕ) → Holds s m n → length s.history ≤ k → k < 100 → n + points_in u ≤ 4194304 → HasRoom u s
 room_next u s m n k held len lt few = record { updates = omega (arith, len, lt); points = omega (arith, next_of s m n held, few) }
 
-pub second : (ps : List Place) (cs : List Bounds) (s t : StateAt) → cs ≡ all_places ∷ [] → All IsPlace ps → Holds s (numbered_as Live 0 ps) (length ps) → length s.history ≤ 16 → IsUpdateStep 1 (Suspend cs) s t
-    → Holds t (numbered_as Suspended 0 ps) (length ps) × (length t.history ≤ 17)
+pub second : (ps : List Place) (cs : List Bounds) (s t : StateAt) → cs ≡ all_places ∷ [] → All IsPlace ps → Holds s (numbered_as Live 0 ps) (length ps) → length s.history ≤ 1 → IsUpdateStep 1 (Suspend cs) s t
+    → Holds t (numbered_as Suspended 0 ps) (length ps) × (length t.history ≤ 2)
 second ps cs s t e places held len step =
     (after_second ps s t places held (subst (λ x. IsUpdateStep 1 (Suspend x) s t) e step), omega (arith, longer (Suspend cs) s t step, len))
 
@@ -121,43 +121,3 @@ suspended_points m =
     ∙ append-nil (suspended_items first)
     ∙ all_of (λ i. is_suspended i.label) Suspended 0 (points_of (suspended_items m)) (λ k q. refl))
     ∙ points_numbered Suspended 0 (points_of (suspended_items m))
-
--- adding one list and then another adds both
-pub add_append : (ps qs : List Place) (m : MapAt) → add_points (ps ++ qs) m ≡ add_points qs (add_points ps m)
-add_append [] qs m = refl
-add_append (p ∷ ps) qs m = add_append ps qs (record { items = put m.items m.next p; next = m.next + 1 })
-
--- What is added yet, where this is the rest: with it, all is.
-pub record IsAddedSoFar (ps rest : List Place) (s t : StateAt) (i : ℕ) : Type 0 where
-  pub added : add_points rest (map_of t.tree t.next) ≡ add_points ps (map_of s.tree s.next)
-  pub settings : t.settings ≡ s.settings
-  pub short : length t.history ≤ length s.history + i
-  pub few : t.next + length rest ≤ 4194304
-  pub left : length rest + 262144 * i ≤ 4194304
-
-pub none_added : (ps : List Place) (s : StateAt) → s.next + length ps ≤ 4194304 → IsAddedSoFar ps ps s s 0
-none_added ps s few = record { added = refl; settings = refl; short = omega arith; few = few; left = omega (arith, few) }
-
-pub more_added : (ps front back : List Place) (s t u : StateAt) (i : ℕ) → IsAddedSoFar ps (front ++ back) s t i → map_of u.tree u.next ≡ add_points front (map_of t.tree t.next) → u.settings ≡ t.settings
-    → length u.history ≤ length t.history + 1 → length back + 262144 * (i + 1) ≤ 4194304 → IsAddedSoFar ps back s u (i + 1)
-more_added ps front back s t u i k made settings short left =
-    let next : u.next ≡ t.next + length front = ap (λ (m : MapAt). m.next) made ∙ add_next front (map_of t.tree t.next) in
-    record {
-      added = ap (add_points back) made ∙ sym (add_append front back (map_of t.tree t.next)) ∙ k.added;
-      settings = settings ∙ k.settings;
-      short = omega (arith, short, k.short);
-      few = omega (arith, next, k.few, length-append front back);
-      left = left;
-    }
-
-nil_of : {X : Type 0} (xs : List X) → length xs ≤ 0 → xs ≡ []
-nil_of [] k = refl
-nil_of (x ∷ xs) k = absurd (over (length xs) k)
-  where
-    over : (n : ℕ) → suc n ≤ 0 → ⊥
-    over n h = omega (arith, h)
-
-pub all_added : (ps rest : List Place) (s t : StateAt) (i : ℕ) → IsAddedSoFar ps rest s t i → i ≡ 16 → IsAdded ps s t
-all_added ps rest s t i k at =
-    let none : rest ≡ [] = nil_of rest (omega (arith, k.left, at)) in
-    record { added = subst (λ z. add_points z (map_of t.tree t.next) ≡ add_points ps (map_of s.tree s.next)) none k.added; settings = k.settings; short = omega (arith, k.short, at) }

@@ -49,8 +49,8 @@ greatest_corner = record { x = pos 1099511627777; y = pos 1099511627777; z = pos
 abbrev pub all_places : Bounds
 all_places = record { lo = least_corner; hi = greatest_corner }
 
--- The second state is the first with the points added, by 16 updates at most. Cited by private functions alone.
+-- The second state is the first with the points added, by one update at most. Cited by private functions alone.
 pub record IsAdded (ps : List Place) (s t : StateAt) : Type 0 where
   pub added : map_of t.tree t.next ≡ add_points ps (map_of s.tree s.next)
   pub settings : t.settings ≡ s.settings
-  pub short : length t.history ≤ length s.history + 16
+  pub short : length t.history ≤ length s.history + 1

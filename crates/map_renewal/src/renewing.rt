@@ -2,8 +2,6 @@
 ghost use Rattle.std.specs.Prelude.{◌≡◌, ◌+◌, ◌<◌, ◌≤◌, [], ◌∷◌, ◌++◌, length, IfOk, OnOk};
 ghost use Rattle.node_labels.specs.declared.label.Label.TheVariants.{Live, Suspended};
 ghost use Rattle.map_items.specs.Contents.{live_items};
-ghost use Rattle.map_items.specs.Fold.{add_points};
-ghost use Rattle.kd_tree.specs.Maps.{map_of};
 ghost use Rattle.kd_tree.specs.Counter.{IsBlankOf};
 ghost use Rattle.kd_tree.specs.Contents.{contents};
 ghost use Rattle.rebuild_core.specs.Steps.{HasRoom, IsUpdateStep};
@@ -20,11 +18,12 @@ use std::marker::Brand;
 use std::sync::ledger::{Blank, Ledger};
 
 /// A new map that holds what the version holds: the suspended points under the numbers from 0 on, and behind them the live
-/// ones, each kind in the order of its numbers. So only a point's number changes.
+/// ones, each kind in the order of its numbers. So only a point's number changes. Its history is three updates at most.
 pub fn renewed(alloc: Global, version: &Version, settings: Settings) -> Result<MapState, NoMemory>
     ensures held { IfOk result (λ s. contents s.state.tree ≡ renewed_items (contents version.now.tree)) }
     ensures next { IfOk result (λ s. s.state.next ≡ length (contents version.now.tree)) }
     ensures settings { IfOk result (λ s. s.state.settings ≡ settings) }
+    ensures short { IfOk result (λ s. length s.state.history ≤ 3) }
 
     // So the points are the same, with their intensities, live and suspended, in the order of their numbers.
     ensures live { IfOk result (λ s. points_of (live_items (contents s.state.tree)) ≡ points_of (live_items (contents version.now.tree))) }
@@ -49,43 +48,21 @@ fn of_points(
     ensures held { IfOk result (λ s. contents s.state.tree ≡ numbered_as Suspended 0 suspended.now ++ numbered_as Live (length suspended.now) live.now) }
     ensures next { IfOk result (λ s. s.state.next ≡ length suspended.now + length live.now) }
     ensures settings { IfOk result (λ s. s.state.settings ≡ settings) }
+    ensures short { IfOk result (λ s. length s.state.history ≤ 3) }
 {
     look_at(suspended);
     let mut state = MapState::new(alloc, settings)?;
-    add_all(alloc, &mut state, suspended)?;
+    add(alloc, &mut state, suspended)?;
     one_more(alloc, &mut state, Update::Suspend(all_of_it(alloc)?))?;
-    add_all(alloc, &mut state, live)?;
+    add(alloc, &mut state, live)?;
     Ok(state)
 }
 
-// The most points that a line of a log has. No update has more, so that a log can say the history.
-const MOST: usize = 262_144;
-
-// So many of them are as many points as a map is given.
-const TURNS: usize = 16;
-
-// Adds them, by as many updates as it takes: 16 at most.
-fn add_all(alloc: Global, state: &mut MapState, points: &[Point]) -> Result<(), NoMemory>
-    requires few { state.old.state.next + length points.now ≤ MAX_POINTS }
-    requires short { length state.old.state.history ≤ 100 }
-    ensures { OnOk result (IsAdded points.now state.old.state state.new.state) }
-{
-    let mut rest = points;
-    for _turn in 0..TURNS {
-        let (front, back) = rest.split_at(rest.len().min(MOST));
-        add(alloc, state, front)?;
-        rest = back;
-    }
-    Ok(())
-}
-
-// Adds so many by one update, or by none where there are none.
+// Adds them by one update, or by none where there are none.
 fn add(alloc: Global, state: &mut MapState, points: &[Point]) -> Result<(), NoMemory>
     requires few { state.old.state.next + length points.now ≤ MAX_POINTS }
     requires short { length state.old.state.history < MAX_UPDATES }
-    ensures added { OnOk result (map_of state.new.state.tree state.new.state.next ≡ add_points points.now (map_of state.old.state.tree state.old.state.next)) }
-    ensures settings { OnOk result (state.new.state.settings ≡ state.old.state.settings) }
-    ensures short { OnOk result (length state.new.state.history ≤ length state.old.state.history + 1) }
+    ensures { OnOk result (IsAdded points.now state.old.state state.new.state) }
 {
     if points.is_empty() {
         return Ok(());

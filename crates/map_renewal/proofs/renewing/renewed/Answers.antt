@@ -44,6 +44,7 @@ returns c =
       held = held;
       next = c.in_ok-state.ensures.next ∙ lengths t _ _ k;
       settings = c.in_ok-state.ensures.settings;
+      short = c.in_ok-state.ensures.short;
       live = ap (λ (m : List Item). points_of (live_items m)) held ∙ live_points (contents t);
       suspended = ap (λ (m : List Item). points_of (suspended_items m)) held ∙ suspended_points (contents t);
     }
