@@ -1,1 +1,4 @@
-pub mod Lasting
+pub mod Entries
+pub mod Pieces
+pub mod Scripts
+pub mod SoFar

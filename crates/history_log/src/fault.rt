@@ -5,11 +5,10 @@ use map_items::NoMemory;
 #[derive(Clone, Copy, Debug, PartialEq, Eq)]
 pub enum LogFault {
     NoMemory,
-    /// More updates than a log has commands.
+    /// More lines than a log has commands.
     TooManyUpdates,
-    /// Of the update with this number, from 0, no line of a log says it: it has more points or boxes than a command may have, or
-    /// a box or a number that no log has.
-    NoLine { update: u64 },
+    /// No line of a log says the update with this number, from 0: it has a box with a number beyond those of places.
+    NoLine { update: usize },
 }
 
 impl From<NoMemory> for LogFault {

@@ -1,56 +1,42 @@
-//! Which updates a line of a log can say.
-ghost use Rattle.std.specs.Prelude.{◌≡◌, All, length, true, false};
+//! Which updates the lines of a log can say.
+ghost use Rattle.std.specs.Prelude.{◌≡◌, All, true, false};
 ghost use Rattle.std.specs.List.{AllByRecursion};
 ghost use Rattle.point_geom.specs.Place.{IsPlace};
 ghost use Rattle.scan_log.specs.declared.format.Format.TheVariants.{Two};
-ghost use Rattle.scan_log.specs.Scripts.{AreBoxes, AreScanned, IsBoxCorner, IsBoxNumber, IsCallerBox, IsUpdate};
-ghost use Rattle.history_log.specs.Lines.{has_any};
+ghost use Rattle.scan_log.specs.Scripts.{IsBoxCorner, IsBoxNumber, IsCallerBox, IsScannedPlace};
+ghost use Rattle.history_log.specs.Lines.{HasLines};
 
-use map_items::{MAX_POINTS, Update};
+use map_items::Update;
 use point_geom::{Corner, Cuboid, Point};
-
-// The most points or boxes of a command.
-const MOST: usize = 262_144;
 
 const LEAST: i64 = -1_099_511_627_776;
 
 const GREATEST: i64 = 1_099_511_627_777;
 
-/// Whether it does anything: an update of no point or box doesn't.
-pub(crate) fn has_any(update: &Update) -> bool
-    ensures { result ≡ has_any update.now }
-{
-    match update {
-        Update::Add(points) | Update::Thin(points) => 0 < points.len(),
-        Update::Delete(boxes) | Update::Suspend(boxes) | Update::Restore(boxes) => 0 < boxes.len(),
-        Update::Expire(_) => true,
-    }
-}
-
-/// Whether one line says it.
-pub(crate) fn fits(update: &Update) -> bool
-    requires { has_any update.now ≡ true }
-    ensures yes { result ≡ true → IsUpdate Two update.now }
-    ensures no { result ≡ false → IsUpdate Two update.now → ⊥ }
+/// Whether lines say it: whether no box lies beyond where places are.
+pub(crate) fn has_lines(update: &Update) -> bool
+    ensures yes { result ≡ true → HasLines update.now }
+    ensures no { result ≡ false → HasLines update.now → ⊥ }
 {
     match update {
         Update::Add(points) | Update::Thin(points) => are_scanned(points.as_slice()),
         Update::Delete(boxes) | Update::Suspend(boxes) | Update::Restore(boxes) => {
             are_boxes(boxes.as_slice())
         }
-        Update::Expire(number) => *number <= MAX_POINTS,
+        Update::Expire(_) => true,
     }
 }
 
+// Always so.
 fn are_scanned(points: &[Point]) -> bool
-    ensures yes { result ≡ true → AreScanned Two points.now }
-    ensures no { result ≡ false → AreScanned Two points.now → ⊥ }
+    ensures yes { result ≡ true → AllByRecursion (IsScannedPlace Two) points.now }
+    ensures no { result ≡ false → AllByRecursion (IsScannedPlace Two) points.now → ⊥ }
 {
     look_at(points);
-    0 < points.len() && points.len() <= MOST
+    true
 }
 
-// Each point is a place.
+// Each point is a place. Nothing of it is left in the program.
 fn look_at(points: &[Point])
     ensures { All IsPlace points.now }
 {
@@ -60,10 +46,10 @@ fn look_at(points: &[Point])
 }
 
 fn are_boxes(boxes: &[Cuboid]) -> bool
-    ensures yes { result ≡ true → AreBoxes Two boxes.now }
-    ensures no { result ≡ false → AreBoxes Two boxes.now → ⊥ }
+    ensures yes { result ≡ true → AllByRecursion (IsCallerBox Two) boxes.now }
+    ensures no { result ≡ false → AllByRecursion (IsCallerBox Two) boxes.now → ⊥ }
 {
-    0 < boxes.len() && boxes.len() <= MOST && are_each(boxes)
+    are_each(boxes)
 }
 
 fn are_each(boxes: &[Cuboid]) -> bool

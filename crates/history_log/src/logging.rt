@@ -1,23 +1,57 @@
-//! The history as a script, and as a log.
-ghost use Rattle.std.specs.Prelude.{◌≡◌, ◌+◌, ◌≤◌, ◌++◌, IfErr, IfOk, OnOk};
-ghost use Rattle.map_items.specs.Fold.{fold, points_in};
+//! The log of a history, whole and in parts.
+ghost use Rattle.std.specs.Prelude.{◌≡◌, ◌<◌, ◌≤◌, IfErr, IfOk, OnOk, length};
+ghost use Rattle.map_items.specs.Fold.{fold};
 ghost use Rattle.kd_tree.specs.Maps.{map_of};
-ghost use Rattle.scan_log.specs.declared.format.Format.TheVariants.{Two};
 ghost use Rattle.scan_log.specs.Commands.{updates_made};
-ghost use Rattle.scan_log.specs.Scripts.{hits_of, points_of};
 ghost use Rattle.scan_log.specs.Spelling.{Spells};
 ghost use Rattle.scan_log.specs.Written.{script_text};
-ghost use Rattle.history_log.specs.Lines.{IsByCaller, IsEntryFault, IsLogFault, line_of, script_of};
+ghost use Rattle.history_log.specs.Log.{AreLines, AreWhole, EndsThere, IsLogFault, JoinInTurn, StayWritten, fault_of, header_text, log_part, script_of};
 
-use crate::LogFault;
-use crate::fitting::{fits, has_any};
-use map_items::{Entry, MAX_POINTS};
+use crate::counting::lines_in;
+use crate::parts::line_count;
+use crate::putting::put_entry;
+use crate::{LogFault, LogPart, Stop};
+use map_items::{NoMemory, Settings};
 use rebuild_core::MapState;
-use scan_log::{Command, Format, MAX_COMMANDS, Script, write_script};
+use scan_log::{Format, write_header};
 use std::alloc::Global;
 
+/// The lines of the log of version 2 that say the updates from this number on: before the first update's the header, and then the
+/// lines of whole updates, as many as there is room for in bytes. Costs time by what is written and what one more update takes,
+/// and counts the lines of all updates before.
+pub fn history_lines(
+    alloc: Global,
+    state: &MapState,
+    from: usize,
+    room: usize,
+) -> Result<LogPart, NoMemory>
+    requires from { from ≤ length state.now.state.history }
+    ensures text { IfOk result (λ part. part.bytes.items ≡ log_part state.now.state from part.next) }
+    ensures from { IfOk result (λ part. from ≤ part.next) }
+    ensures to { IfOk result (λ part. part.next ≤ length state.now.state.history) }
+    ensures room { IfOk result (λ part. length part.bytes.items ≤ room) }
+    ensures lines { IfOk result (λ part. from < part.next → AreLines state.now.state from part.next) }
+    ensures ends { IfOk result (λ part. EndsThere state.now.state from part.next room part.stop) }
+{
+    let history = state.history();
+    let mut bytes = Vec::new(alloc);
+    let mut lines = lines_in(&history[..from]);
+    for at in from..history.len() {
+        let entry = &history[at];
+        let stop = put_entry(alloc, &mut bytes, state.settings(), entry, at, lines, room)?;
+        if stop.is_some() {
+            let next = at;
+            return Ok(LogPart { bytes, next, stop });
+        }
+        lines += line_count(&entry.update);
+    }
+    let next = history.len();
+    let stop = None;
+    Ok(LogPart { bytes, next, stop })
+}
+
 /// The log of version 2 that says the state's history: read again it is the same script, and leads to the same map. An update
-/// of no point or box has no line, and changes nothing.
+/// of no point or box has no line, and changes nothing; one of more than 262,144 has several.
 pub fn history_log(alloc: Global, state: &MapState) -> Result<Vec<u8>, LogFault>
     ensures text { IfOk result (λ log. log.items ≡ script_text (script_of state.now.state)) }
     ensures spells { IfOk result (λ log. Spells log.items (script_of state.now.state)) }
@@ -25,51 +59,38 @@ pub fn history_log(alloc: Global, state: &MapState) -> Result<Vec<u8>, LogFault>
 
     ensures refused { IfErr result (IsLogFault state.now.state.history) }
 {
-    let script = history_script(alloc, state)?;
-    let log = write_script(alloc, &script)?;
-    Ok(log)
+    if state.history().is_empty() {
+        return Ok(header(alloc, state.settings())?);
+    }
+    let part = history_lines(alloc, state, 0, usize::MAX)?;
+    let LogPart { bytes, next, stop } = part;
+    match stop {
+        None => Ok(bytes),
+        Some(stop) => Err(fault_of(stop, next)),
+    }
 }
 
-/// The same as a script.
-pub fn history_script(alloc: Global, state: &MapState) -> Result<Script, LogFault>
-    ensures script { IfOk result (λ s. s ≡ script_of state.now.state) }
-    ensures held { OnOk result (fold state.now.state.settings.voxel (updates_made (script_of state.now.state).commands) ≡ map_of state.now.state.tree state.now.state.next) }
-
-    ensures refused { IfErr result (IsLogFault state.now.state.history) }
+fn fault_of(stop: Stop, next: usize) -> LogFault
+    ensures { result ≡ fault_of stop next }
 {
-    let mut script = Script::new(alloc, Format::Two, *state.settings());
-    let history = state.history();
-    for at in 0..history.len() {
-        push_entry(alloc, &mut script, &history[at], at as u64)?;
+    match stop {
+        Stop::NoLine => LogFault::NoLine { update: next },
+        Stop::TooManyUpdates => LogFault::TooManyUpdates,
+        Stop::NoRoom => LogFault::NoMemory,
     }
-    Ok(script)
 }
 
-// Puts the entry's line behind the others, if it has one.
-fn push_entry(alloc: Global, script: &mut Script, entry: &Entry, at: u64) -> Result<(), LogFault>
-    requires format { script.old.format ≡ Two }
-    requires caller { IsByCaller entry.now }
-    requires points { points_of script.old.commands + points_in entry.now.update ≤ MAX_POINTS }
-    requires hits { hits_of script.old.commands ≡ 0 }
-    ensures format { OnOk result (script.new.format ≡ Two) }
-    ensures sizes { OnOk result (script.new.sizes ≡ script.old.sizes) }
-    ensures line { OnOk result (script.new.commands ≡ script.old.commands ++ line_of entry.now) }
-    ensures points { OnOk result (points_of script.new.commands ≡ points_of script.old.commands + points_in entry.now.update) }
-    ensures hits { OnOk result (hits_of script.new.commands ≡ 0) }
-
-    ensures refused { IfErr result (IsEntryFault entry.now at script.old.commands) }
+fn header(alloc: Global, settings: &Settings) -> Result<Vec<u8>, NoMemory>
+    ensures { IfOk result (λ log. log.items ≡ header_text settings.now) }
 {
-    if !has_any(&entry.update) {
-        return Ok(());
-    }
-    if !fits(&entry.update) {
-        return Err(LogFault::NoLine { update: at });
-    }
-    if MAX_COMMANDS <= script.commands().len() {
-        return Err(LogFault::TooManyUpdates);
-    }
-    let update = entry.update.copy(alloc)?;
-    let caller = entry.caller;
-    script.push(Command::Change { caller, update })?;
-    Ok(())
+    let mut bytes = Vec::new(alloc);
+    write_header(&mut bytes, Format::Two, settings)?;
+    Ok(bytes)
 }
+
+/// Parts in turn are the whole log, and what was written of it stays as the map goes on.
+pub fn parts_in_turn()
+    ensures joined { JoinInTurn }
+    ensures whole { AreWhole }
+    ensures stays { StayWritten }
+{}
