@@ -6,7 +6,7 @@
 #include <stdio.h>
 #include <stdlib.h>
 
-enum { ROW = 300, MOST = 256 };
+enum { ROW = 300, MOST = 256, LINES = 65536 };
 
 static int faults = 0;
 /* How many allocations are left until one is refused; below 0 none is. */
@@ -31,7 +31,9 @@ typedef struct {
     corv_hit hits[2 * MOST];
     corv_item items[MOST];
     uint32_t counts[2];
+    char lines[LINES];
     size_t n;
+    uint64_t next;
 } life;
 
 static const corv_box near_origin = {{-9, -9, -9}, {999, 9, 9}}, far_off = {{9000, 0, 0}, {9999, 9, 9}};
@@ -50,6 +52,7 @@ static int32_t copied(life *l) { return corv_view_copy(&l->view, &l->copy); }
 static int32_t asked(life *l) { return corv_map_nearest(&l->map, l->places, 200, -1, l->hits, MOST, &l->n); }
 static int32_t asked_each(life *l) { return corv_view_nearest_each(&l->copy, l->places, 2, 200, -1, l->hits, 2 * MOST, l->counts, 2, &l->n); }
 static int32_t listed(life *l) { return corv_map_inside(&l->map, &near_origin, MOST, l->items, MOST, &l->n); }
+static int32_t logged(life *l) { return corv_map_log(&l->map, 0, l->lines, LINES, &l->n, &l->next); }
 static int32_t detached(life *l) { return corv_map_detach(&l->map, 1, &l->job); }
 static int32_t built(life *l) { return corv_job_build(&l->job, &l->built); }
 static int32_t replayed(life *l) { return corv_built_replay(&l->built); }
@@ -68,6 +71,7 @@ static const struct {
     {"build", built, CORV_DONE},       {"add meanwhile", added, CORV_DONE}, {"swap", swapped, CORV_BEHIND},
     {"replay", replayed, CORV_DONE},   {"suspend meanwhile", suspended, CORV_DONE}, {"swap by force", forced, CORV_DONE},
     {"delete", deleted, CORV_DONE},    {"expire", expired, CORV_DONE},      {"thin", thinned, CORV_DONE},
+    {"log", logged, CORV_DONE},
 };
 
 static corv_totals totals_of(life *l) {

@@ -3,10 +3,12 @@
 #include <corv/map.h>
 #include <stdio.h>
 #include <stdlib.h>
+#include <string.h>
 
 #define FARTHEST INT64_C(1099511627776)
 #define MOST_POINTS 4194304
 #define MOST_UPDATES 1048576
+#define MOST_LINES 65536
 
 static int faults = 0;
 
@@ -60,6 +62,9 @@ static void an_empty_handle_is_told(void) {
     corv_point far = {FARTHEST + 1, 0, 0, 0};
     corv_totals totals;
     uint32_t live;
+    uint64_t next = 9;
+    char line;
+    size_t n = 9;
     IS(CORV_EMPTY, corv_map_add(&map, &far, 1));
     IS(CORV_EMPTY, corv_map_thin(&map, &far, 1));
     IS(CORV_EMPTY, corv_map_delete(&map, &turned, 1));
@@ -68,6 +73,8 @@ static void an_empty_handle_is_told(void) {
     IS(CORV_EMPTY, corv_map_expire(&map, 0));
     IS(CORV_EMPTY, corv_map_count(&map, &turned, &live));
     IS(CORV_EMPTY, corv_map_totals(&map, &totals));
+    IS(CORV_EMPTY, corv_map_log(&map, 5, &line, 0, &n, &next));
+    HOLDS(n == 0 && next == 5);
     IS(CORV_EMPTY, corv_map_view(&map, &view));
     IS(CORV_EMPTY, corv_view_copy(&view, &copy));
     IS(CORV_EMPTY, corv_view_count(&view, &turned, &live));
@@ -275,6 +282,48 @@ static void handles_outlive_the_map(void) {
     corv_view_free(&view);
 }
 
+/* The map's updates from this one on are these lines, as far as there is this room, and up to this one. */
+static void lines_are(int line, corv_map *map, uint64_t from, size_t room, const char *due, uint64_t end) {
+    char text[128];
+    size_t n = 9;
+    uint64_t next = 9;
+    is(line, "corv_map_log", corv_map_log(map, from, text, room, &n, &next), CORV_DONE);
+    is(line, "next", next == end, true);
+    is(line, due, n == strlen(due) && memcmp(text, due, n) == 0, true);
+}
+#define LINES(...) lines_are(__LINE__, __VA_ARGS__)
+
+static void no_lines(int line, corv_map *map, uint64_t from, size_t room, int32_t due) {
+    char text[128];
+    size_t n = 9;
+    uint64_t next = 9;
+    is(line, "corv_map_log", corv_map_log(map, from, text, room, &n, &next), due);
+    is(line, "next", n == 0 && next == from, true);
+}
+#define NO_LINES(...) no_lines(__LINE__, __VA_ARGS__)
+
+static void a_log_is_written(void) {
+    static const char first[] = "ikdmap 2 voxel 200 large 1500\n@1 add 1 -2 3 4\n", last[] = "@1 expire 4194304\n";
+    corv_map map = {0};
+    corv_point point = {1, -2, 3, 4};
+    IS(CORV_DONE, corv_map_new(200, 1500, &map));
+    LINES(&map, 0, 0, "", 0);
+    NO_LINES(&map, 1, 0, CORV_BAD_NUMBER);
+    IS(CORV_DONE, corv_map_add(&map, &point, 1));
+    IS(CORV_DONE, corv_map_add(&map, &point, 0));
+    IS(CORV_DONE, corv_map_expire(&map, UINT32_MAX));
+    NO_LINES(&map, 0, strlen(first) - 1, CORV_NO_ROOM);
+    LINES(&map, 0, strlen(first), first, 2);
+    LINES(&map, 0, strlen(first) + strlen(last) - 1, first, 2);
+    LINES(&map, 1, 0, "", 2);
+    NO_LINES(&map, 2, strlen(last) - 1, CORV_NO_ROOM);
+    LINES(&map, 2, strlen(last), last, 3);
+    LINES(&map, 3, 0, "", 3);
+    NO_LINES(&map, 4, 0, CORV_BAD_NUMBER);
+    NO_LINES(&map, UINT64_MAX, 0, CORV_BAD_NUMBER);
+    corv_map_free(&map);
+}
+
 static void too_much(void) {
     corv_map map = {0};
     corv_point *points = calloc(MOST_POINTS + 1, sizeof *points);
@@ -294,6 +343,11 @@ static void too_much(void) {
     IS(CORV_TOO_MANY_UPDATES, corv_map_restore(&map, &all, 1));
     IS(CORV_TOO_MANY_UPDATES, corv_map_expire(&map, 1));
     HOLDS(totals_of(&map).updates == MOST_UPDATES && totals_of(&map).live == 1);
+    LINES(&map, MOST_LINES - 1, 128, "@1 expire 0\n", MOST_LINES);
+    NO_LINES(&map, MOST_LINES, 0, CORV_TOO_MANY_UPDATES);
+    NO_LINES(&map, MOST_UPDATES - 1, 128, CORV_TOO_MANY_UPDATES);
+    LINES(&map, MOST_UPDATES, 0, "", MOST_UPDATES);
+    NO_LINES(&map, MOST_UPDATES + 1, 0, CORV_BAD_NUMBER);
     corv_map_free(&map);
     free(points);
 }
@@ -311,6 +365,7 @@ int main(void) {
     answers();
     a_subtree_is_built_and_swapped_in();
     handles_outlive_the_map();
+    a_log_is_written();
     too_much();
     return faults != 0;
 }

@@ -52,12 +52,12 @@ enum {
     CORV_NO_ROOM = 5,           /* an array is too short */
     CORV_OUT_OF_RANGE = 6,      /* a number of a place is out of range */
     CORV_BAD_BOX = 7,           /* a number of a box is out of range, or one of hi is below that of lo */
-    CORV_TOO_MANY_UPDATES = 8,  /* the map has 1,048,576 updates */
+    CORV_TOO_MANY_UPDATES = 8,  /* the map has 1,048,576 updates, or its log would have more than 65,536 lines */
     CORV_TOO_MANY_POINTS = 9,   /* more than 4,194,304 points would have been submitted */
     CORV_NOTHING_TO_DETACH = 10, /* no subtree is to be rebuilt */
     CORV_STALE = 11,            /* the built subtree's place in the map is there no more */
     CORV_BEHIND = 12,           /* more than 64 operations are left to be done on the built subtree */
-    CORV_NO_LINE = 13           /* an update has more than 262,144 points or boxes, or expires above 4,194,304: no line of a log says it */
+    CORV_NO_LINE = 13           /* no line of a log says an update */
 };
 
 /* Makes a map that holds nothing. Its voxels have edges of 1 to 1,000,000, and of 16 to 1,000,000 nodes on a subtree is large.
@@ -119,12 +119,18 @@ int32_t corv_view_items(corv_view *view, uint32_t from, corv_held *items, size_t
 int32_t corv_view_totals(corv_view *view, corv_totals *totals);
 
 /* Makes a map that holds what the view shows, so that a map goes on that comes to its limits: the suspended points under the numbers
- * from 0 on, and behind them the live ones, each kind in the order of its numbers. Its updates are counted anew: 33 at most. It can
+ * from 0 on, and behind them the live ones, each kind in the order of its numbers. Its updates are counted anew: 3 at most. It can
  * be made in another thread than the map's. FULL (the map), EMPTY (the view), BAD_NUMBER, NO_MEMORY. */
 int32_t corv_view_renew(corv_view *view, uint32_t voxel, uint32_t large, corv_map *map);
-/* Writes the map's updates as a log of version 2, which leads to the same map; an update of no point or box has no line. All updates
- * are caller 1's. EMPTY, TOO_MANY_UPDATES (65,536 lines), NO_LINE, NO_MEMORY, NO_ROOM. */
-int32_t corv_map_log(corv_map *map, uint8_t *bytes, size_t room, size_t *count);
+/* Writes the lines of the log of version 2 that say the map's updates from this one on, which are counted from 0: before the first
+ * update's the header, then the lines of whole updates, as far as there is room. next is the first update that isn't written, and is
+ * from where nothing is. So a program that writes what is new behind what it has, from next on, has the log of all updates, which
+ * leads to the same map. All updates are caller 1's; one of no point or box has no line, one of more than 262,144 several. An update
+ * takes at most 64 bytes, and 52 for each of its points and 91 for each of its boxes. Costs time and memory by what is written and what
+ * one update more would take, and counts the lines of all updates before, which reads none of their points.
+ * EMPTY, BAD_NUMBER (more than the updates that were made), and then of the update from: NO_LINE (never in a map that these calls
+ * made), TOO_MANY_UPDATES (with it there are more than 65,536 lines), NO_ROOM; at any update NO_MEMORY. */
+int32_t corv_map_log(corv_map *map, uint64_t from, char *bytes, size_t room, size_t *count, uint64_t *next);
 
 /* Large subtrees are rebuilt beside the updates, on threads of the caller's: detach (in the map's thread), build (in any, while
  * the map goes on), swap (in the map's thread). Where a swap answers BEHIND: replay (in any thread), and swap again. Nothing of it

@@ -332,20 +332,19 @@ public:
         detail::check(corv_view_renew(view.get(), voxel, large, get()));
     }
 
-    /// The updates as a log.
-    std::vector<std::uint8_t> log() {
-        auto all = totals();
-        std::vector<std::uint8_t> bytes(64 + 64 * all.updates + 56 * std::size_t{all.points});
-        for (;;) {
+    /// Writes the lines of a log that say the updates from this one on, counted from 0, in place of what the bytes held: those of as many
+    /// whole updates as fit in twice as many bytes as there were, or in 4,096, and of one at least where there is one. Returns the first
+    /// update that isn't written.
+    std::uint64_t log(std::uint64_t from, std::vector<char> &bytes) {
+        for (auto room = std::max<std::size_t>(2 * bytes.size(), 4096);; room *= 2) {
+            bytes.resize(room);
             std::size_t count = 0;
-            auto status = corv_map_log(get(), bytes.data(), bytes.size(), &count);
-            if (status == CORV_NO_ROOM) {
-                bytes.resize(2 * bytes.size());
-                continue;
-            }
-            detail::check(status);
+            std::uint64_t next = from;
+            auto status = corv_map_log(get(), from, bytes.data(), bytes.size(), &count, &next);
             bytes.resize(count);
-            return bytes;
+            if (status == CORV_NO_ROOM) continue;
+            detail::check(status);
+            return next;
         }
     }
 
