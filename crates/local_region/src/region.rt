@@ -1,11 +1,11 @@
 //! Regions.
-ghost use Rattle.std.specs.Prelude.{◌≡◌, ◌≤◌, true};
+ghost use Rattle.std.specs.Prelude.{◌≡◌, ◌≤◌, false, true, IfSome, IsNone};
 ghost use Rattle.point_geom.specs.Place.{IsCoordinate};
-ghost use Rattle.local_region.specs.Regions.{IsRegion, IsStart, begun, first_start, is_in};
+ghost use Rattle.local_region.specs.Regions.{IsRegion, IsStart, IsStartCorner, begun, first_start, is_in};
 ghost use Rattle.local_region.specs.Moves.{after, next_start};
 
 use crate::RegionRules;
-use crate::limits::LONGEST;
+use crate::limits::{FARTHEST, LONGEST};
 use point_geom::{Corner, Point};
 use std::marker::Model;
 
@@ -43,6 +43,20 @@ impl Region {
         Region { rules, lo }
     }
 
+    /// The region of these rules that has its corner with the least numbers here. None where on some axis the corner lies farther
+    /// than 4,398,046,511,104 millimetres from 0: no region does.
+    pub fn at(rules: RegionRules, lo: Corner) -> Option<Region>
+        ensures some { IfSome result (λ r. r ≡ record { rules = rules; lo = lo }) }
+        ensures start { IfSome result (λ r. IsStartCorner lo) }
+        ensures none { IsNone result → IsStartCorner lo → ⊥ }
+    {
+        if is_start(lo.x) && is_start(lo.y) && is_start(lo.z) {
+            Some(Region { rules, lo })
+        } else {
+            None
+        }
+    }
+
     /// The corner with the least numbers, in millimetres. It may lie outside the limits of points and boxes.
     pub fn lo(&self) -> Corner
         ensures value { result ≡ self.now.lo }
@@ -71,6 +85,13 @@ impl Region {
         };
         Region { lo, ..*self }
     }
+}
+
+fn is_start(c: i64) -> bool
+    ensures yes { result ≡ true → IsStart c }
+    ensures no { result ≡ false → IsStart c → ⊥ }
+{
+    -FARTHEST <= c && c <= FARTHEST
 }
 
 fn first_start(side: u64, c: i64) -> i64
