@@ -30,7 +30,10 @@ typedef struct {
     corv_place places[2];
     corv_hit hits[2 * MOST];
     corv_item items[MOST];
-    uint32_t counts[2];
+    corv_cluster clusters[MOST];
+    corv_region region;
+    corv_box boxes[3];
+    uint32_t counts[2], found;
     char lines[LINES];
     size_t n;
     uint64_t next;
@@ -53,6 +56,15 @@ static int32_t asked(life *l) { return corv_map_nearest(&l->map, l->places, 200,
 static int32_t asked_each(life *l) { return corv_view_nearest_each(&l->copy, l->places, 2, 200, -1, l->hits, 2 * MOST, l->counts, 2, &l->n); }
 static int32_t listed(life *l) { return corv_map_inside(&l->map, &near_origin, MOST, l->items, MOST, &l->n); }
 static int32_t logged(life *l) { return corv_map_log(&l->map, 0, l->lines, LINES, &l->n, &l->next); }
+static int32_t listed_in_a_ball(life *l) { return corv_map_ball(&l->map, l->places, 999, MOST, l->items, MOST, &l->n); }
+static int32_t listed_alone(life *l) { return corv_map_lonely(&l->map, 5, MOST, &l->found, l->items, MOST, &l->n); }
+static int32_t listed_in_clusters(life *l) { return corv_map_clusters(&l->map, 5, MOST, &l->found, l->clusters, MOST, &l->n); }
+static int32_t listed_whole(life *l) { return corv_map_items(&l->map, 0, l->items, MOST, &l->n); }
+static int32_t listed_by_pages(life *l) { return corv_view_items(&l->copy, 5, l->items, 20, &l->n); }
+static int32_t listed_in_a_box(life *l) { return corv_view_box_items(&l->copy, &near_origin, 5, l->items, 20, &l->n); }
+static int32_t listed_around(life *l) { return corv_map_ball_items(&l->map, l->places, 999, 0, l->items, MOST, &l->n); }
+static int32_t begun(life *l) { return corv_region_begin(100, 10, 20, l->places, &l->region); }
+static int32_t moved(life *l) { return corv_region_move(&l->region, l->places + 1, l->boxes, 3, &l->n); }
 static int32_t detached(life *l) { return corv_map_detach(&l->map, 1, &l->job); }
 static int32_t built(life *l) { return corv_job_build(&l->job, &l->built); }
 static int32_t replayed(life *l) { return corv_built_replay(&l->built); }
@@ -67,6 +79,9 @@ static const struct {
     {"new", made, CORV_DONE},          {"add", added, CORV_DONE},           {"add more", added_behind, CORV_DONE},
     {"view", seen, CORV_DONE},         {"add the rest", added_last, CORV_DONE}, {"copy", copied, CORV_DONE},
     {"nearest", asked, CORV_DONE},     {"nearest_each", asked_each, CORV_DONE}, {"inside", listed, CORV_DONE},
+    {"ball", listed_in_a_ball, CORV_DONE}, {"lonely", listed_alone, CORV_DONE}, {"clusters", listed_in_clusters, CORV_DONE},
+    {"items", listed_whole, CORV_DONE}, {"a page", listed_by_pages, CORV_DONE}, {"box_items", listed_in_a_box, CORV_DONE},
+    {"ball_items", listed_around, CORV_DONE}, {"begin", begun, CORV_DONE}, {"move", moved, CORV_DONE},
     {"suspend", suspended, CORV_DONE}, {"restore", restored, CORV_DONE},    {"detach", detached, CORV_DONE},
     {"build", built, CORV_DONE},       {"add meanwhile", added, CORV_DONE}, {"swap", swapped, CORV_BEHIND},
     {"replay", replayed, CORV_DONE},   {"suspend meanwhile", suspended, CORV_DONE}, {"swap by force", forced, CORV_DONE},
@@ -97,6 +112,7 @@ static bool live(long refused, corv_totals *end) {
     if (!l) abort();
     *l = zeros;
     for (int i = 0; i < ROW; i++) l->row[i].x = 10 * (int64_t)i;
+    l->places[1].x = 100;
     left = refused;
     for (size_t i = 0; i < sizeof steps / sizeof *steps; i++) {
         corv_totals before = totals_of(l);

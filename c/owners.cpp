@@ -86,6 +86,130 @@ static void distances() {
     HOLDS(hits.size() == 1 && corv::squared_distance(hits[0]) == corv::Wide{1} << 82 && corv::distance(hits[0]) == std::ldexp(1, 41));
 }
 
+// Points by a fixed rule, over and over on the same places.
+static std::vector<corv::Point> scattered(std::size_t count) {
+    std::vector<corv::Point> points;
+    std::uint64_t state = 7;
+    auto next = [&] { return static_cast<std::int64_t>((state = state * 6364136223846793005u + 1442695040888963407u) >> 40 & 255); };
+    for (std::size_t i = 0; i < count; i++) {
+        auto x = next(), y = next(), z = next();
+        points.push_back({x - 128, y - 128, z & 15, static_cast<std::uint16_t>(i)});
+    }
+    return points;
+}
+
+static std::int64_t dist2(const corv::Point &p, const corv::Place &q) {
+    return (p.x - q.x) * (p.x - q.x) + (p.y - q.y) * (p.y - q.y) + (p.z - q.z) * (p.z - q.z);
+}
+
+static bool is_in(const corv::Box &box, const corv::Point &p) {
+    return box.lo.x <= p.x && p.x < box.hi.x && box.lo.y <= p.y && p.y < box.hi.y && box.lo.z <= p.z && p.z < box.hi.z;
+}
+
+// Whether these are the points of the numbers that are wanted, in order, with their labels.
+static bool are(const std::vector<corv::Item> &items, const std::vector<corv::Point> &points, const std::vector<bool> &is_suspended,
+                const std::vector<std::uint32_t> &wanted) {
+    if (items.size() != wanted.size()) return false;
+    for (std::size_t i = 0; i < items.size(); i++) {
+        const auto &p = points[wanted[i]];
+        const auto &q = items[i].point;
+        if (items[i].number != wanted[i] || items[i].suspended != is_suspended[wanted[i]]) return false;
+        if (p.x != q.x || p.y != q.y || p.z != q.z || p.intensity != q.intensity) return false;
+    }
+    return true;
+}
+
+// The wanted numbers that a list has which begins at a number and has a length.
+static std::vector<std::uint32_t> part(const std::vector<std::uint32_t> &wanted, std::uint32_t from, std::size_t most) {
+    std::vector<std::uint32_t> some;
+    for (auto n : wanted)
+        if (n >= from && some.size() < most) some.push_back(n);
+    return some;
+}
+
+// Lists of a map and of a view, whole and by pages, against a plain search; some of the points are suspended, and some dropped.
+static void all_is_listed_by_number() {
+    const auto points = scattered(3000);
+    const corv::Box hidden = {{-40, -40, -40}, {40, 50, 40}}, gone = {{60, -200, -200}, {90, 200, 200}}, looked = {{-60, -9, 0}, {100, 77, 9}};
+    const corv::Place center = {50, 10, 5};
+    corv::Map map(200, 16);
+    for (std::size_t i = 0; i < points.size(); i += 500) map.add({points.data() + i, 500});
+    map.suspend(std::array{hidden});
+    map.remove(std::array{gone});
+    std::vector<std::uint32_t> kept, boxed, near;
+    std::vector<bool> is_suspended;
+    for (std::uint32_t n = 0; n < points.size(); n++) {
+        const auto &p = points[n];
+        is_suspended.push_back(is_in(hidden, p));
+        if (is_in(gone, p)) continue;
+        kept.push_back(n);
+        if (is_suspended[n]) continue;
+        if (is_in(looked, p)) boxed.push_back(n);
+        if (dist2(p, center) <= 70 * 70) near.push_back(n);
+    }
+    HOLDS(boxed.size() > 256 && near.size() > 256 && kept.size() < points.size());
+    auto is_listed = [&](auto &asked, std::uint32_t from, std::size_t most) {
+        HOLDS(are(asked.items(from, most), points, is_suspended, part(kept, from, most)));
+        HOLDS(are(asked.box_items(looked, from, most), points, is_suspended, part(boxed, from, most)));
+        HOLDS(are(asked.ball_items(center, 70, from, most), points, is_suspended, part(near, from, most)));
+    };
+    auto view = map.view();
+    map.remove(std::array{all});
+    HOLDS(map.items().empty() && map.box_items(looked).empty() && map.ball_items(center, 70).empty());
+    for (std::uint32_t from : {0u, 1u, 999u, 2999u, 3000u, UINT32_MAX})
+        for (std::size_t most : {std::size_t{0}, std::size_t{1}, std::size_t{7}, std::size_t{2000}, SIZE_MAX}) is_listed(view, from, most);
+    HOLDS(are(view.ball(center, 70, 256), points, is_suspended, part(near, 0, 256)));
+    HOLDS(are(view.ball(center, 70, 3), points, is_suspended, part(near, 0, 3)));
+}
+
+// Chains of points that are 10 mm apart, with longer ways between them, and points by themselves.
+static void clusters_and_lonely_points() {
+    corv::Map map(200, 1500);
+    std::vector<corv::Point> points;
+    for (std::int64_t chain = 0; chain < 300; chain++)
+        for (std::int64_t i = 0; i <= chain % 3; i++) points.push_back({100 * chain + 10 * i, 0, 0, 0});
+    map.add(points);
+    map.suspend(std::array{corv::Box{{0, 0, 0}, {1, 1, 1}}});
+    auto lonely = map.lonely(10, 256);
+    auto clusters = map.clusters(10, 100);
+    HOLDS(lonely.count == 99 && lonely.first.size() == 99 && lonely.first[0].number == 6 && lonely.first[98].number == 594);
+    HOLDS(clusters.count == 299 && clusters.first.size() == 100);
+    for (std::uint32_t i = 0; i < clusters.first.size(); i++) {
+        std::uint32_t chain = i + 1;
+        HOLDS(clusters.first[i].points == chain % 3 + 1 && clusters.first[i].number == chain / 3 * 6 + (chain % 3 == 0 ? 0 : chain % 3 == 1 ? 1 : 3));
+    }
+    HOLDS(map.lonely(9, 1).count == 599 && map.clusters(9, 1).count == 599 && map.clusters(100, 1).count == 1);
+    HOLDS(status_of([&] { map.lonely(9, 0); }) == CORV_BAD_NUMBER && status_of([&] { map.clusters(UINT64_MAX, 1); }) == CORV_BAD_NUMBER);
+    HOLDS(status_of([&] { map.ball({0, 0, 0}, 5, 257); }) == CORV_BAD_NUMBER);
+    HOLDS(status_of([&] { map.ball_items({0, INT64_MAX, 0}, 5); }) == CORV_OUT_OF_RANGE);
+}
+
+// What a region leaves behind is what is in none of its places any more: each point of a grid is looked at.
+static void a_region_follows() {
+    corv::Region region(40, 5, 7, {0, 0, 0});
+    HOLDS(status_of([] { corv::Region(40, 20, 7, {0, 0, 0}); }) == CORV_BAD_NUMBER);
+    corv::Place robot = {0, 0, 0};
+    auto is_inside = [](const corv::Region &r, const corv::Point &p) {
+        auto side = static_cast<std::int64_t>(r.side());
+        return is_in({r.lo(), {r.lo().x + side, r.lo().y + side, r.lo().z + side}}, p);
+    };
+    for (int step = 0; step < 40; step++) {
+        robot = {robot.x + 3, robot.y - 2, robot.z + (step % 5) - 2};
+        auto before = region;
+        auto boxes = region.move(robot);
+        bool is_so = boxes.size() <= 3;
+        for (std::int64_t x = -60; x < 180; x += 3)
+            for (std::int64_t y = -140; y < 60; y += 3)
+                for (std::int64_t z = -60; z < 60; z += 3) {
+                    corv::Point p = {x, y, z, 0};
+                    auto times = std::count_if(boxes.begin(), boxes.end(), [&](const corv::Box &box) { return is_in(box, p); });
+                    is_so = is_so && times == (is_inside(before, p) && !is_inside(region, p));
+                }
+        HOLDS(is_so);
+    }
+    HOLDS(status_of([&] { region.move({INT64_MAX, 0, 0}); }) == CORV_OUT_OF_RANGE);
+}
+
 // Each thread asks a view of its own; the map goes on meanwhile, and is gone before the last of them.
 static void views_are_asked_beside_the_map() {
     std::vector<std::thread> threads;
@@ -132,6 +256,9 @@ int main() {
     refusals_are_thrown();
     lists_may_be_empty();
     distances();
+    all_is_listed_by_number();
+    clusters_and_lonely_points();
+    a_region_follows();
     views_are_asked_beside_the_map();
     a_subtree_is_built_on_another_thread();
     return faults != 0;

@@ -131,6 +131,30 @@ static int32_t inside(asked a, const corv_box *box, uint32_t most, corv_item *it
     return a.map ? corv_map_inside(a.map, box, most, items, room, n) : corv_view_inside(a.view, box, most, items, room, n);
 }
 
+static int32_t ball(asked a, const corv_place *place, uint64_t r, uint32_t most, corv_item *items, size_t room, size_t *n) {
+    return a.map ? corv_map_ball(a.map, place, r, most, items, room, n) : corv_view_ball(a.view, place, r, most, items, room, n);
+}
+
+static int32_t lonely(asked a, uint64_t r, uint32_t most, uint32_t *found, corv_item *items, size_t room, size_t *n) {
+    return a.map ? corv_map_lonely(a.map, r, most, found, items, room, n) : corv_view_lonely(a.view, r, most, found, items, room, n);
+}
+
+static int32_t clusters(asked a, uint64_t r, uint32_t most, uint32_t *found, corv_cluster *list, size_t room, size_t *n) {
+    return a.map ? corv_map_clusters(a.map, r, most, found, list, room, n) : corv_view_clusters(a.view, r, most, found, list, room, n);
+}
+
+static int32_t items_from(asked a, uint32_t from, corv_item *items, size_t room, size_t *n) {
+    return a.map ? corv_map_items(a.map, from, items, room, n) : corv_view_items(a.view, from, items, room, n);
+}
+
+static int32_t box_items(asked a, const corv_box *box, uint32_t from, corv_item *items, size_t room, size_t *n) {
+    return a.map ? corv_map_box_items(a.map, box, from, items, room, n) : corv_view_box_items(a.view, box, from, items, room, n);
+}
+
+static int32_t ball_items(asked a, const corv_place *place, uint64_t r, corv_item *items, size_t room, size_t *n) {
+    return a.map ? corv_map_ball_items(a.map, place, r, 0, items, room, n) : corv_view_ball_items(a.view, place, r, 0, items, room, n);
+}
+
 /* What is answered to this question, or that the handle is empty, where it is. */
 #define OR_EMPTY(due) (is_empty ? CORV_EMPTY : (due))
 
@@ -173,10 +197,59 @@ static void is_asked_for_boxes(asked a, bool is_empty) {
     IS(OR_EMPTY(CORV_DONE), inside(a, &all, 256, items, 256, &n));
 }
 
+static void is_asked_for_neighbours(asked a, bool is_empty) {
+    corv_item items[256];
+    corv_cluster list[256];
+    uint32_t found = 9;
+    size_t n = 9;
+    IS(OR_EMPTY(CORV_BAD_NUMBER), ball(a, &outside, 5, 0, items, 0, &n));
+    IS(OR_EMPTY(CORV_BAD_NUMBER), ball(a, &outside, 5, 257, items, 256, &n));
+    IS(OR_EMPTY(CORV_BAD_NUMBER), ball(a, &outside, 4 * FARTHEST + 1, 5, items, 0, &n));
+    IS(OR_EMPTY(CORV_NO_ROOM), ball(a, &outside, 5, 5, items, 4, &n));
+    IS(OR_EMPTY(CORV_OUT_OF_RANGE), ball(a, &outside, 5, 5, items, 5, &n));
+    HOLDS(n == 0);
+    IS(OR_EMPTY(CORV_DONE), ball(a, &origin, 4 * FARTHEST, 256, items, 256, &n));
+    n = 9;
+    IS(OR_EMPTY(CORV_BAD_NUMBER), lonely(a, 5, 0, &found, items, 0, &n));
+    IS(OR_EMPTY(CORV_BAD_NUMBER), lonely(a, 5, 257, &found, items, 256, &n));
+    IS(OR_EMPTY(CORV_BAD_NUMBER), lonely(a, 4 * FARTHEST + 1, 5, &found, items, 0, &n));
+    IS(OR_EMPTY(CORV_NO_ROOM), lonely(a, 5, 5, &found, items, 4, &n));
+    HOLDS(n == 0 && found == 0);
+    IS(OR_EMPTY(CORV_DONE), lonely(a, 4 * FARTHEST, 256, &found, items, 256, &n));
+    n = 9, found = 9;
+    IS(OR_EMPTY(CORV_BAD_NUMBER), clusters(a, 5, 0, &found, list, 0, &n));
+    IS(OR_EMPTY(CORV_BAD_NUMBER), clusters(a, 5, 257, &found, list, 256, &n));
+    IS(OR_EMPTY(CORV_BAD_NUMBER), clusters(a, 4 * FARTHEST + 1, 5, &found, list, 0, &n));
+    IS(OR_EMPTY(CORV_NO_ROOM), clusters(a, 5, 5, &found, list, 4, &n));
+    HOLDS(n == 0 && found == 0);
+    IS(OR_EMPTY(CORV_DONE), clusters(a, 4 * FARTHEST, 256, &found, list, 256, &n));
+}
+
+static void is_asked_for_lists(asked a, bool is_empty) {
+    corv_item items[9];
+    size_t n = 9;
+    IS(OR_EMPTY(CORV_DONE), items_from(a, 0, items, 0, &n));
+    HOLDS(n == 0);
+    IS(OR_EMPTY(CORV_DONE), items_from(a, UINT32_MAX, items, 9, &n));
+    HOLDS(n == 0);
+    n = 9;
+    IS(OR_EMPTY(CORV_BAD_BOX), box_items(a, &turned, 0, items, 9, &n));
+    IS(OR_EMPTY(CORV_BAD_BOX), box_items(a, &too_wide, 0, items, 0, &n));
+    HOLDS(n == 0);
+    IS(OR_EMPTY(CORV_DONE), box_items(a, &all, 0, items, 9, &n));
+    n = 9;
+    IS(OR_EMPTY(CORV_BAD_NUMBER), ball_items(a, &outside, 4 * FARTHEST + 1, items, 0, &n));
+    IS(OR_EMPTY(CORV_OUT_OF_RANGE), ball_items(a, &outside, 4 * FARTHEST, items, 9, &n));
+    HOLDS(n == 0);
+    IS(OR_EMPTY(CORV_DONE), ball_items(a, &origin, 4 * FARTHEST, items, 9, &n));
+}
+
 static void is_asked(corv_map *map, corv_view *view, bool is_empty) {
     asked a = {map, view};
     is_asked_for_the_nearest(a, is_empty);
     is_asked_for_boxes(a, is_empty);
+    is_asked_for_neighbours(a, is_empty);
+    is_asked_for_lists(a, is_empty);
 }
 
 static void a_view_stays(corv_map *map) {
@@ -215,13 +288,51 @@ static void answers(void) {
     /* 3 * 2^82 */
     HOLDS(n == 3 && hits[2].dist2_high == UINT64_C(3) << 18 && hits[2].dist2_low == 0 && hits[2].point.intensity == 65535);
     IS(CORV_DONE, corv_map_inside(&map, &box, 2, items, 2, &n));
-    HOLDS(n == 2 && items[1].number == 2 && items[1].point.y == 4 && items[1].point.intensity == 8);
+    HOLDS(n == 2 && items[1].number == 2 && items[1].point.y == 4 && items[1].point.intensity == 8 && items[1].suspended == 0);
     IS(CORV_DONE, corv_map_suspend(&map, &box, 1));
     HOLDS(totals_of(&map).live == 1 && totals_of(&map).suspended == 2);
+    IS(CORV_DONE, corv_map_items(&map, 1, items, 2, &n));
+    HOLDS(n == 2 && items[0].number == 1 && items[0].suspended == 0 && items[1].number == 2 && items[1].suspended == 1);
+    HOLDS(items[1].point.y == 4 && items[1].point.intensity == 8);
+    IS(CORV_DONE, corv_map_box_items(&map, &all, 0, items, 2, &n));
+    HOLDS(n == 1 && items[0].number == 1 && items[0].suspended == 0);
     IS(CORV_DONE, corv_map_restore(&map, &box, 1));
     IS(CORV_DONE, corv_map_expire(&map, 2));
     HOLDS(totals_of(&map).live == 1 && totals_of(&map).points == 3 && totals_of(&map).updates == 4);
     corv_map_free(&map);
+}
+
+/* A region's numbers are looked at anew at each move, and a refused move leaves it as it was. */
+static void a_region_moves(void) {
+    corv_region region = {{1, 2, 3}, 4, 5, 6}, was;
+    corv_box boxes[3];
+    corv_place far_end = {FARTHEST, 100, 0};
+    size_t n = 9;
+    IS(CORV_BAD_NUMBER, corv_region_begin(1, 0, 1, &outside, &region));
+    IS(CORV_BAD_NUMBER, corv_region_begin(2 * FARTHEST + 1, 0, 1, &outside, &region));
+    IS(CORV_BAD_NUMBER, corv_region_begin(100, 50, 10, &outside, &region));
+    IS(CORV_BAD_NUMBER, corv_region_begin(100, 10, 0, &outside, &region));
+    IS(CORV_BAD_NUMBER, corv_region_begin(100, 10, 101, &outside, &region));
+    IS(CORV_OUT_OF_RANGE, corv_region_begin(100, 10, 20, &outside, &region));
+    HOLDS(region.lo.x == 1 && region.side == 4 && region.ball == 5 && region.step == 6);
+    IS(CORV_DONE, corv_region_begin(100, 10, 20, &origin, &region));
+    HOLDS(region.lo.x == -50 && region.lo.y == -50 && region.lo.z == -50);
+    was = region;
+    region.lo.z = 4 * FARTHEST + 1;
+    IS(CORV_BAD_NUMBER, corv_region_move(&region, &outside, boxes, 2, &n));
+    region = was, region.ball = 50;
+    IS(CORV_BAD_NUMBER, corv_region_move(&region, &outside, boxes, 2, &n));
+    region = was;
+    IS(CORV_NO_ROOM, corv_region_move(&region, &outside, boxes, 2, &n));
+    IS(CORV_OUT_OF_RANGE, corv_region_move(&region, &outside, boxes, 3, &n));
+    HOLDS(n == 0 && region.lo.x == -50 && region.side == 100 && region.ball == 10 && region.step == 20);
+    IS(CORV_DONE, corv_region_move(&region, &origin, boxes, 3, &n));
+    HOLDS(n == 0 && region.lo.x == -50);
+    /* However far the place is, it moves by one step on an axis: what it leaves is below its new lower faces. */
+    IS(CORV_DONE, corv_region_move(&region, &far_end, boxes, 3, &n));
+    HOLDS(n == 2 && region.lo.x == -30 && region.lo.y == -30 && region.lo.z == -50);
+    HOLDS(boxes[0].lo.x == -50 && boxes[0].hi.x == -30 && boxes[0].lo.y == -50 && boxes[0].hi.y == 50 && boxes[0].hi.z == 50);
+    HOLDS(boxes[1].lo.x == -30 && boxes[1].hi.x == 50 && boxes[1].lo.y == -50 && boxes[1].hi.y == -30 && boxes[1].lo.z == -50);
 }
 
 /* A map whose tree is uneven, and a job of it in the slot. */
@@ -363,6 +474,7 @@ int main(void) {
     a_view_stays(&map);
     corv_map_free(&map);
     answers();
+    a_region_moves();
     a_subtree_is_built_and_swapped_in();
     handles_outlive_the_map();
     a_log_is_written();

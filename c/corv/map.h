@@ -35,10 +35,13 @@ typedef struct { int64_t x, y, z; uint16_t intensity; } corv_point;
 typedef struct { corv_place lo, hi; } corv_box;
 /* A live point that was found, under its number. Its squared distance is dist2_high * 2^64 + dist2_low. */
 typedef struct { corv_point point; uint64_t dist2_high, dist2_low; uint32_t number; } corv_hit;
-/* A live point, under its number. */
-typedef struct { corv_point point; uint32_t number; } corv_item;
 /* A point that is held, under its number: live where suspended is 0, suspended where it is 1. */
-typedef struct { corv_point point; uint32_t number, suspended; } corv_held;
+typedef struct { corv_point point; uint32_t number, suspended; } corv_item;
+/* A cluster: the least number in it, and how many points it has. */
+typedef struct { uint32_t number, points; } corv_cluster;
+/* A region of a map that moves with the robot: a cube whose sides have this length, from its corner with the least numbers on. A ball
+ * round the robot is to stay clear of its faces, and it moves by a step at a time. Plain numbers, and no handle. */
+typedef struct { corv_place lo; uint64_t side, ball, step; } corv_region;
 /* How many updates were made, how many points they submitted, and how many of those are live and how many suspended. */
 typedef struct { uint64_t updates; uint32_t points, live, suspended; } corv_totals;
 
@@ -97,10 +100,21 @@ int32_t corv_map_count(corv_map *map, const corv_box *box, uint32_t *live);
 int32_t corv_map_inside(corv_map *map, const corv_box *box, uint32_t most, corv_item *items, size_t room, size_t *count);
 /* The live points at most r millimetres from the place, by number; the first most where there are more. most is from 1 to 256, r up to
  * 4,398,046,511,104, and room at least most. EMPTY, BAD_NUMBER, NO_ROOM, OUT_OF_RANGE, NO_MEMORY. */
-int32_t corv_map_ball(corv_map *map, const corv_place *place, uint64_t r, uint32_t most, corv_held *items, size_t room, size_t *count);
-/* What is live or suspended under a number from this one on, by number: all of it, or as much as there is room for, which may be
- * nothing. One call with room for the live and the suspended points of the totals has all. EMPTY, NO_MEMORY. */
-int32_t corv_map_items(corv_map *map, uint32_t from, corv_held *items, size_t room, size_t *count);
+int32_t corv_map_ball(corv_map *map, const corv_place *place, uint64_t r, uint32_t most, corv_item *items, size_t room, size_t *count);
+/* How many live points have no other live one within r millimetres, and the first most of them by number. most is from 1 to 256, r up to
+ * 4,398,046,511,104, and room at least most; found is 0 where the call is refused. EMPTY, BAD_NUMBER, NO_ROOM, NO_MEMORY. */
+int32_t corv_map_lonely(corv_map *map, uint64_t r, uint32_t most, uint32_t *found, corv_item *items, size_t room, size_t *count);
+/* How many clusters there are of live points, where two are in one that are at most r millimetres apart, and the first most clusters by
+ * their least numbers. Numbers and refusals are as for lonely points. */
+int32_t corv_map_clusters(corv_map *map, uint64_t r, uint32_t most, uint32_t *found, corv_cluster *clusters, size_t room, size_t *count);
+/* Lists of any length, by number: what has a number from this one on, all of it, or as much as there is room for, which may be nothing.
+ * A list that is cut off is gone on with from the number behind its last one. */
+/* What is live or suspended. Room for the live and the suspended points of the totals has all. EMPTY, NO_MEMORY. */
+int32_t corv_map_items(corv_map *map, uint32_t from, corv_item *items, size_t room, size_t *count);
+/* What is live in the box. EMPTY, BAD_BOX, NO_MEMORY. */
+int32_t corv_map_box_items(corv_map *map, const corv_box *box, uint32_t from, corv_item *items, size_t room, size_t *count);
+/* What is live at most r millimetres from the place, r up to 4,398,046,511,104. EMPTY, BAD_NUMBER, OUT_OF_RANGE, NO_MEMORY. */
+int32_t corv_map_ball_items(corv_map *map, const corv_place *place, uint64_t r, uint32_t from, corv_item *items, size_t room, size_t *count);
 /* EMPTY. */
 int32_t corv_map_totals(corv_map *map, corv_totals *totals);
 
@@ -115,7 +129,12 @@ int32_t corv_view_nearest(corv_view *view, const corv_place *place, uint32_t k, 
 int32_t corv_view_nearest_each(corv_view *view, const corv_place *places, size_t n, uint32_t k, int64_t within, corv_hit *hits, size_t room, uint32_t *counts, size_t counts_room, size_t *count);
 int32_t corv_view_count(corv_view *view, const corv_box *box, uint32_t *live);
 int32_t corv_view_inside(corv_view *view, const corv_box *box, uint32_t most, corv_item *items, size_t room, size_t *count);
-int32_t corv_view_items(corv_view *view, uint32_t from, corv_held *items, size_t room, size_t *count);
+int32_t corv_view_ball(corv_view *view, const corv_place *place, uint64_t r, uint32_t most, corv_item *items, size_t room, size_t *count);
+int32_t corv_view_lonely(corv_view *view, uint64_t r, uint32_t most, uint32_t *found, corv_item *items, size_t room, size_t *count);
+int32_t corv_view_clusters(corv_view *view, uint64_t r, uint32_t most, uint32_t *found, corv_cluster *clusters, size_t room, size_t *count);
+int32_t corv_view_items(corv_view *view, uint32_t from, corv_item *items, size_t room, size_t *count);
+int32_t corv_view_box_items(corv_view *view, const corv_box *box, uint32_t from, corv_item *items, size_t room, size_t *count);
+int32_t corv_view_ball_items(corv_view *view, const corv_place *place, uint64_t r, uint32_t from, corv_item *items, size_t room, size_t *count);
 int32_t corv_view_totals(corv_view *view, corv_totals *totals);
 
 /* Makes a map that holds what the view shows, so that a map goes on that comes to its limits: the suspended points under the numbers
@@ -150,6 +169,14 @@ void corv_built_free(corv_built *built);
  * subtree, to be replayed. Where its place is there no more the subtree is STALE, and stays in its handle, only to be freed.
  * EMPTY (either), STALE, BEHIND, NO_MEMORY. */
 int32_t corv_map_swap(corv_map *map, corv_built *built, uint32_t force);
+
+/* Makes the region that begins with the place in its middle. side is from 2 to 2,199,023,255,552, twice the ball is below it, and step is
+ * from 1 to the side. BAD_NUMBER, OUT_OF_RANGE. */
+int32_t corv_region_begin(uint64_t side, uint64_t ball, uint64_t step, const corv_place *place, corv_region *region);
+/* Moves the region to the place: on each axis by a step towards the face that the ball round the place touches or passes, and not at all
+ * where it touches none. Writes the boxes of what was in the region and no longer is, to be deleted: three at most, which share no point.
+ * room is at least 3. Where it is refused the region stays. BAD_NUMBER (no region has these numbers), NO_ROOM, OUT_OF_RANGE, NO_MEMORY. */
+int32_t corv_region_move(corv_region *region, const corv_place *place, corv_box *boxes, size_t room, size_t *count);
 
 #ifdef __cplusplus
 }

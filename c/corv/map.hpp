@@ -29,7 +29,7 @@ using Point = corv_point;
 using Box = corv_box;
 using Hit = corv_hit;
 using Item = corv_item;
-using Held = corv_held;
+using Cluster = corv_cluster;
 using Totals = corv_totals;
 
 /// A call was refused, and everything is as it was. Where memory ran out it is std::bad_alloc instead.
@@ -93,7 +93,12 @@ struct MapCalls {
     static constexpr auto nearest_each = corv_map_nearest_each;
     static constexpr auto count = corv_map_count;
     static constexpr auto inside = corv_map_inside;
+    static constexpr auto ball = corv_map_ball;
+    static constexpr auto lonely = corv_map_lonely;
+    static constexpr auto clusters = corv_map_clusters;
     static constexpr auto items = corv_map_items;
+    static constexpr auto box_items = corv_map_box_items;
+    static constexpr auto ball_items = corv_map_ball_items;
     static constexpr auto totals = corv_map_totals;
 };
 
@@ -104,7 +109,12 @@ struct ViewCalls {
     static constexpr auto nearest_each = corv_view_nearest_each;
     static constexpr auto count = corv_view_count;
     static constexpr auto inside = corv_view_inside;
+    static constexpr auto ball = corv_view_ball;
+    static constexpr auto lonely = corv_view_lonely;
+    static constexpr auto clusters = corv_view_clusters;
     static constexpr auto items = corv_view_items;
+    static constexpr auto box_items = corv_view_box_items;
+    static constexpr auto ball_items = corv_view_ball_items;
     static constexpr auto totals = corv_view_totals;
 };
 
@@ -178,6 +188,13 @@ inline Wide squared_distance(const Hit &hit) {
 }
 #endif
 
+/// How many there are of what was looked for, and the first of them.
+template <class T>
+struct Found {
+    std::uint32_t count = 0;
+    std::vector<T> first;
+};
+
 /// What is asked of a Map and of a View. Numbers out of their range are refused, and so are places and boxes.
 template <class Calls>
 class Asked {
@@ -233,23 +250,66 @@ public:
 
     /// The live points in a box by number, or the first `most` of them, from 1 to 256.
     std::vector<Item> inside(const Box &box, std::uint32_t most) {
-        std::vector<Item> items(room(most));
-        std::size_t count = 0;
-        auto status = Calls::inside(get(), &box, most, items.data(), items.size(), &count);
-        items.resize(count);
-        detail::check(status);
-        return items;
+        return listed<Item>(room(most), [&](Item *items, std::size_t size, std::size_t *count) {
+            return Calls::inside(get(), &box, most, items, size, count);
+        });
     }
 
-    /// All points, live and suspended, under the numbers from this one on, by number.
-    std::vector<Held> items(std::uint32_t from = 0) {
+    /// The live points at most `r` millimetres from a place by number, or the first `most` of them, from 1 to 256.
+    std::vector<Item> ball(const Place &place, std::uint64_t r, std::uint32_t most) {
+        return listed<Item>(room(most), [&](Item *items, std::size_t size, std::size_t *count) {
+            return Calls::ball(get(), &place, r, most, items, size, count);
+        });
+    }
+
+    /// How many live points have no other live one within `r` millimetres, and the first `most` of them by number, from 1 to 256.
+    Found<Item> lonely(std::uint64_t r, std::uint32_t most) {
+        Found<Item> found;
+        found.first = listed<Item>(room(most), [&](Item *items, std::size_t size, std::size_t *count) {
+            return Calls::lonely(get(), r, most, &found.count, items, size, count);
+        });
+        return found;
+    }
+
+    /// How many clusters there are of live points, by steps of at most `r` millimetres, and the first `most` of them by their least
+    /// numbers, from 1 to 256.
+    Found<Cluster> clusters(std::uint64_t r, std::uint32_t most) {
+        Found<Cluster> found;
+        found.first = listed<Cluster>(room(most), [&](Cluster *clusters, std::size_t size, std::size_t *count) {
+            return Calls::clusters(get(), r, most, &found.count, clusters, size, count);
+        });
+        return found;
+    }
+
+    /// All points, live and suspended, under the numbers from this one on, by number; the first `most`, where that is given.
+    std::vector<Item> items(std::uint32_t from = 0, std::size_t most = SIZE_MAX) {
         auto held = totals();
-        std::vector<Held> items(std::max<std::size_t>(1, std::size_t{held.live} + held.suspended));
-        std::size_t count = 0;
-        auto status = Calls::items(get(), from, items.data(), items.size(), &count);
-        items.resize(count);
-        detail::check(status);
-        return items;
+        return listed<Item>(std::min(most, std::size_t{held.live} + held.suspended), [&](Item *items, std::size_t size, std::size_t *count) {
+            return Calls::items(get(), from, items, size, count);
+        });
+    }
+
+    /// All live points in a box, under the numbers from this one on, by number; the first `most`, where that is given.
+    std::vector<Item> box_items(const Box &box, std::uint32_t from = 0, std::size_t most = SIZE_MAX) {
+        return listed<Item>(std::min<std::size_t>(most, count(box)), [&](Item *items, std::size_t size, std::size_t *count) {
+            return Calls::box_items(get(), &box, from, items, size, count);
+        });
+    }
+
+    /// All live points at most `r` millimetres from a place, under the numbers from this one on, by number; the first `most`, where
+    /// that is given. The vector grows with what is found.
+    std::vector<Item> ball_items(const Place &place, std::uint64_t r, std::uint32_t from = 0, std::size_t most = SIZE_MAX) {
+        std::vector<Item> all;
+        while (all.size() < most) {
+            auto wanted = std::min(most - all.size(), std::max<std::size_t>(1024, all.size()));
+            auto next = listed<Item>(wanted, [&](Item *items, std::size_t size, std::size_t *count) {
+                return Calls::ball_items(get(), &place, r, from, items, size, count);
+            });
+            all.insert(all.end(), next.begin(), next.end());
+            if (next.size() < wanted) break;
+            from = next.back().number + 1;
+        }
+        return all;
     }
 
     /// How many updates were made, and how many points are there.
@@ -265,6 +325,17 @@ protected:
 private:
     // Room for as many as a call can give; where k is refused, for what it would say.
     static std::size_t room(std::uint32_t k) { return std::clamp<std::uint32_t>(k, 1, 256); }
+
+    // The front of an array for so many that a call writes. It is never of no length, since a call takes no null.
+    template <class T, class Call>
+    static std::vector<T> listed(std::size_t size, Call call) {
+        std::vector<T> list(std::max<std::size_t>(1, size));
+        std::size_t count = 0;
+        auto status = call(list.data(), size, &count);
+        list.resize(count);
+        detail::check(status);
+        return list;
+    }
 
     // What is too far for a signed number is too far for the call too.
     static std::int64_t reach(std::optional<std::uint64_t> within) {
@@ -392,6 +463,33 @@ private:
     void update(std::int32_t (*call)(corv_map *, const T *, std::size_t), List<T> list) {
         detail::check(call(get(), list.data(), list.size()));
     }
+};
+
+/// A region that moves with a robot: a cube from whose faces a ball round the robot stays clear. A value, that may be copied.
+class Region {
+public:
+    /// Begins with the place in its middle. The side is from 2 to 2,199,023,255,552 mm, twice the ball is below it, and the step is from 1
+    /// to the side.
+    Region(std::uint64_t side, std::uint64_t ball, std::uint64_t step, const Place &place) {
+        detail::check(corv_region_begin(side, ball, step, &place, &region_));
+    }
+
+    /// Moves to the place, and returns what the region left behind, to be removed of the map: three boxes at most.
+    std::vector<Box> move(const Place &place) {
+        std::vector<Box> boxes(3);
+        std::size_t count = 0;
+        auto status = corv_region_move(&region_, &place, boxes.data(), boxes.size(), &count);
+        boxes.resize(count);
+        detail::check(status);
+        return boxes;
+    }
+
+    /// Its corner with the least numbers, which may lie where no place does.
+    const Place &lo() const noexcept { return region_.lo; }
+    std::uint64_t side() const noexcept { return region_.side; }
+
+private:
+    corv_region region_{};
 };
 
 }  // namespace corv

@@ -19,7 +19,7 @@ class Hit(ctypes.Structure):
 
 
 class Item(ctypes.Structure):
-    _fields_ = [("point", Point), ("number", c_uint32)]
+    _fields_ = [("point", Point), ("number", c_uint32), ("suspended", c_uint32)]
 
 
 class Totals(ctypes.Structure):

@@ -2,6 +2,8 @@
 use Rattle.std.specs.Prelude.{◌≡◌, ◌≢◌, ◌<◌, ◌≤◌, ◌*◌, ◌/◌, ◌%◌, ◌⊎◌, ◌≤ℤ◌, ℕ, ℤ, pos, negsuc, List, map, length, take, Any, All, Option, None, Some}
 use Rattle.std.specs.List.{flat_map}
 use Rattle.point_geom.specs.Place as geom
+use Rattle.node_labels.specs.declared.label.Label.{Label}
+use Rattle.node_labels.specs.declared.label.Label.TheVariants.{Live, Suspended, Dropped}
 use Rattle.map_fold.specs.Answers.{count, inside, nearest}
 use Rattle.map_items.specs.Contents.{live_count, suspended_count}
 use Rattle.map_fold.specs.declared.hits.Hit as found
@@ -45,9 +47,15 @@ c_point p = record { x = p.x; y = p.y; z = p.z; intensity = p.intensity }
 abbrev pub c_hit : found.Hit → Hit
 c_hit h = record { point = c_point h.point; dist2_high = h.dist2 / 18446744073709551616; dist2_low = h.dist2 % 18446744073709551616; number = h.number }
 
--- an item, without its label: what is answered is live
+-- 1 where it is suspended
+abbrev pub c_suspended : Label → ℕ
+c_suspended Live = 0
+c_suspended Suspended = 1
+c_suspended Dropped = 0
+
+-- an item
 abbrev pub c_item : held.Item → Item
-c_item i = record { point = c_point i.point; number = i.number }
+c_item i = record { point = c_point i.point; number = i.number; suspended = c_suspended i.label }
 
 -- the greatest distance that C gives; none, where it is below 0
 abbrev pub within_at : ℤ → Option ℕ

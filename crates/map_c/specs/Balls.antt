@@ -4,13 +4,12 @@ use Rattle.map_items.specs.declared.limits.TheConstants.{MAX_FOUND, MAX_WITHIN}
 use Rattle.map_fold.specs.Neighbours.{ball}
 use Rattle.kd_tree.specs.Contents.{contents}
 use Rattle.rebuild_parts.specs.Seen.{VersionAt}
-use Rattle.map_c.specs.Answers.{shown_in}
+use Rattle.map_c.specs.Answers.{c_item, shown_in}
 use Rattle.map_c.specs.Forms.{IsRightPlace, place_at}
 use Rattle.map_c.specs.Status.{bad_number, empty, no_memory, no_room, out_of_range}
 use Rattle.map_c.specs.declared.content.Content.{Content}
+use Rattle.map_c.specs.declared.forms.Item.{Item}
 use Rattle.map_c.specs.declared.forms.Place.{Place}
-use Rattle.map_c.specs.declared.all_items.HeldPoint.{HeldPoint}
-use Rattle.map_c.specs.Renewal.{c_held}
 
 -- a ball may be asked for so far, and so many of it
 pub record IsBallAsked (r most : ℕ) : Type 0 where
@@ -19,11 +18,11 @@ pub record IsBallAsked (r most : ℕ) : Type 0 where
   pub r_to : r ≤ MAX_WITHIN
 
 -- the live points of what is shown at most r millimetres from a place, by number, the first `most` of them, as C has them
-abbrev pub ball_items : VersionAt → Place → ℕ → ℕ → List HeldPoint
-ball_items v p r most = map c_held (take most (ball (contents v.tree) (place_at p) r))
+abbrev pub ball_items : VersionAt → Place → ℕ → ℕ → List Item
+ball_items v p r most = map c_item (take most (ball (contents v.tree) (place_at p) r))
 
 -- The front of the items, as long as the count, is the live points in the ball of what the handle shows.
-pub record IsBall (c : Option Content) (p : Place) (r most : ℕ) (items : List HeldPoint) (count : ℕ) : Type 0 where
+pub record IsBall (c : Option Content) (p : Place) (r most : ℕ) (items : List Item) (count : ℕ) : Type 0 where
   pub version : VersionAt
   pub shown : shown_in c ≡ Some version
   pub asked : IsBallAsked r most

@@ -4,8 +4,8 @@ ghost use Rattle.map_c.specs.Answers.{IsTold};
 ghost use Rattle.map_c.specs.Status.{code};
 ghost use Rattle.map_c.specs.Balls.{IsBall, IsBallAsked, IsBallRefusal};
 
-use crate::all_items::{HeldPoint, write_all};
-use crate::{Content, DONE, Handle, Place, Refusal, read_place, shown};
+use crate::writing::write_items;
+use crate::{Content, DONE, Handle, Item, Place, Refusal, read_place, shown};
 use map_items::{MAX_FOUND, MAX_WITHIN};
 use neighbour_sets::in_ball;
 use std::alloc::Global;
@@ -19,7 +19,7 @@ pub extern "C" fn corv_map_ball(
     place: &Place,
     r: u64,
     most: u32,
-    items: &mut [HeldPoint],
+    items: &mut [Item],
     count: &mut usize,
 ) -> i32
     ensures { IsTold (IsBall map.old.held.content place.now r most items.new count.new)
@@ -41,13 +41,31 @@ pub extern "C" fn corv_map_ball(
     }
 }
 
+/// As of a map, of what the view shows.
+#[unsafe(no_mangle)]
+pub extern "C" fn corv_view_ball(
+    alloc: Global,
+    view: &mut Handle,
+    place: &Place,
+    r: u64,
+    most: u32,
+    items: &mut [Item],
+    count: &mut usize,
+) -> i32
+    ensures { IsTold (IsBall view.old.held.content place.now r most items.new count.new)
+        (IsBallRefusal view.old.held.content place.now r most (length items.old))
+        view.old.held.content view.new.held.content count.new result }
+{
+    corv_map_ball(alloc, view, place, r, most, items, count)
+}
+
 fn list_ball(
     alloc: Global,
     content: &Content,
     place: &Place,
     r: u64,
     most: u32,
-    items: &mut [HeldPoint],
+    items: &mut [Item],
 ) -> Result<usize, Refusal>
     ensures found { IfOk result (IsBall (Some content.now) place.now r most items.new) }
     ensures refused { IfErr result (λ c. IsBallRefusal (Some content.now) place.now r most (length items.old) (code c)) }
@@ -63,11 +81,12 @@ fn list_ball(
     }
     let point = read_place(place)?;
     let found = in_ball(alloc, version.tree(), &point, r, most)?;
-    let n = write_all(found.as_slice(), items);
-    Ok(n)
+    write_items(found.as_slice(), items);
+    Ok(found.len())
 }
 
-fn is_asked(r: u64, most: u32) -> bool
+/// Whether a ball may have this radius, and so many be asked for.
+pub(crate) fn is_asked(r: u64, most: u32) -> bool
     ensures yes { result ≡ true → IsBallAsked r most }
     ensures no { result ≡ false → IsBallAsked r most → ⊥ }
 {

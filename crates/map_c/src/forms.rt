@@ -37,12 +37,32 @@ pub struct Hit {
     pub number: u32,
 }
 
-/// A live point.
+/// A point that is held, under its number. It is live where `suspended` is 0, and suspended where it is 1. No bool, since C may
+/// hand in memory that holds anything.
 #[repr(C)]
 #[derive(Clone, Copy)]
 pub struct Item {
     pub point: Point,
     pub number: u32,
+    pub suspended: u32,
+}
+
+/// A cluster: the least number in it, and how many points it has.
+#[repr(C)]
+#[derive(Clone, Copy)]
+pub struct Cluster {
+    pub number: u32,
+    pub points: u32,
+}
+
+/// A region of a map that moves with the robot: its corner with the least numbers, and its rules.
+#[repr(C)]
+#[derive(Clone, Copy)]
+pub struct Region {
+    pub lo: Place,
+    pub side: u64,
+    pub ball: u64,
+    pub step: u64,
 }
 
 /// How many updates were made, how many points they submitted, and how many of those are live and how many suspended.

@@ -1,7 +1,6 @@
 //! The map, for callers in C: each export takes handles, checks what it was given, does one call of the library, and answers a status.
 #![tactic(auto)]
 
-mod all_items;
 mod asking;
 mod balls;
 mod building;
@@ -14,22 +13,26 @@ mod held;
 mod listing;
 mod logging;
 mod making;
+mod neighbours;
+mod pages;
 mod parts;
 mod reading;
 mod rebuilding;
 mod refusal;
+mod regions;
 mod renewing;
 mod searching;
 mod showing;
 mod swapping;
 mod updating;
+mod view_pages;
 mod views;
 mod work;
 mod writing;
 
 pub use content::{Content, Kept, Seen, boxed};
 pub use done::Done;
-pub use forms::{Bounds, Hit, Item, Place, Point, Totals};
+pub use forms::{Bounds, Cluster, Hit, Item, Place, Point, Region, Totals};
 pub use handle::Handle;
 pub use listing::{count_in_box, list};
 pub use reading::{read_boxes, read_place, read_points};

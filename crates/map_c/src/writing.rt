@@ -1,8 +1,9 @@
 //! Hits and items, written where C wants them.
 ghost use Rattle.std.specs.Prelude.{◌≡◌, ◌+◌, ◌≤◌, ◌++◌, length, map, take};
-ghost use Rattle.map_c.specs.Answers.{c_hit, c_item, c_point};
+ghost use Rattle.map_c.specs.Answers.{c_hit, c_item, c_point, c_suspended};
 
 use crate::forms::{Hit, Item, Point};
+use map_items::Label;
 
 /// Writes the hits from a place on.
 pub fn write_hits(found: &[map_fold::Hit], at: usize, hits: &mut [Hit])
@@ -44,6 +45,16 @@ fn item_of(item: &map_items::Item) -> Item
     Item {
         point: point_of(&item.point),
         number: item.number,
+        suspended: suspended(item.label),
+    }
+}
+
+fn suspended(label: Label) -> u32
+    ensures { result ≡ c_suspended label }
+{
+    match label {
+        Label::Suspended => 1,
+        Label::Live | Label::Dropped => 0,
     }
 }
 

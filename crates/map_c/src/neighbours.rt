@@ -1,0 +1,198 @@
+//! Live points that have no other near them, and those that chains of short steps join.
+ghost use Rattle.std.specs.Prelude.{◌≡◌, ◌≢◌, ◌≤◌, IfErr, IfOk, Some, length, map, take};
+ghost use Rattle.map_c.specs.Answers.{IsTold};
+ghost use Rattle.map_c.specs.Neighbours.{AreClusters, AreClustersRefusal, AreLonely, AreLonelyRefusal, c_cluster};
+ghost use Rattle.map_c.specs.Status.{code, done};
+
+use crate::balls::is_asked;
+use crate::writing::write_items;
+use crate::{Cluster, Content, DONE, Handle, Item, Refusal, shown};
+use map_fold::Group;
+use neighbour_sets::{clusters, lonely};
+use std::alloc::Global;
+
+/// How many were found, and how many of those are listed.
+#[derive(Drop)]
+struct Listed {
+    found: u32,
+    count: usize,
+}
+
+/// Tells how many live points have no other live one within `r` millimetres, and writes the first `most` of them by number, and
+/// how many those are.
+#[unsafe(no_mangle)]
+pub extern "C" fn corv_map_lonely(
+    alloc: Global,
+    map: &mut Handle,
+    r: u64,
+    most: u32,
+    found: &mut u32,
+    items: &mut [Item],
+    count: &mut usize,
+) -> i32
+    ensures told { IsTold (AreLonely map.old.held.content r most found.new items.new count.new)
+        (AreLonelyRefusal map.old.held.content r most (length items.old))
+        map.old.held.content map.new.held.content count.new result }
+    ensures none { result ≢ done → found.new ≡ 0 }
+{
+    *found = 0;
+    *count = 0;
+    let Some(content) = map.take(alloc) else {
+        return Refusal::Empty.status();
+    };
+    let listed = list_lonely(alloc, &content, r, most, items);
+    *map = Handle::of(content);
+    match listed {
+        Err(refusal) => refusal.status(),
+        Ok(listed) => {
+            *found = listed.found;
+            *count = listed.count;
+            DONE
+        }
+    }
+}
+
+fn list_lonely(
+    alloc: Global,
+    content: &Content,
+    r: u64,
+    most: u32,
+    items: &mut [Item],
+) -> Result<Listed, Refusal>
+    ensures found { IfOk result (λ l. AreLonely (Some content.now) r most l.found items.new l.count) }
+    ensures refused { IfErr result (λ c. AreLonelyRefusal (Some content.now) r most (length items.old) (code c)) }
+{
+    let Some(version) = shown(content) else {
+        return Err(Refusal::Empty);
+    };
+    if !is_asked(r, most) {
+        return Err(Refusal::BadNumber);
+    }
+    if items.len() < most as usize {
+        return Err(Refusal::NoRoom);
+    }
+    let all = lonely(alloc, version.tree(), r, most)?;
+    write_items(all.items.as_slice(), items);
+    Ok(Listed {
+        found: all.count,
+        count: all.items.len(),
+    })
+}
+
+/// As of a map, of what the view shows.
+#[unsafe(no_mangle)]
+pub extern "C" fn corv_view_lonely(
+    alloc: Global,
+    view: &mut Handle,
+    r: u64,
+    most: u32,
+    found: &mut u32,
+    items: &mut [Item],
+    count: &mut usize,
+) -> i32
+    ensures told { IsTold (AreLonely view.old.held.content r most found.new items.new count.new)
+        (AreLonelyRefusal view.old.held.content r most (length items.old))
+        view.old.held.content view.new.held.content count.new result }
+    ensures none { result ≢ done → found.new ≡ 0 }
+{
+    corv_map_lonely(alloc, view, r, most, found, items, count)
+}
+
+/// Tells how many clusters there are of live points, by steps of at most `r` millimetres, and writes the first `most` of them by
+/// their least numbers, and how many those are.
+#[unsafe(no_mangle)]
+pub extern "C" fn corv_map_clusters(
+    alloc: Global,
+    map: &mut Handle,
+    r: u64,
+    most: u32,
+    found: &mut u32,
+    groups: &mut [Cluster],
+    count: &mut usize,
+) -> i32
+    ensures told { IsTold (AreClusters map.old.held.content r most found.new groups.new count.new)
+        (AreClustersRefusal map.old.held.content r most (length groups.old))
+        map.old.held.content map.new.held.content count.new result }
+    ensures none { result ≢ done → found.new ≡ 0 }
+{
+    *found = 0;
+    *count = 0;
+    let Some(content) = map.take(alloc) else {
+        return Refusal::Empty.status();
+    };
+    let listed = list_clusters(alloc, &content, r, most, groups);
+    *map = Handle::of(content);
+    match listed {
+        Err(refusal) => refusal.status(),
+        Ok(listed) => {
+            *found = listed.found;
+            *count = listed.count;
+            DONE
+        }
+    }
+}
+
+fn list_clusters(
+    alloc: Global,
+    content: &Content,
+    r: u64,
+    most: u32,
+    groups: &mut [Cluster],
+) -> Result<Listed, Refusal>
+    ensures found { IfOk result (λ l. AreClusters (Some content.now) r most l.found groups.new l.count) }
+    ensures refused { IfErr result (λ c. AreClustersRefusal (Some content.now) r most (length groups.old) (code c)) }
+{
+    let Some(version) = shown(content) else {
+        return Err(Refusal::Empty);
+    };
+    if !is_asked(r, most) {
+        return Err(Refusal::BadNumber);
+    }
+    if groups.len() < most as usize {
+        return Err(Refusal::NoRoom);
+    }
+    let all = clusters(alloc, version.tree(), r, most)?;
+    write_clusters(all.groups.as_slice(), groups);
+    Ok(Listed {
+        found: all.count,
+        count: all.groups.len(),
+    })
+}
+
+/// As of a map, of what the view shows.
+#[unsafe(no_mangle)]
+pub extern "C" fn corv_view_clusters(
+    alloc: Global,
+    view: &mut Handle,
+    r: u64,
+    most: u32,
+    found: &mut u32,
+    groups: &mut [Cluster],
+    count: &mut usize,
+) -> i32
+    ensures told { IsTold (AreClusters view.old.held.content r most found.new groups.new count.new)
+        (AreClustersRefusal view.old.held.content r most (length groups.old))
+        view.old.held.content view.new.held.content count.new result }
+    ensures none { result ≢ done → found.new ≡ 0 }
+{
+    corv_map_clusters(alloc, view, r, most, found, groups, count)
+}
+
+fn write_clusters(found: &[Group], groups: &mut [Cluster])
+    requires { length found.now ≤ length groups.old }
+    ensures written { take (length found.now) groups.new ≡ map c_cluster found.now }
+    ensures length { length groups.new ≡ length groups.old }
+{
+    for i in 0..found.len() {
+        groups[i] = cluster_of(&found[i]);
+    }
+}
+
+fn cluster_of(group: &Group) -> Cluster
+    ensures { result ≡ c_cluster group.now }
+{
+    Cluster {
+        number: group.least,
+        points: group.size,
+    }
+}

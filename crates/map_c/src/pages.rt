@@ -1,0 +1,161 @@
+//! What a handle shows, listed by number from a number on, as far as there is room.
+ghost use Rattle.std.specs.Prelude.{◌≡◌, IfErr, IfOk, Some, length};
+ghost use Rattle.map_c.specs.Answers.{IsTold};
+ghost use Rattle.map_c.specs.Pages.{IsBallPage, IsBallPageRefusal, IsBoxPage, IsBoxPageRefusal, IsPage, IsPageRefusal};
+ghost use Rattle.map_c.specs.Status.{code};
+
+use crate::reading::read_box;
+use crate::writing::write_items;
+use crate::{Bounds, Content, DONE, Handle, Item, Place, Refusal, read_place, shown};
+use item_lists::{ball_items, box_items, items_from};
+use map_items::MAX_WITHIN;
+use std::alloc::Global;
+
+/// Writes what is live or suspended under the numbers from this one on, by number, as far as there is room, and how many it
+/// wrote.
+#[unsafe(no_mangle)]
+pub extern "C" fn corv_map_items(
+    alloc: Global,
+    map: &mut Handle,
+    from: u32,
+    items: &mut [Item],
+    count: &mut usize,
+) -> i32
+    ensures { IsTold (IsPage map.old.held.content from items.new count.new)
+        (IsPageRefusal map.old.held.content)
+        map.old.held.content map.new.held.content count.new result }
+{
+    *count = 0;
+    let Some(content) = map.take(alloc) else {
+        return Refusal::Empty.status();
+    };
+    let listed = list_items(alloc, &content, from, items);
+    *map = Handle::of(content);
+    match listed {
+        Err(refusal) => refusal.status(),
+        Ok(n) => {
+            *count = n;
+            DONE
+        }
+    }
+}
+
+fn list_items(
+    alloc: Global,
+    content: &Content,
+    from: u32,
+    items: &mut [Item],
+) -> Result<usize, Refusal>
+    ensures found { IfOk result (IsPage (Some content.now) from items.new) }
+    ensures refused { IfErr result (λ r. IsPageRefusal (Some content.now) (code r)) }
+{
+    let Some(version) = shown(content) else {
+        return Err(Refusal::Empty);
+    };
+    let found = items_from(alloc, version.tree(), from, items.len())?;
+    write_items(found.as_slice(), items);
+    Ok(found.len())
+}
+
+/// Writes the live points in the box under the numbers from this one on, by number, as far as there is room, and how many it
+/// wrote.
+#[unsafe(no_mangle)]
+pub extern "C" fn corv_map_box_items(
+    alloc: Global,
+    map: &mut Handle,
+    bounds: &Bounds,
+    from: u32,
+    items: &mut [Item],
+    count: &mut usize,
+) -> i32
+    ensures { IsTold (IsBoxPage map.old.held.content bounds.now from items.new count.new)
+        (IsBoxPageRefusal map.old.held.content bounds.now)
+        map.old.held.content map.new.held.content count.new result }
+{
+    *count = 0;
+    let Some(content) = map.take(alloc) else {
+        return Refusal::Empty.status();
+    };
+    let listed = list_box(alloc, &content, bounds, from, items);
+    *map = Handle::of(content);
+    match listed {
+        Err(refusal) => refusal.status(),
+        Ok(n) => {
+            *count = n;
+            DONE
+        }
+    }
+}
+
+fn list_box(
+    alloc: Global,
+    content: &Content,
+    bounds: &Bounds,
+    from: u32,
+    items: &mut [Item],
+) -> Result<usize, Refusal>
+    ensures found { IfOk result (IsBoxPage (Some content.now) bounds.now from items.new) }
+    ensures refused { IfErr result (λ r. IsBoxPageRefusal (Some content.now) bounds.now (code r)) }
+{
+    let Some(version) = shown(content) else {
+        return Err(Refusal::Empty);
+    };
+    let cuboid = read_box(bounds)?;
+    let found = box_items(alloc, version.tree(), &cuboid, from, items.len())?;
+    write_items(found.as_slice(), items);
+    Ok(found.len())
+}
+
+/// Writes the live points at most `r` millimetres from a place under the numbers from this one on, by number, as far as there is
+/// room, and how many it wrote.
+#[unsafe(no_mangle)]
+pub extern "C" fn corv_map_ball_items(
+    alloc: Global,
+    map: &mut Handle,
+    place: &Place,
+    r: u64,
+    from: u32,
+    items: &mut [Item],
+    count: &mut usize,
+) -> i32
+    ensures { IsTold (IsBallPage map.old.held.content place.now r from items.new count.new)
+        (IsBallPageRefusal map.old.held.content place.now r)
+        map.old.held.content map.new.held.content count.new result }
+{
+    *count = 0;
+    let Some(content) = map.take(alloc) else {
+        return Refusal::Empty.status();
+    };
+    let listed = list_ball(alloc, &content, place, r, from, items);
+    *map = Handle::of(content);
+    match listed {
+        Err(refusal) => refusal.status(),
+        Ok(n) => {
+            *count = n;
+            DONE
+        }
+    }
+}
+
+fn list_ball(
+    alloc: Global,
+    content: &Content,
+    place: &Place,
+    r: u64,
+    from: u32,
+    items: &mut [Item],
+) -> Result<usize, Refusal>
+    ensures found { IfOk result (IsBallPage (Some content.now) place.now r from items.new) }
+    ensures refused { IfErr result (λ c. IsBallPageRefusal (Some content.now) place.now r (code c)) }
+{
+    let Some(version) = shown(content) else {
+        return Err(Refusal::Empty);
+    };
+    if MAX_WITHIN < r {
+        return Err(Refusal::BadNumber);
+    }
+    let point = read_place(place)?;
+    let found = ball_items(alloc, version.tree(), &point, r, from, items.len())?;
+    write_items(found.as_slice(), items);
+    Ok(found.len())
+}

@@ -1,0 +1,164 @@
+//! Regions, which are the caller's own numbers: they are looked at anew at each move.
+ghost use Rattle.std.specs.Prelude.{◌≡◌, ◌≢◌, ◌<◌, ◌≤◌, IfErr, IfOk, length, map, take};
+ghost use Rattle.local_region.specs.Removed.{removed};
+ghost use Rattle.local_region.specs.Regions.{begun};
+ghost use Rattle.local_region.specs.Moves.{after};
+ghost use Rattle.map_c.specs.Forms.{place_at};
+ghost use Rattle.map_c.specs.Regions.{AreRightRules, IsBegun, IsBeginRefusal, IsMove, IsMoveRefusal, IsRightRegion, c_box, c_region, region_at, rules_at};
+ghost use Rattle.map_c.specs.Status.{code, done};
+ghost use Rattle.map_c.specs.declared.refusal.Refusal.TheVariants.{BadNumber};
+
+use crate::{Bounds, DONE, Place, Refusal, Region, read_place};
+use local_region::RegionRules;
+use point_geom::{Corner, Cuboid};
+use std::alloc::Global;
+
+/// Makes the region that begins with the place in its middle: a cube of this side, a ball round the robot that is to stay clear
+/// of its faces, and how far it moves at a time.
+#[unsafe(no_mangle)]
+pub extern "C" fn corv_region_begin(
+    side: u64,
+    ball: u64,
+    step: u64,
+    place: &Place,
+    region: &mut Region,
+) -> i32
+    ensures begun { result ≡ done → IsBegun side ball step place.now region.new }
+    ensures refused { result ≢ done → IsBeginRefusal side ball step place.now result }
+    ensures same { result ≢ done → region.new ≡ region.old }
+{
+    match begun(side, ball, step, place) {
+        Err(refusal) => refusal.status(),
+        Ok(begun) => {
+            *region = begun;
+            DONE
+        }
+    }
+}
+
+fn begun(side: u64, ball: u64, step: u64, place: &Place) -> Result<Region, Refusal>
+    ensures begun { IfOk result (IsBegun side ball step place.now) }
+    ensures refused { IfErr result (λ c. IsBeginRefusal side ball step place.now (code c)) }
+{
+    let rules = read_rules(side, ball, step)?;
+    let point = read_place(place)?;
+    let region = local_region::Region::begin(rules, &point);
+    Ok(region_of(&region))
+}
+
+/// Moves the region to the place, and writes the boxes of what it left behind, three at most, and how many they are.
+#[unsafe(no_mangle)]
+pub extern "C" fn corv_region_move(
+    alloc: Global,
+    region: &mut Region,
+    place: &Place,
+    boxes: &mut [Bounds],
+    count: &mut usize,
+) -> i32
+    ensures moved { result ≡ done → IsMove region.old region.new place.now boxes.new count.new }
+    ensures refused { result ≢ done → IsMoveRefusal region.old place.now (length boxes.old) result }
+    ensures none { result ≢ done → count.new ≡ 0 }
+    ensures same { result ≢ done → region.new ≡ region.old }
+{
+    *count = 0;
+    match moved(alloc, region, place, boxes) {
+        Err(refusal) => refusal.status(),
+        Ok(to) => {
+            *region = to.region;
+            *count = to.count;
+            DONE
+        }
+    }
+}
+
+/// Where a region is after a move, and how many boxes it left behind.
+#[derive(Drop)]
+struct To {
+    region: Region,
+    count: usize,
+}
+
+fn moved(alloc: Global, region: &Region, place: &Place, boxes: &mut [Bounds]) -> Result<To, Refusal>
+    ensures moved { IfOk result (λ t. IsMove region.now t.region place.now boxes.new t.count) }
+    ensures refused { IfErr result (λ c. IsMoveRefusal region.now place.now (length boxes.old) (code c)) }
+{
+    let from = read_region(region)?;
+    if boxes.len() < 3 {
+        return Err(Refusal::NoRoom);
+    }
+    let point = read_place(place)?;
+    let moved = from.moved(alloc, &point)?;
+    write_boxes(moved.removed.as_slice(), boxes);
+    Ok(To {
+        region: region_of(&moved.region),
+        count: moved.removed.len(),
+    })
+}
+
+fn read_rules(side: u64, ball: u64, step: u64) -> Result<RegionRules, Refusal>
+    ensures ok { IfOk result (λ r. r ≡ rules_at side ball step) }
+    ensures right { IfOk result (λ r. AreRightRules side ball step) }
+    ensures refused { IfErr result (λ c. (c ≡ BadNumber) × (AreRightRules side ball step → ⊥)) }
+{
+    match RegionRules::new(side, ball, step) {
+        Ok(rules) => Ok(rules),
+        Err(_) => Err(Refusal::BadNumber),
+    }
+}
+
+fn read_region(region: &Region) -> Result<local_region::Region, Refusal>
+    ensures ok { IfOk result (λ r. r ≡ region_at region.now) }
+    ensures right { IfOk result (λ r. IsRightRegion region.now) }
+    ensures refused { IfErr result (λ c. (c ≡ BadNumber) × (IsRightRegion region.now → ⊥)) }
+{
+    let rules = read_rules(region.side, region.ball, region.step)?;
+    let lo = Corner {
+        x: region.lo.x,
+        y: region.lo.y,
+        z: region.lo.z,
+    };
+    match local_region::Region::at(rules, lo) {
+        Some(region) => Ok(region),
+        None => Err(Refusal::BadNumber),
+    }
+}
+
+fn region_of(region: &local_region::Region) -> Region
+    ensures { result ≡ c_region region.now }
+{
+    Region {
+        lo: place_of(region.lo()),
+        side: region.rules().side(),
+        ball: region.rules().ball(),
+        step: region.rules().step(),
+    }
+}
+
+fn write_boxes(found: &[Cuboid], boxes: &mut [Bounds])
+    requires { length found.now ≤ length boxes.old }
+    ensures written { take (length found.now) boxes.new ≡ map c_box found.now }
+    ensures length { length boxes.new ≡ length boxes.old }
+{
+    for i in 0..found.len() {
+        boxes[i] = box_of(&found[i]);
+    }
+}
+
+fn box_of(cuboid: &Cuboid) -> Bounds
+    ensures { result ≡ c_box cuboid.now }
+{
+    Bounds {
+        lo: place_of(cuboid.lo()),
+        hi: place_of(cuboid.hi()),
+    }
+}
+
+fn place_of(corner: Corner) -> Place
+    ensures { result ≡ record { x = corner.x; y = corner.y; z = corner.z } }
+{
+    Place {
+        x: corner.x,
+        y: corner.y,
+        z: corner.z,
+    }
+}
