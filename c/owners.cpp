@@ -129,7 +129,7 @@ static std::vector<std::uint32_t> part(const std::vector<std::uint32_t> &wanted,
 
 // Lists of a map and of a view, whole and by pages, against a plain search; some of the points are suspended, and some dropped.
 static void all_is_listed_by_number() {
-    const auto points = scattered(3000);
+    const auto points = scattered(9000);
     const corv::Box hidden = {{-40, -40, -40}, {40, 50, 40}}, gone = {{60, -200, -200}, {90, 200, 200}}, looked = {{-60, -9, 0}, {100, 77, 9}};
     const corv::Place center = {50, 10, 5};
     corv::Map map(200, 16);
