@@ -6,10 +6,10 @@ use Rattle.std_alloc.proofs.BoxSteps.Form.{Bx}
 use Rattle.std_heap.specs.contracts.Global as Heap
 use Rattle.std_heap.specs.contracts.GlobalAllocator.TheImpl.{ghosts, dict}
 use Rattle.std_heap.proofs.Global.TheLaws as heap
-use Rattle.map_c.specs.contracts.content.Content as Content
-use Rattle.map_c.proofs.content.Content.TheLaws as content
-use Rattle.map_c.specs.contracts.parts.Parts as Parts
-use Rattle.map_c.specs.contracts.held.Held as Held
+use Rattle.map_c.specs.contracts.handles.content.Content as Content
+use Rattle.map_c.proofs.handles.content.Content.TheLaws as content
+use Rattle.map_c.specs.contracts.handles.parts.Parts as Parts
+use Rattle.map_c.specs.contracts.handles.held.Held as Held
 
 abbrev pub E : Bx
 E = record { row = Content.the_row; laws = content.the_row_laws; al = record { row = Heap.the_row; laws = heap.the_row_laws; g = ghosts; d = dict; drops = impl [] tnil dnil } }

@@ -13,11 +13,11 @@ use Rattle.point_geom.proofs.cuboid.Cuboid.TheSendSync as s13
 use Rattle.point_geom.proofs.point.Point.TheSendSync as s14
 use Rattle.rebuild_core.proofs.Crossing.{state_send}
 use Rattle.rebuild_parts.proofs.Handing.{version_send, version_sync}
-use Rattle.map_c.specs.contracts.content.Content.{the_row}
-use Rattle.map_c.specs.contracts.content.Kept as kept
-use Rattle.map_c.specs.contracts.content.Seen as seen
-use Rattle.map_c.specs.contracts.done.Done as done
-use Rattle.map_c.specs.contracts.work.Work as work
+use Rattle.map_c.specs.contracts.handles.content.Content.{the_row}
+use Rattle.map_c.specs.contracts.handles.content.Kept as kept
+use Rattle.map_c.specs.contracts.handles.content.Seen as seen
+use Rattle.map_c.specs.contracts.handles.done.Done as done
+use Rattle.map_c.specs.contracts.handles.work.Work as work
 
 ruleset items = (sendable, std.crosses, knot.crosses, o.the_field_send, o.the_field_sync, o.the_send, o.the_sync, s3.the_field_send, s3.the_field_sync, s5.the_field_send, s5.the_field_sync, s6.the_field_send, s6.the_field_sync, s10.the_field_send, s10.the_field_sync, s3.the_send, s3.the_sync, s5.the_send, s5.the_sync, s6.the_send, s6.the_sync, s7.the_send, s7.the_sync, s10.the_send, s10.the_sync, s12.the_send, s12.the_sync, s13.the_send, s13.the_sync, s14.the_send, s14.the_sync)
 

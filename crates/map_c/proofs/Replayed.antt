@@ -1,8 +1,8 @@
 -- What replaying leaves in a handle whose content is known.
 use Rattle.std.proofs.Common.{◌≡◌, ap, refl, [], Some}
 use Rattle.rebuild_parts.specs.Built.{BuiltAt, IsReplayOf}
-use Rattle.map_c.specs.declared.content.Content.{Content}
-use Rattle.map_c.specs.declared.content.Content.TheVariants as content
+use Rattle.map_c.specs.declared.handles.content.Content.{Content}
+use Rattle.map_c.specs.declared.handles.content.Content.TheVariants as content
 use Rattle.map_c.specs.Building.{IsReplayed, built_in}
 use Rattle.map_c.specs.Done.{DoneAt}
 

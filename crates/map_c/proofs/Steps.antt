@@ -4,8 +4,8 @@ use Rattle.rebuild_core.specs.Known.{undone}
 use Rattle.rebuild_core.specs.Detach.{IsLogAfter}
 use Rattle.rebuild_core.specs.Lawful.{StateAt}
 use Rattle.rebuild_core.specs.Swap.{IsSwapStep, MaySwap}
-use Rattle.map_c.specs.declared.content.Content.{Content}
-use Rattle.map_c.specs.declared.content.Content.TheVariants as content
+use Rattle.map_c.specs.declared.handles.content.Content.{Content}
+use Rattle.map_c.specs.declared.handles.content.Content.TheVariants as content
 use Rattle.map_c.specs.Building.{built_in}
 use Rattle.map_c.specs.Done.{DoneAt}
 use Rattle.map_c.specs.Maps.{map_in}

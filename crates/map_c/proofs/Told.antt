@@ -1,7 +1,7 @@
 -- What is told of a question that is refused.
 use Rattle.std.proofs.Common.{◌≡◌, ℤ, Option, to_z, of_z, w32, rules}
-use Rattle.map_c.specs.declared.content.Content.{Content}
-use Rattle.map_c.specs.declared.refusal.Refusal.{Refusal}
+use Rattle.map_c.specs.declared.handles.content.Content.{Content}
+use Rattle.map_c.specs.declared.handles.refusal.Refusal.{Refusal}
 use Rattle.map_c.specs.Answers.{IsTold}
 use Rattle.map_c.specs.Status.{code}
 

@@ -11,14 +11,14 @@ use Rattle.map_items.specs.declared.item.Item as held
 use Rattle.map_items.specs.declared.limits.TheConstants.{MAX_FOUND, MAX_WITHIN}
 use Rattle.kd_tree.specs.Contents.{contents}
 use Rattle.rebuild_parts.specs.Seen.{VersionAt}
-use Rattle.map_c.specs.declared.content.Content.{Content}
-use Rattle.map_c.specs.declared.content.Content.TheVariants as content
-use Rattle.map_c.specs.declared.forms.Place.{Place}
-use Rattle.map_c.specs.declared.forms.Point.{Point}
-use Rattle.map_c.specs.declared.forms.Bounds.{Bounds}
-use Rattle.map_c.specs.declared.forms.Hit.{Hit}
-use Rattle.map_c.specs.declared.forms.Item.{Item}
-use Rattle.map_c.specs.declared.forms.Totals.{Totals}
+use Rattle.map_c.specs.declared.handles.content.Content.{Content}
+use Rattle.map_c.specs.declared.handles.content.Content.TheVariants as content
+use Rattle.map_c.specs.declared.handles.forms.Place.{Place}
+use Rattle.map_c.specs.declared.handles.forms.Point.{Point}
+use Rattle.map_c.specs.declared.handles.forms.Bounds.{Bounds}
+use Rattle.map_c.specs.declared.handles.forms.Hit.{Hit}
+use Rattle.map_c.specs.declared.handles.forms.Item.{Item}
+use Rattle.map_c.specs.declared.handles.forms.Totals.{Totals}
 use Rattle.map_c.specs.Forms.{IsRightBox, IsRightPlace, bounds_at, place_at}
 use Rattle.map_c.specs.Status.{bad_box, bad_number, done, empty, full, no_memory, no_room, out_of_range}
 

@@ -7,9 +7,9 @@ use Rattle.rebuild_parts.specs.Seen.{VersionAt}
 use Rattle.map_c.specs.Answers.{c_item, shown_in}
 use Rattle.map_c.specs.Forms.{IsRightPlace, place_at}
 use Rattle.map_c.specs.Status.{bad_number, empty, no_memory, no_room, out_of_range}
-use Rattle.map_c.specs.declared.content.Content.{Content}
-use Rattle.map_c.specs.declared.forms.Item.{Item}
-use Rattle.map_c.specs.declared.forms.Place.{Place}
+use Rattle.map_c.specs.declared.handles.content.Content.{Content}
+use Rattle.map_c.specs.declared.handles.forms.Item.{Item}
+use Rattle.map_c.specs.declared.handles.forms.Place.{Place}
 
 -- a ball may be asked for so far, and so many of it
 pub record IsBallAsked (r most : ℕ) : Type 0 where

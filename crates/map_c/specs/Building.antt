@@ -1,9 +1,9 @@
 -- What building and replaying leave in handles.
 use Rattle.std.specs.Prelude.{◌≡◌, ◌⊎◌, ℤ, [], Option, None, Some}
 use Rattle.rebuild_parts.specs.Built.{BuiltAt, IsBuiltOf, IsReplayOf}
-use Rattle.map_c.specs.declared.content.Content.{Content}
-use Rattle.map_c.specs.declared.content.Content.TheVariants as content
-use Rattle.map_c.specs.declared.work.Work.{Work}
+use Rattle.map_c.specs.declared.handles.content.Content.{Content}
+use Rattle.map_c.specs.declared.handles.content.Content.TheVariants as content
+use Rattle.map_c.specs.declared.handles.work.Work.{Work}
 use Rattle.map_c.specs.Done.{DoneAt}
 use Rattle.map_c.specs.Status.{empty, full, no_memory}
 

@@ -3,9 +3,9 @@ use Rattle.std.specs.Prelude.{List, map, Any, IsOk}
 use Rattle.point_geom.specs.Place as geom
 use Rattle.point_geom.specs.Refusals.{cuboid_of, point_of}
 use Rattle.point_geom.specs.declared.cuboid.Corner.{Corner}
-use Rattle.map_c.specs.declared.forms.Place.{Place}
-use Rattle.map_c.specs.declared.forms.Point.{Point}
-use Rattle.map_c.specs.declared.forms.Bounds.{Bounds}
+use Rattle.map_c.specs.declared.handles.forms.Place.{Place}
+use Rattle.map_c.specs.declared.handles.forms.Point.{Point}
+use Rattle.map_c.specs.declared.handles.forms.Bounds.{Bounds}
 
 -- a place, as a point with the intensity 0
 abbrev pub place_at : Place → geom.Place

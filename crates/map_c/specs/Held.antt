@@ -7,7 +7,7 @@ use Rattle.std.specs.Box.Ownership.{box_owns}
 use Rattle.std.specs.Coded.{coded_option}
 use Rattle.std.specs.Global.{Global}
 use Rattle.std_heap.specs.contracts.GlobalAllocator.TheImpl.{ghosts}
-use Rattle.map_c.specs.contracts.content.Content.{the_row}
+use Rattle.map_c.specs.contracts.handles.content.Content.{the_row}
 
 -- what a content is to a clause
 abbrev pub Contents : Type 0

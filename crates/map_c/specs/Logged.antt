@@ -5,7 +5,7 @@ use Rattle.history_log.specs.Log.{AreLines, EndsThere, IsStop, log_part}
 use Rattle.history_log.specs.declared.part.Stop.{Stop}
 use Rattle.history_log.specs.declared.part.Stop.TheVariants as stop
 use Rattle.map_c.specs.Status.{bad_number, empty, no_memory, no_room, too_many_updates}
-use Rattle.map_c.specs.declared.content.Content.{Content}
+use Rattle.map_c.specs.declared.handles.content.Content.{Content}
 use Rattle.map_c.specs.Maps.{map_in}
 
 -- no line of a log says an update

@@ -4,11 +4,11 @@ use Rattle.map_items.specs.Fold.{points_in}
 use Rattle.map_items.specs.declared.update.Update.{Update}
 use Rattle.rebuild_core.specs.Lawful.{StateAt, new_state}
 use Rattle.rebuild_core.specs.Steps.{HasRoom, IsUpdateStep}
-use Rattle.map_c.specs.declared.content.Content.{Content}
-use Rattle.map_c.specs.declared.content.Content.TheVariants as content
+use Rattle.map_c.specs.declared.handles.content.Content.{Content}
+use Rattle.map_c.specs.declared.handles.content.Content.TheVariants as content
 use Rattle.map_items.specs.Sizes.{AreSizes}
-use Rattle.map_c.specs.declared.forms.Bounds.{Bounds}
-use Rattle.map_c.specs.declared.forms.Point.{Point}
+use Rattle.map_c.specs.declared.handles.forms.Bounds.{Bounds}
+use Rattle.map_c.specs.declared.handles.forms.Point.{Point}
 use Rattle.map_c.specs.Forms.{HasWrongBox, HasWrongPoint, IsRightBox, IsRightPoint}
 use Rattle.map_c.specs.Status.{IsNoList, bad_box, bad_number, done, empty, full, no_memory, out_of_range, too_many_points, too_many_updates}
 use Rattle.map_items.specs.declared.limits.TheConstants.{MAX_POINTS}

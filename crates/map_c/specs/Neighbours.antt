@@ -8,9 +8,9 @@ use Rattle.rebuild_parts.specs.Seen.{VersionAt}
 use Rattle.map_c.specs.Answers.{c_item, shown_in}
 use Rattle.map_c.specs.Balls.{IsBallAsked}
 use Rattle.map_c.specs.Status.{bad_number, empty, no_memory, no_room}
-use Rattle.map_c.specs.declared.content.Content.{Content}
-use Rattle.map_c.specs.declared.forms.Cluster.{Cluster}
-use Rattle.map_c.specs.declared.forms.Item.{Item}
+use Rattle.map_c.specs.declared.handles.content.Content.{Content}
+use Rattle.map_c.specs.declared.handles.forms.Cluster.{Cluster}
+use Rattle.map_c.specs.declared.handles.forms.Item.{Item}
 
 -- the live points that have no other live one within r millimetres, by number, the first `most` of them, as C has them
 abbrev pub lonely_items : VersionAt → ℕ → ℕ → List Item

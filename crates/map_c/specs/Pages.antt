@@ -10,10 +10,10 @@ use Rattle.item_lists.specs.Listed.{numbered_from}
 use Rattle.map_c.specs.Answers.{c_item, shown_in}
 use Rattle.map_c.specs.Forms.{IsRightBox, IsRightPlace, bounds_at, place_at}
 use Rattle.map_c.specs.Status.{bad_box, bad_number, empty, no_memory, out_of_range}
-use Rattle.map_c.specs.declared.content.Content.{Content}
-use Rattle.map_c.specs.declared.forms.Bounds.{Bounds}
-use Rattle.map_c.specs.declared.forms.Item.{Item}
-use Rattle.map_c.specs.declared.forms.Place.{Place}
+use Rattle.map_c.specs.declared.handles.content.Content.{Content}
+use Rattle.map_c.specs.declared.handles.forms.Bounds.{Bounds}
+use Rattle.map_c.specs.declared.handles.forms.Item.{Item}
+use Rattle.map_c.specs.declared.handles.forms.Place.{Place}
 
 -- of these items those under the numbers from this one on, as many as there is room for, as C has them
 abbrev pub page : ℕ → ℕ → List held.Item → List Item

@@ -8,9 +8,9 @@ use Rattle.local_region.specs.Moves.{after}
 use Rattle.local_region.specs.Removed.{AreLeftBehind, removed}
 use Rattle.map_c.specs.Forms.{IsRightPlace, corner_at, place_at}
 use Rattle.map_c.specs.Status.{bad_number, no_memory, no_room, out_of_range}
-use Rattle.map_c.specs.declared.forms.Bounds.{Bounds}
-use Rattle.map_c.specs.declared.forms.Place.{Place}
-use Rattle.map_c.specs.declared.forms.Region.{Region}
+use Rattle.map_c.specs.declared.handles.forms.Bounds.{Bounds}
+use Rattle.map_c.specs.declared.handles.forms.Place.{Place}
+use Rattle.map_c.specs.declared.handles.forms.Region.{Region}
 
 -- a corner of a box, and a box, as C has them
 abbrev pub c_place : Corner → Place

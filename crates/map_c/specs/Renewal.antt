@@ -8,8 +8,8 @@ use Rattle.rebuild_core.specs.Lawful.{StateAt}
 use Rattle.map_renewal.specs.Renewed.{points_of, renewed_items, suspended_items}
 use Rattle.map_c.specs.Answers.{shown_in}
 use Rattle.map_c.specs.Status.{bad_number, empty, full, no_memory}
-use Rattle.map_c.specs.declared.content.Content.{Content}
-use Rattle.map_c.specs.declared.content.Content.TheVariants as content
+use Rattle.map_c.specs.declared.handles.content.Content.{Content}
+use Rattle.map_c.specs.declared.handles.content.Content.TheVariants as content
 
 -- the content is a map of these sizes that holds what the version holds, renewed
 pub record IsRenewedOf (sizes : Sizes) (v : VersionAt) (c : Content) : Type 0 where

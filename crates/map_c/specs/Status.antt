@@ -1,7 +1,7 @@
 -- What a call answers.
 use Rattle.std.specs.Prelude.{◌≡◌, ◌⊎◌, ℤ, pos, Result, Ok, Err}
-use Rattle.map_c.specs.declared.refusal.Refusal.{Refusal}
-use Rattle.map_c.specs.declared.refusal.Refusal.TheVariants as refusal
+use Rattle.map_c.specs.declared.handles.refusal.Refusal.{Refusal}
+use Rattle.map_c.specs.declared.handles.refusal.Refusal.TheVariants as refusal
 use Rattle.rebuild_parts.specs.declared.fault.StateFault.{StateFault}
 use Rattle.rebuild_parts.specs.declared.fault.StateFault.TheVariants as fault
 

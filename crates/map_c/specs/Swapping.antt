@@ -7,9 +7,9 @@ use Rattle.kd_update.specs.Detached.{PartAt}
 use Rattle.rebuild_core.specs.Swap.{IsSwapStep, MaySwap}
 use Rattle.rebuild_parts.specs.declared.fault.SwapFault.{SwapFault}
 use Rattle.rebuild_parts.specs.declared.fault.SwapFault.TheVariants as fault
-use Rattle.map_c.specs.declared.content.Content.{Content}
-use Rattle.map_c.specs.declared.content.Content.TheVariants as content
-use Rattle.map_c.specs.declared.work.Work.{Work}
+use Rattle.map_c.specs.declared.handles.content.Content.{Content}
+use Rattle.map_c.specs.declared.handles.content.Content.TheVariants as content
+use Rattle.map_c.specs.declared.handles.work.Work.{Work}
 use Rattle.map_c.specs.Building.{built_in}
 use Rattle.map_c.specs.Done.{DoneAt}
 use Rattle.map_c.specs.Status.{bad_number, behind, empty, full, no_memory, nothing_to_detach, stale}

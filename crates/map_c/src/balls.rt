@@ -4,9 +4,9 @@ ghost use Rattle.map_c.specs.Answers.{IsTold};
 ghost use Rattle.map_c.specs.Status.{code};
 ghost use Rattle.map_c.specs.Balls.{IsBall, IsBallAsked, IsBallRefusal};
 
-use crate::writing::write_items;
+use crate::handles::writing::write_items;
 use crate::{Content, DONE, Handle, Item, Place, Refusal, read_place, shown};
-use map_items::{MAX_FOUND, MAX_WITHIN};
+use map_fold::{MAX_FOUND, MAX_WITHIN};
 use neighbour_sets::in_ball;
 use std::alloc::Global;
 

@@ -3,7 +3,7 @@ ghost use Rattle.std.specs.Prelude.{◌≡◌, ◌≢◌, ◌≤◌, IfErr, IfOk
 ghost use Rattle.rebuild_core.specs.Detach.{IsSlot};
 ghost use Rattle.map_c.specs.Swapping.{IsDetachRefusal, IsDetached};
 ghost use Rattle.map_c.specs.Status.{code, done};
-ghost use Rattle.map_c.specs.declared.content.Content.TheVariants as is;
+ghost use Rattle.map_c.specs.declared.handles.content.Content.TheVariants as is;
 
 use crate::{Content, DONE, Handle, Kept, Refusal, Work, boxed};
 use std::alloc::Global;

@@ -4,10 +4,10 @@ ghost use Rattle.map_items.specs.Sizes.{AreSizes};
 ghost use Rattle.rebuild_core.specs.Lawful.{new_state};
 ghost use Rattle.map_c.specs.Maps.{IsNew, IsNewRefusal};
 ghost use Rattle.map_c.specs.Status.{done};
-ghost use Rattle.map_c.specs.declared.content.Content.TheVariants as content_is;
+ghost use Rattle.map_c.specs.declared.handles.content.Content.TheVariants as content_is;
 
 use crate::{Content, DONE, Handle, Kept, Refusal, boxed};
-use map_items::{NoMemory, Settings};
+use map_fold::{NoMemory, Settings};
 use rebuild_core::MapState;
 use std::alloc::Global;
 

@@ -5,7 +5,7 @@ ghost use Rattle.map_c.specs.Neighbours.{AreClusters, AreClustersRefusal, AreLon
 ghost use Rattle.map_c.specs.Status.{code, done};
 
 use crate::balls::is_asked;
-use crate::writing::write_items;
+use crate::handles::writing::write_items;
 use crate::{Cluster, Content, DONE, Handle, Item, Refusal, shown};
 use map_fold::Group;
 use neighbour_sets::{clusters, lonely};

@@ -4,11 +4,11 @@ ghost use Rattle.map_c.specs.Answers.{IsTold};
 ghost use Rattle.map_c.specs.Pages.{IsBallPage, IsBallPageRefusal, IsBoxPage, IsBoxPageRefusal, IsPage, IsPageRefusal};
 ghost use Rattle.map_c.specs.Status.{code};
 
-use crate::reading::read_box;
-use crate::writing::write_items;
+use crate::handles::reading::read_box;
+use crate::handles::writing::write_items;
 use crate::{Bounds, Content, DONE, Handle, Item, Place, Refusal, read_place, shown};
 use item_lists::{ball_items, box_items, items_from};
-use map_items::MAX_WITHIN;
+use map_fold::MAX_WITHIN;
 use std::alloc::Global;
 
 /// Writes what is live or suspended under the numbers from this one on, by number, as far as there is room, and how many it

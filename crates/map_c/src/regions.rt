@@ -6,7 +6,7 @@ ghost use Rattle.local_region.specs.Moves.{after};
 ghost use Rattle.map_c.specs.Forms.{place_at};
 ghost use Rattle.map_c.specs.Regions.{AreRightRules, IsBegun, IsBeginRefusal, IsMove, IsMoveRefusal, IsRightRegion, c_box, c_region, region_at, rules_at};
 ghost use Rattle.map_c.specs.Status.{code, done};
-ghost use Rattle.map_c.specs.declared.refusal.Refusal.TheVariants.{BadNumber};
+ghost use Rattle.map_c.specs.declared.handles.refusal.Refusal.TheVariants.{BadNumber};
 
 use crate::{Bounds, DONE, Place, Refusal, Region, read_place};
 use local_region::RegionRules;

@@ -5,9 +5,9 @@ ghost use Rattle.map_c.specs.Renewal.{IsRenewRefusal, IsRenewed, IsRenewedOf};
 ghost use Rattle.map_c.specs.Status.{code, done};
 
 use crate::{Content, DONE, Handle, Kept, Refusal, boxed, shown};
-use map_items::{NoMemory, Settings};
+use map_fold::{NoMemory, Settings};
 use map_renewal::renewed;
-use rebuild_parts::Version;
+use rebuild_core::Version;
 use std::alloc::Global;
 
 /// Makes a map that holds what the view shows, or the map holds: the suspended points under the numbers from 0 on, and behind

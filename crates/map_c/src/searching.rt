@@ -8,8 +8,8 @@ ghost use Rattle.map_c.specs.Status.{code, no_memory, out_of_range};
 
 use crate::{Content, Hit, Place, Refusal, read_place, shown, write_hits};
 use kd_search::nearest;
-use map_items::{MAX_FOUND, MAX_WITHIN};
-use rebuild_parts::Version;
+use map_fold::{MAX_FOUND, MAX_WITHIN};
+use rebuild_core::Version;
 use std::alloc::Global;
 
 /// The k nearest to a place of what is shown, from the front of the hits on, and how many they are.

@@ -1,24 +1,18 @@
 //! Built subtrees, swapped in.
 ghost use Rattle.std.specs.Prelude.{◌≡◌, ◌≢◌, ◌==◌, ◌⊎◌, IfErr, IfOk, None, OnErr, OnOk, Some, not};
-ghost use Rattle.kd_tree.specs.Counter.{IsBlankOf};
 ghost use Rattle.map_c.specs.Swapping.{IsBehind, IsLeft, IsStaleAs, IsSwapRefusal, IsSwapped};
 ghost use Rattle.map_c.specs.Status.{behind, code, done};
 ghost use Rattle.map_items.specs.Ops.{Fit};
 ghost use Rattle.kd_tree.specs.Contents.{contents};
 ghost use Rattle.rebuild_core.specs.Known.{IsStale};
 ghost use Rattle.rebuild_core.specs.Detach.{IsLogAfter};
-ghost use Rattle.rebuild_core.specs.Swap.{IsSwapFault, IsSwapStep, MaySwap};
-ghost use Rattle.map_c.specs.declared.refusal.Refusal.TheVariants as refused_as;
+ghost use Rattle.map_c.specs.declared.handles.refusal.Refusal.TheVariants as refused_as;
 
 use crate::{Content, DONE, Done, Handle, Refusal};
-use kd_tree::Steps;
-use map_items::Ops;
-use rebuild_core::{MapState, SwapLeft};
-use rebuild_parts::{Built, LogAsk, SwapFault};
+use map_fold::Ops;
+use rebuild_core::{Built, LogAsk, MapState, SwapFault, SwapLeft};
 use std::alloc::Global;
-use std::marker::Brand;
 use std::mem;
-use std::sync::ledger::{Blank, Ledger};
 
 /// Puts the built subtree in its place, after the operations that it has missed since, and leaves its handle empty. Where it is
 /// behind, what it has missed stands beside it then.
@@ -71,7 +65,7 @@ fn swap(
     };
     match mem::replace(value, Content::Nothing) {
         Content::Built(Done { built, left, large }) => {
-            match counted::<Brand>(alloc, &mut kept.state, built, force, Blank::new(1)) {
+            match kept.state.swap_uncounted(alloc, built, force) {
                 Ok(()) => Ok(()),
                 Err(SwapLeft { built, fault }) => match missed(alloc, &kept.state, &built, fault) {
                     Ok(left) => {
@@ -108,23 +102,4 @@ fn missed(alloc: Global, state: &MapState, built: &Built, fault: SwapFault) -> R
             Err(LogAsk::NoMemory) => Err(Refusal::NoMemory),
         },
     }
-}
-
-// Swaps it in, with a counter that nothing looks at.
-fn counted<L: Ledger>(
-    alloc: Global,
-    state: &mut MapState,
-    built: Built,
-    force: bool,
-    blank: Blank,
-) -> Result<(), SwapLeft>
-    requires blank { IsBlankOf L.name L.parts blank }
-    ensures swapped { OnOk result (IsSwapStep built state.old.state state.new.state) }
-    ensures may { OnOk result (MaySwap built force state.old.state) }
-    ensures refused { IfErr result (λ l. IsSwapFault built force state.old.state l.fault) }
-    ensures same { OnErr result (state.new.state ≡ state.old.state) }
-    ensures left { IfErr result (λ l. l.built ≡ built) }
-{
-    let mut steps: Steps<L> = Steps::new(blank);
-    state.swap(alloc, built, force, &mut steps)
 }

@@ -1,20 +1,13 @@
 //! Updates of a map. All updates of C are those of one caller.
 ghost use Rattle.std.specs.Prelude.{◌≡◌, IfErr, OnOk, OnErr, Some};
 ghost use Rattle.map_items.specs.declared.update.Update.TheVariants.{Add, Delete, Expire, Restore, Suspend, Thin};
-ghost use Rattle.kd_tree.specs.Counter.{IsBlankOf};
-ghost use Rattle.rebuild_core.specs.Steps.{HasRoom, IsFault, IsUpdateStep};
 ghost use Rattle.map_c.specs.Forms.{boxes_at, points_at};
 ghost use Rattle.map_c.specs.Maps.{IsAnswer, IsBoxesAnswer, IsUpdated, IsPointsAnswer, IsUpdateRefusal};
 ghost use Rattle.map_c.specs.Status.{code};
 
 use crate::{Bounds, Content, Handle, Point, Refusal, read_boxes, read_points, status_of};
-use kd_tree::Steps;
-use map_items::Update;
-use rebuild_core::MapState;
-use rebuild_parts::StateFault;
+use map_fold::Update;
 use std::alloc::Global;
-use std::marker::Brand;
-use std::sync::ledger::{Blank, Ledger};
 
 /// Adds points, each under the next number.
 #[unsafe(no_mangle)]
@@ -114,23 +107,6 @@ fn changed(alloc: Global, content: &mut Content, update: Update) -> Result<(), R
     let Content::Map(kept) = content else {
         return Err(Refusal::Empty);
     };
-    counted::<Brand>(alloc, &mut kept.state, update, Blank::new(1))?;
+    kept.state.update_uncounted(alloc, 1, update)?;
     Ok(())
-}
-
-// Makes it, with a counter that nothing looks at.
-fn counted<L: Ledger>(
-    alloc: Global,
-    state: &mut MapState,
-    update: Update,
-    blank: Blank,
-) -> Result<u64, StateFault>
-    requires blank { IsBlankOf L.name L.parts blank }
-    ensures stepped { OnOk result (IsUpdateStep 1 update state.old.state state.new.state) }
-    ensures room { OnOk result (HasRoom update state.old.state) }
-    ensures refused { IfErr result (IsFault update state.old.state) }
-    ensures same { OnErr result (state.new.state ≡ state.old.state) }
-{
-    let mut steps: Steps<L> = Steps::new(blank);
-    state.update(alloc, 1, update, &mut steps)
 }

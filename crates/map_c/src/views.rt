@@ -2,14 +2,14 @@
 ghost use Rattle.std.specs.Prelude.{◌≡◌, IfErr, IfOk, None, Some, length};
 ghost use Rattle.map_c.specs.Answers.{AreTold, IsCount, IsCountRefusal, IsInside, IsInsideRefusal, IsNearest, IsNearestEach, IsNearestEachRefusal, IsNearestRefusal, IsTold, IsViewOf, IsViewRefusal, IsViewed};
 ghost use Rattle.map_c.specs.Status.{code};
-ghost use Rattle.map_c.specs.declared.content.Content.TheVariants as is;
+ghost use Rattle.map_c.specs.declared.handles.content.Content.TheVariants as is;
 
 use crate::asking::{
     corv_map_count, corv_map_inside, corv_map_nearest, corv_map_nearest_each, corv_map_totals,
 };
 use crate::{Bounds, Content, DONE, Handle, Hit, Item, Place, Refusal, Seen, Totals, boxed, shown};
-use map_items::NoMemory;
-use rebuild_parts::Version;
+use map_fold::NoMemory;
+use rebuild_core::Version;
 use std::alloc::Global;
 use std::sync::Arc;
 

@@ -2,20 +2,15 @@
 ghost use Rattle.std.specs.Prelude.{◌≡◌, ◌+◌, ◌<◌, ◌≤◌, [], ◌∷◌, ◌++◌, length, IfOk, OnOk};
 ghost use Rattle.node_labels.specs.declared.label.Label.TheVariants.{Live, Suspended};
 ghost use Rattle.map_items.specs.Contents.{live_items};
-ghost use Rattle.kd_tree.specs.Counter.{IsBlankOf};
 ghost use Rattle.kd_tree.specs.Contents.{contents};
 ghost use Rattle.rebuild_core.specs.Steps.{HasRoom, IsUpdateStep};
 ghost use Rattle.map_renewal.specs.Renewed.{IsAdded, all_places, numbered_as, points_of, points_with, renewed_items, suspended_items};
 
 use crate::everywhere::{everywhere, look_at};
-use kd_tree::Steps;
-use map_items::{Cuboids, Item, Label, MAX_POINTS, NoMemory, Points, Settings, Update};
+use map_fold::{Cuboids, Item, Label, MAX_POINTS, NoMemory, Points, Settings, Update};
 use point_geom::Point;
-use rebuild_core::{MAX_UPDATES, MapState};
-use rebuild_parts::{StateFault, Version};
+use rebuild_core::{MAX_UPDATES, MapState, StateFault, Version};
 use std::alloc::Global;
-use std::marker::Brand;
-use std::sync::ledger::{Blank, Ledger};
 
 /// A new map that holds what the version holds: the suspended points under the numbers from 0 on, and behind them the live
 /// ones, each kind in the order of its numbers. So only a point's number changes. Its history is three updates at most.
@@ -92,26 +87,12 @@ fn all_of_it(alloc: Global) -> Result<Cuboids, NoMemory>
     Ok(boxes)
 }
 
+// There is room for it, so nothing but lack of memory refuses it.
 fn one_more(alloc: Global, state: &mut MapState, update: Update) -> Result<(), NoMemory>
     requires room { HasRoom update state.old.state }
     ensures { OnOk result (IsUpdateStep 1 update state.old.state state.new.state) }
 {
-    counted::<Brand>(alloc, state, update, Blank::new(1))
-}
-
-// The same, with a counter that nothing looks at. There is room for it, so nothing but lack of memory refuses it.
-fn counted<L: Ledger>(
-    alloc: Global,
-    state: &mut MapState,
-    update: Update,
-    blank: Blank,
-) -> Result<(), NoMemory>
-    requires room { HasRoom update state.old.state }
-    requires blank { IsBlankOf L.name L.parts blank }
-    ensures { OnOk result (IsUpdateStep 1 update state.old.state state.new.state) }
-{
-    let mut steps: Steps<L> = Steps::new(blank);
-    match state.update(alloc, 1, update, &mut steps) {
+    match state.update_uncounted(alloc, 1, update) {
         Ok(_) => Ok(()),
         Err(StateFault::NoMemory) => Err(NoMemory),
         Err(StateFault::TooManyUpdates { .. } | StateFault::TooManyPoints { .. }) => unreachable!(),

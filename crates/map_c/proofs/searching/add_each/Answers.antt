@@ -2,8 +2,8 @@ use Rattle.std.proofs.Common.{◌≡◌, ◌∙◌, ◌-◌, ◌<◌, ◌++◌, 
 use Rattle.std.proofs.lemmas.List.{map_more, take_more_set}
 use Rattle.std.proofs.lemmas.List.Elements.{All-more}
 use Rattle.std.proofs.Math.ListN.{get_or}
-use Rattle.map_c.specs.declared.forms.Hit.{Hit}
-use Rattle.map_c.specs.declared.forms.Place.{Place}
+use Rattle.map_c.specs.declared.handles.forms.Hit.{Hit}
+use Rattle.map_c.specs.declared.handles.forms.Place.{Place}
 use Rattle.map_c.specs.Answers.{nearest_hits}
 use Rattle.map_c.specs.Forms.{IsRightPlace}
 use Rattle.map_c.proofs.Pieces.{piece_more, pieces_fit, pieces_length}

@@ -1,0 +1,60 @@
+//! What a handle can hold.
+ghost use Rattle.std.specs.Prelude.{◌≡◌, IfOk};
+ghost use Rattle.std.specs.Coded.{codes};
+ghost use Rattle.kd_tree.specs.ShapeCode.{coded_shape};
+ghost use Rattle.rebuild_core.specs.Lawful.{StateAt};
+ghost use Rattle.rebuild_parts.specs.Seen.{VersionAt};
+
+use crate::handles::done::Done;
+use crate::handles::work::Work;
+use map_fold::NoMemory;
+use rebuild_core::{MapState, Version};
+use std::alloc::Global;
+use std::marker::Model;
+use std::sync::Arc;
+
+/// What a handle holds. A handle of one kind that is given for one of another holds nothing of that kind.
+#[derive(Drop)]
+pub enum Content {
+    Map(Kept),
+    View(Seen),
+    Job(Work),
+    Built(Done),
+    // Only while a call runs: what is to be there isn't yet, or was taken out.
+    Nothing,
+}
+
+/// A content in memory of its own.
+pub fn boxed(alloc: Global, content: Content) -> Result<Box<Content>, NoMemory>
+    ensures { IfOk result (λ made. made.value ≡ content) }
+{
+    Ok(Box::new(alloc, content)?)
+}
+
+/// The state of a map.
+#[derive(Drop)]
+pub struct Kept {
+    pub state: MapState,
+}
+
+impl Model for Kept {
+    ghost Value = { StateAt };
+
+    ghost coded = { Prim.hlevel (codes, coded_shape) };
+
+    ghost view = { λ k. k.state.state };
+}
+
+/// A share of a version.
+#[derive(Drop)]
+pub struct Seen {
+    pub version: Arc<Version>,
+}
+
+impl Model for Seen {
+    ghost Value = { VersionAt };
+
+    ghost coded = { Prim.hlevel (codes, coded_shape) };
+
+    ghost view = { λ s. s.version.value };
+}

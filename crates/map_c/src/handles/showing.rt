@@ -1,0 +1,38 @@
+//! What a handle shows: its map as it is now, or its view.
+ghost use Rattle.std.specs.Prelude.{◌≡◌, IfSome, IsNone, None, Some};
+ghost use Rattle.map_c.specs.Answers.{AreTotals, shown_in};
+
+use crate::handles::content::Content;
+use crate::handles::forms::Totals;
+use rebuild_core::Version;
+use std::sync::Arc;
+
+/// The version that is shown, if one is.
+pub fn shown(content: &Content) -> Option<&Arc<Version>>
+    ensures some { IfSome result (λ v. shown_in (Some content.now) ≡ Some v.now.value) }
+    ensures none { IsNone result → shown_in (Some content.now) ≡ None }
+{
+    match content {
+        Content::Map(kept) => {
+            let _lawful = kept.state.history();
+            Some(kept.state.version())
+        }
+        Content::View(seen) => Some(&seen.version),
+        Content::Job(_) | Content::Built(_) | Content::Nothing => None,
+    }
+}
+
+/// How much there is of it.
+pub fn totals_of(content: &Content) -> Option<Totals>
+    ensures some { IfSome result (AreTotals (Some content.now)) }
+    ensures none { IsNone result → shown_in (Some content.now) ≡ None }
+{
+    let version = shown(content)?;
+    let counts = version.counts();
+    Some(Totals {
+        updates: version.len(),
+        points: version.next(),
+        live: counts.live,
+        suspended: counts.suspended,
+    })
+}
