@@ -1,28 +1,32 @@
 //! The walk that gathers what is sought, in no order of numbers.
-ghost use Rattle.std.specs.Prelude.{◌≡◌, [], ◌∷◌, ◌++◌, OnOk};
-ghost use Rattle.map_items.specs.Contents.{kept};
+ghost use Rattle.std.specs.Prelude.{◌≡◌, ◌&&◌, [], ◌∷◌, ◌++◌, OnOk, nat_le};
+ghost use Rattle.map_items.specs.Contents.{is_above, kept};
 ghost use Rattle.kd_tree.specs.Walk.{walk};
-ghost use Rattle.item_lists.specs.Sought.{wanted};
+ghost use Rattle.item_lists.specs.Sought.{has, wanted};
 
 use crate::sought::Sought;
 use kd_tree::Tree;
 use map_items::{Item, Label, NoMemory, Tag};
 
-/// Puts those of the tree, which owes this action, behind the items that are sought and have this number or a greater one:
-/// each node before its sons.
+/// Puts those of the tree, which owes this action, behind the items that are sought, and whose numbers are this one or greater,
+/// and below the bound where there is one: each node before its sons.
 pub(crate) fn gather(
     tree: &Tree,
     owed: Tag,
     from: u32,
+    bound: Option<u32>,
     sought: &Sought,
     items: &mut Vec<Item>,
 ) -> Result<(), NoMemory>
-    ensures { OnOk result (items.new.items ≡ items.old.items ++ wanted from sought.now (walk owed tree.now)) }
+    ensures { OnOk result (items.new.items ≡ items.old.items ++ wanted from bound sought.now (walk owed tree.now)) }
 {
     let Some(numbers) = tree.numbers() else {
         return Ok(());
     };
     if numbers.greatest < from {
+        return Ok(());
+    }
+    if !is_below(numbers.least, bound) {
         return Ok(());
     }
     let Some(extent) = tree.extent() else {
@@ -34,22 +38,38 @@ pub(crate) fn gather(
     let Some(top) = tree.top() else {
         return Ok(());
     };
-    push_wanted(top.item.relabelled(owed), from, sought, items)?;
+    push_wanted(top.item.relabelled(owed), from, bound, sought, items)?;
     let below = top.pending.then(owed);
-    gather(top.left, below, from, sought, items)?;
-    gather(top.right, below, from, sought, items)
+    gather(top.left, below, from, bound, sought, items)?;
+    gather(top.right, below, from, bound, sought, items)
 }
 
 fn push_wanted(
     item: Item,
     from: u32,
+    bound: Option<u32>,
     sought: &Sought,
     items: &mut Vec<Item>,
 ) -> Result<(), NoMemory>
-    ensures { OnOk result (items.new.items ≡ items.old.items ++ wanted from sought.now (kept (item ∷ []))) }
+    ensures { OnOk result (items.new.items ≡ items.old.items ++ wanted from bound sought.now (kept (item ∷ []))) }
 {
-    if from <= item.number && item.label != Label::Dropped && sought.has(&item) {
+    if item.label != Label::Dropped && is_wanted(&item, from, bound, sought) {
         items.push(item)?;
     }
     Ok(())
+}
+
+fn is_wanted(item: &Item, from: u32, bound: Option<u32>, sought: &Sought) -> bool
+    ensures { result ≡ (is_above bound item.now.number && (has sought.now item.now && nat_le from item.now.number)) }
+{
+    from <= item.number && is_below(item.number, bound) && sought.has(item)
+}
+
+fn is_below(number: u32, bound: Option<u32>) -> bool
+    ensures { result ≡ is_above bound number }
+{
+    match bound {
+        None => true,
+        Some(bound) => number < bound,
+    }
 }

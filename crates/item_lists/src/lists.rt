@@ -19,8 +19,36 @@ use std::alloc::Global;
 pub fn items_from(alloc: Global, tree: &Tree, from: u32, most: usize) -> Result<Items, NoMemory>
     ensures { IfOk result (λ items. items ≡ take most (numbered_from from (contents tree.now))) }
 {
-    let items = list(alloc, tree, from, &Sought::Held, most)?;
-    Ok(items)
+    let _size = tree.size();
+    let Some(bound) = likely_bound(tree, from, most) else {
+        return list(alloc, tree, from, None, &Sought::Held, most);
+    };
+    let page = list(alloc, tree, from, Some(bound), &Sought::Held, most)?;
+    if page.len() == most {
+        return Ok(page);
+    }
+    list(alloc, tree, from, None, &Sought::Held, most)
+}
+
+// A number below which there should be as many, from this one on, where the numbers that are left are spread evenly. None where
+// all that is left is likely to be wanted.
+fn likely_bound(tree: &Tree, from: u32, most: usize) -> Option<u32> {
+    let _size = tree.size();
+    let counts = tree.counts();
+    let kept = (counts.live + counts.suspended) as u64;
+    let numbers = tree.numbers()?;
+    if kept <= most as u64 {
+        return None;
+    }
+    let span = (numbers.greatest as u64 + 1).saturating_sub(numbers.least as u64);
+    let width = (most as u64).saturating_mul(span) / kept;
+    let bound = (width / 4)
+        .saturating_add(width)
+        .saturating_add(from as u64 + 64);
+    if numbers.greatest as u64 <= bound {
+        return None;
+    }
+    Some(bound as u32)
 }
 
 /// The live items in the box, of a number from this one on, in the order of their numbers; the first `most` where there are
@@ -34,7 +62,7 @@ pub fn box_items(
 ) -> Result<Items, NoMemory>
     ensures { IfOk result (λ items. items ≡ take most (numbered_from from (inside_all (contents tree.now) cuboid.now))) }
 {
-    let items = list(alloc, tree, from, &Sought::InBox(*cuboid), most)?;
+    let items = list(alloc, tree, from, None, &Sought::InBox(*cuboid), most)?;
     Ok(items)
 }
 
@@ -53,22 +81,25 @@ pub fn ball_items(
 {
     let limit = r as u128 * r as u128;
     let center = *place;
-    let items = list(alloc, tree, from, &Sought::InBall { center, limit }, most)?;
+    let sought = Sought::InBall { center, limit };
+    let items = list(alloc, tree, from, None, &sought, most)?;
     Ok(items)
 }
 
+// What is sought of the numbers from this one on, and below the bound where there is one; the first `most` of it.
 fn list(
     alloc: Global,
     tree: &Tree,
     from: u32,
+    bound: Option<u32>,
     sought: &Sought,
     most: usize,
 ) -> Result<Items, NoMemory>
-    ensures { IfOk result (λ items. items ≡ take most (wanted from sought.now (contents tree.now))) }
+    ensures { IfOk result (λ items. items ≡ take most (wanted from bound sought.now (contents tree.now))) }
 {
     let _size = tree.size();
     let mut items = Vec::new(alloc);
-    gather(tree, Tag::KEEP, from, sought, &mut items)?;
+    gather(tree, Tag::KEEP, from, bound, sought, &mut items)?;
     let page = first_by_number(alloc, items, most)?;
     Ok(page)
 }
