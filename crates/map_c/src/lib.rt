@@ -15,7 +15,6 @@ mod renewing;
 mod searching;
 mod swapping;
 mod updating;
-mod view_pages;
 mod views;
 
 pub use handles::content::{Content, Kept, Seen, boxed};

@@ -57,6 +57,22 @@ fn list_items(
     Ok(found.len())
 }
 
+/// As of a map, of what the view shows.
+#[unsafe(no_mangle)]
+pub extern "C" fn corv_view_items(
+    alloc: Global,
+    view: &mut Handle,
+    from: u32,
+    items: &mut [Item],
+    count: &mut usize,
+) -> i32
+    ensures { IsTold (IsPage view.old.held.content from items.new count.new)
+        (IsPageRefusal view.old.held.content)
+        view.old.held.content view.new.held.content count.new result }
+{
+    corv_map_items(alloc, view, from, items, count)
+}
+
 /// Writes the live points in the box under the numbers from this one on, by number, as far as there is room, and how many it
 /// wrote.
 #[unsafe(no_mangle)]
@@ -104,6 +120,23 @@ fn list_box(
     let found = box_items(alloc, version.tree(), &cuboid, from, items.len())?;
     write_items(found.as_slice(), items);
     Ok(found.len())
+}
+
+/// As of a map.
+#[unsafe(no_mangle)]
+pub extern "C" fn corv_view_box_items(
+    alloc: Global,
+    view: &mut Handle,
+    bounds: &Bounds,
+    from: u32,
+    items: &mut [Item],
+    count: &mut usize,
+) -> i32
+    ensures { IsTold (IsBoxPage view.old.held.content bounds.now from items.new count.new)
+        (IsBoxPageRefusal view.old.held.content bounds.now)
+        view.old.held.content view.new.held.content count.new result }
+{
+    corv_map_box_items(alloc, view, bounds, from, items, count)
 }
 
 /// Writes the live points at most `r` millimetres from a place under the numbers from this one on, by number, as far as there is
@@ -158,4 +191,22 @@ fn list_ball(
     let found = ball_items(alloc, version.tree(), &point, r, from, items.len())?;
     write_items(found.as_slice(), items);
     Ok(found.len())
+}
+
+/// As of a map.
+#[unsafe(no_mangle)]
+pub extern "C" fn corv_view_ball_items(
+    alloc: Global,
+    view: &mut Handle,
+    place: &Place,
+    r: u64,
+    from: u32,
+    items: &mut [Item],
+    count: &mut usize,
+) -> i32
+    ensures { IsTold (IsBallPage view.old.held.content place.now r from items.new count.new)
+        (IsBallPageRefusal view.old.held.content place.now r)
+        view.old.held.content view.new.held.content count.new result }
+{
+    corv_map_ball_items(alloc, view, place, r, from, items, count)
 }
