@@ -1,5 +1,5 @@
 -- What is sought of a list.
-use Rattle.std.proofs.Common.{◌≡◌, ℕ, ◌<◌, ◌≤◌, ◌&&◌, Bool, true, false, not, cond, List, [], ◌∷◌, ◌++◌, All, filter, length, take, refl, ap, sym, ◌∙◌, arith, count_by, ◌==◌}
+use Rattle.std.proofs.Common.{◌≡◌, ℕ, ◌<◌, ◌≤◌, ◌&&◌, Bool, true, false, not, cond, List, [], ◌∷◌, ◌++◌, All, filter, length, take, refl, ap, sym, ◌∙◌, arith, ◌==◌}
 use Rattle.std.specs.Prelude.{nat_le}
 use Rattle.std.specs.List.{AllByRecursion}
 use Rattle.std.proofs.lemmas.Bool.Decides.{nat_tests}
@@ -10,9 +10,9 @@ use Rattle.point_geom.specs.Extents.{IsIn}
 use Rattle.node_labels.specs.Labels.{is_live, keep_tag}
 use Rattle.node_labels.specs.declared.tag.Tag.{Tag}
 use Rattle.map_items.specs.declared.item.Item.{Item}
-use Rattle.map_items.specs.Contents.{in_box, is_above, live_items}
+use Rattle.map_items.specs.Contents.{in_box, is_above}
 use Rattle.map_fold.specs.Answers.{inside_all}
-use Rattle.map_fold.specs.Neighbours.{ball, is_near, near}
+use Rattle.map_fold.specs.Neighbours.{is_near, near}
 use Rattle.kd_tree.specs.Shape.{Shape, numbers}
 use Rattle.kd_tree.specs.Walk.{extent, walk}
 use Rattle.kd_tree.specs.Sound.{IsSound}
@@ -26,7 +26,7 @@ use Rattle.item_lists.specs.Listed.{numbered_from}
 use Rattle.item_lists.specs.Sought.{has, wanted}
 use Rattle.item_lists.specs.declared.sought.Sought.{Sought}
 use Rattle.item_lists.specs.declared.sought.Sought.TheVariants.{Held, InBox, InBall}
-use Rattle.std.specs.Prelude.{Option, Some, None, min, nat_lt}
+use Rattle.std.specs.Prelude.{Option, Some, None, nat_lt}
 use Rattle.std.proofs.lemmas.List.{length-take, take-append-le}
 
 -- what fails the test of the last number fails all

@@ -1,5 +1,5 @@
 -- The first of some items by number. Cited by private functions alone.
-use Rattle.std.specs.Prelude.{◌≡◌, ℕ, List, take, IsPermutation}
+use Rattle.std.specs.Prelude.{◌≡◌, ℕ, List, take}
 use Rattle.map_items.specs.declared.item.Item.{Item}
 use Rattle.kd_tree.specs.Contents.{AreDistinct, by_number}
 
