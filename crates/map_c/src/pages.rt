@@ -1,5 +1,5 @@
 //! What a handle shows, listed by number from a number on, as far as there is room.
-ghost use Rattle.std.specs.Prelude.{◌≡◌, IfErr, IfOk, Some, length};
+ghost use Rattle.std.specs.Prelude.{IfErr, IfOk, Some};
 ghost use Rattle.map_c.specs.Answers.{IsTold};
 ghost use Rattle.map_c.specs.Pages.{IsBallPage, IsBallPageRefusal, IsBoxPage, IsBoxPageRefusal, IsPage, IsPageRefusal};
 ghost use Rattle.map_c.specs.Status.{code};

@@ -1,9 +1,5 @@
 //! Regions, which are the caller's own numbers: they are looked at anew at each move.
 ghost use Rattle.std.specs.Prelude.{◌≡◌, ◌≢◌, ◌<◌, ◌≤◌, IfErr, IfOk, length, map, take};
-ghost use Rattle.local_region.specs.Removed.{removed};
-ghost use Rattle.local_region.specs.Regions.{begun};
-ghost use Rattle.local_region.specs.Moves.{after};
-ghost use Rattle.map_c.specs.Forms.{place_at};
 ghost use Rattle.map_c.specs.Regions.{AreRightRules, IsBegun, IsBeginRefusal, IsMove, IsMoveRefusal, IsRightRegion, c_box, c_region, region_at, rules_at};
 ghost use Rattle.map_c.specs.Status.{code, done};
 ghost use Rattle.map_c.specs.declared.handles.refusal.Refusal.TheVariants.{BadNumber};
