@@ -107,6 +107,9 @@ static void a_log_that_is_full() {
     std::int32_t status = CORV_DONE;
     try { recorder.record(map); } catch (const corv::Refused &refused) { status = refused.status(); }
     HOLDS(status == CORV_TOO_MANY_UPDATES && recorder.recorded() == 65536);
+    corv::Map other(200, 1500);
+    try { recorder.record(other); } catch (const corv::Refused &refused) { status = refused.status(); }
+    HOLDS(status == CORV_BAD_NUMBER && recorder.recorded() == 65536);
     map.add(scan(0, 100));
     auto view = map.view();
     corv::Map next(view, 200, 1500);

@@ -34,15 +34,17 @@ public:
         failed_ = false;
     }
 
-    /// Writes what was done to the map since it was last recorded, in whole lines, and flushes the stream. Where the map refuses it, or memory
-    /// runs out, what isn't written yet is so the next time. Where the stream fails, it throws std::ios_base::failure, and then throws at each
-    /// call until another log is begun, since it isn't known what of the last lines was written: what is behind the last line feed
-    /// is to be left out when that log is read.
+    /// Writes what was done to the map since it was last recorded, in whole lines, and flushes the stream. A map of fewer updates than
+    /// were written is another one, and refused with CORV_BAD_NUMBER. Where the map refuses it, or memory runs out, what isn't written yet
+    /// is so the next time. Where the stream fails, it throws std::ios_base::failure, and then throws at each call until another log is
+    /// begun, since it isn't known what of the last lines was written: what is behind the last line feed is to be left out when that
+    /// log is read.
     void record(Map &map) {
         if (failed_) throw std::ios_base::failure("corv: the recorder's stream has failed");
-        for (;;) {
+        auto end = map.totals().updates;
+        if (end < next_) throw Refused(CORV_BAD_NUMBER);
+        while (next_ < end) {
             auto next = map.log(next_, bytes_);
-            if (next == next_) return;
             write();
             next_ = next;
         }
