@@ -151,7 +151,8 @@ struct Range {
 
 /// The hits of several places: those of the first one, and right behind them the next one's. `counts` tells how many each has.
 /// A loop over it goes from place to place, and has each one's hits.
-struct Hits {
+template <class Hit>
+struct HitsOf {
     std::vector<Hit> all;
     std::vector<std::uint32_t> counts;
 
@@ -173,6 +174,7 @@ struct Hits {
     Each begin() const noexcept { return {all.data(), counts.data()}; }
     Each end() const noexcept { return {all.data() + all.size(), counts.data() + counts.size()}; }
 };
+using Hits = HitsOf<Hit>;
 
 /// The distance of a hit in millimetres, as near as a double comes to it.
 inline double distance(const Hit &hit) {
