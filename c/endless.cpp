@@ -254,8 +254,8 @@ static void it_answers_as_a_list_through_renewals(unsigned seed, corv::EndlessOp
 
 // Does an update where allocations are refused: as soon as one is, nothing is done, and the same is done once more.
 static bool is_strong(const Drawn &update, corv::EndlessMap &map, const Plain &plain, Draw &draw) {
-    first_thread.left = static_cast<long>(draw.below(60));
-    other_threads.left = static_cast<long>(draw.below(4000));
+    first_thread.left = draw.below(2) ? static_cast<long>(draw.below(60)) : -1;
+    other_threads.left = draw.below(2) ? static_cast<long>(draw.below(4000)) : -1;
     bool is_so = true;
     try {
         update.do_on(map);

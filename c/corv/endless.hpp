@@ -8,6 +8,7 @@
 #include <chrono>
 #include <cstddef>
 #include <cstdint>
+#include <exception>
 #include <future>
 #include <list>
 #include <new>
@@ -302,7 +303,7 @@ private:
     void catch_up() {
         try {
             for (std::size_t turn = 0; turn < few && !kept_.empty(); ++turn, kept_.pop_front()) kept_.front().do_on(*next_);
-        } catch (const Refused &) {  // the new Map is full too
+        } catch (const std::exception &) {  // there is no memory, or the new Map is full too
             return give_up();
         }
         if (kept_.empty()) return go_on();
