@@ -155,9 +155,9 @@ bool is_ready(const std::future<T> &future) {
 /// are still held or not: 0 for the first point, 64 bits, never given again, the same before and after a renewal. A refused update
 /// takes no numbers. `expire(n)`, `items(n)`, the order of items and of hits that are equally far go by them.
 ///
-/// **Time.** No update waits for the second thread. One that finds the new Map ready does at most two kept updates on it, and then goes on
-/// with it. Where updates come faster than the second thread does them again, each update does two of the kept ones after some rounds
-/// of that: then it takes as long as three, until none is left.
+/// **Time.** No update waits for the second thread. The one that goes on with the new Map does at most two kept updates on it first. Where
+/// updates come about as fast as the second thread does them again, each update does two of the kept ones until none is left, and
+/// takes as long as three.
 ///
 /// **Memory.** While a renewal is under way there are two Maps, and the updates that came since it began.
 ///
@@ -210,10 +210,8 @@ private:
     template <class Owner>
     using Numbered = detail::Numbered<Owner>;
 
-    // Kept updates that one update of the caller's does on the new Map.
+    // Kept updates that one update of the caller's does on the new Map, at most: one more than it adds to them.
     static constexpr std::size_t few = 2;
-    // Rounds of kept updates on the second thread. Each is shorter than the one before where that thread is faster than the caller.
-    static constexpr int most_rounds = 8;
     // Calls from one that begins a renewal, if that fails, to one that begins it again.
     static constexpr std::uint64_t pause = 8;
 
@@ -226,7 +224,7 @@ private:
         done([&] { (now_.owner.*call)(list); }, kept);
     }
 
-    // The update as a list of one, where the new Map has to have it too. It is copied beforehand, so that nothing is refused after it is done.
+    // The update as a list of one, where the new Map has to have it too. It is copied before it is done, since that may be refused.
     template <class... Parts>
     Kept kept_while_renewing(const Parts &...parts) {
         Kept kept;
@@ -263,14 +261,12 @@ private:
     }
 
     template <class Call>
-    static bool tried(Call call) {
+    static void tried(Call call) {
         try {
             call();
-            return true;
         } catch (const std::bad_alloc &) {
         } catch (const std::system_error &) {  // there is no further thread
         }
-        return false;
     }
 
     // Renewing has to give room for an eighth of the points that the Map has had, or for any where it is full.
@@ -285,7 +281,7 @@ private:
         auto &[map, numbers] = now_;
         if (!is_due(map.totals())) return;
         next_try_ = calls_ + pause;
-        rounds_ = 0;
+        round_ = SIZE_MAX;
         auto make = [voxel = voxel_, large = large_](Numbered<View> from) { return detail::renewed(std::move(from), voxel, large); };
         making_ = detail::on_second_thread(make, Numbered<View>{map.view(), numbers});
     }
@@ -299,16 +295,20 @@ private:
         }
     }
 
-    // With the new Map in hand: does a few of the kept updates, and then goes on with it, or has the second thread do the rest.
+    // With the new Map in hand: has the second thread do the kept updates, as long as each round leaves a quarter less of them than
+    // the one before. What is left then is done here, a few at a time.
     void catch_up() {
+        if (kept_.size() > 1 && kept_.size() <= round_ - round_ / 4) return begin_round();
         try {
             for (std::size_t turn = 0; turn < few && !kept_.empty(); ++turn, kept_.pop_front()) kept_.front().do_on(*next_);
         } catch (const std::exception &) {  // there is no memory, or the new Map is full too
             return give_up();
         }
-        if (kept_.empty()) return go_on();
-        if (rounds_ == most_rounds) return;
-        ++rounds_;
+        if (kept_.empty()) go_on();
+    }
+
+    void begin_round() {
+        round_ = kept_.size();
         auto map = std::move(*next_);
         next_.reset();
         auto kept = std::move(kept_);
@@ -361,13 +361,13 @@ private:
     std::uint32_t voxel_, large_;
     EndlessOptions options_;
     Numbered<Map> now_;
-    std::future<Built> building_;              // an uneven subtree of it
-    std::future<Numbered<Map>> making_;        // the new Map, on the second thread
-    std::optional<Numbered<Map>> next_;        // or in hand
-    Kept kept_;                                // what is to be done on it
+    std::future<Built> building_;        // an uneven subtree of it
+    std::future<Numbered<Map>> making_;  // the new Map, on the second thread
+    std::optional<Numbered<Map>> next_;  // or in hand
+    Kept kept_;                          // what is to be done on it
     std::list<std::future<void>> freeing_;
     std::uint64_t renewals_ = 0, calls_ = 0, next_try_ = 0;
-    int rounds_ = 0;
+    std::size_t round_ = 0;  // how many updates the last round did
     bool is_full_ = false;
 };
 
