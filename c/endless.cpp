@@ -53,11 +53,11 @@ void *__wrap_malloc(std::size_t size) { return is_refused() ? nullptr : __real_m
 void *__wrap_realloc(void *old, std::size_t size) { return is_refused() ? nullptr : __real_realloc(old, size); }
 }
 
-void *operator new(std::size_t size) {
+// Not inlined, so that no compiler takes a free for that of a new.
+__attribute__((noinline)) void *operator new(std::size_t size) {
     if (auto memory = std::malloc(size)) return memory;
     throw std::bad_alloc();
 }
-// Not inlined, so that no compiler sees a free for a new.
 __attribute__((noinline)) void operator delete(void *memory) noexcept { std::free(memory); }
 __attribute__((noinline)) void operator delete(void *memory, std::size_t) noexcept { std::free(memory); }
 
