@@ -247,7 +247,7 @@ static void it_answers_as_a_list_through_renewals(unsigned seed, corv::EndlessOp
         if (!is_so) std::printf("seed %u, step %d, after %d renewals\n", seed, step, static_cast<int>(map.renewals()));
         HOLDS(is_so);
         if (!is_so) return;
-        if (draw.below(3) == 0) a_moment();
+        if (step > 300 || draw.below(3) == 0) a_moment();
     }
     HOLDS(map.renewals() >= 5);
 }
@@ -280,7 +280,7 @@ static void refused_allocations_leave_it_as_it_was(unsigned seed) {
         is_so = is_so && is_same(map, plain, draw);
         HOLDS(is_so);
         if (!is_so) return;
-        if (draw.below(3) == 0) a_moment();
+        if (step > 600 || draw.below(3) == 0) a_moment();
     }
     other_threads.left = -1;
     HOLDS(map.renewals() >= 5);
