@@ -205,8 +205,8 @@ public:
     std::uint64_t renewals() const { return map_.renewals(); }
 
     void tell_times() const {
-        std::printf("\n%-26s %7s %26s %26s\n%-26s %7s %8s %8s %8s %8s %8s %8s\n", "updates", "", "on the clock, ms", "of the processor, ms", "",
-                    "", "middle", "99 %", "longest", "middle", "99 %", "longest");
+        std::printf("\n%-26s %7s %26s %26s\n", "updates", "", "on the clock, ms", "of the processor, ms");
+        std::printf("%-26s %7s %8s %8s %8s %8s %8s %8s\n", "", "", "middle", "99 %", "longest", "middle", "99 %", "longest");
         print_row("in the first map", first_);
         print_row("between renewals", between_);
         print_row("while one is under way", renewing_);

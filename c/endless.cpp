@@ -1,6 +1,7 @@
 // What endless.hpp adds to map.hpp: a map that is renewed while it goes on. Drawn updates of all kinds are done on an EndlessMap with small
 // limits and on a plain list, and all that is asked after each of them has to be the same, numbers included. Allocations are refused on
-// both threads meanwhile. Linked with -Wl,--wrap=malloc,--wrap=realloc. Prints what isn't so, and ends with status 1 where there is something.
+// both threads meanwhile. Linked with -Wl,--wrap=malloc,--wrap=realloc. Prints what isn't so, and ends with status 1 where there is
+// something.
 #include <corv/endless.hpp>
 
 #include <atomic>
@@ -184,7 +185,8 @@ public:
                 drawn.points.push_back({x, y, z, static_cast<std::uint16_t>(below(9))});
             }
         else if (drawn.kind == Drawn::expire)
-            drawn.number = plain.held.empty() || below(9) == 0 ? below(plain.points + 9) : plain.held[below(1 + plain.held.size() / 3)].number;
+            drawn.number = plain.held.empty() || below(9) == 0 ? below(plain.points + 9)
+                                                               : plain.held[below(1 + plain.held.size() / 3)].number;
         else
             for (auto count = below(4); count > 0; count--) drawn.boxes.push_back(box(drawn.kind == Drawn::remove ? 250 : 600));
         return drawn;
