@@ -67,7 +67,7 @@ struct SamePlace {
     }
 };
 
-/// Makes a Map of live and suspended points in the order of their numbers, which corv_view_renew keeps only where nothing is suspended.
+/// Makes a Map of live and suspended points in the order of their numbers. corv_view_renew puts all suspended points first.
 ///
 /// A suspension hides all that is live at a place, and a restoration shows all that is suspended there, so at one place each suspended
 /// point came before each live one. What is suspended here is so by a box round its place alone, and before a live point comes there.
@@ -108,16 +108,16 @@ inline void make_even(Map &map) {
 
 /// Makes the Map that goes on from a view. On the second thread.
 inline Numbered<Map> renewed(Numbered<View> from, std::uint32_t voxel, std::uint32_t large) {
-    auto &[view, numbers] = from;
-    auto before = view.totals();
-    auto items = view.items();
-    std::vector<std::uint64_t> renewed;
-    renewed.reserve(items.size());
-    for (auto &item : items) renewed.push_back(numbers.number(item.number));
-    auto map = before.suspended ? in_order(items, voxel, large) : Map(view, voxel, large);
+    auto before = from.numbers.totals(from.owner.totals());
+    auto items = from.owner.items();
+    std::vector<std::uint64_t> numbers;
+    numbers.reserve(items.size());
+    for (auto &item : items) numbers.push_back(from.numbers.number(item.number));
+    { View listed(std::move(from.owner)); }  // It ends here: while there is a view, the old Map's updates copy what it shows.
+    auto map = in_order(items, voxel, large);
     make_even(map);
     auto updates = map.totals().updates;
-    return {std::move(map), Numbers(std::move(renewed), updates, numbers.totals(before))};
+    return {std::move(map), Numbers(std::move(numbers), updates, before)};
 }
 
 /// Does the kept updates on the new Map. On the second thread.
