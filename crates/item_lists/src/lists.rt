@@ -1,4 +1,4 @@
-//! The lists.
+//! Lists by number: of all that is held, of a box, of a ball.
 ghost use Rattle.std.specs.Prelude.{◌≡◌, ◌≤◌, take, IfOk};
 ghost use Rattle.map_fold.specs.Answers.{inside_all};
 ghost use Rattle.map_fold.specs.Neighbours.{ball};
