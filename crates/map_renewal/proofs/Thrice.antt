@@ -1,5 +1,5 @@
 -- The three updates that renew a map.
-use Rattle.std.proofs.Common.{◌≡◌, ℕ, suc, ◌*◌, length-append, ◌+◌, ◌<◌, ◌≤◌, ◌⊎◌, inl, inr, Bool, List, [], ◌∷◌, ◌++◌, All, length, filter, refl, ap, sym, ◌∙◌, subst, arith, true, false, append-nil}
+use Rattle.std.proofs.Common.{◌≡◌, ℕ, ◌+◌, ◌<◌, ◌≤◌, ◌⊎◌, inl, inr, Bool, List, [], ◌∷◌, ◌++◌, All, length, filter, refl, ap, ◌∙◌, subst, arith, true, false, append-nil}
 use Rattle.std.specs.List.{AllByRecursion}
 use Rattle.std.proofs.lemmas.List.{length-map, length_push}
 use Rattle.std.proofs.lemmas.List.Elements.{recursion_from_All, filter-append}
@@ -10,10 +10,9 @@ use Rattle.node_labels.specs.declared.label.Label.TheVariants.{Live, Suspended, 
 use Rattle.map_items.specs.declared.item.Item.{Item}
 use Rattle.map_items.specs.declared.update.Update.TheVariants.{Suspend}
 use Rattle.map_items.specs.declared.update.Update.{Update}
-use Rattle.map_items.specs.Contents.{put, live_items, suspended_count}
+use Rattle.map_items.specs.Contents.{live_items, suspended_count}
 use Rattle.map_items.specs.Fold.{MapAt, add_points, mark_boxes, points_in}
 use Rattle.map_items.specs.Sizes.{Sizes}
-use Rattle.map_items.proofs.Folds.{add_next}
 use Rattle.kd_tree.specs.Shape.{Shape}
 use Rattle.kd_tree.specs.Contents.{contents}
 use Rattle.kd_tree.specs.Maps.{map_of}
