@@ -143,8 +143,8 @@ int32_t corv_view_totals(corv_view *view, corv_totals *totals);
 int32_t corv_view_renew(corv_view *view, uint32_t voxel, uint32_t large, corv_map *map);
 /* Writes the lines of the log of version 2 that say the map's updates from this one on, which are counted from 0: before the first
  * update's the header, then the lines of whole updates, as far as there is room. next is the first update that isn't written, and is
- * from where nothing is. So a program that writes what is new behind what it has, from next on, has the log of all updates, which
- * leads to the same map. All updates are caller 1's; one of no point or box has no line, one of more than 262,144 several. An update
+ * from where the call is refused. So a program that writes what is new behind what it has, from next on, has the log of all updates,
+ * which leads to the same map. All updates are caller 1's; one of no point or box has no line, one of more than 262,144 several. An update
  * takes at most 64 bytes, and 52 for each of its points and 91 for each of its boxes. Costs time and memory by what is written and what
  * one update more would take, and counts the lines of all updates before, which reads none of their points.
  * EMPTY, BAD_NUMBER (more than the updates that were made), and then of the update from: NO_LINE (never in a map that these calls
