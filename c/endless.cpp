@@ -4,13 +4,13 @@
 // something.
 #include <corv/endless.hpp>
 
+#include <algorithm>
 #include <atomic>
 #include <cstdio>
 #include <cstdlib>
 #include <deque>
 #include <functional>
 #include <random>
-#include <string>
 #include <thread>
 #include <tuple>
 #include <type_traits>
