@@ -106,7 +106,7 @@ put_items-requires-clause-fit g c =
     let next = c.args.next in
     let t = c.args.work.tree in
     let d = c.requires.draft.2 in
-    let same = sym (c.as_slice-then-len-ge-SCAN.ensures.value ∙ c.in_ok-items.ensures.items ∙ ap (live_from next) c.as_slice.ensures) in
+    let same = sym (c.as_slice-then-len-ge-PASS_FROM.ensures.value ∙ c.in_ok-items.ensures.items ∙ ap (live_from next) c.as_slice.ensures) in
     let held = held_below next t c.size-size.ensures.sound (λ n k. All-contains (λ m. m < next) (numbers t) n d.below k) in
     subst (λ (xs : List Item). MayJoin (contents t) xs) same (join_next next (contents t) c.args.points.now held c.requires.few)
 
@@ -115,29 +115,29 @@ put_items-requires-clause-draft g c =
     let next = c.args.next in
     let high = next + length c.args.points.now in
     let d = c.requires.draft in
-    let same = sym (c.as_slice-then-len-ge-SCAN.ensures.value ∙ c.in_ok-items.ensures.items ∙ ap (live_from next) c.as_slice.ensures) in
+    let same = sym (c.as_slice-then-len-ge-PASS_FROM.ensures.value ∙ c.in_ok-items.ensures.items ∙ ap (live_from next) c.as_slice.ensures) in
     (high, (d.0, d.1, draft_more c.args.large next high d.0 d.1 c.args.work (omega arith) d.2), subst (All (λ i. i.number < high)) same (live_from_under high next c.args.points.now (omega arith)))
 
-pub returns-then-len-ge-SCAN-clause-stepped : goal.returns-then-len-ge-SCAN-clause-stepped
-returns-then-len-ge-SCAN-clause-stepped g c =
+pub returns-then-len-ge-PASS_FROM-clause-stepped : goal.returns-then-len-ge-PASS_FROM-clause-stepped
+returns-then-len-ge-PASS_FROM-clause-stepped g c =
     let next = c.args.next in
     let ps = c.args.points.now in
     let m = contents c.args.work.tree in
     let high = next + length ps in
-    let same = c.as_slice-then-len-ge-SCAN.ensures.value ∙ c.in_ok-items.ensures.items ∙ ap (live_from c.args.next) c.as_slice.ensures in
+    let same = c.as_slice-then-len-ge-PASS_FROM.ensures.value ∙ c.in_ok-items.ensures.items ∙ ap (live_from c.args.next) c.as_slice.ensures in
     IfOk-weaker c.put_items.result _ (λ w. map_of w.tree high ≡ add_points ps (map_of c.args.work.tree next))
     (λ w e. ap (λ (xs : List Item). let a : MapAt = record { items = xs; next = high } in a) (e ∙ ap (put_each m) same) ∙ sym (add_points-put_each next m ps)) c.put_items.ensures.contents
 
-pub returns-then-len-ge-SCAN-clause-draft : goal.returns-then-len-ge-SCAN-clause-draft
-returns-then-len-ge-SCAN-clause-draft g c = λ last ps d.
+pub returns-then-len-ge-PASS_FROM-clause-draft : goal.returns-then-len-ge-PASS_FROM-clause-draft
+returns-then-len-ge-PASS_FROM-clause-draft g c = λ last ps d.
     let next = c.args.next in
     let high = next + length c.args.points.now in
-    let same = sym (c.as_slice-then-len-ge-SCAN.ensures.value ∙ c.in_ok-items.ensures.items ∙ ap (live_from next) c.as_slice.ensures) in
+    let same = sym (c.as_slice-then-len-ge-PASS_FROM.ensures.value ∙ c.in_ok-items.ensures.items ∙ ap (live_from next) c.as_slice.ensures) in
     c.put_items.ensures.draft high last ps (subst (All (λ i. i.number < high)) same (live_from_under high next c.args.points.now (omega arith))) (draft_more c.args.large next high last ps c.args.work (omega arith) d)
 
-pub returns-then-len-ge-SCAN-clause-kept : goal.returns-then-len-ge-SCAN-clause-kept
-returns-then-len-ge-SCAN-clause-kept g c = λ room.
+pub returns-then-len-ge-PASS_FROM-clause-kept : goal.returns-then-len-ge-PASS_FROM-clause-kept
+returns-then-len-ge-PASS_FROM-clause-kept g c = λ room.
     let n = length c.args.points.now in
-    let same = c.as_slice-then-len-ge-SCAN.ensures.value ∙ c.in_ok-items.ensures.items ∙ ap (live_from c.args.next) c.as_slice.ensures in
+    let same = c.as_slice-then-len-ge-PASS_FROM.ensures.value ∙ c.in_ok-items.ensures.items ∙ ap (live_from c.args.next) c.as_slice.ensures in
     let many = ap length same ∙ live_from-length c.args.next c.args.points.now in
     c.put_items.ensures.kept (subst (λ k. HasRoomFor k k c.args.work) (sym many) room)
