@@ -10,7 +10,7 @@ use Rattle.rebuild_core.specs.Swap.{IsSwapFault, MaySwap}
 use Rattle.rebuild_parts.proofs.SameItems.{not_both}
 use Rattle.rebuild_core.proofs.Swapping.{left_is}
 use Rattle.rebuild_core.proofs.state.MapState.plan_swap.Goals as goal
-use Rattle.rebuild_core.proofs.state.MapState.plan_swap.Goals.{else-not-force-via-then-not-force+else-left-gt-MOST_LEFT, else-not-force-via-else-not-force}
+use Rattle.rebuild_core.proofs.state.MapState.plan_swap.Goals.{else-not-force-via-then-not-force+else-left-gt-MAX_UNFORCED, else-not-force-via-else-not-force}
 
 -- where memory runs out, that is the fault
 out_of : (r : Result PlannedAt SwapFault) (P : SwapFault → Type 0) → IsErrAnd r (λ e. e ≡ NoMemory) → P NoMemory → IfErr r P
@@ -25,7 +25,7 @@ returns-in_err-ops-clause-refused g c =
       c.in-Some.part.now,
       c.in-Some.ensures.some.of,
       λ unforced. elim c.else-not-force.branch [
-        | else-not-force-via-then-not-force+else-left-gt-MOST_LEFT w ↦ omega (arith, left, w.if-left-gt-MOST_LEFT.false)
+        | else-not-force-via-then-not-force+else-left-gt-MAX_UNFORCED w ↦ omega (arith, left, w.if-left-gt-MAX_UNFORCED.false)
         | else-not-force-via-else-not-force w ↦ absurd (not_both c.args.force w.if-not-force.false unforced)
       ],
     ) in
@@ -39,7 +39,7 @@ returns-in_err-twin-clause-refused g c =
       c.in-Some.part.now,
       c.in-Some.ensures.some.of,
       λ unforced. elim c.else-not-force.branch [
-        | else-not-force-via-then-not-force+else-left-gt-MOST_LEFT w ↦ omega (arith, left, w.if-left-gt-MOST_LEFT.false)
+        | else-not-force-via-then-not-force+else-left-gt-MAX_UNFORCED w ↦ omega (arith, left, w.if-left-gt-MAX_UNFORCED.false)
         | else-not-force-via-else-not-force w ↦ absurd (not_both c.args.force w.if-not-force.false unforced)
       ],
     ) in
@@ -53,7 +53,7 @@ returns-in_err-planned-clause-refused g c =
       c.in-Some.part.now,
       c.in-Some.ensures.some.of,
       λ unforced. elim c.else-not-force.branch [
-        | else-not-force-via-then-not-force+else-left-gt-MOST_LEFT w ↦ omega (arith, left, w.if-left-gt-MOST_LEFT.false)
+        | else-not-force-via-then-not-force+else-left-gt-MAX_UNFORCED w ↦ omega (arith, left, w.if-left-gt-MAX_UNFORCED.false)
         | else-not-force-via-else-not-force w ↦ absurd (not_both c.args.force w.if-not-force.false unforced)
       ],
     ) in
@@ -66,7 +66,7 @@ returns-clause-may g c =
       c.in-Some.part.now,
       c.in-Some.ensures.some.of,
       λ unforced. elim c.else-not-force.branch [
-        | else-not-force-via-then-not-force+else-left-gt-MOST_LEFT w ↦ omega (arith, left, w.if-left-gt-MOST_LEFT.false)
+        | else-not-force-via-then-not-force+else-left-gt-MAX_UNFORCED w ↦ omega (arith, left, w.if-left-gt-MAX_UNFORCED.false)
         | else-not-force-via-else-not-force w ↦ absurd (not_both c.args.force w.if-not-force.false unforced)
       ],
     )
