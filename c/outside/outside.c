@@ -1,5 +1,6 @@
-/* The same in C. */
+/* The same in C, and the library's version. */
 #include <corv/map.h>
+#include <corv/version.h>
 
 #include <stdio.h>
 
@@ -14,6 +15,6 @@ int main(void) {
     if (status == CORV_DONE) status = corv_map_nearest(&map, &place, 5, 2000, hits, 5, &count);
     corv_map_free(&map);
     if (status != CORV_DONE || count != 1) return 1;
-    printf("%zu %u %.0f\n", count, (unsigned)hits[0].number, (double)hits[0].point.x);
+    printf("%zu %u %.0f %s\n", count, (unsigned)hits[0].number, (double)hits[0].point.x, corv_version());
     return 0;
 }
