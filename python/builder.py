@@ -4,6 +4,7 @@ The library is that of CORV_LIBRARY, or else the one beside which tools/install 
 """
 
 import base64
+import ctypes
 import hashlib
 import os
 import sysconfig
@@ -14,15 +15,22 @@ HERE = Path(__file__).resolve().parent
 
 
 def library():
-    """The shared library, under the name that says its version."""
+    """The shared library."""
     given = os.environ.get("CORV_LIBRARY")
-    found = [Path(given)] if given else sorted((HERE.parents[2] / "lib").glob("libcorv.so.*.*.*"))
-    if len(found) != 1 or not found[0].is_file():
+    found = Path(given) if given else HERE.parents[2] / "lib/libcorv.so"
+    if not found.is_file():
         raise SystemExit(
             "corv: the map's library isn't here. Install it first, by tools/install --prefix DIR, and then this package from "
             "DIR/share/corv/python; or name the library in CORV_LIBRARY."
         )
-    return found[0].resolve()
+    return found.resolve()
+
+
+def version():
+    """The library's version, as it says it itself."""
+    call = ctypes.CDLL(str(library())).corv_version
+    call.restype = ctypes.c_char_p
+    return call().decode()
 
 
 def build_wheel(wheel_directory, config_settings=None, metadata_directory=None):
@@ -40,17 +48,17 @@ def build_editable(wheel_directory, config_settings=None, metadata_directory=Non
 
 def write_wheel(folder, files):
     """Writes a wheel of these files."""
-    version = library().name.partition(".so.")[2] or "0"
+    number = version()
     tag = "py3-none-" + sysconfig.get_platform().replace("-", "_").replace(".", "_")
-    info = f"corv-{version}.dist-info"
+    info = f"corv-{number}.dist-info"
     files[f"{info}/METADATA"] = (
-        f"Metadata-Version: 2.1\nName: corv\nVersion: {version}\nLicense: MIT\nRequires-Python: >=3.8\n"
+        f"Metadata-Version: 2.1\nName: corv\nVersion: {number}\nLicense: MIT\nRequires-Python: >=3.8\n"
         "Summary: A robot's point map that is proved: an incremental k-d tree in whole millimetres\n"
     ).encode()
     files[f"{info}/WHEEL"] = f"Wheel-Version: 1.0\nGenerator: corv\nRoot-Is-Purelib: false\nTag: {tag}\n".encode()
     record = "".join(f"{name},sha256={checksum(data)},{len(data)}\n" for name, data in files.items())
     files[f"{info}/RECORD"] = f"{record}{info}/RECORD,,\n".encode()
-    name = f"corv-{version}-{tag}.whl"
+    name = f"corv-{number}-{tag}.whl"
     with zipfile.ZipFile(folder / name, "w", zipfile.ZIP_DEFLATED) as wheel:
         for path, data in files.items():
             wheel.writestr(zipfile.ZipInfo(path, (2026, 1, 1, 0, 0, 0)), data, zipfile.ZIP_DEFLATED)

@@ -6,6 +6,7 @@
     map.thin(corv.metres(cloud))                       # an (n, 3) or (n, 4) array of floats, in metres
     hits = map.nearest([[0, 0, 0]], k=5, within=2000)  # the 5 nearest within 2 metres
     hits.numbers, hits.points, hits.squared            # arrays: one place's hits behind the other's
+    map.items().points                                 # all that it holds
 
 Points are rows x, y, z or x, y, z, intensity of whole numbers, places are rows x, y, z, and boxes rows of the lowest corner and
 the one behind the highest. With numpy they are arrays, and those of 64-bit numbers are read where they are; without it they are
@@ -15,13 +16,16 @@ Calls let other threads of Python run. A map or view takes one call at a time, a
 of its own, by `view.copy()`. What a process had before a fork isn't to be called after it, in the child.
 """
 
-from ._library import BadBox, BadNumber, Closed, Error, OutOfRange, TooManyPoints, TooManyUpdates
-from ._map import Built, Job, Map, Rebuilder, Swapped, Totals, View
+from ._library import VERSION as __version__
+from ._library import BadBox, BadNumber, Closed, Error, NoLine, OutOfRange, TooManyPoints, TooManyUpdates
+from ._beside import Rebuilder, Recorder
+from ._map import Built, Job, Log, Map, Swapped, Totals, View
 from ._points import FARTHEST, Scan, metres, rows
-from ._answers import Hit, Hits, Item, Items
+from ._region import Region
+from ._answers import Cluster, Found, Hit, Hits, Item, Items
 
 __all__ = [
-    *("Map", "View", "Job", "Built", "Rebuilder", "Swapped", "Totals", "Hits", "Hit", "Items", "Item"),
+    *("Map", "View", "Job", "Built", "Rebuilder", "Swapped", "Totals", "Hits", "Hit", "Items", "Item", "Found", "Cluster", "Region", "Log", "Recorder"),
     *("metres", "rows", "Scan", "FARTHEST"),
-    *("Error", "Closed", "BadNumber", "BadBox", "OutOfRange", "TooManyPoints", "TooManyUpdates"),
+    *("Error", "Closed", "BadNumber", "BadBox", "OutOfRange", "TooManyPoints", "TooManyUpdates", "NoLine", "__version__"),
 ]

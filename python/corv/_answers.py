@@ -8,10 +8,14 @@ from collections import namedtuple
 from . import _library
 from ._points import numpy
 
-Found = namedtuple("Hit", "number x y z intensity squared")
-Found.__doc__ = "A live point that was found, under its number, and its squared distance."
-Held = namedtuple("Item", "number x y z intensity")
-Held.__doc__ = "A live point, under its number."
+Hit = namedtuple("Hit", "number x y z intensity squared")
+Hit.__doc__ = "A live point that was found, under its number, and its squared distance."
+Item = namedtuple("Item", "number x y z intensity suspended")
+Item.__doc__ = "A point that is held, under its number: live, or suspended."
+Cluster = namedtuple("Cluster", "number points")
+Cluster.__doc__ = "A cluster: the least number in it, and how many points it has."
+Found = namedtuple("Found", "count first")
+Found.__doc__ = "How many there are of what was looked for, and the first of them."
 
 
 def blank(kind, count):
@@ -69,7 +73,10 @@ class Answer:
 
 
 class Items(Answer):
-    """Live points by their numbers: `numbers`, `points`, `intensities`, and `x`, `y`, `z`, one beside the other."""
+    """Points by their numbers: `numbers`, `points`, `intensities`, `suspended`, and `x`, `y`, `z`, one beside the other.
+
+    items[i] is the i-th of them, and a loop goes through them all.
+    """
 
     kind = _library.Item
 
@@ -77,11 +84,33 @@ class Items(Answer):
         self._address, self._memory = blank(self.kind, most)
         self._found = 0
 
+    @property
+    def suspended(self):
+        """Which points are suspended: an array of bool, or a list without numpy."""
+        suspended = self._columns("u4", self.kind.suspended.offset)
+        return suspended != 0 if numpy is not None else [*map(bool, suspended)]
+
     def __len__(self):
         return self._found
 
+    def __iter__(self):
+        columns = (self.numbers, self.x, self.y, self.z, self.intensities)
+        return map(Item, *(column.tolist() for column in columns), self._suspended_list())
+
     def __getitem__(self, index):
-        return Held(*(int(column[index]) for column in (self.numbers, self.x, self.y, self.z, self.intensities)))
+        columns = (self.numbers, self.x, self.y, self.z, self.intensities)
+        return Item(*(int(column[index]) for column in columns), bool(self.suspended[index]))
+
+    def _suspended_list(self):
+        return self.suspended if numpy is None else self.suspended.tolist()
+
+
+class Clusters:
+    """Room for as many clusters as a call can give."""
+
+    def __init__(self):
+        self._memory = (_library.Cluster * 256)()
+        self._address, self._found = ctypes.addressof(self._memory), 0
 
 
 class Hits(Answer):
@@ -94,13 +123,13 @@ class Hits(Answer):
     kind = _library.Hit
 
     def __init__(self):
-        self._room = self._places = 0
+        self._room = self._places = -1
         self._lock = threading.RLock()
         self._reserve(0, 1)
 
     def _reserve(self, places, k):
-        """Takes memory for the hits of so many places, unless there is enough."""
-        if places * k >= self._room or places > self._places:
+        """Takes memory for the hits of so many places, unless there is enough. It has none of them yet."""
+        if places * k > self._room or places > self._places:
             self._room, self._places = max(1, places * k), max(1, places)
             self._address, self._memory = blank(self.kind, self._room)
             self._counts_address, self._counts = blank(ctypes.c_uint32, self._places)
@@ -139,7 +168,9 @@ class Hits(Answer):
         return numpy.sqrt(self.squared.astype(numpy.float64))
 
     def dense(self, values, fill=0):
-        """An array of all hits, such as `points`, with a row of k for each place; `fill` is where a place has fewer."""
+        """An array of all hits, such as `points`, with a row of k for each place; `fill` is where a place has fewer. With numpy alone."""
+        if numpy is None:
+            raise RuntimeError("corv: dense rows are numpy's, which isn't there")
         values = numpy.asarray(values)
         if self._found == self._asked * self._k:
             return values.reshape(self._asked, self._k, *values.shape[1:])
@@ -164,7 +195,4 @@ class Hits(Answer):
         low, high = (self._columns("u8", field.offset) for field in (self.kind.dist2_low, self.kind.dist2_high))
         columns = (self.numbers, self.x, self.y, self.z, self.intensities, low, high)
         rows = zip(*(column[first:end].tolist() for column in columns))
-        return [Found(*row, (above << 64) + below) for *row, below, above in rows]
-
-
-Hit, Item = Found, Held
+        return [Hit(*row, (above << 64) + below) for *row, below, above in rows]

@@ -8,20 +8,24 @@ from collections import namedtuple
 from concurrent.futures import ThreadPoolExecutor
 
 from . import _library
-from ._answers import Hits, Items
-from ._library import LIBRARY, Handle, byref, check
-from ._points import boxes_of, places_of, points_of, unsigned
+from ._answers import Cluster, Clusters, Found, Hits, Items
+from ._library import LIBRARY, Handle, Status, byref, check
+from ._points import boxes_of, one_box, one_place, places_of, points_of, unsigned
 
 Totals = namedtuple("Totals", "updates points live suspended")
 Totals.__doc__ = "How many updates were made, how many points they submitted, and how many of those are live and how many suspended."
 
 
+Log = namedtuple("Log", "text next")
+Log.__doc__ = "Lines of a log, as bytes, and the first update that they don't say."
+
+
 class Swapped(enum.Enum):
     """How a swap went: it is done; or more is left to be replayed first; or the subtree's place is there no more."""
 
-    DONE = 0
-    STALE = _library.STALE
-    BEHIND = _library.BEHIND
+    DONE = Status.DONE
+    STALE = Status.STALE
+    BEHIND = Status.BEHIND
 
 
 class Owner:
@@ -70,10 +74,10 @@ class Asked(Owner):
             hits._reserve(given.count, min(k, 256))
             parts = min(threads, -(-given.count // 64))
             if parts > 1:
-                self._nearest_in_parts(given, k, within, parts, hits)
+                found = self._nearest_in_parts(given, k, within, parts, hits)
             else:
-                hits._found = self._nearest(given, 0, given.count, k, within, hits)
-            hits._asked = given.count
+                found = self._nearest(given, 0, given.count, k, within, hits)
+            hits._found, hits._asked = found, given.count
         return hits
 
     def _nearest(self, given, first, count, k, within, hits):
@@ -85,35 +89,77 @@ class Asked(Owner):
         return found.value
 
     def _nearest_in_parts(self, given, k, within, parts, hits):
-        """The same on several threads, each with a view of its own; then the parts are moved together."""
+        """The same of all places on several threads, each with a view of its own, all of one version; then the parts are moved together."""
         firsts = [given.count * part // parts for part in range(parts + 1)]
 
         def ask(part):
-            with self._another() as view:
+            with views[part] as view:
                 return view._nearest(given, firsts[part], firsts[part + 1] - firsts[part], k, within, hits)
 
+        with self._lock:
+            views = [self._another() for _ in range(parts)]
         with ThreadPoolExecutor(parts - 1) as pool:
             others = [pool.submit(ask, part) for part in range(1, parts)]
-            hits._found = ask(0)
-            for part, other in enumerate(others, 1):
-                found, size = other.result(), ctypes.sizeof(hits.kind)
-                if hits._found != firsts[part] * k:
-                    ctypes.memmove(hits._address + hits._found * size, hits._address + firsts[part] * k * size, found * size)
-                hits._found += found
+            found = [ask(0), *(other.result() for other in others)]
+        end, size = found[0], ctypes.sizeof(hits.kind)
+        for first, count in zip(firsts[1:], found[1:]):
+            if end != first * k:
+                ctypes.memmove(hits._address + end * size, hits._address + first * k * size, count * size)
+            end += count
+        return end
 
     def count(self, box):
         """How many live points are in a box: its lowest corner, and the one behind its highest."""
         live = ctypes.c_uint32()
-        self._call("count", one(box), byref(live))
+        self._call("count", one_box(box), byref(live))
         return live.value
 
-    def inside(self, box, most=256):
-        """The live points in a box by number, or the first `most` of them, from 1 to 256."""
-        most, found = unsigned(most, 32, "most"), ctypes.c_size_t()
-        items = Items(min(most, 256))
-        self._call("inside", one(box), most, items._address, max(1, min(most, 256)), byref(found))
+    def items(self, start=0, most=None):
+        """All points, live and suspended, under the numbers from this one on, by number; the first `most`, where that is given."""
+        with self._lock:
+            held = self.totals()
+            return self._list("items", held.live + held.suspended, most, unsigned(start, 32, "a number"))
+
+    def inside(self, box, start=0, most=None):
+        """The same of the live points in a box."""
+        given = one_box(box)
+        with self._lock:
+            return self._list("box_items", self.count(box), most, given, unsigned(start, 32, "a number"))
+
+    def ball(self, place, radius, start=0, most=None):
+        """The same of the live points at most so many millimetres from a place."""
+        given, radius, start = one_place(place), unsigned(radius, 64, "a radius"), unsigned(start, 32, "a number")
+        with self._lock:
+            # How many there are isn't known before: room for few is tried first, and for all that is live where they fill it.
+            few = self._list("ball_items", 1024, most, given, radius, start)
+            if len(few) < 1024 or most is not None and most <= 1024:
+                return few
+            return self._list("ball_items", self.totals().live, most, given, radius, start)
+
+    def _list(self, call, room, most, *words):
+        """Makes a call that writes items, of which there are so many at most, or as many as are wanted."""
+        room = room if most is None else min(room, unsigned(most, 32, "most"))
+        items, found = Items(room), ctypes.c_size_t()
+        self._call(call, *words, items._address, room, byref(found))
         items._found = found.value
         return items
+
+    def lonely(self, radius, most=256):
+        """How many live points have no other live one within so many millimetres, and the first `most` of them by number, from 1 to 256."""
+        return self._found("lonely", Items(256), radius, most)
+
+    def clusters(self, radius, most=256):
+        """How many clusters there are of live points, by steps of at most so many millimetres, and the first `most` of them by their
+        least numbers, from 1 to 256."""
+        count, clusters = self._found("clusters", Clusters(), radius, most)
+        return Found(count, [Cluster(cluster.number, cluster.points) for cluster in clusters._memory[: clusters._found]])
+
+    def _found(self, call, answer, radius, most):
+        """Makes a call that says how many there are, and writes the first of them where there is room for 256."""
+        count, found = ctypes.c_uint32(), ctypes.c_size_t()
+        self._call(call, unsigned(radius, 64, "a radius"), unsigned(most, 32, "most"), byref(count), answer._address, 256, byref(found))
+        answer._found = found.value
+        return Found(count.value, answer)
 
     def totals(self):
         """How many updates were made, and how many points are there."""
@@ -123,14 +169,6 @@ class Asked(Owner):
 
     def __len__(self):
         return self.totals().live
-
-
-def one(box):
-    """The memory of one box."""
-    boxes = boxes_of(box)
-    if boxes.count != 1:
-        raise ValueError("corv: one box is wanted")
-    return boxes
 
 
 class View(Asked):
@@ -145,6 +183,16 @@ class View(Asked):
         return other
 
     _another = copy
+
+    def renew(self, voxel=500, large=1500):
+        """Makes a map that holds what the view shows, so that a map goes on that comes to its limits. In any thread.
+
+        It has new numbers: the suspended points have those from 0 on, and behind them come the live ones, each kind in its order.
+        """
+        map = Map.__new__(Map)
+        Owner.__init__(map)
+        self._call("renew", unsigned(voxel, 32, "an edge"), unsigned(large, 32, "large"), map._handle)
+        return map
 
 
 class Map(Asked):
@@ -187,6 +235,27 @@ class Map(Asked):
     def _update(self, call, given):
         self._call(call, given, given.count)
 
+    def log(self, start=0):
+        """The lines of a log, as bytes, that say the updates from this one on, counted from 0; and the first update that they don't say.
+
+        Logs that begin where the one before ended are one log. It has 65,536 lines at most: the update that would be behind these is refused
+        where a log begins with it, as TooManyUpdates, and otherwise the log ends before it.
+        """
+        parts, room, first = [], 1 << 16, unsigned(start, 64, "an update")
+        with self._lock:
+            while True:
+                text, found, upto = ctypes.create_string_buffer(room), ctypes.c_size_t(), ctypes.c_uint64()
+                status = LIBRARY.corv_map_log(self._handle, first, text, room, byref(found), byref(upto))
+                if status == Status.NO_ROOM:
+                    room *= 2
+                    continue
+                if status not in (Status.NO_LINE, Status.TOO_MANY_UPDATES) or first == start:
+                    check(status)
+                if status != Status.DONE or upto.value == first:
+                    return Log(b"".join(parts), first)
+                parts.append(text.raw[: found.value])
+                first = upto.value
+
     def view(self):
         """A view of what the map holds now."""
         view = View()
@@ -200,7 +269,7 @@ class Map(Asked):
         job = Job()
         with self._lock:
             status = LIBRARY.corv_map_detach(self._handle, unsigned(slot, 32, "a slot"), job._handle)
-        if status == _library.NOTHING_TO_DETACH:
+        if status == Status.NOTHING_TO_DETACH:
             return None
         check(status)
         return job
@@ -209,7 +278,7 @@ class Map(Asked):
         """Puts a built subtree in its place. Where it is behind, by more than 64 operations and not forced, it is to be replayed."""
         with self._lock, built._lock:
             status = LIBRARY.corv_map_swap(self._handle, built._handle, bool(force))
-        if status not in (_library.STALE, _library.BEHIND):
+        if status not in (Status.STALE, Status.BEHIND):
             check(status)
         return Swapped(status)
 
@@ -234,41 +303,3 @@ class Built(Owner):
     def replay(self):
         """Does what the last swap that was behind put beside it, in any thread."""
         self._call("replay")
-
-
-class Rebuilder:
-    """Rebuilds what got uneven in a map, on a thread beside it: `step()` between two scans puts in place what was built.
-
-    It changes how fast the map answers, and never what.
-    """
-
-    def __init__(self, map):
-        self._map, self._pool, self._doing, self.swapped = map, ThreadPoolExecutor(1), None, 0
-
-    def step(self):
-        """Never waits for the thread."""
-        if self._doing is None:
-            job = self._map.detach()
-            self._doing = job and self._pool.submit(job.build)
-        elif self._doing.done():
-            built, self._doing = self._doing.result(), None
-            how = self._map.swap(built)
-            self.swapped += how is Swapped.DONE
-            if how is Swapped.BEHIND:
-                self._doing = self._pool.submit(replayed, built)
-
-    def close(self):
-        """Ends the thread."""
-        self._pool.shutdown()
-
-    def __enter__(self):
-        return self
-
-    def __exit__(self, *fault):
-        self.close()
-
-
-def replayed(built):
-    """Replays a built subtree, and hands it back."""
-    built.replay()
-    return built

@@ -18,6 +18,7 @@ FARTHEST = 1 << 40
 MOST_INTENSITY = 65_535
 LITTLE = sys.byteorder == "little"
 NO_FLOATS = "millimetres are whole numbers, and these aren't: corv.metres(..) takes metres"
+WANTED_INTENSITIES = "corv: as many intensities are wanted as there are points"
 
 
 class Memory(namedtuple("Memory", "address count keep")):
@@ -84,15 +85,31 @@ def narrow(flat):
 def boxes_of(values):
     """Boxes, from rows of six, or of two corners."""
     if numpy is not None:
-        values = numpy.asarray(values)
+        values = as_array(values)
         if values.shape[-2:] == (2, 3):
             values = values.reshape(*values.shape[:-2], 6)
-    else:
+    elif buffer_of(values) is None:
         values = [*values]
         if len(values) == 2 and all(is_row(value) and len(value) == 3 for value in values):
             values = [values]
         values = [(*value[0], *value[1]) if is_row(value) and len(value) == 2 else value for value in values]
     return memory(rows_of(values, (6,)))
+
+
+def one_box(box):
+    """The memory of one box."""
+    boxes = boxes_of(box)
+    if boxes.count != 1:
+        raise ValueError("corv: one box is wanted")
+    return boxes
+
+
+def one_place(place):
+    """The memory of one place."""
+    places = places_of(place)
+    if places.count != 1:
+        raise ValueError("corv: one place is wanted")
+    return places
 
 
 def is_row(value):
@@ -118,7 +135,7 @@ def rows_of(values, widths):
         return values
     if numpy is None:
         return plain_rows(values, widths)
-    given = numpy.asarray(values)
+    given = as_array(values)
     if given.size == 0:
         return numpy.zeros((0, widths[0]), numpy.int64)
     if given.ndim == 1:
@@ -134,16 +151,30 @@ def rows_of(values, widths):
     return numpy.require(given, numpy.int64, ["C", "A"])
 
 
+def as_array(values):
+    """The array of values. Where a number of a list has more than 64 bits, numpy would make floats or objects of them."""
+    given = numpy.asarray(values)
+    if given.dtype.kind in "fO" and given.size and not hasattr(values, "dtype"):
+        if any(isinstance(number, int) and abs(number) >> 63 for number in numpy.asarray(values, object).flat):
+            raise OutOfRange("corv: " + OutOfRange.__doc__)
+    return given
+
+
+def buffer_of(values):
+    """A view of values that are in a buffer; None where they aren't."""
+    try:
+        return memoryview(values)
+    except TypeError:
+        return None
+
+
 def plain_rows(values, widths):
     """The same without numpy: from a two-dimensional memoryview of 64-bit numbers, or from a sequence of rows."""
-    try:
-        view = memoryview(values)
-    except TypeError:
-        view = None
+    view = buffer_of(values)
     if view is not None and view.ndim == 2 and view.itemsize == 8 and view.format in ("q", "l") and view.c_contiguous:
         width, flat = view.shape[1], view.cast("B").cast("q")
     else:
-        given = list(values)
+        given = list(values) if view is None else view.tolist()
         if given and not is_row(given[0]):
             given = [given]
         width = len(given[0]) if given else widths[0]
@@ -194,11 +225,14 @@ def metres(values, intensity=None, scale=1):
 
     Rows with a coordinate that isn't finite, or that is out of range, are left out and counted. Intensities are those of the rows
     or given apart, and are multiplied by `scale` (65535 where 1 is the brightest); what is below 0 or above 65,535 is cut, and what is
-    no number is 0.
+    no number is 0. With numpy the rows may also be a structured array with fields x, y, z, and intensity, as ROS reads its clouds.
     """
     if numpy is None:
         return plain_metres(values, intensity, scale)
     given = numpy.asarray(values)
+    if given.dtype.names:
+        fields = ["x", "y", "z", *(name for name in given.dtype.names if name == "intensity")]
+        given = numpy.stack([given[name].ravel().astype(numpy.float64) for name in fields], axis=1)
     if given.size == 0:
         given = given.reshape(0, 3)
     if given.ndim == 1:
@@ -222,7 +256,7 @@ def metres(values, intensity=None, scale=1):
     if intensity is not None:
         bright = numpy.asarray(intensity).astype(numpy.float64) * scale
         if bright.shape != (len(at),):
-            raise ValueError("corv: there are as many intensities as points")
+            raise ValueError(WANTED_INTENSITIES)
         bright = bright if kept is None else bright[kept]
         fits = numpy.clip(numpy.nan_to_num(bright, nan=0, posinf=MOST_INTENSITY, neginf=0), 0, MOST_INTENSITY)
         cut = int(numpy.count_nonzero(fits != bright))
@@ -234,9 +268,15 @@ def metres(values, intensity=None, scale=1):
 def plain_metres(values, intensity, scale):
     """The same without numpy."""
     points, kept, not_finite, out_of_range, cut = array.array("q"), [], 0, 0, 0
-    total = 0
-    for index, row in enumerate(values):
-        total += 1
+    view = buffer_of(values)
+    given = list(values) if view is None else view.tolist()
+    if given and not is_row(given[0]):
+        given = [given]
+    if intensity is not None and len(intensity) != len(given):
+        raise ValueError(WANTED_INTENSITIES)
+    for index, row in enumerate(given):
+        if len(row) not in (3, 4):
+            raise ValueError(f"corv: rows of 3 or 4 numbers are wanted, not of {len(row)}")
         at = [1000 * float(number) for number in row[:3]]
         if not all(map(math.isfinite, at)):
             not_finite += 1
@@ -250,4 +290,4 @@ def plain_metres(values, intensity, scale):
         cut += fits != bright
         points.extend((*at, round(fits)))
         kept.append(index)
-    return Scan(rows(points, 4) if points else [], None if len(kept) == total else kept, not_finite, out_of_range, cut)
+    return Scan(rows(points, 4) if points else [], None if len(kept) == len(given) else kept, not_finite, out_of_range, cut)

@@ -5,32 +5,30 @@
 
 import array
 import copy
-import os
+import io
 import pickle
 import random
-import subprocess
-import sys
 import threading
 import time
 import unittest
 
 import corv
-from corv._points import numpy
 
 ALL = [[-corv.FARTHEST] * 3, [corv.FARTHEST + 1] * 3]
 
+def live(points):
+    """Points as items, none suspended."""
+    return [corv.Item(*point, False) for point in points]
 
 def cloud(seed, count, far=20_000):
     draw = random.Random(seed)
     return [(*(draw.randint(-far, far) for _ in range(3)), draw.randint(0, 65_535)) for _ in range(count)]
-
 
 def nearest(points, place, k, within):
     """What a plain list answers: points are (number, x, y, z, intensity)."""
     found = [(sum((a - b) ** 2 for a, b in zip(point[1:4], place)), point[1:4], point[0], point) for point in points]
     found = sorted(hit for hit in found if within is None or hit[0] <= within**2)
     return [corv.Hit(*point, squared) for squared, _, _, point in found[:k]]
-
 
 class Answers(unittest.TestCase):
     """What a map answers is what a list does."""
@@ -54,27 +52,144 @@ class Answers(unittest.TestCase):
                 self.assertEqual([*hits], want)
                 self.assertEqual([*hits.counts], [*map(len, want)])
 
+    def test_threads_ask_views_of_their_own(self):
+        made, view = [], self.map.view()
+        view._another = lambda: made.append((threading.get_ident(), view._lock._is_owned())) or view.copy()
+        for threads, places, count in [(1, 500, 0), (3, 500, 3), (3, 65, 2), (3, 64, 0), (0, 500, 0)]:
+            made.clear()
+            view.nearest([(0, 0, 0)] * places, 2, threads=threads)
+            self.assertEqual(made, [(threading.get_ident(), True)] * count)
+
     def test_hits_are_used_again(self):
         hits = self.map.nearest([(0, 0, 0)] * 50, 8)
         address = hits._address
+        self.map.nearest([(9, 0, 0)] * 50, 8, out=hits)
+        self.assertEqual(hits._address, address)
         again = self.map.nearest([(5, 0, 0)] * 3, 2, out=hits)
         self.assertIs(again, hits)
         self.assertEqual((hits._address, len(hits)), (address, 3))
         self.assertEqual([*hits], [nearest(self.points, (5, 0, 0), 2, None)] * 3)
+        hits = self.map.nearest([(0, 0, 0)], 200)
+        self.map.nearest([(5, 0, 0)] * 100, 1, out=hits)
+        self.assertEqual([*hits], [nearest(self.points, (5, 0, 0), 1, None)] * 100)
 
     def test_boxes(self):
         box = [[-9_000, -9_000, -9_000], [5_000, 20_000, 5_000]]
         inside = [point for point in self.points if all(lo <= at < hi for lo, hi, at in zip(*box, point[1:4]))]
         self.assertEqual(self.map.count(box), len(inside))
-        self.assertEqual([*self.map.inside(box, 20)], inside[:20])
+        self.assertEqual([*self.map.inside(box, most=20)], live(inside[:20]))
+        self.assertEqual([*self.map.inside(box)], live(inside))
+        self.assertEqual([*self.map.view().inside(box, inside[5][0], 9)], live(inside[5:14]))
         self.map.suspend([box])
         self.assertEqual((self.map.totals().suspended, self.map.count(ALL)), (len(inside), 400 - len(inside)))
+        items = [corv.Item(*point, point in inside) for point in self.points]
+        for held in (self.map, self.map.view()):
+            self.assertEqual([*held.items()], items)
+            self.assertEqual([*held.items(100, 7)], items[100:107])
+            self.assertEqual([held.items()[at] for at in (0, -1)], [items[0], items[-1]])
+            for at in (400, -401):
+                with self.assertRaises(IndexError):
+                    held.items()[at]
+            self.assertEqual((len(held.items(most=0)), len(held.items(400))), (0, 0))
         self.map.restore([ALL])
         self.map.delete([[*box[0], *box[1]]])
         self.map.expire(100)
         left = [point for point in self.points if point not in inside and point[0] >= 100]
-        self.assertEqual([*self.map.inside(ALL, 256)], left[:256])
+        self.assertEqual([*self.map.inside(ALL)], live(left))
         self.assertEqual(len(self.map), len(left))
+
+    def test_balls(self):
+        for radius in (0, 3_000, 12_000, 1 << 42):
+            within = [point for point in self.points if sum(at**2 for at in point[1:4]) <= radius**2]
+            self.assertEqual([*self.map.ball((0, 0, 0), radius)], live(within))
+            self.assertEqual([*self.map.view().ball((0, 0, 0), radius, 100, 3)], live([point for point in within if point[0] >= 100][:3]))
+        many = corv.Map()
+        many.add([(at, 0, 0) for at in range(3000)])
+        for most, count in [(None, 2501), (1024, 1024), (1025, 1025), (2600, 2501)]:
+            self.assertEqual([*many.ball((0, 0, 0), 2500, most=most).numbers], [*range(count)])
+
+    def test_neighbours(self):
+        lone = corv.Map()
+        lone.add([(0, 0, 0), (5, 0, 0), (100, 0, 0), (104, 0, 0), (108, 0, 0), (1000, 0, 0), (2000, 0, 0)])
+        for held in (lone, lone.view()):
+            count, first = held.lonely(5)
+            self.assertEqual((count, [*first.numbers]), (2, [5, 6]))
+            self.assertEqual((held.lonely(5, 1).count, len(held.lonely(5, 1).first)), (2, 1))
+            self.assertEqual(held.clusters(5), (4, [(0, 2), (2, 3), (5, 1), (6, 1)]))
+            self.assertEqual(held.clusters(5, 2), corv.Found(4, [corv.Cluster(0, 2), corv.Cluster(2, 3)]))
+
+    def test_a_region_moves(self):
+        region = corv.Region(side=1_000, ball=100, step=300, place=(0, 0, 0))
+        self.assertEqual(region.box, ((-500,) * 3, (500,) * 3))
+        other = copy.copy(region)
+        self.assertEqual(region.move((0, 0, 0)), [])
+        left = region.move((450, 0, 0))
+        self.assertEqual(left, [((-500, -500, -500), (-200, 500, 500))])
+        self.assertEqual((region.box, other.box), (((-200, -500, -500), (800, 500, 500)), ((-500,) * 3, (500,) * 3)))
+        map = corv.Map()
+        map.add([(-300, 0, 0), (0, 0, 0)])
+        map.delete(left)
+        self.assertEqual([*map.items().numbers], [1])
+
+    def test_a_renewed_map_holds_the_same(self):
+        self.map.suspend([[[-9_000] * 3, [5_000] * 3]])
+        with self.map.view() as view:
+            again = view.renew(voxel=300)
+        before, after = self.map.totals(), again.totals()
+        self.assertEqual(after[2:], before[2:])
+        self.assertLess(after.updates, 40)
+        in_order = sorted(self.map.items(), key=lambda item: (not item.suspended, item.number))
+        self.assertEqual([(n, *item[1:]) for n, item in enumerate(in_order)], [tuple(item) for item in again.items()])
+
+    def test_a_log(self):
+        small = corv.Map(voxel=500)
+        small.add([(1, 2, 3, 4)])
+        small.delete([(0, 0, 0, 9, 9, 9)])
+        text, end = small.log()
+        self.assertEqual(text.decode().split(), "ikdmap 2 voxel 500 large 1500 @1 add 1 2 3 4 @1 delete 0 0 0 9 9 9".split())
+        self.assertEqual((end, small.log(2), small.log(1).text.split()[1]), (2, (b"", 2), b"delete"))
+        with self.assertRaises(corv.BadNumber):
+            small.log(3)
+        small.add(cloud(4, 8_000))
+        small.expire(1)
+        text, end = small.log()
+        self.assertEqual((end, text.count(b"\n"), len(text) > 1 << 17), (4, 5, True))
+
+    def test_a_recorder_writes_what_a_log_says(self):
+        written = io.BytesIO()
+        file, beside = io.BufferedWriter(written, 1 << 24), corv.Map()
+        recorder = corv.Recorder(file)
+        for scan in range(5):
+            beside.thin(cloud(scan, 3_000))
+            beside.suspend([[[0] * 3, [5_000 * scan] * 3]])
+            recorder.record(beside)
+        recorder.record(beside)
+        self.assertEqual((written.getvalue(), recorder.recorded), beside.log())
+        file.close()
+        beside.restore([ALL])
+        for cause in (ValueError, OSError):
+            with self.assertRaises(cause):
+                recorder.record(beside)
+
+    def test_a_recorder_whose_file_takes_a_part_has_failed(self):
+        class Short(io.BytesIO):
+            def write(self, text):
+                return super().write(text[:9])
+
+        recorder = corv.Recorder(Short())
+        for _ in range(2):
+            with self.assertRaises(OSError):
+                recorder.record(self.map)
+        self.assertEqual(recorder.recorded, 0)
+
+    def test_a_log_ends_where_it_has_all_its_lines(self):
+        many = corv.Map()
+        for number in range(65_540):
+            many.expire(1)
+        text, end = many.log()
+        self.assertEqual((text.count(b"\n"), end), (1 + 65_536, 65_536))
+        with self.assertRaises(corv.TooManyUpdates):
+            many.log(end)
 
     def test_thinning_leaves_one_point_in_a_voxel(self):
         thin = corv.Map(voxel=20_001)
@@ -118,6 +233,31 @@ class Answers(unittest.TestCase):
             self.assertGreater(rebuilder.swapped, 0)
         self.assertEqual([hit.x for hit in beside.nearest([(2_000, 0, 0)], 3)[0]], [2_000, 1_999, 2_001])
 
+    def test_a_rebuilder_replays_what_is_behind(self):
+        beside = corv.Map(voxel=500, large=16)
+        beside.add([(number, 0, 0) for number in range(200)])
+        beside.delete([((0, 0, 0), (150, 1, 1))])
+        with corv.Rebuilder(beside) as rebuilder:
+            rebuilder.step()
+            for number in range(100):
+                beside.suspend([((150, 0, 0), (200, 1, 1))])
+                beside.restore([((150, 0, 0), (200, 1, 1))])
+            for swapped in (0, 1):
+                rebuilder._doing.result()
+                rebuilder.step()
+                self.assertEqual(rebuilder.swapped, swapped)
+
+    def test_a_rebuilder_goes_on_after_a_refusal(self):
+        def refuse():
+            raise MemoryError
+
+        with corv.Rebuilder(corv.Map()) as rebuilder:
+            rebuilder._doing = rebuilder._pool.submit(refuse)
+            while not rebuilder._doing.done():
+                threading.Event().wait(0.001)
+            with self.assertRaises(MemoryError):
+                rebuilder.step()
+            rebuilder.step()
 
 class Refusals(unittest.TestCase):
     """Each cause is an exception of its own, and leaves the map as it was."""
@@ -136,10 +276,23 @@ class Refusals(unittest.TestCase):
     def test_numbers(self):
         for words in [(0,), (1_000_001,), (500, 15), ((1 << 32) + 500,), (-1,)]:
             self.refused(corv.BadNumber, corv.Map, *words)
+        for radius in (-1, (1 << 42) + 1, 1 << 64):
+            self.refused(corv.BadNumber, self.map.ball, (0, 0, 0), radius)
+        self.refused(corv.BadNumber, self.map.items, -1)
+        for words in [(0,), ((1 << 32) + 500,), (500, -1), (500, (1 << 32) + 1_500)]:
+            self.refused(corv.BadNumber, self.map.view().renew, *words)
         for k, within in [(0, None), (257, None), ((1 << 32) + 1, None), (-1, None), (1, -1), (1, 1 << 62), (1, 1 << 70)]:
             self.refused(corv.BadNumber, self.map.nearest, [(0, 0, 0)], k, within)
         for most in (0, 257, -1, (1 << 32) + 1):
-            self.refused(corv.BadNumber, self.map.inside, ALL, most)
+            self.refused(corv.BadNumber, self.map.lonely, 5, most)
+            self.refused(corv.BadNumber, self.map.clusters, 5, most)
+        for call in (self.map.items, lambda **most: self.map.inside(ALL, **most), lambda **most: self.map.ball((0, 0, 0), 5, **most)):
+            self.refused(corv.BadNumber, call, most=-1)
+            self.refused(corv.BadNumber, call, start=1 << 32)
+        far = 1 << 64
+        for numbers in [(1, 0, 1), (10, 5, 1), (10, 1, 0), (10, 1, 11), (-1, 1, 1), (far + 10, 1, 1), (10, far + 1, 1), (10, 1, far + 1)]:
+            self.refused(corv.BadNumber, corv.Region, *numbers, (0, 0, 0))
+        self.refused(corv.OutOfRange, corv.Region(10, 1, 1, (0, 0, 0)).move, (0, 0, corv.FARTHEST + 1))
         self.refused(corv.BadNumber, self.map.expire, -1)
         self.refused(corv.BadNumber, self.map.detach, 5)
         self.refused(TypeError, self.map.nearest, [(0, 0, 0)], 1.5)
@@ -150,14 +303,21 @@ class Refusals(unittest.TestCase):
             self.refused(corv.OutOfRange, self.map.nearest, [(0, 0, 0), (0, far, 0)])
         for intensity in (-1, 65_536, 1 << 40):
             self.refused(corv.OutOfRange, self.map.add, [(0, 0, 0, intensity)])
+        for wide in (1 << 63, -(1 << 63) - 1, 1 << 70):
+            self.refused(corv.OutOfRange, self.map.add, [(0, 0, 0), (-1, wide, 0)])
         self.refused(corv.BadBox, self.map.delete, [((0, 0, 0), (1, 1, -1))])
         self.refused(corv.BadBox, self.map.count, ((0, 0, 0), (1, 1, corv.FARTHEST + 2)))
 
     def test_shapes(self):
         for rows in ([(1, 2)], [(1, 2, 3, 4, 5)], [[(1, 2, 3)]], 5):
             self.refused((ValueError, TypeError), self.map.add, rows)
-        self.refused(TypeError, self.map.add, [(0.5, 0.0, 0.0)])
+        with self.assertRaisesRegex(TypeError, "corv.metres"):
+            self.map.add([(0.5, 0.0, 0.0)])
         self.refused(ValueError, self.map.count, [ALL, ALL])
+        self.refused(ValueError, self.map.ball, [(0, 0, 0)] * 2, 5)
+        for rows in ([(1.0, 2.0)], [(1.0, 2.0, 3.0, 4.0, 5.0)], [(1.0, 2, 3), (1.0, 2)]):
+            self.refused(ValueError, corv.metres, rows)
+        self.refused(ValueError, corv.metres, [(1.0, 2.0, 3.0)], [1, 2])
 
     def test_what_was_closed(self):
         with self.map as map:
@@ -167,6 +327,25 @@ class Refusals(unittest.TestCase):
         self.refused(corv.Closed, map.nearest, [(0, 0, 0)])
         map.close()
         self.map = None
+
+    def test_each_status_has_its_cause(self):
+        from corv._library import Status, check
+
+        causes = {
+            Status.NO_MEMORY: MemoryError,
+            Status.EMPTY: corv.Closed,
+            Status.BAD_NUMBER: corv.BadNumber,
+            Status.OUT_OF_RANGE: corv.OutOfRange,
+            Status.BAD_BOX: corv.BadBox,
+            Status.TOO_MANY_UPDATES: corv.TooManyUpdates,
+            Status.TOO_MANY_POINTS: corv.TooManyPoints,
+            Status.NO_LINE: corv.NoLine,
+        }
+        check(Status.DONE)
+        for status in [*Status][1:]:
+            with self.assertRaises(Exception) as raised:
+                check(status)
+            self.assertIs(type(raised.exception), causes.get(status, corv.Error))
 
     def test_it_is_not_copied(self):
         self.refused(TypeError, copy.copy, self.map)
@@ -178,95 +357,6 @@ class Refusals(unittest.TestCase):
             many.thin(corv.rows(bytes(24 << 20), 3))
         self.refused(corv.TooManyPoints, many.thin, [(0, 0, 0)])
         self.assertEqual(many.totals(), (4, 1 << 22, 1, 0))
-
-
-class Metres(unittest.TestCase):
-    """Metres become the nearest millimetres, and what is none is counted."""
-
-    def test_rounding(self):
-        self.assertEqual(rows(corv.metres([(0.0005, 0.0015, -0.0025), (1.2346, 0, -0.0)]).points), [[0, 2, -2, 0], [1235, 0, 0, 0]])
-
-    def test_what_is_left_out(self):
-        nan, inf = float("nan"), float("inf")
-        given = [(1, 1, 1, 0.5), (nan, 0, 0, 0), (0, inf, nan, 0), (0, 0, 1.2e9, 0), (2, 2, 2, 2), (3, 3, 3, nan), (4, 4, 4, -1)]
-        scan = corv.metres(given, scale=65_535)
-        self.assertEqual((scan.not_finite, scan.out_of_range, scan.cut), (2, 1, 3))
-        self.assertEqual([*scan.kept], [0, 4, 5, 6])
-        self.assertEqual([row[3] for row in rows(scan.points)], [32_768, 65_535, 0, 0])
-        self.assertIsNone(corv.metres([(1.0, 2, 3)]).kept)
-        self.assertEqual(rows(corv.metres([(1.0, 2, 3)], [7]).points), [[1000, 2000, 3000, 7]])
-
-    def test_a_scan_is_points_and_places(self):
-        map = corv.Map()
-        scan = corv.metres([(1.0, 2.0, 3.0, 9.0)])
-        map.thin(scan)
-        self.assertEqual([*map.nearest(scan)], [[corv.Hit(0, 1000, 2000, 3000, 9, 0)]])
-        map.thin(corv.metres([]))
-        self.assertEqual(map.totals().updates, 2)
-
-
-def rows(points):
-    return [[int(number) for number in row] for row in points.tolist()]
-
-
-@unittest.skipIf(numpy is None, "there is no numpy here")
-class Arrays(unittest.TestCase):
-    """With numpy arrays are read where they are, and answers are views."""
-
-    def test_arrays_are_read_where_they_are(self):
-        from corv._points import boxes_of, places_of, points_of
-
-        for width, read in [(4, points_of), (3, places_of), (6, boxes_of)]:
-            given = numpy.zeros((5, width), numpy.int64)
-            given.flags.writeable = False
-            self.assertEqual(read(given).address, given.__array_interface__["data"][0])
-
-    def test_other_layouts(self):
-        want = [nearest([(n, *p) for n, p in enumerate(cloud(3, 50))], (0, 0, 0), 7, None)]
-        whole = numpy.array(cloud(3, 50), numpy.int64)
-        for given in (whole.astype("i4"), numpy.asfortranarray(whole), numpy.repeat(whole, 2, 0)[::2], whole.astype(">i8"), whole.astype("u8").astype("i8")):
-            map = corv.Map()
-            map.add(given)
-            self.assertEqual([*map.nearest(numpy.zeros(3, "i2"), 7)], want)
-
-    def test_views_and_dense_rows(self):
-        map = corv.Map()
-        map.add(numpy.arange(12).reshape(4, 3) * 1000)
-        hits = map.nearest(numpy.array([[0, 1000, 2000], [9000, 10000, 11000], [50000] * 3]), 2, 6000)
-        self.assertEqual(hits.counts.tolist(), [2, 2, 0])
-        self.assertEqual(hits.dense(hits.numbers, 99).tolist(), [[0, 1], [3, 2], [99, 99]])
-        self.assertEqual(hits.dense(hits.points).shape, (3, 2, 3))
-        self.assertEqual(hits.squared.dtype, numpy.uint64)
-        self.assertTrue(numpy.shares_memory(hits.points, hits._memory) and numpy.shares_memory(hits.numbers, hits._memory))
-        hits = map.nearest([[0, 0, 0]] * 3, 2, out=hits)
-        self.assertTrue(numpy.shares_memory(hits.dense(hits.numbers), hits.numbers))
-
-    def test_unsigned_numbers_that_are_too_great(self):
-        with self.assertRaises(corv.OutOfRange):
-            corv.Map().add(numpy.array([[1 << 63, 0, 0]], numpy.uint64))
-
-    def test_without_numpy(self):
-        hide = "import sys; sys.modules['numpy'] = None; import unittest; unittest.main('corv.tests', argv=['corv', '-q'])"
-        path = os.pathsep.join(sys.path)
-        done = subprocess.run([sys.executable, "-c", hide], capture_output=True, text=True, env={**os.environ, "PYTHONPATH": path})
-        self.assertEqual(done.returncode, 0, done.stderr)
-
-
-@unittest.skipIf(numpy is not None, "there is numpy here")
-class Plain(unittest.TestCase):
-    """Without numpy buffers of 64-bit numbers are read where they are."""
-
-    def test_buffers(self):
-        from corv._points import places_of
-
-        flat = array.array("q", [1, 2, 3, 4, 5, 6])
-        self.assertEqual(places_of(corv.rows(flat, 3)).address, flat.buffer_info()[0])
-        map = corv.Map()
-        map.add(corv.rows(flat, 3))
-        map.add(corv.rows(bytes(64), 4))
-        hits = map.nearest([(0, 0, 0)], 2)
-        self.assertEqual((hits.points, hits.numbers.tolist()), ([(0, 0, 0), (0, 0, 0)], [2, 3]))
-
 
 class Threads(unittest.TestCase):
     """Threads ask views of their own while the map goes on."""
@@ -313,7 +403,6 @@ class Threads(unittest.TestCase):
         for thread in work:
             thread.join()
         self.assertEqual(map.totals(), (800, 800, 800, 0))
-
 
 if __name__ == "__main__":
     unittest.main()
