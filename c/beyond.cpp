@@ -62,9 +62,12 @@ static void metres_are_rounded_and_what_is_none_is_counted() {
     HOLDS(scan.not_finite == 1);
     scan.put(-1.2e9, 0, 0), scan.put(0, 1.2e9, 0), scan.put(0, 0, -1.2e9), scan.put(0.0015, 0.0025, 0.0005);
     HOLDS(scan.out_of_range == 4 && scan.points.size() == 2 && at(scan.points[1], 2, 2, 0, 0) && scan.from[1] == 6);
-    double to[3];
-    corv::metres(corv::Place{1500, -1, 0}, to);
-    HOLDS(to[0] == 1.5 && to[1] == -0.001 && to[2] == 0);
+    corv::Scan edge;
+    edge.put(1099511627.776, -1099511627.776, 0);
+    HOLDS(edge.points.size() == 1 && at(edge.points[0], corv::farthest, -corv::farthest, 0, 0));
+    auto [x, y, z] = corv::metres(corv::Place{1500, -1, 0});
+    HOLDS(x == 1.5 && y == -0.001 && z == 0);
+    HOLDS(corv::metres<float>(corv::Point{1, 2, 3, 9})[1] == 0.002f);
 }
 
 // As of PCL and Eigen, which needn't be here.

@@ -6,6 +6,8 @@
 #define CORV_METRES_HPP
 #include "map.hpp"
 
+#include <algorithm>
+#include <array>
 #include <cmath>
 #include <cstddef>
 #include <cstdint>
@@ -94,12 +96,11 @@ void put_columns(Scan &scan, const Matrix &matrix, double scale = 1) {
         scan.put(matrix(0, at), matrix(1, at), matrix(2, at), matrix.rows() > 3 ? matrix(3, at) * scale : 0);
 }
 
-/// A point or place in metres.
+/// A point or place in metres: auto [x, y, z] = corv::metres(hit.point).
 template <class Real = double, class At>
-void metres(const At &at, Real (&to)[3]) {
-    to[0] = static_cast<Real>(static_cast<double>(at.x) / 1000);
-    to[1] = static_cast<Real>(static_cast<double>(at.y) / 1000);
-    to[2] = static_cast<Real>(static_cast<double>(at.z) / 1000);
+std::array<Real, 3> metres(const At &at) {
+    auto one = [](std::int64_t number) { return static_cast<Real>(static_cast<double>(number) / 1000); };
+    return {one(at.x), one(at.y), one(at.z)};
 }
 
 }  // namespace corv

@@ -3,7 +3,10 @@
 // until the points lie on their planes. Then the scan is thinned into the map. At the end the way is held against the true one. How many
 // threads ask changes the time, and no digit of the way.
 //
-//     registration [SCANS [NOISE_MM [THREADS]]]
+//     registration [scans N] [noise MM] [threads N] [seed N] [finer N] [way FILE]
+//
+// `noise` is the lidar's. `finer` has the map count in so many parts of a millimetre, to see what whole ones cost. `way` writes each scan's
+// true place, the one found and how far they are apart, and then the map's live points, in millimetres, for examples/cpp/draw_way.
 #include <corv/metres.hpp>
 #include <corv/threads.hpp>
 
@@ -11,9 +14,12 @@
 #include <chrono>
 #include <cmath>
 #include <cstdio>
-#include <cstdlib>
+#include <fstream>
 #include <limits>
+#include <map>
 #include <random>
+#include <stdexcept>
+#include <string>
 
 struct Vec {
     double x = 0, y = 0, z = 0;
@@ -120,7 +126,10 @@ private:
     std::vector<Block> blocks_;
 };
 
-Vec metres(const corv::Point &point) { return {point.x / 1000.0, point.y / 1000.0, point.z / 1000.0}; }
+// What the map counts in: so many of it are a metre.
+double a_metre = 1000;
+
+Vec metres(const corv::Point &point) { return {double(point.x) / a_metre, double(point.y) / a_metre, double(point.z) / a_metre}; }
 
 // The plane through points: a place on it, and its normal, which is 0 where they lie on no plane.
 std::pair<Vec, Vec> plane(corv::Range<corv::Hit> hits) {
@@ -173,7 +182,7 @@ private:
 void put(corv::Scan &scan, const std::vector<std::array<float, 3>> &points, const Pose &pose, std::size_t step) {
     scan.clear();
     for (std::size_t i = 0; i < points.size(); i += step) {
-        Vec v = pose({points[i][0], points[i][1], points[i][2]});
+        Vec v = pose({points[i][0], points[i][1], points[i][2]}) * (a_metre / 1000);
         scan.put(v.x, v.y, v.z);
     }
 }
@@ -184,7 +193,7 @@ Pose fitted(corv::View &view, const std::vector<std::array<float, 3>> &points, P
     static corv::Hits hits;
     for (int round = 0; round < 12; ++round) {
         put(scan, points, pose, 5);
-        corv::nearest_each(view, scan.places, 5, 1500, hits, threads);
+        corv::nearest_each(view, scan.places, 5, std::uint64_t(1.5 * a_metre), hits, threads);
         asked += scan.places.size();
         Squares squares;
         auto point = scan.points.begin();
@@ -203,13 +212,30 @@ Pose fitted(corv::View &view, const std::vector<std::array<float, 3>> &points, P
     return pose.squared();
 }
 
+// The words of the command line, over what is taken where they aren't given.
+std::map<std::string, std::string> words_of(int argc, char **argv) {
+    std::map<std::string, std::string> words{{"scans", "240"}, {"noise", "10"}, {"threads", "2"}, {"seed", "1"}, {"finer", "1"}, {"way", ""}};
+    for (int i = 1; i < argc; i += 2) {
+        if (i + 1 == argc || words.count(argv[i]) == 0) throw std::invalid_argument("[scans N] [noise MM] [threads N] [seed N] [finer N] [way FILE]");
+        words[argv[i]] = argv[i + 1];
+    }
+    return words;
+}
+
 int main(int argc, char **argv) try {
-    int scans = argc > 1 ? std::atoi(argv[1]) : 240;
-    double noise = (argc > 2 ? std::atof(argv[2]) : 10) / 1000;
-    unsigned threads = argc > 3 ? unsigned(std::atoi(argv[3])) : 2;
+    auto words = words_of(argc, argv);
+    int scans = std::stoi(words["scans"]);
+    double noise = std::stod(words["noise"]) / 1000;
+    unsigned threads = unsigned(std::stoul(words["threads"]));
+    a_metre = 1000 * std::stod(words["finer"]);
+    std::ofstream way_file(words["way"]);
+    auto check_way = [&] {
+        if (!words["way"].empty() && !way_file.flush()) throw std::runtime_error("can't write " + words["way"]);
+    };
+    check_way();
     Town town;
-    std::mt19937 draw(1);
-    corv::Map map(300, 1500);
+    std::mt19937 draw(unsigned(std::stoul(words["seed"])));
+    corv::Map map(std::uint32_t(0.3 * a_metre), 1500);
     corv::Scan scan;
     Pose before = Town::at_scan(0), now = before;
     double squares = 0, worst = 0, way = 0, millis = 0;
@@ -231,11 +257,17 @@ int main(int argc, char **argv) try {
         millis += std::chrono::duration<double, std::milli>(std::chrono::steady_clock::now() - start).count();
         double off = 1000 * (now.at - truth.at).length();
         squares += off * off, worst = std::max(worst, off);
+        way_file << "scan " << 1000 * truth.at.x << ' ' << 1000 * truth.at.y << ' ' << 1000 * now.at.x << ' ' << 1000 * now.at.y << ' ' << off << '\n';
         if (k % 20 == 0 || k == scans - 1)
             std::printf("%4d  %7.3f %6.3f %6.3f  %8.3f %6.3f %6.3f  %8.1f\n", k, truth.at.x, truth.at.y, truth.at.z, now.at.x, now.at.y, now.at.z, off);
     }
     std::printf("over %.0f m: %.1f mm off in the mean square, %.1f at most; the map holds %u points of %u\n", way, std::sqrt(squares / scans), worst,
                 map.totals().live, map.totals().points);
+    for (auto &item : map.items()) {
+        Vec v = metres(item.point) * 1000;
+        way_file << "point " << std::rint(v.x) << ' ' << std::rint(v.y) << ' ' << std::rint(v.z) << '\n';
+    }
+    check_way();
     std::fprintf(stderr, "registration: %.1f ms a scan; %zu places asked; %zu beams came back from nothing\n", millis / scans, asked, nothing);
 } catch (const std::exception &fault) {
     std::fprintf(stderr, "registration: %s\n", fault.what());
