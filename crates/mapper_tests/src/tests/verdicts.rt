@@ -236,7 +236,7 @@ fn try_bytes(rt: &impl Abort, alloc: Global, script: &Script, text: &[u8]) {
 fn mark_end(line: &[u8]) -> usize {
     let mut end = 0;
     for (place, byte) in line.iter().enumerate() {
-        if 3 <= place && byte.is_ascii_digit() && (end == 0 || end + 1 == place) {
+        if 3 <= place && byte.is_ascii_digit() && (end == 0 || place.wrapping_sub(end) == 1) {
             end = place;
         }
     }
@@ -262,12 +262,16 @@ fn try_marks(rt: &impl Abort, alloc: Global, script: &Script, lines: &[Vec<u8>])
 fn try_lines(rt: &impl Abort, alloc: Global, script: &Script, lines: &[Vec<u8>]) {
     for place in 1..lines.len() {
         let mut changed = copied(rt, alloc, lines);
-        changed.swap(place - 1, place);
-        let text = joined(rt, alloc, changed.as_slice());
-        let _ = verdict(rt, alloc, script, text.as_slice());
-        let _ = changed.remove(place - 1);
-        let text = joined(rt, alloc, changed.as_slice());
-        let _ = verdict(rt, alloc, script, text.as_slice());
+        if place < changed.len() {
+            changed.swap(place - 1, place);
+            let text = joined(rt, alloc, changed.as_slice());
+            let _ = verdict(rt, alloc, script, text.as_slice());
+        }
+        if place < changed.len() {
+            let _ = changed.remove(place - 1);
+            let text = joined(rt, alloc, changed.as_slice());
+            let _ = verdict(rt, alloc, script, text.as_slice());
+        }
     }
 }
 
