@@ -227,7 +227,7 @@ fn a_drawn_schedule_answers_as_the_plain_map_does(rt: HostRuntime) {
     // Whole scans, of which those beside subtrees of 100 nodes and more are put in pieces at once, and others one by one.
     for large in [16, 100] {
         let leasts = [(Turn::Swapped, 0)];
-        drawn(&rt, alloc, large, (200, 1_800), 100, &leasts);
+        drawn(&rt, alloc, large, (100, 500), 200, &leasts);
     }
 }
 
