@@ -36,7 +36,8 @@ class ThereAndBack(Clouds):
         log = self.file("log", self.log_of(self.file("in.pcd", pcd_text(points))))
         words = [log]
         if PROGRAM.exists():
-            ended = subprocess.run([PROGRAM, "run", "--serial"], stdin=log.open(), capture_output=True, check=True)
+            with log.open() as given:
+                ended = subprocess.run([PROGRAM, "run", "--serial"], stdin=given, capture_output=True, check=True)
             words.append(self.file("transcript", ended.stdout))
         for name, (options, shape) in WRITTEN.items():
             content = self.written("cloud_from", *options, *words)
