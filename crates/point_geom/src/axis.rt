@@ -11,7 +11,7 @@ pub enum Axis {
 }
 
 impl Axis {
-    /// The axis after this one in the round X, Y, Z, X.
+    /// The next axis in the cycle X, Y, Z, X.
     pub fn next(self) -> Axis
         ensures { result ≡ next_axis self }
     {

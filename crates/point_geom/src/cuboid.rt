@@ -19,14 +19,14 @@ pub struct Corner {
 /// Why two corners make no box.
 #[derive(Clone, Copy, Debug, PartialEq, Eq)]
 pub enum CuboidError {
-    /// A number lies below -1,099,511,627,776 or above 1,099,511,627,777, one past the last coordinate. The numbers of lo are
-    /// looked at before those of hi.
+    /// A number below -1,099,511,627,776 or above 1,099,511,627,777, one past the last coordinate. The first is named,
+    /// in the order x, y, z, and lo's before hi's.
     OutOfRange { axis: Axis, value: i64 },
     /// On this axis, and on none before it, hi is below lo.
     Inverted { axis: Axis },
 }
 
-/// A half-open box: a point is in it where `lo <= p < hi` on every axis. Where lo equals hi on an axis, no point is.
+/// A half-open box of the points with `lo <= p < hi` on every axis: of none where lo equals hi on one.
 #[derive(Clone, Copy, Debug, PartialEq, Eq)]
 pub struct Cuboid {
     lo: Corner,
@@ -45,7 +45,7 @@ impl Model for Cuboid {
     ghost inverse = { λ b. record { lo = b.lo; hi = b.hi } };
 }
 
-/// The longest edge of a cube of the grid: a kilometre, in millimetres.
+/// The longest edge of a cube of the grid, in millimetres: a kilometre.
 pub const MAX_EDGE: u32 = 1_000_000;
 
 impl Cuboid {
@@ -53,7 +53,7 @@ impl Cuboid {
 
     const GREATEST: i64 = 1_099_511_627_777;
 
-    /// The box between these corners.
+    /// The box between these corners. `OutOfRange` is returned before `Inverted`.
     pub fn new(lo: Corner, hi: Corner) -> Result<Cuboid, CuboidError>
         ensures exact { result ≡ cuboid_of lo hi }
         ensures bounds { IfOk result IsBounds }
@@ -64,7 +64,7 @@ impl Cuboid {
         Ok(Cuboid { lo, hi })
     }
 
-    /// The box that holds the points where this one is, and no other. Their intensities may differ.
+    /// The box of the points at this place, whatever their intensity.
     pub fn unit(p: &Point) -> Cuboid
         ensures value { result ≡ unit_box p.now }
         ensures meaning { (q : Place) → (holds result q ≡ true) ↔ IsAt p.now q }
@@ -210,8 +210,8 @@ fn far_end(start: i64, length: u32) -> i64
     start + length as i64
 }
 
-/// The cube of the grid that the point is in. The grid's cubes have edges of this length in millimetres, and one of them
-/// has its lower corner at 0.
+/// The cube of the grid that the point is in. The grid's cubes have edges of this length in millimetres, and one of
+/// them has its lower corner at 0.
 pub fn voxel(p: &Point, length: u32) -> Cuboid
     requires positive { 1 ≤ length }
     requires short { length ≤ MAX_EDGE }

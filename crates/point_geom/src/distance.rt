@@ -24,7 +24,7 @@ pub fn dist2_on(axis: Axis, a: &Point, b: &Point) -> u128
     gap2(a.on(axis), b.on(axis))
 }
 
-// A gap fits 64 bits, and two of those are multiplied to 128 at once.
+// A gap fits 64 bits, so that one multiplication squares it.
 pub(crate) fn gap2(a: i64, b: i64) -> u128
     requires a_range { IsCoordinate a }
     requires b_range { IsCoordinate b }
@@ -35,8 +35,8 @@ pub(crate) fn gap2(a: i64, b: i64) -> u128
     gap as u128 * gap as u128
 }
 
-/// Four times the squared distance from the point to the centre of the cuboid, in squared millimetres: the sum over
-/// the axes of `(2 * p - (lo + hi))` squared, which is a whole number also where the centre isn't.
+/// Four times the squared distance from the point to the cuboid's centre, in squared millimetres: a whole number also
+/// where the centre's coordinates aren't.
 pub fn centre_dist2(p: &Point, c: &Cuboid) -> u128
     ensures { result ≡ centre_dist2 c.now p.now }
 {

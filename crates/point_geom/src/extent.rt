@@ -9,7 +9,7 @@ use crate::Point;
 use crate::distance::gap2;
 use std::marker::Model;
 
-/// A closed box of points: both of its corners are in it. They have the intensity 0.
+/// A closed box: both of its corners, which have the intensity 0, are in it.
 #[derive(Clone, Copy, Debug, PartialEq, Eq)]
 pub struct Extent {
     lo: Point,
@@ -91,7 +91,6 @@ impl Extent {
     }
 }
 
-// The square of the greater distance from the number to these two.
 fn far_gap2(low: i64, c: i64, high: i64) -> u128
     requires low_range { IsCoordinate low }
     requires range { IsCoordinate c }
@@ -102,7 +101,6 @@ fn far_gap2(low: i64, c: i64, high: i64) -> u128
     gap2(c, low).max(gap2(c, high))
 }
 
-// How far the number lies outside these two, squared.
 fn outside2(low: i64, c: i64, high: i64) -> u128
     requires low_range { IsCoordinate low }
     requires range { IsCoordinate c }

@@ -1,4 +1,4 @@
-//! What refusals and axes say to people.
+//! The texts of errors and axes.
 use crate::{Axis, CuboidError, OutOfRange};
 use std::fmt::{Display, Error, Formatter, Write};
 

@@ -15,7 +15,7 @@ use crate::Axis;
 use std::cmp::Ordering;
 use std::marker::Model;
 
-/// A coordinate that lies outside 2 ^ 40 millimetres of 0.
+/// A coordinate farther than 2 ^ 40 millimetres from 0.
 #[derive(Clone, Copy, Debug, PartialEq, Eq)]
 pub struct OutOfRange {
     pub axis: Axis,
@@ -23,13 +23,13 @@ pub struct OutOfRange {
     pub value: i64,
 }
 
-/// A point, in millimetres, each coordinate within 2 ^ 40 of 0, about 1.1 million kilometres, and an intensity. Points are ordered by x,
-/// then y, then z, then the intensity. Takes 24 bytes.
+/// A point in millimetres, each coordinate within 2 ^ 40 of 0, about 1.1 million kilometres, with an intensity. Points
+/// are ordered by x, then y, then z, then the intensity. Takes 24 bytes.
 #[derive(Clone, Copy, Debug, Default)]
 pub struct Point {
     x: i64,
     y: i64,
-    // z times 65,536, and the intensity: so a point has no more words than coordinates.
+    // z * 65,536 + the intensity, so that a point takes three words.
     deep: i64,
 }
 
@@ -95,7 +95,8 @@ impl Ord for Point {
 impl Point {
     const LIMIT: i64 = 1_099_511_627_776;
 
-    /// The point with these coordinates and the intensity 0. The first coordinate outside the limit, in the order x, y, z, is refused.
+    /// The point with these coordinates and the intensity 0. The first coordinate out of range is refused, in the order
+    /// x, y, z.
     pub fn new(x: i64, y: i64, z: i64) -> Result<Point, OutOfRange>
         ensures exact { result ≡ point_of x y z }
         ensures place { IfOk result IsPlace }
@@ -134,7 +135,7 @@ impl Point {
         }
     }
 
-    /// The coordinate on the axis X, in millimetres.
+    /// In millimetres.
     pub fn x(&self) -> i64
         ensures value { result ≡ self.now.x }
         ensures range { IsCoordinate result }
@@ -142,7 +143,7 @@ impl Point {
         self.x
     }
 
-    /// The coordinate on the axis Y, in millimetres.
+    /// In millimetres.
     pub fn y(&self) -> i64
         ensures value { result ≡ self.now.y }
         ensures range { IsCoordinate result }
@@ -150,7 +151,7 @@ impl Point {
         self.y
     }
 
-    /// The coordinate on the axis Z, in millimetres.
+    /// In millimetres.
     pub fn z(&self) -> i64
         ensures value { result ≡ self.now.z }
         ensures range { IsCoordinate result }
@@ -158,12 +159,12 @@ impl Point {
         self.deep >> 16
     }
 
-    /// The coordinate on the given axis, in millimetres.
+    /// The coordinate on this axis, in millimetres.
     pub fn on(&self, axis: Axis) -> i64
         ensures value { result ≡ on axis self.now }
         ensures range { IsCoordinate result }
     {
-        // Looked up, since a search can't foresee the axis.
+        // A lookup: the processor can't predict a branch on the axis in a search.
         let all = [self.x, self.y, self.deep >> 16];
         all[axis as usize]
     }
@@ -176,7 +177,6 @@ impl Point {
         self.x().cmp(&other.x()).then(rest)
     }
 
-    /// The intensity.
     pub fn intensity(&self) -> u16
         ensures value { result ≡ self.now.intensity }
         ensures place { IsPlace self.now }
@@ -184,7 +184,6 @@ impl Point {
         self.deep.rem_euclid(65_536) as u16
     }
 
-    /// The same place with the intensity 0.
     pub(crate) fn bare(&self) -> Point
         ensures { result ≡ bare self.now }
     {
@@ -196,7 +195,6 @@ impl Point {
         }
     }
 
-    /// The least coordinates of both, neither of which has an intensity.
     pub(crate) fn low_corner(&self, other: &Point) -> Point
         requires bare { self.now.intensity ≡ 0 }
         requires other_bare { other.now.intensity ≡ 0 }
@@ -209,7 +207,6 @@ impl Point {
         }
     }
 
-    /// The greatest coordinates of both, neither of which has an intensity.
     pub(crate) fn high_corner(&self, other: &Point) -> Point
         requires bare { self.now.intensity ≡ 0 }
         requires other_bare { other.now.intensity ≡ 0 }
@@ -250,7 +247,7 @@ fn higher(a: i64, b: i64) -> i64
     if b < a { a } else { b }
 }
 
-// Without intensities the order of z is that of the numbers that hold it, so neither is taken apart.
+// Without intensities the packed numbers are in the order of z, so neither is unpacked.
 fn lower_deep(a: i64, b: i64) -> i64
     requires a { packed_intensity a ≡ 0 }
     requires b { packed_intensity b ≡ 0 }
