@@ -6,10 +6,10 @@ ghost use Rattle.node_labels.specs.declared.label.Label.{Label};
 
 use crate::{Label, Tag};
 
-/// The most that counts may tell of together: 4,194,304, as many as a map may be given points.
+/// The most that counts may have together: as many as a map may be given points.
 pub const MAX_COUNTED: u32 = 4_194_304;
 
-/// How many nodes or items there are of each label.
+/// How many have each label.
 #[derive(Clone, Copy, Debug, Default, PartialEq, Eq)]
 pub struct Counts {
     pub live: u32,
@@ -18,7 +18,7 @@ pub struct Counts {
 }
 
 impl Counts {
-    /// The counts after an action on all that was counted.
+    /// After the action on all that was counted.
     pub fn apply(self, tag: Tag) -> Counts
         requires { total self ≤ MAX_COUNTED }
         ensures value { result ≡ applied tag self }
@@ -35,7 +35,6 @@ impl Counts {
         counts
     }
 
-    /// The counts of both together.
     pub fn add(self, other: Counts) -> Counts
         requires { total self + total other ≤ MAX_COUNTED }
         ensures { result ≡ added self other }

@@ -1,6 +1,6 @@
 //! Labels.
 
-/// What a point of the map is marked as.
+/// Whether searches find a point.
 #[derive(Clone, Copy, Debug, PartialEq, Eq)]
 pub enum Label {
     /// Searches find it.

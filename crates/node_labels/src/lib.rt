@@ -1,4 +1,4 @@
-//! What a point of the map is marked as, the actions on these marks, and how many there are of each.
+//! Labels of points, actions on labels, and counts of them.
 #![tactic(auto)]
 
 mod counts;

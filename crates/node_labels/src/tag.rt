@@ -5,7 +5,7 @@ ghost use Rattle.node_labels.specs.declared.label.Label.{Label};
 
 use crate::Label;
 
-/// An action on labels: what it makes of a live and of a suspended one. What is dropped stays dropped.
+/// An action on labels: what a live and a suspended one become. A dropped one stays dropped.
 #[derive(Clone, Copy, Debug, PartialEq, Eq)]
 pub struct Tag {
     pub live: Label,
@@ -13,31 +13,27 @@ pub struct Tag {
 }
 
 impl Tag {
-    /// Changes nothing.
     pub const KEEP: Tag = Tag {
         live: Label::Live,
         suspended: Label::Suspended,
     };
 
-    /// Drops all.
     pub const DELETE: Tag = Tag {
         live: Label::Dropped,
         suspended: Label::Dropped,
     };
 
-    /// Suspends what is live.
     pub const SUSPEND: Tag = Tag {
         live: Label::Suspended,
         suspended: Label::Suspended,
     };
 
-    /// Makes live what is suspended.
     pub const RESTORE: Tag = Tag {
         live: Label::Live,
         suspended: Label::Live,
     };
 
-    /// Drops what is live, and leaves what is suspended.
+    /// Thinning drops what is live, and leaves what is suspended.
     pub const THIN: Tag = Tag {
         live: Label::Dropped,
         suspended: Label::Suspended,
@@ -54,7 +50,7 @@ impl Tag {
         }
     }
 
-    /// The action that does this one first, then the second.
+    /// This action, then the second.
     pub fn then(self, second: Tag) -> Tag
         ensures value { result ≡ composed self second }
         ensures composes { (label : Label) → apply result label ≡ apply second (apply self label) }
