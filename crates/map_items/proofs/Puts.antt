@@ -27,7 +27,7 @@ pub put_front : (low high n : ℕ) (m : List Item) (p : Place) → n < low → A
 put_front low high n [] p below h = refl
 put_front low high n (i ∷ m) p below h = put_ahead i m n p (omega (arith, h.0))
 
--- what is left by a put of a number between the bounds is still what a map may hold
+-- after a put of a number between the bounds the items are still what a map may hold
 pub contents_put : (low high n : ℕ) (m : List Item) (p : Place) → low ≤ n → n < high → AreContents low high m → AreContents low high (put m n p)
 contents_put low high n [] p from below h = (from, below, refl, tt)
 contents_put low high n (i ∷ m) p from below h =

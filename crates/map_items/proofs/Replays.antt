@@ -21,13 +21,13 @@ fit_append m [] b k l = l
 fit_append m (Mark within t ∷ a) b k l = fit_append (perform m (Mark within t)) a b k l
 fit_append m (Put n p ∷ a) b k l = (k.0, k.1, fit_append (perform m (Put n p)) a b k.2 l)
 
--- the front of operations that fit
+-- a prefix of operations that fit fits
 pub fit_front : (m : List Item) (a b : List Op) → Fit m (a ++ b) → Fit m a
 fit_front m [] b k = tt
 fit_front m (Mark within t ∷ a) b k = fit_front (perform m (Mark within t)) a b k
 fit_front m (Put n p ∷ a) b k = (k.0, k.1, fit_front (perform m (Put n p)) a b k.2)
 
--- what comes after the front fits what that leaves
+-- what comes after the prefix fits what that leaves
 pub fit_second : (m : List Item) (a b : List Op) → Fit m (a ++ b) → Fit (replay m a) b
 fit_second m [] b k = k
 fit_second m (op ∷ a) b k = fit_second (perform m op) a b (fit_rest m op (a ++ b) k)

@@ -13,7 +13,7 @@ use Rattle.node_labels.specs.Labels.{apply, is_live, is_suspended, is_dropped, t
 use Rattle.map_items.specs.declared.item.Item.{Item}
 use Rattle.map_items.specs.declared.choice.Choice.{Choice}
 
--- x stands in the list
+-- x is in the list
 abbrev pub Member : {X : Type 0} → X → List X → Type 0
 Member x [] = ⊥
 Member x (y ∷ ys) = (x ≡ y) ⊎ Member x ys
@@ -47,7 +47,7 @@ relabelled a i = record i { label = apply a i.label }
 abbrev pub marked_item : (Item → Bool) → Tag → Item → Item
 marked_item chosen a i = if chosen i then relabelled a i else i
 
--- the items that are left
+-- the items that aren't dropped
 abbrev pub kept : List Item → List Item
 kept m = filter (λ i. not (is_dropped i.label)) m
 

@@ -1,11 +1,11 @@
-//! Which items an action is done to.
+//! Choices of items.
 ghost use Rattle.std.specs.Prelude.{◌≡◌};
 ghost use Rattle.map_items.specs.Contents.{below_number, chosen_by, inside_box, is_above, is_inside};
 
 use crate::Item;
 use point_geom::{Cuboid, Point};
 
-/// Chooses the items in the box, where there is one, whose number is below the bound, where there is one.
+/// Chooses what is in the box and has a number below the bound; `None` admits all.
 #[derive(Clone, Copy, Debug, PartialEq, Eq)]
 pub struct Choice {
     pub within: Option<Cuboid>,
@@ -13,13 +13,11 @@ pub struct Choice {
 }
 
 impl Choice {
-    /// All items.
     pub const ALL: Choice = Choice {
         within: None,
         below: None,
     };
 
-    /// The items in the box.
     pub fn within(cuboid: &Cuboid) -> Choice
         ensures { result ≡ inside_box cuboid.now }
     {
@@ -29,7 +27,6 @@ impl Choice {
         }
     }
 
-    /// The items whose number is below this one.
     pub fn below(number: u32) -> Choice
         ensures { result ≡ below_number number }
     {

@@ -1,7 +1,6 @@
-//! What a history is made of.
+//! Entries of a history.
 use crate::Update;
 
-/// An update, and whose it is.
 #[derive(Debug)]
 pub struct Entry {
     /// From 1 to 8.
@@ -11,7 +10,7 @@ pub struct Entry {
     pub update: Update,
 }
 
-// By hand, so that whoever lets an entry go proves one call.
+// Manual `Drop`: a derived one is proved at every exit of every owner.
 impl Drop for Entry {
     fn drop(self) {
         let Entry {

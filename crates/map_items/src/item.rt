@@ -1,4 +1,4 @@
-//! What a map holds.
+//! Items.
 ghost use Rattle.std.specs.Prelude.{◌≡◌, ◌&&◌, true};
 ghost use Rattle.point_geom.specs.Place.{IsCoordinate, IsCornerNumber};
 ghost use Rattle.point_geom.specs.Boxes.{holds, is_between};
@@ -12,13 +12,12 @@ use point_geom::{Cuboid, Point, centre_dist2};
 #[derive(Clone, Copy, Debug, PartialEq, Eq)]
 pub struct Item {
     pub point: Point,
-    /// Its place among all points that were submitted, from 0.
+    /// Its place among all submitted points, from 0.
     pub number: u32,
     pub label: Label,
 }
 
 impl Item {
-    /// The point under this number, live.
     #[inline]
     pub fn live(number: u32, point: Point) -> Item
         ensures { result ≡ live_at number point }
@@ -30,7 +29,6 @@ impl Item {
         }
     }
 
-    /// The item under this action.
     #[inline]
     pub fn relabelled(self, tag: Tag) -> Item
         ensures { result ≡ relabelled tag self }
@@ -39,7 +37,6 @@ impl Item {
         Item { label, ..self }
     }
 
-    /// The item under this action, if it is chosen.
     #[inline]
     pub fn marked(self, choice: &Choice, tag: Tag) -> Item
         ensures { result ≡ marked_item (chosen_by choice.now) tag self }
@@ -51,15 +48,13 @@ impl Item {
         }
     }
 
-    /// Whether it is live and its point in the cuboid.
     pub fn is_live_in(&self, cuboid: &Cuboid) -> bool
         ensures { result ≡ (is_live self.now.label && in_box cuboid.now self.now) }
     {
         may_hold(cuboid, &self.point) && self.label == Label::Live && cuboid.holds(&self.point)
     }
 
-    /// Whether it comes before another towards the centre of the cuboid: it is nearer to the centre, or as near and less by
-    /// x, y and z, or at the same place and of a lower number.
+    /// By distance to the cuboid's centre, then by x, y, z, then by number.
     pub fn comes_before(&self, other: &Item, cuboid: &Cuboid) -> bool
         ensures { result ≡ comes_before cuboid.now self.now other.now }
     {
@@ -72,14 +67,13 @@ impl Item {
     }
 }
 
-// True of each point that is in the cuboid, and seldom of another.
+// Tried first: one branch, mostly predicted, where `holds` begins with two that aren't.
 fn may_hold(cuboid: &Cuboid, p: &Point) -> bool
     ensures { holds cuboid.now p.now ≡ true → result ≡ true }
 {
     may_be_between(cuboid.lo().x, p.x(), cuboid.hi().x)
 }
 
-// One test, where a walk over many items guesses right, and not two of which each is right for half of them.
 fn may_be_between(lo: i64, c: i64, hi: i64) -> bool
     requires lo_range { IsCornerNumber lo }
     requires range { IsCoordinate c }
@@ -89,5 +83,4 @@ fn may_be_between(lo: i64, c: i64, hi: i64) -> bool
     c.abs_diff(lo) < hi.abs_diff(lo)
 }
 
-/// A list of items.
 pub type Items = Sequence<Item>;

@@ -1,4 +1,4 @@
-//! What updates make of a map: items, operations on them, updates and entries of a history, and the definitions that all above stands on.
+//! What a map holds, and what updates make of it.
 #![tactic(auto)]
 
 mod choice;

@@ -1,16 +1,16 @@
-//! How much a map may be given, and asked for.
+//! Limits.
 
-/// The most points that a map is given in its life: 4,194,304. Each has a number below it, and one that is dropped keeps its own.
+/// The most points given to a map in its life: dropped ones keep their numbers.
 pub const MAX_POINTS: u32 = 4_194_304;
 
-/// The least setting `large` of a map, from how many nodes on a subtree is large: 16.
+/// The least `large` of `Settings`, in nodes.
 pub const MIN_LARGE: u32 = 16;
 
-/// The greatest setting `large` of a map: a million nodes.
+/// The greatest `large`.
 pub const MAX_LARGE: u32 = 1_000_000;
 
-/// The most that one question lists: 256.
+/// The most that one question lists.
 pub const MAX_FOUND: u32 = 256;
 
-/// The farthest that a search may look: 4,398,046,511,104 mm, and no two points of a map are as far apart.
+/// The greatest search distance, in millimetres: no two points are as far apart.
 pub const MAX_WITHIN: u64 = 4_398_046_511_104;

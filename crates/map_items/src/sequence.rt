@@ -1,11 +1,11 @@
-//! Lists that grow at their end.
+//! Lists.
 ghost use Rattle.std.specs.Prelude.{◌≡◌, [], ◌∷◌, ◌++◌, length, IfOk, OnOk, OnErr};
 
 use crate::NoMemory;
 use std::alloc::Global;
 use std::marker::Model;
 
-/// A list that keeps its allocator, and grows at its end.
+/// A list that grows at its end.
 #[derive(Debug, Drop)]
 pub struct Sequence<T: Drop> {
     items: Vec<T>,
@@ -20,7 +20,7 @@ impl<T: Drop> Model for Sequence<T> {
 }
 
 impl<T: Drop> Sequence<T> {
-    /// A list of nothing, which takes no memory.
+    /// Takes no memory.
     pub fn new(alloc: Global) -> Self
         ensures { result ≡ [] }
     {
@@ -29,21 +29,19 @@ impl<T: Drop> Sequence<T> {
         }
     }
 
-    /// How many there are.
     pub fn len(&self) -> usize
         ensures { result ≡ length self.now }
     {
         self.items.len()
     }
 
-    /// All of them, in order.
     pub fn as_slice(&self) -> &[T]
         ensures { result.now ≡ self.now }
     {
         self.items.as_slice()
     }
 
-    /// Puts one more at the end. Where memory runs out, the list stays as it was.
+    /// On `NoMemory` the list is unchanged.
     pub fn push(&mut self, item: T) -> Result<(), NoMemory>
         ensures ok { OnOk result (self.new ≡ self.old ++ item ∷ []) }
         ensures err { OnErr result (self.new ≡ self.old) }
@@ -54,7 +52,7 @@ impl<T: Drop> Sequence<T> {
 }
 
 impl<T: Copy + Drop> Sequence<T> {
-    /// An equal list, with memory of its own.
+    /// In memory of its own.
     pub fn copy(&self, alloc: Global) -> Result<Self, NoMemory>
         ensures { IfOk result (λ copy. copy ≡ self.now) }
     {

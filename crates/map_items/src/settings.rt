@@ -4,7 +4,6 @@ ghost use Rattle.map_items.specs.Sizes.{AreSizes};
 
 use std::marker::Model;
 
-/// The edge of the grid's voxels, and from how many nodes on a subtree is rebuilt beside the updates.
 #[derive(Clone, Copy, Debug, PartialEq, Eq)]
 pub struct Settings {
     voxel: u32,
@@ -24,7 +23,7 @@ impl Model for Settings {
 }
 
 impl Settings {
-    /// The settings of these sizes: an edge from 1 to 1,000,000 millimetres, and from 16 to 1,000,000 nodes.
+    /// `voxel` is 1 to 1,000,000 millimetres, and `large` 16 to 1,000,000 nodes.
     pub fn new(voxel: u32, large: u32) -> Settings
         requires { AreSizes (record { voxel = voxel; large = large }) }
         ensures { result ≡ record { voxel = voxel; large = large } }
@@ -32,7 +31,7 @@ impl Settings {
         Settings { voxel, large }
     }
 
-    /// The edge of the grid's voxels, in millimetres.
+    /// A voxel's edge, in millimetres.
     pub fn voxel(&self) -> u32
         ensures value { result ≡ self.now.voxel }
         ensures sizes { AreSizes self.now }
@@ -40,7 +39,7 @@ impl Settings {
         self.voxel
     }
 
-    /// From how many nodes on a subtree is rebuilt beside the updates.
+    /// From how many nodes on a subtree is rebuilt while updates go on.
     pub fn large(&self) -> u32
         ensures value { result ≡ self.now.large }
         ensures sizes { AreSizes self.now }

@@ -5,31 +5,29 @@ use crate::{NoMemory, Sequence};
 use point_geom::{Cuboid, Point};
 use std::alloc::Global;
 
-/// A list of points.
 pub type Points = Sequence<Point>;
 
-/// A list of boxes.
 pub type Cuboids = Sequence<Cuboid>;
 
-/// A change of the map.
+/// Points and boxes are taken in turn.
 #[derive(Debug)]
 pub enum Update {
-    /// Each point in turn is held, live, under the next number.
+    /// Each point becomes live under the next number.
     Add(Points),
-    /// Each point in turn takes the next number, and of its voxel the live point nearest to the centre is kept: the others are
-    /// dropped for good.
+    /// Each point takes the next number; its voxel keeps the live point nearest to the centre, and the others are
+    /// dropped.
     Thin(Points),
-    /// What is live or suspended in each box in turn is dropped for good.
+    /// Drops what is live or suspended in the boxes.
     Delete(Cuboids),
-    /// What is live in each box in turn is hidden until it is restored.
+    /// Suspends what is live in the boxes.
     Suspend(Cuboids),
-    /// What is suspended in each box in turn is live again.
+    /// Makes live what is suspended in the boxes.
     Restore(Cuboids),
-    /// What is live or suspended under a number below this one is dropped for good. Points that come later aren't touched.
+    /// Drops what has a number below this one. Points that come later are kept.
     Expire(u32),
 }
 
-// By hand, so that whoever lets an update go proves one call.
+// Manual `Drop`, as of `Entry`.
 impl Drop for Update {
     fn drop(self) {
         match self {
@@ -53,7 +51,7 @@ impl Update {
         }
     }
 
-    /// An equal update, with memory of its own.
+    /// In memory of its own.
     pub fn copy(&self, alloc: Global) -> Result<Update, NoMemory>
         ensures { IfOk result (λ copy. copy ≡ self.now) }
     {
