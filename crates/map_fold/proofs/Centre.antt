@@ -1,4 +1,4 @@
--- The order of items towards the centre of a box. Of items with different numbers one stands first.
+-- The order of items towards the centre of a box. Of items with different numbers one comes first.
 use Rattle.std.proofs.Common.{◌≡◌, ℕ, inl, inr, Bool, true, false, cond, List, [], ◌∷◌, refl, sym, ap, ◌∙◌, subst}
 use Rattle.std.specs.Cmp.{IsTotalOrder, IsStrictWeakOrder}
 use Rattle.std.specs.FinMap.{nat_cmp-IsAntisymmetric}

@@ -6,12 +6,12 @@ use Rattle.map_fold.specs.Nearest.{IsInOrder, AreFirst}
 use Rattle.map_items.specs.Contents.{Member}
 use Rattle.map_fold.proofs.Order.{nearer_not_back, nearer_not_itself, nearer_chain, nearer_either}
 
--- no number stands twice in the list
+-- no number is in the list twice
 abbrev pub Apart : List Hit → Type 0
 Apart [] = Unit {0}
 Apart (h ∷ hits) = ((g : Hit) → Member g hits → g.number ≡ h.number → ⊥) × Apart hits
 
--- what is put in stands in the list
+-- what is put in is in the list
 pub member-put_hit : (g h : Hit) (xs : List Hit) → Member g (put_hit h xs) → (g ≡ h) ⊎ Member g xs
 member-put_hit g h [] m = m
 member-put_hit g h (x ∷ xs) m =
@@ -29,7 +29,7 @@ put_hit_old g h [] m = absurd m
 put_hit_old g h (x ∷ xs) (inl e) = elim (is_nearer x h) as (λ b. Member g (cond b (x ∷ put_hit h xs) (h ∷ x ∷ xs))) [ true ↦ inl e | false ↦ inr (inl e) ]
 put_hit_old g h (x ∷ xs) (inr m) = elim (is_nearer x h) as (λ b. Member g (cond b (x ∷ put_hit h xs) (h ∷ x ∷ xs))) [ true ↦ inr (put_hit_old g h xs m) | false ↦ inr (inr m) ]
 
--- the same hits stand in the ordered list
+-- the same hits are in the ordered list
 pub in_order_from : (g : Hit) (xs : List Hit) → Member g (in_order xs) → Member g xs
 in_order_from g [] m = m
 in_order_from g (x ∷ xs) m = elim (member-put_hit g x (in_order xs) m) [ inl e ↦ inl e | inr n ↦ inr (in_order_from g xs n) ]
@@ -77,7 +77,7 @@ pub in_order_is : (xs : List Hit) → Apart xs → IsInOrder (in_order xs)
 in_order_is [] a = tt
 in_order_is (x ∷ xs) a = put_hit_in_order x (in_order xs) (in_order_is xs a.1) (λ g m. a.0 g (in_order_from g xs m))
 
--- a member of the front is one of the list
+-- a member of a prefix is one of the list
 pub member-take : (g : Hit) (k : ℕ) (xs : List Hit) → Member g (take k xs) → Member g xs
 member-take g zero xs m = absurd m
 member-take g (suc k) [] m = absurd m
@@ -94,7 +94,7 @@ take_few zero xs = omega arith
 take_few (suc k) [] = omega arith
 take_few (suc k) (x ∷ xs) = omega (arith, take_few k xs)
 
--- what stands in an ordered list is among the first k, or comes after k of it
+-- what is in an ordered list is among the first k, or comes after k of it
 take_rest : (k : ℕ) (xs : List Hit) (h : Hit) → IsInOrder xs → Member h xs
     → Member h (take k xs) ⊎ ((length (take k xs) ≡ k) × ((g : Hit) → Member g (take k xs) → is_nearer g h ≡ true))
 take_rest zero xs h s m = inr (refl, λ g n. absurd n)
@@ -109,7 +109,7 @@ take_rest (suc k) (x ∷ xs) h s (inr m) =
       )
     ]
 
--- the first k in order of a list in which no number stands twice
+-- the first k in order of a list in which no number is twice
 pub first_are : (k : ℕ) (xs : List Hit) → Apart xs → AreFirst k xs (take k (in_order xs))
 first_are k xs a =
     let s = in_order_is xs a in
@@ -124,7 +124,7 @@ first_are k xs a =
 pub first_same : (k : ℕ) (xs ys hits : List Hit) → ((h : Hit) → Member h xs → Member h ys) → ((h : Hit) → Member h ys → Member h xs) → AreFirst k xs hits → AreFirst k ys hits
 first_same k xs ys hits to back f = record { ordered = f.ordered; few = f.few; from = λ h m. to h (f.from h m); rest = λ h m. f.rest h (back h m) }
 
--- the first k of an ordered list are its front
+-- the first k in order of an ordered list are its first k
 first_front : (k : ℕ) (xs hits : List Hit) → IsInOrder xs → AreFirst k xs hits → hits ≡ take k xs
 first_front k [] [] s f = nothing k
   where

@@ -29,7 +29,7 @@ put_hit_ranked h (x ∷ xs) s =
       )
     ]
 
--- the front of hits in order
+-- a prefix of hits in order
 pub take_ranked : (k : ℕ) (xs : List Hit) → AreRanked xs → AreRanked (take k xs)
 take_ranked zero xs s = tt
 take_ranked (suc k) [] s = tt

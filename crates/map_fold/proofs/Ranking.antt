@@ -45,7 +45,7 @@ length-insert zero xs x = omega arith
 length-insert (suc at) [] x = refl
 length-insert (suc at) (y ∷ xs) x = omega (arith, length-insert at xs x)
 
--- a list but for the last, which was pushed
+-- a list without its last, which was pushed
 pub take-pushed : {X : Type 0} (xs ys : List X) (x : X) → ys ≡ xs ++ x ∷ [] → take (length ys - 1) ys ≡ xs
 take-pushed xs ys x e =
     let short : length ys - 1 ≡ length xs = omega (arith, ap length e, length-append xs (x ∷ [])) in

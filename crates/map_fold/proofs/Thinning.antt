@@ -73,7 +73,7 @@ pub mark-thin : (c : Bounds) (low high : ℕ) (m : List Item) → AreContents lo
 mark-thin c low high [] h = refl
 mark-thin c low high (i ∷ m) h = thin_cons c i.number i.point i.label m h.2 ∙ ap (λ xs. cond (left_out c i) (i ∷ xs) xs) (mark-thin c (i.number + 1) high m h.3)
 
--- what is left is still what a map may hold
+-- the remaining items are still what a map may hold
 contents_left : (c : Bounds) (low high : ℕ) (m : List Item) → AreContents low high m → AreContents low high (filter (left_out c) m)
 contents_left c low high m h = subst (AreContents low high) (mark-thin c low high m h) (contents_mark low high m (in_box c) thin_tag h)
 
@@ -93,7 +93,7 @@ left_unheld c low high (i ∷ m) w h (inr n) e =
     over true one more = more
     over false one more = one
 
--- what is left where nothing is taken out
+-- the remaining items where nothing is taken out
 filter_all : {X : Type 0} (p : X → Bool) (xs : List X) → filter p xs ≡ [] → filter (λ x. not (p x)) xs ≡ xs
 filter_all p [] e = refl
 filter_all p (x ∷ xs) e = let parts = filter_none p x xs e in rw parts.0 (ap (λ ys. x ∷ ys) (filter_all p xs parts.1))
@@ -169,7 +169,7 @@ winner_is edge n m p w h new rival first =
     let is = winner_rival edge n m p in
     one_rival edge n m p v w h new is rival (one_best (voxel edge p) v w (first v is) (winner_first edge n m p w rival))
 
--- the winner's number is that of no item that is left in the voxel or elsewhere
+-- the winner's number is that of no remaining item, in the voxel or elsewhere
 pub winner_unheld : (edge n : ℕ) (m : List Item) (p : Place) → AreContents 0 n m → IsUnheld (winner edge m n p).number (mark m (in_box (voxel edge p)) thin_tag)
 winner_unheld edge n m p h = over (winner_rival edge n m p)
   where
@@ -193,7 +193,7 @@ winner_number edge n m p h = over (winner_rival edge n m p)
     over (inl same) = subst (λ (i : Item). i.number < n + 1) (sym same) (let e : n < n + 1 = omega arith in e)
     over (inr held) = let below = item_below 0 n m (winner edge m n p) h (inside_is (voxel edge p) m (winner edge m n p) held).0 in omega arith
 
--- what is left when a point was thinned is what a map may hold that has submitted one more
+-- what remains when a point was thinned is what a map may hold to which one more was submitted
 pub contents_thin : (edge n : ℕ) (m : List Item) (p : Place) → AreContents 0 n m → AreContents 0 (n + 1) (thin edge m n p)
 contents_thin edge n m p h =
     let w = winner edge m n p in

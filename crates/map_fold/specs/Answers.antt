@@ -1,4 +1,4 @@
--- The answers to queries.
+-- What queries return.
 use Rattle.std.specs.Prelude.{ℕ, ◌*◌, Bool, true, List, [], ◌∷◌, map, filter, take, length, nat_le, if◌then◌else◌}
 use Rattle.std.specs.Ordering.{nat_cmp, ordering_then, is_lt}
 use Rattle.std.specs.declared.cmp.Ordering.{Ordering}
@@ -46,7 +46,7 @@ candidates m q r = filter (is_within r) (map (hit_of q) (live_items m))
 abbrev pub nearest : List Item → ℕ → Place → Option ℕ → List Hit
 nearest m k q r = take k (in_order (candidates m q r))
 
--- the same for each place, in the order of the places
+-- `nearest` for each place, in the order of the places
 abbrev pub nearest_each : List Item → ℕ → List Place → Option ℕ → List (List Hit)
 nearest_each m k qs r = map (λ q. nearest m k q r) qs
 
@@ -58,7 +58,7 @@ nears m k qs = nearest_each m k qs None
 abbrev pub inside_all : List Item → Bounds → List Item
 inside_all m c = filter (in_box c) (live_items m)
 
--- the first live items in the box by number, so many at most
+-- the first live items in the box by number, at most `most`
 abbrev pub inside : List Item → Bounds → ℕ → List Item
 inside m c most = take most (inside_all m c)
 

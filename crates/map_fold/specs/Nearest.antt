@@ -7,12 +7,12 @@ use Rattle.map_fold.specs.declared.hits.Hit.{Hit}
 use Rattle.map_items.specs.Contents.{Member, live_items}
 use Rattle.map_fold.specs.Answers.{hit_of, is_nearer, is_within}
 
--- each hit comes before all that stand after it, so none stands there twice
+-- each hit comes before all later ones, so none is there twice
 abbrev pub IsInOrder : List Hit → Type 0
 IsInOrder [] = Unit {0}
 IsInOrder (h ∷ hits) = ((g : Hit) → Member g hits → is_nearer h g ≡ true) × IsInOrder hits
 
--- no hit comes before one that stands ahead of it, though the same may stand twice
+-- no hit comes before an earlier one, though the same may be there twice
 abbrev pub AreRanked : List Hit → Type 0
 AreRanked [] = Unit {0}
 AreRanked (h ∷ hits) = ((g : Hit) → Member g hits → is_nearer g h ≡ false) × AreRanked hits

@@ -23,7 +23,7 @@ outside m c = filter (λ i. not (in_box c i)) m
 abbrev pub suspended_items : List Item → List Item
 suspended_items m = filter (λ i. is_suspended i.label) m
 
--- The point p was thinned under the number n, on a grid of this edge: the rival nearest to the voxel's centre alone is left
+-- The point p was thinned under the number n, on a grid of this edge: the rival nearest to the voxel's centre alone is
 -- live there, and nothing else has changed.
 pub record IsThinned (edge : ℕ) (m : List Item) (n : ℕ) (p : Place) (after : List Item) : Type 0 where
   pub winner : Item

@@ -8,5 +8,4 @@ pub struct Group {
     pub size: u32,
 }
 
-/// A list of clusters.
 pub type Groups = Sequence<Group>;

@@ -15,7 +15,7 @@ use std::marker::Model;
 pub struct Hit {
     pub number: u32,
     pub point: Point,
-    /// The squared distance from the query, in squared millimetres.
+    /// From the query, in squared millimetres.
     pub dist2: u128,
 }
 
@@ -27,7 +27,7 @@ pub struct Hits {
     ranked: bool,
 }
 
-/// The hits of each of several searches, in their order.
+/// The hits of several searches, in the order of the searches.
 pub type HitLists = Sequence<Hits>;
 
 impl Model for Hits {
@@ -43,7 +43,7 @@ impl Model for Hits {
 }
 
 impl Hits {
-    /// A list of nothing, which takes no memory.
+    /// Takes no memory.
     pub fn new(alloc: Global) -> Self
         ensures { result ≡ [] }
     {
@@ -53,21 +53,19 @@ impl Hits {
         }
     }
 
-    /// How many there are.
     pub fn len(&self) -> usize
         ensures { result ≡ length self.now }
     {
         self.hits.len()
     }
 
-    /// All of them, in order.
     pub fn as_slice(&self) -> &[Hit]
         ensures { result.now ≡ self.now }
     {
         self.hits.as_slice()
     }
 
-    /// Puts one more at the end. Where memory runs out, the list stays as it was.
+    /// On `NoMemory` the list is unchanged.
     pub fn push(&mut self, hit: Hit) -> Result<(), NoMemory>
         ensures ok { OnOk result (self.new ≡ self.old ++ hit ∷ []) }
         ensures err { OnErr result (self.new ≡ self.old) }
@@ -78,8 +76,8 @@ impl Hits {
         Ok(())
     }
 
-    /// Puts a hit in its place among hits in order, of which the nearest k are kept. Costs as many steps as there are hits
-    /// after it, or k steps where `push` was called before.
+    /// Puts a hit in its place among hits in order, and keeps the nearest k. Costs a step for each hit behind it, or k
+    /// steps after a `push`. On `NoMemory` the list is unchanged.
     pub fn put(&mut self, k: usize, hit: Hit) -> Result<(), NoMemory>
         requires k_from { 1 ≤ k }
         requires few { length self.old ≤ k }
@@ -94,7 +92,6 @@ impl Hits {
         put_at(&mut self.hits, k, at, &hit)
     }
 
-    // Where the hit goes.
     fn place_of(&self, hit: &Hit) -> usize
         ensures bound { result ≤ length self.now }
         ensures value { insert self.now result hit.now ≡ put_hit hit.now self.now }
@@ -130,7 +127,6 @@ fn place_from_end(hits: &[Hit], hit: &Hit) -> usize
     at
 }
 
-// Puts the hit at this place, and keeps the first k.
 fn put_at(hits: &mut SmallVec<Hit, 16>, k: usize, at: usize, hit: &Hit) -> Result<(), NoMemory>
     requires kept { at < k }
     requires bound { at ≤ length hits.old.items }
@@ -147,7 +143,6 @@ fn put_at(hits: &mut SmallVec<Hit, 16>, k: usize, at: usize, hit: &Hit) -> Resul
     Ok(())
 }
 
-// Puts the hit at this place, and drops the last.
 fn put_before_last(hits: &mut [Hit], at: usize, hit: Hit)
     requires { at < length hits.old }
     ensures { hits.new ≡ insert (take (length hits.old - 1) hits.old) at hit }
@@ -157,7 +152,7 @@ fn put_before_last(hits: &mut [Hit], at: usize, hit: Hit)
     hits[at] = hit;
 }
 
-// Most hits differ in their distance.
+// Distances first: most hits differ in them.
 fn is_nearer(a: &Hit, b: &Hit) -> bool
     ensures { result ≡ is_nearer a.now b.now }
 {

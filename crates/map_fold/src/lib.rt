@@ -1,4 +1,4 @@
-//! What queries answer, as definitions and as values, and the plain map; and all that `map_items` says.
+//! What queries return, as definitions and as values, and the plain map; and all that `map_items` exports.
 #![tactic(auto)]
 
 mod group;

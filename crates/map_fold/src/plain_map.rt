@@ -39,7 +39,7 @@ impl Model for PlainMap {
 }
 
 impl PlainMap {
-    /// A map of nothing, which takes no memory.
+    /// Takes no memory.
     pub fn new(alloc: Global) -> Self
         ensures { result ≡ no_points }
     {
@@ -57,7 +57,7 @@ impl PlainMap {
         self.next
     }
 
-    /// How many items are live and how many suspended. None are dropped.
+    /// How many items are live and how many suspended; none are dropped.
     pub fn counts(&self) -> Counts
         ensures { result ≡ totals self.now.items }
     {
@@ -69,12 +69,12 @@ impl PlainMap {
         }
     }
 
-    /// The map after one more update. Lack of memory loses the map.
+    /// The map after one more update. On `NoMemory` the map is dropped.
     pub fn apply(self, settings: &Settings, update: &Update) -> Result<PlainMap, NoMemory>
         requires { self.next + points_in update.now ≤ MAX_POINTS }
         ensures stepped { IfOk result (λ m. m ≡ step settings.now.voxel update.now self) }
 
-        // What that is for one point that is thinned, said without the way it is made.
+        // Of one thinned point: what the result is, not how it is made.
         ensures thinned { (p : Place) → update.now ≡ Update.Thin (p ∷ [])
             → IfOk result (λ m. IsThinned settings.now.voxel self.items self.next p m.items) }
     {
@@ -139,8 +139,8 @@ impl PlainMap {
         PlainMap { items, next }
     }
 
-    /// The first k live points by squared distance from q, then by x, y and z, then by number; within the greatest
-    /// distance, in millimetres, where one is given. Costs k steps an item, and no memory for k up to 16.
+    /// The first k live points by distance from q, then by x, y, z, then by number; at most `within` millimetres away,
+    /// where that is given. Costs k steps an item, and no memory for k up to 16.
     pub fn nearest(
         &self,
         alloc: Global,
@@ -153,14 +153,14 @@ impl PlainMap {
         requires within_to { ForSome within (λ r. r ≤ MAX_WITHIN) }
         ensures found { IfOk result (λ hits. hits ≡ nearest self.now.items k q.now within) }
 
-        // What that list is, said without the way it is made.
+        // What that list is, not how it is made.
         ensures nearest { IfOk result (AreNearest self.now.items k q.now within) }
         ensures inline { k ≤ 16 → IsOk result }
     {
         nearest_of(alloc, self.items.as_slice(), k as usize, q, within)
     }
 
-    /// The first live points in the cuboid by number, as many as are asked for. Costs a step an item.
+    /// The first `most` live items in the cuboid by number. Costs a step an item.
     pub fn in_cuboid(&self, alloc: Global, c: &Cuboid, most: u32) -> Result<Items, NoMemory>
         requires most_from { 1 ≤ most }
         requires most_to { most ≤ MAX_FOUND }
@@ -169,7 +169,7 @@ impl PlainMap {
         inside_of(alloc, self.items.as_slice(), c, most as usize)
     }
 
-    /// How many live points are in the cuboid. Costs a step an item, and no memory.
+    /// How many live points are in the cuboid. Costs a step an item.
     pub fn count_in(&self, c: &Cuboid) -> u32
         ensures { result ≡ count self.now.items c.now }
     {
@@ -185,7 +185,6 @@ impl PlainMap {
     }
 }
 
-// Does the action to the chosen items, and drops what it drops.
 pub(crate) fn mark_items(items: &mut Vec<Item>, choice: &Choice, tag: Tag)
     ensures { items.new.items ≡ mark items.old.items (chosen_by choice.now) tag }
 {

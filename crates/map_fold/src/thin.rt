@@ -1,4 +1,4 @@
-//! Downsampling of a list of items. Nothing here knows the map that the list is of.
+//! Downsampling of a list of items.
 ghost use Rattle.std.specs.Prelude.{◌≡◌, ◌≤◌, List, ◌∷◌, ◌++◌, drop, filter, length, take, OnOk};
 ghost use Rattle.point_geom.specs.Place.{Place};
 ghost use Rattle.map_items.specs.declared.item.Item.{Item};
@@ -17,8 +17,7 @@ enum Rivals {
     More,
 }
 
-// Keeps, of the live items in the point's voxel and the point under this number, the one nearest to the centre. Where it is
-// alone there, or one that is there stays, no item is moved.
+// Where the point is alone in its voxel, or the one item there stays, no item is moved.
 pub(crate) fn thin_one(
     items: &mut Vec<Item>,
     edge: u32,
@@ -76,7 +75,6 @@ fn winner(items: &[Item], cube: &Cuboid, number: u32, point: &Point) -> Item
     best
 }
 
-// Holds the point, live, under this number.
 fn put_item(items: &mut Vec<Item>, number: u32, point: Point) -> Result<(), NoMemory>
     ensures { OnOk result (items.new.items ≡ put items.old.items number point) }
 {
@@ -90,7 +88,6 @@ fn put_item(items: &mut Vec<Item>, number: u32, point: Point) -> Result<(), NoMe
     Ok(())
 }
 
-// Where an item of this number is, or goes, among items by number.
 fn place_of(items: &[Item], number: u32) -> usize
     ensures bound { result ≤ length items.now }
     ensures value { (p : Place) → take result items.now ++ put (drop result items.now) number p ≡ put items.now number p }
