@@ -40,7 +40,7 @@ onward_clear Left p ((Right ∷ q) ∷ ps) past clear = (tt, onward_clear Left p
 onward_clear Right p ((Left ∷ q) ∷ ps) past clear = (tt, onward_clear Right p ps past clear)
 onward_clear Right p ((Right ∷ q) ∷ ps) past clear = (clear.0, onward_clear Right p ps past clear.1)
 
--- the paths that go on from a son
+-- the paths that go on from a child
 beyond-append : (path : List Side) (side : Side) (ps : List (List Side)) → beyond (path ++ side ∷ []) ps ≡ onward side (beyond path ps)
 beyond-append [] side ps = refl
 beyond-append (s ∷ path) side ps = beyond-append path side (onward s ps)

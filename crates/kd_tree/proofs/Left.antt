@@ -1,4 +1,4 @@
--- Facts of the points that are left of a tree.
+-- Facts of the remaining points of a tree.
 use Rattle.std.proofs.Common.{List, [], ◌∷◌, ◌++◌, ◌≡◌, true, subst}
 use Rattle.std.specs.Prelude.{All}
 use Rattle.std.specs.List.{AllByRecursion}
@@ -25,7 +25,7 @@ own_all F i k = cond_both (is_kept i.label) (i ∷ []) [] (All F) (λ e. All-con
 own_of : (F : Item → Type 0) (i : Item) → All F (kept (i ∷ [])) → is_kept i.label ≡ true → F i
 own_of F i k e = All-head F i [] (subst (All F) (cond-true (is_kept i.label) (i ∷ []) [] e) k)
 
--- a fact of the points that are left is one of the walk
+-- a fact of the remaining points is one of the walk
 pub all_left : (P : Place → Type 0) (a : Tag) (t : Shape) → AllKept P a t → All (λ i. P i.point) (walk a t)
 all_left P a leaf k = All-nil (λ (i : Item). P i.point)
 all_left P a (fork h l r) k =

@@ -80,7 +80,7 @@ widened_parts : (a : Numbers) (o : Option Numbers) (r : Numbers) → r.least ≤
 widened_parts a None r k l = (k, l, tt)
 widened_parts a (Some b) r k l = (omega (arith, k), omega (arith, l), (omega (arith, k), omega (arith, l)))
 
--- what is left of a tree has numbers in its range
+-- the remaining items of a tree have numbers in its range
 pub walk_ranged : (a : Tag) (t : Shape) (r : Numbers) → Ranged (range t) r → All (λ i. IsInRange r i.number) (walk a t)
 walk_ranged a leaf r k = let Q : Item → Type 0 = λ i. IsInRange r i.number in All-nil Q
 walk_ranged a (fork h l r) e k =

@@ -50,7 +50,8 @@ abbrev pub is_none_left : List (List Side) → Bool
 is_none_left [] = true
 is_none_left (p ∷ ps) = false
 
--- the path of the first node of at least so many nodes that breaches a criterion and is clear of the paths: node, left, right
+-- the path of the first node of at least `least` nodes that breaches a criterion and is clear of the paths: node, left,
+-- right
 abbrev pub first_free : ℕ → List (List Side) → Shape → Option (List Side)
 first_free least ps leaf = None
 first_free least ps (fork h l r) =
@@ -58,11 +59,11 @@ first_free least ps (fork h l r) =
     else (if is_none_left ps && nat_le least (nodes l + nodes r + 1) && is_breached (fork h l r) then Some []
     else first_of (on_side Left (first_free least (onward Left ps) l)) (on_side Right (first_free least (onward Right ps) r)))
 
--- each node of at least so many nodes that is clear of the paths meets both criteria
+-- each node of at least `least` nodes that is clear of the paths meets both criteria
 abbrev pub AllClearMeetCriteria : ℕ → List (List Side) → Shape → Type 0
 AllClearMeetCriteria least ps t = (p : List Side) (s : Shape) → at p t ≡ Some s → IsClear p ps → least ≤ nodes s → MeetsCriteria s
 
--- such a node that doesn't stands at the path, clear of the others, and none does earlier
+-- such a node that doesn't is at the path, clear of the others, and none is earlier
 pub record IsFirstFree (least : ℕ) (ps : List (List Side)) (t : Shape) (path : List Side) : Type 0 where
   pub node : Shape
   pub there : at path t ≡ Some node

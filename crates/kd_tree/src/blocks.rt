@@ -1,13 +1,13 @@
-//! The memory of old nodes, for new ones. Nothing here knows what a node is, nor for which ones its memory is wanted.
+//! The memory of old nodes, for new ones.
 use crate::{Block, Tree};
 use map_items::NoMemory;
 use std::alloc::Global;
 
-// The most blocks that are kept: 1 MB.
+// 1 MB of them.
 const MAX_KEPT: usize = 8_192;
 
-// The memory of old nodes, and trees that are dropped. These are taken apart node by node, as memory is wanted: so a node is written
-// just after it was read, while the processor has it at hand.
+// Trees that are dropped are taken apart node by node, as memory is wanted: so a node is written just after it was
+// read, while the processor has it at hand.
 #[derive(Drop)]
 pub(crate) struct Blocks {
     ready: Vec<Block>,
@@ -22,7 +22,6 @@ impl Blocks {
         }
     }
 
-    // Keeps the block, or drops it where so many are kept.
     pub(crate) fn push(&mut self, block: Block) -> Result<(), NoMemory> {
         if self.ready.len() < MAX_KEPT {
             self.ready.push(block)?;
@@ -30,13 +29,12 @@ impl Blocks {
         Ok(())
     }
 
-    // Takes in a tree in the place of what is left of those before it, which is dropped.
+    // What remains of the tree before is dropped.
     pub(crate) fn take_in(&mut self, tree: Tree) {
         self.trees.clear();
         keep(&mut self.trees, tree)
     }
 
-    // The memory of one node, if there is any.
     pub(crate) fn next(&mut self) -> Block {
         match self.ready.pop() {
             None => next_of(&mut self.trees),
@@ -45,8 +43,7 @@ impl Blocks {
     }
 }
 
-// The memory of the top node of the last of these trees whose top nobody else holds. Its sons take its place, and those behind it are
-// dropped.
+// Of the last tree whose top isn't shared. Its children take its place, and the trees behind it are dropped.
 fn next_of(trees: &mut Vec<Tree>) -> Block {
     while let Some(tree) = trees.pop() {
         if let Ok(node) = tree.opened_if_own() {
@@ -58,7 +55,7 @@ fn next_of(trees: &mut Vec<Tree>) -> Block {
     Block::none()
 }
 
-// One more tree, if it has a node. Where memory runs out, it is dropped.
+// On `NoMemory` the tree is dropped.
 fn keep(trees: &mut Vec<Tree>, tree: Tree) {
     if tree.is_empty() {
         return;

@@ -1,4 +1,4 @@
-//! Changes at the top of a tree. An action on all of a tree is done to its top alone, which owes it to its sons.
+//! Changes at the top of a tree. An action on a whole tree is done to its top, and is pending there for its children.
 ghost use Rattle.std.specs.Prelude.{◌≡◌, ◌+◌, ◌≤◌, ◌∷◌, ◌++◌, IfOk, IfSome, IsNone, ◌↔◌};
 ghost use Rattle.node_labels.specs.Labels.{keep_tag};
 ghost use Rattle.map_items.specs.Contents.{everything, mark};
@@ -15,7 +15,7 @@ use point_geom::Axis;
 use std::alloc::Global;
 use std::sync::ledger::Ledger;
 
-/// A tree taken apart at its top. The sons owe nothing to it.
+/// A tree taken apart at its top. Nothing is pending for the children.
 #[derive(Drop)]
 pub struct Fork {
     pub item: Item,
@@ -25,7 +25,7 @@ pub struct Fork {
 }
 
 impl Tree {
-    /// The tree after this action on all its items. Where memory runs out, the tree is dropped.
+    /// The tree after this action on all its items.
     #[inline(always)]
     pub fn tagged<L: Ledger>(
         self,
@@ -46,7 +46,7 @@ impl Tree {
         self.retagged(alloc, tag, steps)
     }
 
-    // The same, whatever the action is: the node is taken apart and put together, by itself, since most actions are none.
+    // Not part of `tagged`, which is inlined, since most actions are KEEP.
     fn retagged<L: Ledger>(
         self,
         alloc: Global,
@@ -72,7 +72,7 @@ impl Tree {
         }
     }
 
-    /// The tree taken apart at its top node, if it has one. Where memory runs out, the tree is dropped.
+    /// Takes the tree apart at its top node, if it has one. What is pending there is done to the children.
     pub fn push_down<L: Ledger>(
         self,
         alloc: Global,
@@ -97,9 +97,8 @@ impl Tree {
         }
     }
 
-    /// The tree with this son in the place of the one on this side. The top node's item, axis, pending action and other son
-    /// stay, and the new son owes the pending action as the old one did. A tree without a node stays so. Where memory runs
-    /// out, both trees are dropped.
+    /// The tree with another child on this side. What is pending at the top is pending for that child too. An empty
+    /// tree stays empty. On `NoMemory` both trees are dropped.
     pub fn with_son<L: Ledger>(
         self,
         alloc: Global,
@@ -139,7 +138,7 @@ impl Tree {
         }
     }
 
-    /// Joins the parts to a tree with nothing pending at its top. Where memory runs out, the parts are dropped.
+    /// Joins the parts to a tree with nothing pending at its top. On `NoMemory` they are dropped.
     pub fn pull_up<L: Ledger>(
         alloc: Global,
         fork: Fork,

@@ -1,4 +1,4 @@
-//! The least and the greatest of some numbers. Nothing here knows what a node is.
+//! Ranges of numbers.
 ghost use Rattle.std.specs.Prelude.{◌≡◌};
 ghost use Rattle.kd_tree.specs.Numbers.{one_number, widened};
 
@@ -10,7 +10,6 @@ pub struct Numbers {
 }
 
 impl Numbers {
-    // Of one node.
     #[inline]
     pub(crate) fn of(number: u32) -> Numbers
         ensures { result ≡ one_number number }
@@ -21,7 +20,6 @@ impl Numbers {
         }
     }
 
-    // Of these nodes and the others, where there are others.
     #[inline]
     pub(crate) fn widened(self, others: Option<Numbers>) -> Numbers
         ensures { result ≡ widened self others }

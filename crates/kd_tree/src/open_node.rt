@@ -1,5 +1,5 @@
-//! Nodes taken apart and put together. Only this file and `twin` know that a node is shared: the block of one that nobody else
-//! holds is kept meanwhile, and takes the node that is made of the parts. A shared node is never written.
+//! Nodes taken apart and put together. The memory of a node that isn't shared is kept meanwhile, for the node that is
+//! made of the parts. A shared node is never written.
 ghost use Rattle.std.specs.Prelude.{◌≡◌, ◌+◌, ◌≤◌, ◌∷◌, ◌++◌, Some, IfOk, IfErr, IfSome, IsNone, ◌↔◌};
 ghost use Rattle.std.specs.Arc.{arc_value};
 ghost use Rattle.kd_tree.specs.Shape.{leaf, fork, numbers};
@@ -17,14 +17,14 @@ use std::mem;
 use std::sync::Arc;
 use std::sync::ledger::Ledger;
 
-/// A tree taken apart at its top, as a `Fork` is, together with the memory of its top node.
+/// A `Fork`, with the memory of its node.
 #[derive(Drop)]
 pub struct OpenNode {
     pub item: Item,
     pub axis: Axis,
     pub left: Tree,
     pub right: Tree,
-    /// What `Tree::put_together` makes the node in.
+    /// `Tree::put_together` makes the node in it.
     pub block: Block,
 }
 
@@ -33,14 +33,14 @@ pub struct Block {
     node: Option<Arc<Node>>,
 }
 
-// By hand, so that whoever lets it go proves one call.
+// Manual `Drop`, as of `Tree`.
 impl Drop for Block {
     fn drop(self) {
         let Block { node: _node } = self;
     }
 }
 
-// A top node whose sons still owe what is pending.
+// `pending` isn't done to the children yet.
 #[derive(Drop)]
 pub(crate) struct Opened {
     pub(crate) item: Item,
@@ -52,8 +52,7 @@ pub(crate) struct Opened {
 }
 
 impl Tree {
-    /// The tree taken apart at its top node, if it has one, as `push_down` does. Where nobody else holds the node, its memory is
-    /// kept. Where memory runs out, the tree is dropped.
+    /// `push_down`, but the memory of a node that isn't shared is kept.
     #[inline(always)]
     pub fn take_apart<L: Ledger>(
         self,
@@ -84,8 +83,7 @@ impl Tree {
         }
     }
 
-    /// Joins the parts to a tree with nothing pending at its top, as `pull_up` does. Where memory was kept, the node is made in
-    /// it. Where memory runs out, the parts are dropped.
+    /// `pull_up`, but the node is made in the memory that was kept.
     #[inline(always)]
     pub fn put_together<L: Ledger>(
         alloc: Global,
@@ -109,7 +107,6 @@ impl Tree {
         block.filled(alloc, node)
     }
 
-    // The top node, if there is one.
     #[inline(always)]
     pub(crate) fn opened(self) -> Result<Option<Opened>, NoMemory>
         ensures { IfOk result (λ o. AreTopParts self o) }
@@ -123,7 +120,6 @@ impl Tree {
         }
     }
 
-    // The top node, if nobody else holds it, and else the tree as it was.
     #[inline(always)]
     pub(crate) fn opened_if_own(self) -> Result<Opened, Tree>
         ensures own { IfOk result (λ o. AreTopParts self (Some o)) }
@@ -143,7 +139,6 @@ impl Tree {
 }
 
 impl Opened {
-    // The node of these parts, in their block.
     pub(crate) fn closed<L: Ledger>(
         self,
         alloc: Global,
@@ -167,12 +162,11 @@ impl Opened {
 }
 
 impl Block {
-    /// No memory.
     pub fn none() -> Block {
         Block { node: None }
     }
 
-    /// This memory, or some of the scratch's where none is kept.
+    /// This memory, or the scratch's where none is kept.
     pub fn or_of(self, scratch: &mut Scratch) -> Block {
         let Block { node } = self;
         match node {
@@ -181,7 +175,7 @@ impl Block {
         }
     }
 
-    // The tree of this node. Where memory is kept that nobody else holds, it is in that.
+    // In this memory, where it isn't shared.
     #[inline(always)]
     pub(crate) fn filled(self, alloc: Global, node: Node) -> Result<Tree, NoMemory>
         requires { IsKeptAt node }
@@ -194,7 +188,6 @@ impl Block {
         Ok(Tree { root })
     }
 
-    // The same without its tree.
     #[inline(always)]
     fn filled_with(self, alloc: Global, node: Node) -> Result<Arc<Node>, NoMemory>
         ensures { IfOk result (λ a. arc_value a ≡ node) }
@@ -211,7 +204,7 @@ impl Block {
     }
 }
 
-// The parts of the node in this block. Where somebody else holds it, its sons are copied.
+// The children of a shared node are copied.
 #[inline(always)]
 fn taken(block: Arc<Node>) -> Result<Opened, NoMemory>
     ensures { IfOk result (λ o. IsTakenOf (arc_value block) o) }
@@ -229,7 +222,6 @@ fn taken(block: Arc<Node>) -> Result<Opened, NoMemory>
     }
 }
 
-// The same where nobody else holds the block: the sons are taken out of it. Else the block as it was.
 #[inline(always)]
 fn taken_if_own(mut block: Arc<Node>) -> Result<Opened, Arc<Node>>
     ensures own { IfOk result (λ o. IsTakenOf (arc_value block) o) }

@@ -1,5 +1,4 @@
-//! Memory that is used again: a list of items, and the memory of old nodes. Which nodes may be used again, `open_node.rt` knows
-//! alone.
+//! Memory that is used again: a list of items, and old nodes.
 ghost use Rattle.std.specs.Prelude.{◌≡◌, ◌+◌, ◌<◌, ◌≤◌, ◌^◌, ◌++◌, ℕ, IfOk, OnOk, IsPermutation, length, map};
 ghost use Rattle.node_labels.specs.Labels.{keep_tag};
 ghost use Rattle.kd_tree.specs.Shape.{levels, nodes, numbers};
@@ -16,16 +15,16 @@ use map_items::{Item, NoMemory, Tag};
 use std::alloc::Global;
 use std::sync::ledger::Ledger;
 
-// From how many items on a subtree is built in fresh memory, so that its nodes lie near one another.
+// A subtree of at least this many items is built in fresh memory, where its nodes lie near one another.
 const FRESH_FROM: usize = 8_192;
 
-/// Memory for new nodes, and for rebuilding. What it holds between two calls means nothing.
+/// Memory for new nodes and for rebuilding. What it holds between two calls means nothing.
 pub struct Scratch {
     items: Vec<Item>,
     blocks: Blocks,
 }
 
-// By hand, so that whoever lets it go proves one call.
+// Manual `Drop`, as of `Tree`.
 impl Drop for Scratch {
     fn drop(self) {
         let Scratch {
@@ -36,7 +35,7 @@ impl Drop for Scratch {
 }
 
 impl Scratch {
-    /// One that has taken no memory yet.
+    /// Takes no memory.
     pub fn new(alloc: Global) -> Scratch {
         Scratch {
             items: Vec::new(alloc),
@@ -44,8 +43,7 @@ impl Scratch {
         }
     }
 
-    /// Takes in a tree that its owner drops, for the memory of the nodes that nobody else holds. What is left of the tree before it
-    /// is dropped.
+    /// Takes in a tree for the memory of the nodes that aren't shared. What remains of the one before is dropped.
     pub fn take_in(&mut self, tree: Tree) {
         self.blocks.take_in(tree)
     }
@@ -57,10 +55,9 @@ impl Scratch {
 }
 
 impl Tree {
-    /// What is left of the tree and these items, built by medians as `build` does it. The list of them all is the scratch's.
-    /// Fewer than 8,192 new nodes are made in the memory of old ones that nobody else holds, as far as that goes; what is left
-    /// over is the scratch's until it is used or dropped with it. More are made in fresh memory, for which a second list is taken
-    /// meanwhile. Where memory runs out, the tree is dropped.
+    /// The remaining items of the tree and these, built by medians as `build` does it. Fewer than 8,192 nodes are made
+    /// in the memory of old ones that aren't shared, as far as it goes; more in fresh memory, while a second list is
+    /// held. Memory that isn't used stays with the scratch.
     pub fn rebuilt_with<L: Ledger>(
         self,
         alloc: Global,
@@ -96,8 +93,8 @@ impl Tree {
     }
 }
 
-// Moves the items. Few nodes are made in these blocks, while there are any. Many are made in fresh memory, where they lie side by
-// side: what was dropped in small pieces, glibc joins when it is asked for a large one, as it is for the list in `build`.
+// Many nodes are made in fresh memory, side by side: when it is asked for a large list, as in `build`, glibc joins what
+// was freed in small pieces.
 fn built_in<L: Ledger>(
     alloc: Global,
     items: &mut [Item],
@@ -117,8 +114,7 @@ fn built_in<L: Ledger>(
     Tree::build(alloc, items, steps)
 }
 
-// Puts what is left of a tree that owes this action behind the items, and the memory of the nodes that nobody else holds
-// behind the blocks. What is below a node that somebody else holds is read as it stands.
+// What is below a shared node is read, and stays.
 fn empty_owed(
     tree: Tree,
     owed: Tag,

@@ -1,15 +1,14 @@
-//! How many nodes are made, counted at no cost. Nothing here knows what a node is.
+//! The counter of nodes.
 ghost use Rattle.std.specs.Prelude.{◌≡◌, ◌+◌, ◌<◌};
 ghost use Rattle.kd_tree.specs.Counter.{IsBlankOf};
 
 use std::marker::Model;
 use std::sync::ledger::{Blank, Book, Ledger, Share};
 
-/// How many nodes were made so far. A call that is handed it can promise by a clause how many nodes it makes at most. It is
-/// for contracts alone: it takes no bytes and no time, nothing but the making of a node changes it, and no run can read it.
+/// How many nodes were made so far, for clauses that bound them: it takes no bytes and no time, and no run can read it.
 ///
-/// A caller that counts nothing still hands one over. It calls a function of its own, generic in the ledger, with
-/// `Blank::new(1)` and `Brand` for the ledger, and that function makes its counter from the blank by `new`.
+/// A caller that counts nothing calls a function of its own, generic in the ledger, with `Blank::new(1)` and `Brand`;
+/// there `new` makes the counter from the blank.
 #[derive(Drop)]
 pub struct Steps<L: Ledger> {
     book: Book<L>,
@@ -27,7 +26,7 @@ impl<L: Ledger> Model for Steps<L> {
 }
 
 impl<L: Ledger> Steps<L> {
-    /// None yet, in a ledger of its own.
+    /// In a ledger of its own.
     pub fn new(blank: Blank) -> Steps<L>
         requires blank { IsBlankOf L.name L.parts blank }
         ensures { result ≡ 0 }

@@ -8,7 +8,7 @@ use Rattle.kd_tree.specs.View.{shape_at, shape_of}
 use Rattle.kd_tree.specs.Contents.{AddsFront}
 use Rattle.kd_tree.proofs.flatten.+gather_owed.Goals as goal
 
--- a front of the left son, behind the node
+-- a prefix of the left child, behind the node
 front_left : (old own mid new left right : List Item) → mid ≡ old ++ own → AddsFront mid left new → AddsFront old (own ++ (left ++ right)) new
 front_left old own mid new left right first k = record {
   front = own ++ k.front;
@@ -17,7 +17,7 @@ front_left old own mid new left right first k = record {
   added = k.added ∙ ap (λ (z : List Item). z ++ k.front) first ∙ append_assoc old own k.front;
 }
 
--- a front of the right son, behind the node and all of the left son
+-- a prefix of the right child, behind the node and all of the left child
 front_right : (old own mid left next new right : List Item) → mid ≡ old ++ own → next ≡ mid ++ left → AddsFront next right new → AddsFront old (own ++ (left ++ right)) new
 front_right old own mid left next new right first second k = record {
   front = own ++ (left ++ k.front);

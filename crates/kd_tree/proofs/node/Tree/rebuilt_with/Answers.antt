@@ -17,11 +17,11 @@ use Rattle.kd_tree.proofs.node.Tree.rebuilt_with.Goals.{After-as_mut_slice, Afte
 kept_with : (s : Shape) (more : List Item) → AreKept more → AreKept (walk keep_tag s ++ more)
 kept_with s more k = All-append (λ (i : Item). is_dropped i.label ≡ false) (walk keep_tag s) more (walk_kept keep_tag s) k
 
--- the list that is cleared, and then takes what is left of the tree, and the items
+-- the list that is cleared, and then takes the tree's remaining items, and the others
 listed : (cleared roomy held all built left more : List Item) → cleared ≡ [] → roomy ≡ cleared → held ≡ roomy ++ left → all ≡ held ++ more → built ≡ all → built ≡ left ++ more
 listed cleared roomy held all built left more e f g h k = k ∙ h ∙ ap (λ (xs : List Item). xs ++ more) (g ∙ ap (λ (xs : List Item). xs ++ left) (f ∙ e))
 
--- so it is what is left of the tree, and the items
+-- so it is the tree's remaining items, and the others
 all : (g : _) (c : After-as_mut_slice g) → c.as_mut_slice.result.now ≡ walk keep_tag c.args.self ++ c.args.more.now
 all g c =
     listed c.clear.new.self.items c.reserve.new.self.items c.empty_owed.new.items.items c.extend_from_slice.new.self.items c.as_mut_slice.result.now (walk keep_tag c.args.self) c.args.more.now
