@@ -20,7 +20,7 @@ use Rattle.kd_search.proofs.Walks.{first_in, rest_in, live-kept, live-append}
 pub inside-append : (c : Bounds) (xs ys : List Item) → inside_all (xs ++ ys) c ≡ inside_all xs c ++ inside_all ys c
 inside-append c xs ys = ap (filter (in_box c)) (live-append xs ys) ∙ filter-append (in_box c) (live_items xs) (live_items ys)
 
--- a node's item and what is in its sons
+-- a node's item and what is in its children
 pub inside-top : (c : Bounds) (i : Item) (left right : List Item) → inside_all (kept (i ∷ []) ++ (left ++ right)) c ≡ inside_all (i ∷ []) c ++ (inside_all left c ++ inside_all right c)
 inside-top c i left right =
     inside-append c (kept (i ∷ [])) (left ++ right)
@@ -60,7 +60,7 @@ inside-by_number c xs =
 pub count-by_number : (c : Bounds) (xs : List Item) → count (by_number xs) c ≡ count xs c
 count-by_number c xs = ap length (inside-by_number c xs) ∙ length_permutation (inside_all xs c) (by_number (inside_all xs c)) (by_number_moves (inside_all xs c))
 
--- those at the top and in the sons together
+-- those at the top and in the children together
 pub count-top : (c : Bounds) (i : Item) (left right : List Item) → count (kept (i ∷ []) ++ (left ++ right)) c ≡ count (i ∷ []) c + count left c + count right c
 count-top c i left right =
     let whole = ap length (inside-top c i left right) in

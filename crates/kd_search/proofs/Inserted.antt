@@ -57,7 +57,7 @@ in_turn k top left right m one two three e f g =
     ∙ insert_all-take k (top ++ left) (insert_all right m)
     ∙ ap (take k) (insert_all-append top left (insert_all right m) ∙ ap (insert_all top) (sym (insert_all-append left right m)) ∙ sym (insert_all-append top (left ++ right) m))
 
--- both sons and then a node's item, one after the other, the last first
+-- both children and then a node's item, one after the other, the last first
 pub insert_in_turn : (k : ℕ) (c : Bounds) (i : Item) (left right whole m one two three : List Item) → whole ≡ kept (i ∷ []) ++ (left ++ right)
     → one ≡ take k (insert_all (inside_all right c) m) → two ≡ take k (insert_all (inside_all left c) one) → three ≡ take k (insert_all (inside_all (i ∷ []) c) two)
     → three ≡ take k (insert_all (inside_all whole c) m)

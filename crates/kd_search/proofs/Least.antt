@@ -72,7 +72,7 @@ best_none m c = by_list (inside_all m c)
     by_list [] = ((λ h. refl), λ e. refl)
     by_list (x ∷ xs) = ((λ h. absurd (cc)), λ e. absurd (cc))
 
--- a node's item and then both sons, one after the other
+-- a node's item and then both children, one after the other
 pub best_in_turn : (c : Bounds) (i : Item) (left right whole : List Item) (best one two three : Option Item) → whole ≡ kept (i ∷ []) ++ (left ++ right)
     → one ≡ best_from c best (inside_all (i ∷ []) c) → two ≡ best_from c one (inside_all left c) → three ≡ best_from c two (inside_all right c)
     → three ≡ best_from c best (inside_all whole c)

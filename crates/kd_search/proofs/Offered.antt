@@ -80,7 +80,7 @@ candidates-append q r xs ys =
     ∙ ap (filter (is_within r)) (map-append (hit_of q) (live_items xs) (live_items ys))
     ∙ filter-append (is_within r) (map (hit_of q) (live_items xs)) (map (hit_of q) (live_items ys))
 
--- a node's candidate and those of its sons
+-- a node's candidate and those of its children
 pub candidates-top : (q : Place) (r : Option ℕ) (i : Item) (left right : List Item) → candidates (kept (i ∷ []) ++ (left ++ right)) q r ≡ candidates (i ∷ []) q r ++ (candidates left q r ++ candidates right q r)
 candidates-top q r i left right =
     candidates-append q r (kept (i ∷ [])) (left ++ right)
@@ -161,7 +161,7 @@ either_way q r i near far sons hits d (inr e) =
     turned (candidates (i ∷ []) q r) (candidates far q r) (candidates near q r) hits (candidates_apart q r near far d)
     ∙ ap (λ z. put_all z hits) (sym (ap (λ m. candidates (kept (i ∷ []) ++ m) q r) e ∙ candidates-top q r i far near))
 
--- the near son, then a node's item, then the far son
+-- the near child, then a node's item, then the far child
 pub near_first : (k : ℕ) (q : Place) (r : Option ℕ) (i : Item) (near far sons whole : List Item) (hits one two three : List Hit) → AreDistinct whole → whole ≡ kept (i ∷ []) ++ sons → IsEitherWay sons near far
     → one ≡ take k (put_all (candidates near q r) hits) → two ≡ take k (put_all (candidates (i ∷ []) q r) one) → three ≡ take k (put_all (candidates far q r) two)
     → three ≡ take k (put_all (candidates whole q r) hits)

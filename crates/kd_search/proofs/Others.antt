@@ -56,7 +56,7 @@ both_apart xs ys k i j m n e =
 rest_distinct : (xs ys : List Item) → AreDistinct (xs ++ ys) → AreDistinct ys
 rest_distinct xs ys k = record { once = λ n. let g : Item → ℕ = λ w. cond (n == w.number) 1 0 in omega (arith, sum_by-append g xs ys, k.once n) }
 
--- a node's item and both of its sons have different numbers, pair by pair
+-- a node's item and both of its children have different numbers, pair by pair
 pub record AreThree (i : Item) (one other : List Item) : Type 0 where
   pub item_one : AreApart (i ∷ []) one
   pub item_other : AreApart (i ∷ []) other
@@ -75,14 +75,14 @@ three i one other k =
       sons = λ a b m n e. second a b (live_in a one m) (live_in b other n) e;
     }
 
--- so it is where no number stands twice in all of them
+-- so it is where no number is twice in all of them
 pub three_of : (i : Item) (one other sons whole : List Item) → AreDistinct whole → whole ≡ kept (i ∷ []) ++ sons → IsEitherWay sons one other → AreThree i one other
 three_of i one other sons whole k all (inl e) = three i one other (subst AreDistinct (all ∙ ap (λ m. kept (i ∷ []) ++ m) e) k)
 three_of i one other sons whole k all (inr e) =
     let t = three i other one (subst AreDistinct (all ∙ ap (λ m. kept (i ∷ []) ++ m) e) k) in
     record { item_one = t.item_other; item_other = t.item_one; sons = λ a b m n f. t.sons b a n m (sym f) }
 
--- no number stands twice in what is left of a tree under an action
+-- no number is twice in what remains of a tree under an action
 pub walk_distinct : (a : Tag) (t : Shape) → IsSound t → AreDistinct (walk a t)
 walk_distinct a t k = record {
   once = λ n.

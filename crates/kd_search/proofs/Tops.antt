@@ -1,4 +1,4 @@
--- What is left in a tree is its top's item, unless that is dropped, and both sons.
+-- The remaining items of a tree are its top's item, unless that is dropped, and both children.
 use Rattle.std.proofs.Common.{◌≡◌, ◌≤ℤ◌, ℕ, ◌≤◌, [], ◌∷◌, ◌++◌, List, subst, sym, ap, ◌∙◌, inl, inr}
 use Rattle.point_geom.specs.Place.{Place}
 use Rattle.point_geom.specs.Axes.{on}
@@ -18,21 +18,21 @@ use Rattle.kd_search.specs.Sides.{AreSidesOf, IsEitherWay}
 use Rattle.kd_search.specs.declared.sides.Sides.{Sides}
 use Rattle.kd_search.proofs.Planes.{axis_gap, away_below, away_above}
 
--- the left son's aren't above the top's plane
+-- the left child's aren't above the top's plane
 pub left_below : (h : Head) (owed : Tag) (t l r : Shape) → t ≡ fork h l r → IsSound t → AreBelow h.axis h.item.point (walk (composed h.pending owed) l)
 left_below h owed t l r e s =
     let sound = subst IsSound e s in
     let P : Place → Type 0 = λ x. on h.axis x ≤ℤ on h.axis h.item.point in
     all_left P _ l (AllKept-composed P h.pending owed l sound.0.below)
 
--- and the right son's aren't below it
+-- and the right child's aren't below it
 pub right_above : (h : Head) (owed : Tag) (t l r : Shape) → t ≡ fork h l r → IsSound t → AreAbove h.axis h.item.point (walk (composed h.pending owed) r)
 right_above h owed t l r e s =
     let sound = subst IsSound e s in
     let P : Place → Type 0 = λ x. on h.axis h.item.point ≤ℤ on h.axis x in
     all_left P _ r (AllKept-composed P h.pending owed r sound.0.above)
 
--- the top's item, which the gap is crossed to, and both sons, the farther of which it is crossed to
+-- the top's item, which the gap is crossed to, and both children, the farther of which it is crossed to
 pub record IsSplit (m : List Item) (q : Place) (gap : ℕ) (i : Item) (one other : List Item) : Type 0 where
   pub sons : List Item
   pub items : m ≡ kept (i ∷ []) ++ sons
@@ -70,12 +70,12 @@ split_owed t owed top q s e sound is =
       }
     ]
 
--- a tree round a point, with what its item is made and what its sons owe
+-- a tree round a point, with what its item is made and what is pending for its children
 pub split : (t : Shape) (owed : Tag) (top : Top) (q : Place) (s : Sides) (i : Item) (below : Tag) → t ≡ fork (record { item = top.item; axis = top.axis; pending = top.pending }) top.left.now top.right.now → IsSound t → AreSidesOf top q s
     → i ≡ relabelled owed top.item → below ≡ composed top.pending owed → IsSplit (walk owed t) q s.gap i (walk below s.near.now) (walk below s.far.now)
 split t owed top q s i below e sound is own under = rw (own, under) (split_owed t owed top q s e sound is)
 
--- the same of a tree whose sons aren't looked at by a point
+-- `split` of a tree whose children aren't looked at by a point
 pub walk_top : (t : Shape) (owed : Tag) (top : Top) (i : Item) (below : Tag) → t ≡ fork (record { item = top.item; axis = top.axis; pending = top.pending }) top.left.now top.right.now
     → i ≡ relabelled owed top.item → below ≡ composed top.pending owed → walk owed t ≡ kept (i ∷ []) ++ (walk below top.left.now ++ walk below top.right.now)
 walk_top t owed top i below e own under = rw (own, under) (ap (walk owed) e)

@@ -1,4 +1,4 @@
--- What is left in a subtree: where it lies, and how much of it is live.
+-- What remains in a subtree: where it is, and how much of it is live.
 use Rattle.std.proofs.Common.{◌≡◌, arith, List, [], ◌∷◌, ◌++◌, length, refl, sym, Option, Some, None}
 use Rattle.std.specs.Prelude.{IfSome, ◌≤◌}
 use Rattle.std.proofs.lemmas.List.Elements.{All-head, All-tail, filter-append}
@@ -23,7 +23,7 @@ first_in e x xs h = All-head (λ (i : Item). IsIn e i.point) x xs h
 pub rest_in : (e : Span) (x : Item) (xs : List Item) → AreIn e (x ∷ xs) → AreIn e xs
 rest_in e x xs h = All-tail (λ (i : Item). IsIn e i.point) x xs h
 
--- what is left lies in the box of all nodes
+-- what remains is in the box of all nodes
 pub walk_in_extent : (o : Option Span) (a : Tag) (t : Shape) → o ≡ extent t → IfSome o (λ e. AreIn e (walk a t))
 walk_in_extent None a t h = tt
 walk_in_extent (Some e) a t h = walk_in a t e (extent_fits t e (sym h))

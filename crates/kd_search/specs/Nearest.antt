@@ -25,7 +25,7 @@ abbrev pub AreBefore : ℕ → List Hit → Type 0
 AreBefore d [] = Unit {0}
 AreBefore d (h ∷ hits) = (h.dist2 < d) × AreBefore d hits
 
--- no hit is farther than one that stands after it
+-- no hit is farther than a later one
 abbrev pub Recede : List Hit → Type 0
 Recede [] = Unit {0}
 Recede (h ∷ hits) = AreFrom h.dist2 hits × Recede hits

@@ -1,4 +1,4 @@
--- A subtree, with the action that it owes from above. Cited by private functions alone.
+-- A subtree, with the action that is pending above it. Cited by private functions alone.
 use Rattle.std.specs.Prelude.{◌≡◌, ℕ, ◌+◌, ◌≤◌, List, [], ◌∷◌, ◌++◌}
 use Rattle.map_items.specs.declared.item.Item.{Item}
 use Rattle.map_items.specs.Contents.{kept}
@@ -9,7 +9,7 @@ use Rattle.kd_search.specs.declared.part.Part.{Part}
 use Rattle.kd_search.specs.declared.part.PartTop.{PartTop}
 use Rattle.kd_tree.specs.declared.limits.TheConstants.{MAX_NODES}
 
--- the items that are left in it, node first
+-- its remaining items, node first
 abbrev pub items_of : Part → List Item
 items_of p = walk p.owed p.tree.now
 
@@ -17,7 +17,7 @@ items_of p = walk p.owed p.tree.now
 abbrev pub nodes_of : Part → ℕ
 nodes_of p = nodes p.tree.now
 
--- a part is its top item, unless that is dropped, and both sons
+-- a part is its top item, unless that is dropped, and both children
 pub record IsTopOf (p : Part) (t : PartTop) : Type 0 where
   pub items : items_of p ≡ kept (t.item ∷ []) ++ (items_of t.left ++ items_of t.right)
   -- which lie on both sides of the item's plane

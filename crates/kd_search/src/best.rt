@@ -9,8 +9,7 @@ use kd_tree::Tree;
 use map_items::Item;
 use point_geom::Cuboid;
 
-/// The live item in the cuboid whose point is nearest to the cuboid's centre; of several the least by x, y and z, and then
-/// by number. It takes no memory. A subtree that the cuboid doesn't meet, or that has no live item, is left out.
+/// The live item nearest to the cuboid's centre, as `rivals_in` finds it.
 pub fn best_in(tree: &Tree, c: &Cuboid) -> Option<Item>
     ensures value { result ≡ best_inside (contents tree.now) c.now }
     ensures none { IsNone result ↔ (inside_all (contents tree.now) c.now ≡ []) }

@@ -1,11 +1,11 @@
-//! Items that are kept in the order of their numbers, up to a count.
+//! Items by number, up to a count.
 ghost use Rattle.std.specs.Prelude.{◌≡◌, ◌≤◌, length, take, OnOk};
 ghost use Rattle.std.specs.List.{insert};
 ghost use Rattle.kd_tree.specs.Contents.{insert_item};
 
 use map_items::{Item, NoMemory};
 
-/// Puts an item in its place among items in the order of their numbers, of which the first `most` are kept.
+/// Puts an item in its place among items by number, and keeps the first `most`. Costs at most `most` steps.
 pub fn insert_by_number(item: &Item, most: usize, items: &mut Vec<Item>) -> Result<(), NoMemory>
     requires most_from { 1 ≤ most }
     requires few { length items.old.items ≤ most }
@@ -22,7 +22,6 @@ pub fn insert_by_number(item: &Item, most: usize, items: &mut Vec<Item>) -> Resu
     Ok(())
 }
 
-// The index of the item among items by number.
 fn index_of(items: &[Item], item: &Item) -> usize
     ensures bound { result ≤ length items.now }
     ensures value { insert items.now result item.now ≡ insert_item item.now items.now }

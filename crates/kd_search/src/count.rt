@@ -9,8 +9,7 @@ use kd_tree::Tree;
 use map_items::Item;
 use point_geom::Cuboid;
 
-/// How many live points are in the cuboid. A subtree that lies within it is counted without being entered, and one
-/// without a live item is left out.
+/// How many live points are in the cuboid. Subtrees within it are counted without being entered.
 pub fn count_in(tree: &Tree, c: &Cuboid) -> u32
     ensures { result ≡ count (contents tree.now) c.now }
 {

@@ -14,8 +14,8 @@ use map_items::{Item, Items, NoMemory};
 use point_geom::Cuboid;
 use std::alloc::Global;
 
-/// The live items in the cuboid, in the order of their numbers; the first `most` where there are more. A subtree that the
-/// cuboid doesn't meet, or that has no live item, is left out, and each item that is met costs at most `most` steps.
+/// The first `most` live items in the cuboid, by number. Subtrees outside it or without a live item are left out. Each
+/// item in it costs at most `most` steps.
 pub fn in_cuboid(alloc: Global, tree: &Tree, c: &Cuboid, most: u32) -> Result<Items, NoMemory>
     requires query { IsQuery most None }
     ensures found { IfOk result (λ items. items ≡ inside (contents tree.now) c.now most) }
@@ -25,8 +25,7 @@ pub fn in_cuboid(alloc: Global, tree: &Tree, c: &Cuboid, most: u32) -> Result<It
     Ok(Items::from(items))
 }
 
-// Adds the part's items to those in order, of which the first `most` are kept. The last comes first, as the definition of
-// the order has it.
+// The last comes first, as in the definition of the order.
 fn add_under(
     part: &Part<'_>,
     c: &Cuboid,

@@ -15,10 +15,11 @@ use map_items::{Item, Label, NoMemory, Tag};
 use point_geom::{Point, dist2};
 use std::alloc::Global;
 
-/// The first k live points by squared distance from q, in squared millimetres, then by x, y and z, then by number; within
-/// the greatest distance, in millimetres, where one is given. It takes no memory for k up to 16. The son of a node on
-/// the point's side is searched first. A subtree is left out where it has no live item, or where its box, or the plane
-/// between it and its sibling, is farther than the greatest distance or than each of k hits.
+/// The first k live points by distance from q, then by x, y, z, then by number; at most `within` millimetres away,
+/// where that is given. Up to 16 take no memory.
+///
+/// The child on the point's side is searched first. A subtree is left out where it has no live item, or where its box,
+/// or the plane before it, is farther than `within` or than each of k hits.
 pub fn nearest(
     alloc: Global,
     tree: &Tree,
@@ -29,7 +30,7 @@ pub fn nearest(
     requires query { IsQuery k within }
     ensures found { IfOk result (λ hits. hits ≡ nearest (contents tree.now) k q.now within) }
 
-    // What that list is, said without the way it is made.
+    // What that list is, not how it is made.
     ensures nearest { IfOk result (AreNearest (contents tree.now) k q.now within) }
     ensures inline { k ≤ 16 → IsOk result }
 {
@@ -47,7 +48,6 @@ pub fn nearest(
     Ok(found.hits)
 }
 
-// Adds the hits of a tree that owes this action to those that are held, of which the first k are kept.
 #[cycle(near)]
 fn add_from(tree: &Tree, owed: Tag, query: &Query, found: &mut Found) -> Result<(), NoMemory>
     requires { IsBound query.now.k query.now.within found.old.hits found.old.bound }
@@ -64,7 +64,7 @@ fn add_from(tree: &Tree, owed: Tag, query: &Query, found: &mut Found) -> Result<
     add_under(tree, owed, query, found)
 }
 
-// The same for a tree that is near enough to be entered. Most aren't, so what this sets up isn't set up for them.
+// Not part of `add_from`: most trees are too far to be entered, and this isn't set up for them.
 #[cycle(near)]
 #[inline(never)]
 fn add_under(tree: &Tree, owed: Tag, query: &Query, found: &mut Found) -> Result<(), NoMemory>
@@ -91,7 +91,6 @@ fn add_under(tree: &Tree, owed: Tag, query: &Query, found: &mut Found) -> Result
     add_from(sides.far, below, query, found)
 }
 
-// What is searched for.
 #[derive(Drop)]
 struct Query {
     k: usize,
@@ -100,17 +99,16 @@ struct Query {
     ghost some: { 1 ≤ k },
 }
 
-// The nearest so far.
 #[derive(Drop)]
 struct Found {
     hits: Hits,
-    // What is farther than this, squared, is too far or comes after k hits. What is as far may come before them, by its
-    // coordinates or its number.
+    // A square. What is farther is too far, or comes after k hits; what is as far may come before, by coordinates or
+    // number.
     bound: u128,
 }
 
 impl Query {
-    // How far a hit may be before any is held, squared.
+    // The bound before any hit is held.
     fn reach(&self) -> u128
         ensures { IsBound self.now.k self.now.within [] result }
     {
@@ -141,7 +139,6 @@ impl Query {
         self.put(hit, found)
     }
 
-    // Puts a hit among those that are held, and draws the bound in.
     #[inline(never)]
     fn put(&self, hit: Hit, found: &mut Found) -> Result<(), NoMemory>
         requires bound { IsBound self.now.k self.now.within found.old.hits found.old.bound }

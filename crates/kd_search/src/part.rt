@@ -1,5 +1,4 @@
-//! Parts of a tree as a search meets them: a subtree with the action that it owes from above, which is done to its items as
-//! they are looked at; the tree stays as it is.
+//! Subtrees as a search meets them: the action that is pending above is done to items as they are looked at.
 ghost use Rattle.std.specs.Prelude.{◌≡◌, [], length, IfNone, IfSome};
 ghost use Rattle.node_labels.specs.Labels.{keep_tag};
 ghost use Rattle.map_items.specs.Contents.{live_items};
@@ -11,14 +10,13 @@ use kd_tree::Tree;
 use map_items::{Item, Tag};
 use point_geom::{Axis, Extent};
 
-/// A subtree, and the action that it owes from above.
 #[derive(Drop)]
 pub(crate) struct Part<'a> {
     tree: &'a Tree,
     owed: Tag,
 }
 
-/// The top of a part. The item's label has the action that was owed, and the sons owe it with what the node owes to them.
+/// The action from above is done to the item's label, and pending for the children after the node's own.
 #[derive(Drop)]
 pub(crate) struct PartTop<'a> {
     pub(crate) item: Item,
@@ -37,7 +35,7 @@ impl<'a> Part<'a> {
         }
     }
 
-    /// A box that all its points are in, also those of dropped items.
+    /// Dropped items are in it too.
     pub(crate) fn extent(&self) -> Option<Extent>
         ensures none { IfNone result (items_of self.now ≡ []) }
         ensures some { IfSome result (λ e. AreIn e (items_of self.now)) }
@@ -45,14 +43,13 @@ impl<'a> Part<'a> {
         self.tree.extent()
     }
 
-    /// How many live items there are, in the same time for each part.
     pub(crate) fn live(&self) -> u32
         ensures { result ≡ length (live_items (items_of self.now)) }
     {
         live_under(self.tree, self.owed)
     }
 
-    /// The top of a part in which some item is live.
+    /// None where no item is live.
     pub(crate) fn top(&self) -> Option<PartTop<'a>>
         ensures none { IfNone result (live_items (items_of self.now) ≡ []) }
         ensures some { IfSome result (λ t. IsTopOf self.now t) }
@@ -82,7 +79,7 @@ impl<'a> Part<'a> {
     }
 }
 
-/// How many items of a tree that owes this action are live, in the same time for each tree.
+/// How many items are live where this action is pending above the tree, in constant time.
 pub fn live_under(tree: &Tree, owed: Tag) -> u32
     ensures { result ≡ length (live_items (walk owed tree.now)) }
 {

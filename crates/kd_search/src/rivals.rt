@@ -1,4 +1,4 @@
-//! The live points of a box: the one that is nearest to its centre, and how many there are.
+//! The live points of a box.
 ghost use Rattle.std.specs.Prelude.{◌≡◌, ◌+◌, ◌≤◌, ◌<◌, [], ◌∷◌, IfSome, IsNone, ◌↔◌};
 ghost use Rattle.map_fold.specs.Answers.{count, inside_all};
 ghost use Rattle.kd_tree.specs.Contents.{contents};
@@ -14,15 +14,13 @@ use point_geom::Cuboid;
 /// What is live in a cuboid: the items of which thinning leaves one.
 #[derive(Clone, Copy, Debug)]
 pub struct Rivals {
-    /// The item whose point is nearest to the cuboid's centre; of several the least by x, y and z, and then by number.
+    /// The item nearest to the cuboid's centre; of several the least by x, y, z, then by number.
     pub best: Option<Item>,
-    /// How many there are.
     pub count: u32,
 }
 
-/// The live items in the cuboid: the best of them, and how many they are, in one search. It takes no memory. A subtree that
-/// the cuboid doesn't meet, or that has no live item, is left out; one that lies within it is entered, where `count_in` only
-/// adds what it counts.
+/// Both in one search, which takes no memory. Subtrees outside the cuboid or without a live item are left out; those
+/// within it are entered, unlike in `count_in`.
 pub fn rivals_in(tree: &Tree, c: &Cuboid) -> Rivals
     ensures best { result.best ≡ best_inside (contents tree.now) c.now }
     ensures count { result.count ≡ count (contents tree.now) c.now }
@@ -38,7 +36,6 @@ pub fn rivals_in(tree: &Tree, c: &Cuboid) -> Rivals
     found
 }
 
-// Adds what is live in the cuboid of a tree that owes this action.
 #[cycle(rivals)]
 fn add_from(tree: &Tree, owed: Tag, c: &Cuboid, found: &mut Rivals)
     requires { found.old.count + nodes tree.now ≤ MAX_NODES }
@@ -54,7 +51,7 @@ fn add_from(tree: &Tree, owed: Tag, c: &Cuboid, found: &mut Rivals)
     }
 }
 
-// The same for a tree that the cuboid meets. Most it doesn't, so what this sets up isn't set up for those.
+// Not part of `add_from`: the cuboid meets few trees, and this isn't set up for the others.
 #[cycle(rivals)]
 #[inline(never)]
 fn add_under(tree: &Tree, owed: Tag, c: &Cuboid, found: &mut Rivals)
@@ -76,7 +73,6 @@ fn add_under(tree: &Tree, owed: Tag, c: &Cuboid, found: &mut Rivals)
     add_from(top.right, below, c, found);
 }
 
-// Adds the item, if it is live in the cuboid.
 fn add(item: &Item, c: &Cuboid, found: &mut Rivals)
     requires { found.old.count < MAX_NODES }
     ensures best { found.new.best ≡ best_from c.now found.old.best (inside_all (item.now ∷ []) c.now) }

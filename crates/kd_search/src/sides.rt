@@ -1,13 +1,13 @@
-//! The sons of a node, as they lie round a point.
+//! The children of a node, told apart by a point.
 ghost use Rattle.kd_search.specs.Sides.{AreSidesOf};
 
 use kd_tree::{Top, Tree};
 use point_geom::{Point, dist2_on};
 
-/// The son on whose side of the node's plane the point lies, and the other one.
+/// The child on whose side of the node's plane the point is, and the other.
 #[derive(Drop)]
 pub(crate) struct Sides<'a> {
-    /// How far the plane is from the point, in squared millimetres.
+    /// From the point to the plane, in squared millimetres.
     pub(crate) gap: u128,
     pub(crate) near: &'a Tree,
     pub(crate) far: &'a Tree,
