@@ -1,4 +1,4 @@
-//! Why an operation isn't taken.
+//! The error of `OpLog::push`.
 ghost use Rattle.std.specs.Prelude.{◌≡◌};
 ghost use Rattle.op_logger.specs.declared.fault.PushFault.TheVariants.{NoMemory};
 
@@ -8,7 +8,7 @@ use std::fmt::{Display, Error, Formatter, Write};
 /// Why an operation isn't taken.
 #[derive(Clone, Copy, Debug, PartialEq, Eq)]
 pub enum PushFault {
-    /// As many are held as there may be.
+    /// The list has `MAX_LOGGED` operations.
     Full,
     NoMemory,
 }

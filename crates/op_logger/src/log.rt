@@ -9,19 +9,19 @@ use std::alloc::{AllocError, Global};
 use std::marker::Model;
 use std::mem;
 
-/// The most operations that a list holds: 65,536.
+/// The most operations that a list holds.
 pub const MAX_LOGGED: u32 = 65_536;
 
-// From so many operations on the tail becomes a block.
+// A tail of this many operations becomes a block.
 const FULL: usize = 256;
 
-/// A list of at most 65,536 operations. It keeps its allocator, and grows at its end. A copy shares all but the newest few hundred
-/// of them.
+/// A list of at most 65,536 operations. It keeps its allocator, and grows at its end. A copy shares all but the newest
+/// few hundred of them.
 #[derive(Debug, Drop)]
 pub struct OpLog {
     alloc: Global,
     blocks: Vec<Block>,
-    // How many the blocks have together.
+    // How many operations the blocks have together.
     front: u32,
     // Those after them, which no other list has.
     tail: Vec<Op>,
@@ -41,7 +41,7 @@ impl Model for OpLog {
 }
 
 impl OpLog {
-    /// A list of nothing, which takes no memory.
+    /// Takes no memory.
     pub fn new(alloc: Global) -> OpLog
         ensures { result ≡ [] }
     {
@@ -53,7 +53,6 @@ impl OpLog {
         }
     }
 
-    /// How many there are.
     pub fn len(&self) -> u32
         ensures value { result ≡ length self.now }
         ensures few { result ≤ MAX_LOGGED }
@@ -61,7 +60,7 @@ impl OpLog {
         self.front + self.tail.len() as u32
     }
 
-    /// How many more there may be.
+    /// How many more it may hold.
     pub fn room(&self) -> u32
         ensures value { result ≡ MAX_LOGGED - length self.now }
         ensures sum { result + length self.now ≡ MAX_LOGGED }
@@ -69,7 +68,8 @@ impl OpLog {
         MAX_LOGGED - self.len()
     }
 
-    /// Those after the first n, in order, as a list of its own. It costs a step for each of them, and for each few hundred before.
+    /// Those after the first n, in order, in a list of their own. Costs a step for each of them, and for each few
+    /// hundred before.
     pub fn after(&self, alloc: Global, n: u32) -> Result<Vec<Op>, NoMemory>
         requires { n ≤ length self.now }
         ensures { IfOk result (λ v. v.items ≡ drop n self.now) }
@@ -81,14 +81,14 @@ impl OpLog {
         Ok(ops)
     }
 
-    /// Whether these are the first ones. It costs a step for each of them.
+    /// Whether these are the first ones. Costs a step for each of them.
     pub fn begins_with(&self, ops: &[Op]) -> bool
         ensures { result ≡ true ↔ (take (length ops.now) self.now ≡ ops.now) }
     {
         begin_with(self.blocks.as_slice(), self.tail.as_slice(), ops)
     }
 
-    /// An equal list. It costs a step for each few hundred operations, and for each of the newest ones.
+    /// An equal list. Costs a step for each few hundred operations, and for each of the newest ones.
     pub fn copy(&self, alloc: Global) -> Result<OpLog, NoMemory>
         ensures { IfOk result (λ log. log ≡ self.now) }
     {
@@ -102,8 +102,8 @@ impl OpLog {
         })
     }
 
-    /// Puts one more at the end. It is refused where 65,536 are held, and where memory runs out; then the list stays as it
-    /// was.
+    /// Puts one more at the end. It is refused with `Full` where `MAX_LOGGED` are held. On an error the list is
+    /// unchanged.
     pub fn push(&mut self, op: Op) -> Result<(), PushFault>
         ensures ok { OnOk result (self.new ≡ self.old ++ op ∷ []) }
         ensures err { OnErr result (self.new ≡ self.old) }
@@ -125,7 +125,6 @@ impl OpLog {
         Ok(())
     }
 
-    // Makes a block of the tail.
     #[tactic(auto, using(crate::proofs::Blocks::ops_in_pushed))]
     fn close_block(&mut self) -> Result<(), AllocError>
         ensures { self.new ≡ self.old }
@@ -145,7 +144,7 @@ impl OpLog {
         }
     }
 
-    /// Keeps the first n alone.
+    /// Keeps the first n.
     #[tactic(auto, using(crate::proofs::Blocks::take_past, crate::proofs::Blocks::take_within))]
     pub fn cut(&mut self, n: u32)
         requires { n ≤ length self.old }
