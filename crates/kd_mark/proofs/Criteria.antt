@@ -14,6 +14,6 @@ unfolding RebuildsNoneEntered
 criteria_none c leaf = tt
 criteria_none c (fork h l r) = λ e. ((λ many few. absurd (omega arith)), criteria_none c l, criteria_none c r)
 
--- and none is where a path ends, besides those where none is anyway
+-- where no entered node is to be rebuilt for `large`, none is for what `large_at` gives
 pub criteria_spared : (large m : ℕ) (ps : List (List Side)) (c : Choice) (t : Shape) → m ≡ large_at ps large → RebuildsNoneEntered large c t → RebuildsNoneEntered m c t
 criteria_spared large m ps c t e all = subst (λ k. RebuildsNoneEntered k c t) (sym e) (cond_both (is_here ps) 0 large (λ k. RebuildsNoneEntered k c t) (λ _. criteria_none c t) (λ _. all))

@@ -46,7 +46,7 @@ use Rattle.kd_mark.proofs.Refresh.{head, refresh_contents, tops_alike}
 pub marked-point : (chosen : Item → Bool) (a : Tag) (i : Item) → (marked_item chosen a i).point ≡ i.point
 marked-point chosen a i = let Q : Item → Type 0 = λ j. j.point ≡ i.point in cond_both (chosen i) (relabelled a i) i Q (λ _. refl) (λ _. refl)
 
--- what is left of one item
+-- what remains of one item
 pub own-marked : (chosen : Item → Bool) (a : Tag) (i : Item) → kept (marked_item chosen a i ∷ []) ≡ mark (kept (i ∷ [])) chosen a
 own-marked chosen a i = own i.label
   where
@@ -78,7 +78,7 @@ mark_points P chosen a xs k =
     All-filter (λ (i : Item). not (is_dropped i.label)) F (map (marked_item chosen a) xs)
     (All-map F (marked_item chosen a) xs (All-weaker F (λ i. F (marked_item chosen a i)) (λ i p. subst P (sym (marked-point chosen a i)) p) xs k))
 
--- no number stands more often
+-- no number is there more often
 pub mark_counts : (n : ℕ) (chosen : Item → Bool) (a : Tag) (xs : List Item) → count_by (λ i. n == i.number) (mark xs chosen a) ≤ count_by (λ i. n == i.number) xs
 mark_counts n chosen a [] = omega arith
 mark_counts n chosen a (i ∷ xs) =
@@ -102,7 +102,7 @@ marked-tagged c a p (fork h l r) =
     ∙ ap (λ i. F (tagged p (fork h l r)) i (composed (composed h.pending p) keep_tag)) (relabelled-keep (relabelled p h.item))
     ∙ ap (λ q. F (tagged p (fork h l r)) (relabelled p h.item) q) (composed-keep_right (composed h.pending p))
 
--- a son that was handed the action owed, marked
+-- a child that was handed the pending action, marked
 pub son-marked : (c : Choice) (a q : Tag) (t : Shape) → marked_shape c a (tagged q t) ≡ marked_under c a (composed q keep_tag) t
 son-marked c a q t = marked-tagged c a q t ∙ ap (λ p. marked_under c a p t) (sym (composed-keep_right q))
 
@@ -161,7 +161,7 @@ mark-fork c a p h l r =
 abbrev IsReached : Reach → Item → Type 0
 IsReached e i = IsIn e.extent i.point × IsInRange e.numbers i.number
 
--- so does all that is left
+-- so are all remaining items
 reached_all : (p : Tag) (h : Head) (l r : Shape) → All (IsReached (reach_of h l r)) (walk p (fork h l r))
 reached_all p h l r = λ n d below.
     let e = reach_of h l r in
@@ -206,7 +206,7 @@ missed c a p h l r k =
     walk-tagged_keep p (fork h l r)
     ∙ sym (mark_none (chosen_by c) a (walk p (fork h l r)) (All-weaker (IsReached (reach_of h l r)) (λ i. chosen_by c i ≡ false) (λ i q. not_chosen c (reach_of h l r) i k q) (walk p (fork h l r)) (reached_all p h l r)) (walk_kept p (fork h l r)))
 
--- what is left after an action on chosen items is what it leaves of what was left
+-- what remains after an action on chosen items is what it leaves of what was there
 pub walk-marked : (c : Choice) (a p : Tag) (t : Shape) → walk keep_tag (marked_under c a p t) ≡ mark (walk p t) (chosen_by c) a
 unfolding marked_under
 walk-marked c a p leaf = refl
@@ -229,7 +229,7 @@ times-marked : (n : ℕ) (c : Choice) (a : Tag) (t : Shape) → times n keep_tag
 times-marked n c a t =
     omega (arith, times_walk n keep_tag (marked_shape c a t), times_walk n keep_tag t, mark_counts n (chosen_by c) a (walk keep_tag t), ap (count_by (λ (i : Item). n == i.number)) (walk-marked c a keep_tag t))
 
--- no number is left twice after the action
+-- no number remains twice after the action
 pub once-marked : (c : Choice) (a : Tag) (t : Shape) → ((n : ℕ) → times n keep_tag t ≤ 1) → (n : ℕ) → times n keep_tag (marked_shape c a t) ≤ 1
 once-marked c a t k n = omega (arith, times-marked n c a t, k n)
 
@@ -305,7 +305,7 @@ marked_covered c a (fork h l r) e x m k =
     let b = same_Some e (reach_of h l r) x in
     sym (cond-true (meets c (reach_of h l r)) _ _ (rw b at m) ∙ cond-true (covers c (reach_of h l r)) _ _ (rw b at k) ∙ ap (tagged a) (tagged-keep (fork h l r)))
 
--- where some subtrees are rebuilt besides, the contents are those after the action
+-- where some subtrees are rebuilt as well, the contents are those after the action
 pub marked_contents : (c : Choice) (a : Tag) (s t : Shape) → IsSound s → IsRefresh (marked_shape c a s) t → contents t ≡ mark (contents s) (chosen_by c) a
 marked_contents c a s t sound f = refresh_contents (marked_shape c a s) t (once-marked c a s (sound_once s sound)) f ∙ contents-marked c a s
 

@@ -15,7 +15,7 @@ at_nodes (side ∷ path) leaf s e = absurd (cc)
 at_nodes (Left ∷ path) (fork h l r) s e = omega (arith, at_nodes path l s e)
 at_nodes (Right ∷ path) (fork h l r) s e = omega (arith, at_nodes path r s e)
 
--- so a tree has as many nodes as the large subtree at a path has at least
+-- so a tree has at least as many nodes as a large subtree at a path
 pub large_nodes : (large : ℕ) (path : List Side) (t : Shape) → IsLargeAt large path t → large ≤ nodes t
 large_nodes large path t k = omega (arith, k.size, at_nodes path t k.node k.there)
 
@@ -25,7 +25,7 @@ large_after large path old new ops k w =
     let same : k.node ≡ w.before = same_Some k.node w.before (sym k.there ∙ w.was) in
     record { node = w.after; there = w.is; size = omega (arith, k.size, w.size, ap nodes same) }
 
--- where the same stands at the path, the same is large there
+-- where the same is at the path, the same is large there
 pub large_same : (large : ℕ) (path : List Side) (t u : Shape) → at path u ≡ at path t → IsLargeAt large path t → IsLargeAt large path u
 large_same large path t u e k = record { node = k.node; there = e ∙ k.there; size = k.size }
 

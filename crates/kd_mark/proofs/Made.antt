@@ -58,7 +58,7 @@ apart_mark c (fork h l r) e a b x m k two =
     let z = same_Some e (reach_of h l r) x in
     omega (arith, two, made_here c h l r (rw z at m) (rw z at k))
 
--- an entered node: two for the sons, those below them, and one for itself
+-- an entered node: two for the children, those below them, and one for itself
 pub ticks_entered : (large : ℕ) (c : Choice) (a : Tag) (s : Shape) (f : Fork) (e : Reach) (n0 n1 n2 n3 n4 : ℕ)
     → IsEntered c a s f → Some e ≡ reach s → meets c e ≡ true → covers c e ≡ false → Some f ≡ pushed s
     → n1 ≤ n0 + 2 → (RebuildsNoneEntered large c (marked_shape c a f.left) → n2 ≤ n1 + made_mark c f.left)

@@ -22,7 +22,7 @@ use Rattle.kd_mark.specs.Refresh.{AreAmong, IsRefresh, RefreshesIfDue}
 use Rattle.kd_tree.proofs.Left.{all_left, left_all}
 use Rattle.kd_mark.proofs.Trees.{nodes_below, among_same, among_fork}
 
--- a node that owes nothing
+-- a node with nothing pending
 abbrev pub head : Item → Axis → Head
 head i a = record { item = i; axis = a; pending = keep_tag }
 
@@ -41,7 +41,7 @@ refresh_trans s t u f g = record {
   from = λ n k. f.from n (g.from n k);
 }
 
--- sons that are rebuilt in part
+-- children that are rebuilt in part
 pub refresh_fork : (i : Item) (a : Axis) (l r l' r' : Shape) → IsRefresh l l' → IsRefresh r r' → IsRefresh (fork (head i a) l r) (fork (head i a) l' r')
 refresh_fork i a l r l' r' f g = record {
   same = IsPermutation-append_right (kept (relabelled keep_tag i ∷ [])) _ _ (IsPermutation-append _ _ _ _ f.same g.same);
@@ -64,7 +64,7 @@ refresh_pushed h l r =
 refresh_left : (P : Place → Type 0) (s t : Shape) → IsRefresh s t → AllKept P keep_tag s → AllKept P keep_tag t
 refresh_left P s t f k = left_all P keep_tag t (All-permutation (λ (i : Item). P i.point) _ _ f.same (all_left P keep_tag s k))
 
--- a sound node stays sound where its sons are rebuilt in part
+-- a sound node stays sound where its children are rebuilt in part
 pub refresh_sound : (i : Item) (a : Axis) (l r l' r' : Shape) → IsSoundFork (head i a) l r → IsRefresh l l' → IsRefresh r r' → IsSoundFork (head i a) l' r'
 refresh_sound i a l r l' r' s f g =
     let all = refresh_fork i a l r l' r' f g in
@@ -80,13 +80,13 @@ refresh_sound i a l r l' r' s f g =
 pub refresh_contents : (s t : Shape) → ((n : ℕ) → times n keep_tag s ≤ 1) → IsRefresh s t → contents t ≡ contents s
 refresh_contents s t once f = sym (by_number-moved (walk keep_tag s) (walk keep_tag t) f.same (once_walk s once))
 
--- the numbers of what is left are numbers of nodes
+-- the numbers of the remaining items are numbers of nodes
 pub left_among : (s : Shape) → AreAmong (map (λ i. i.number) (walk keep_tag s)) (numbers s)
 left_among s n c =
     let F : ℕ → Type 0 = Contains (numbers s) in
     All-contains F _ n (All-map F (λ (i : Item). i.number) (walk keep_tag s) (walk_numbers F keep_tag s (recursion_from_All F (numbers s) (All-contains_itself (numbers s))))) c
 
--- what is built of all that is left
+-- what is built of all remaining items
 pub built_refresh : (s t : Shape) → IsBuilt (walk keep_tag s) t → IsPermutation (map (λ i. i.number) (walk keep_tag s)) (numbers t) → IsRefresh s t
 built_refresh s t b ns =
     let left = walk keep_tag s in

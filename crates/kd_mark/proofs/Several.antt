@@ -34,7 +34,7 @@ use Rattle.kd_mark.specs.Watches.{paths_in}
 
 -- without a path
 
--- what is balanced is balanced outside whatever paths
+-- what is balanced is balanced outside any paths
 pub balanced_outside : (large : ℕ) (ps : List (List Side)) (t : Shape) → IsBalancedBelow large t → IsBalancedClear large ps t
 balanced_outside large ps leaf k = tt
 balanced_outside large ps (fork h l r) k = λ _. (k.0, balanced_outside large (onward Left ps) l k.1, balanced_outside large (onward Right ps) r k.2)
@@ -67,7 +67,7 @@ large_tagged_at large [] q (fork h l r) k =
 large_tagged_at large (Left ∷ path) q (fork h l r) k = record { node = k.node; there = k.there; size = k.size }
 large_tagged_at large (Right ∷ path) q (fork h l r) k = record { node = k.node; there = k.there; size = k.size }
 
--- the paths that go on to a son lead to large subtrees of it
+-- the paths that go on to a child lead to large subtrees of it
 large_on : (large : ℕ) (side : Side) (ps : List (List Side)) (h : Head) (l r : Shape) → AreLargeAt large ps (fork h l r) → AreLargeAt large (onward side ps) (near side (forked h l r))
 large_on large side [] h l r k = tt
 large_on large Left ([] ∷ ps) h l r k = large_on large Left ps h l r k.1
@@ -102,7 +102,7 @@ spared_same large ps s t k (inl e) = subst (λ z. AreSameAt ps z s) e.1 (same_it
 spared_same large [] s t k (inr e) = tt
 spared_same large (p ∷ ps) s t k (inr e) = absurd (e.0 (λ many few. absurd (omega (arith, few, large_nodes large p s k.0))))
 
--- a node with sons that are balanced outside the paths, rebuilt where it is to be
+-- a node with children that are balanced outside the paths, rebuilt where it is to be
 pub refreshed_outside : (large : ℕ) (ps : List (List Side)) (h : Head) (l r t : Shape) → RefreshesIfDue large (fork h l r) t → (is_here ps ≡ false → IsBalancedClear large (onward Left ps) l × IsBalancedClear large (onward Right ps) r) → IsBalancedClear large ps t
 refreshed_outside large ps h l r t (inl k) e = subst (IsBalancedClear large ps) k.1 (λ here. ((λ many few. (k.0 many few).0), (e here).0, (e here).1))
 refreshed_outside large ps h l r t (inr k) e = balanced_outside large ps t (criteria_balanced large t k.2)
@@ -131,13 +131,13 @@ passed_by large ps s f x = at_pushed (λ z g. AreLargeAt large ps z → IsPassed
       balanced = λ e all. let parts = all e in (balanced_clear_tagged large (onward Left ps) h.pending l parts.1, balanced_clear_tagged large (onward Right ps) h.pending r parts.2);
     })
 
--- below it the same is asked of the paths that go on
+-- below it large subtrees are at the paths that go on
 pub large_next : (large m : ℕ) (ps qs : List (List Side)) (s x : Shape) (f : Fork) (side : Side) → Some f ≡ pushed s → AreLargeAt large ps s → m ≡ large_at ps large → qs ≡ onward side ps → x ≡ near side f → AreLargeAt m qs x
 large_next large m ps qs s x f side e k a b d =
     let there = (passed_by large ps s f e k).there side in
     rw (a, b, d) (cond_both (is_here ps) 0 large (λ (z : ℕ). AreLargeAt z (onward side ps) (near side f)) (λ _. large_any large (onward side ps) (near side f) there) (λ _. there))
 
--- sons updated clear of the paths that go on to them, joined, and their father rebuilt where he is to be
+-- children updated clear of the paths that go on to them, joined, and their parent rebuilt where it is to be
 pub clear_fork : (large : ℕ) (ps : List (List Side)) (old : Shape) (i : Item) (a : Axis) (ol or l r l' r' t : Shape) (C Cl Cr : ℕ → Type 0)
     → (is_here ps ≡ false → IsBalancedClear large ps old → IsBalancedClear large (onward Left ps) ol × IsBalancedClear large (onward Right ps) or)
     → ((m : ℕ) → C m → IsNotDue m (fork (head i a) l r) × Cl m × Cr m) → C 0 → AreLargeAt large ps (fork (head i a) l r)

@@ -1,4 +1,4 @@
--- What the walk of a tree tells of its nodes.
+-- What the walk of a tree shows of its nodes.
 use Rattle.std.proofs.Common.{◌≡◌, ℕ, ◌+◌, ◌<◌, ◌≤◌, ◌^◌, inl, inr, suc, zero, ap, ◌∙◌, sym, subst, arith, List, [], ◌∷◌, ◌++◌, Some, pow_pos}
 use Rattle.std.proofs.Math.Nat.{pow-succ'}
 use Rattle.std.proofs.lemmas.List.Elements.{Contains-append_left, Contains-append_right, Contains-append_cases}
@@ -32,7 +32,7 @@ among_same ns n k = k
 pub among_append : (a b c d : List ℕ) → AreAmong a b → AreAmong c d → AreAmong (a ++ c) (b ++ d)
 among_append a b c d f g n k = elim (Contains-append_cases a c n k) [ inl u ↦ Contains-append_left b d n (f n u) | inr v ↦ Contains-append_right b d n (g n v) ]
 
--- the numbers of a node and its sons are among those of others
+-- the numbers of a node and its children are among those of others
 pub among_fork : (n : ℕ) (l r l' r' : List ℕ) → AreAmong l l' → AreAmong r r' → AreAmong (n ∷ (l ++ r)) (n ∷ (l' ++ r'))
 among_fork n l r l' r' f g = among_append (n ∷ []) (n ∷ []) (l ++ r) (l' ++ r') (among_same (n ∷ [])) (among_append l l' r r' f g)
 

@@ -15,7 +15,7 @@ pub balanced_tagged : (large : ℕ) (a : Tag) (t : Shape) → IsBalancedBelow la
 balanced_tagged large a leaf k = tt
 balanced_tagged large a (fork h l r) k = k
 
--- the sons of a tree taken apart
+-- the children of a tree taken apart
 pub balanced_sons : (large : ℕ) (h : Head) (l r : Shape) → IsBalancedBelow large (fork h l r) → IsBalancedBelow large (tagged h.pending l) × IsBalancedBelow large (tagged h.pending r)
 balanced_sons large h l r k = (balanced_tagged large h.pending l k.1, balanced_tagged large h.pending r k.2)
 

@@ -56,14 +56,14 @@ handed_first q t u ops w =
     record { before = t; after = w.after; was = refl; is = w.is; size = size; fit = subst (λ m. Fit m ops) same w.fit; replayed = w.replayed ∙ ap (λ m. replay m ops) same })
     (λ e. record { before = t; after = w.after; was = refl; is = w.is; size = size; fit = subst (λ m. Fit m ops) is w.fit; replayed = w.replayed ∙ ap (λ m. replay m ops) is })
 
--- a son that is handed an action, and then changed
+-- a child that is handed an action, and then changed
 pub watched_handed : (path : List Side) (q : Tag) (t u s : Shape) (ops : List Op) → at path t ≡ Some s → IsWatched path (tagged q t) u ops → IsWatched path t u (handed path q ++ ops)
 watched_handed [] q t u s ops e w = handed_first q t u ops w
 watched_handed (side ∷ path) q leaf u s ops e w = absurd (cc)
 watched_handed (Left ∷ path) q (fork h l r) u s ops e w = record { before = w.before; after = w.after; was = w.was; is = w.is; size = w.size; fit = w.fit; replayed = w.replayed }
 watched_handed (Right ∷ path) q (fork h l r) u s ops e w = record { before = w.before; after = w.after; was = w.was; is = w.is; size = w.size; fit = w.fit; replayed = w.replayed }
 
--- what is watched in a son is watched in the tree
+-- what is watched in a child is watched in the tree
 pub watched_son : (side : Side) (path : List Side) (h g : Head) (l r l' r' : Shape) (ops : List Op) → IsWatched path (son side l r) (son side l' r') ops → IsWatched (side ∷ path) (fork h l r) (fork g l' r') ops
 watched_son Left path h g l r l' r' ops w = record { before = w.before; after = w.after; was = w.was; is = w.is; size = w.size; fit = w.fit; replayed = w.replayed }
 watched_son Right path h g l r l' r' ops w = record { before = w.before; after = w.after; was = w.was; is = w.is; size = w.size; fit = w.fit; replayed = w.replayed }
@@ -72,7 +72,7 @@ pub at_son : (side : Side) (path : List Side) (h : Head) (l r s : Shape) → at 
 at_son Left path h l r s e = e
 at_son Right path h l r s e = e
 
--- what is done to both sons is done to this one
+-- what is done to both children is done to this one
 pub son_done : (f : Shape → Shape) (side : Side) (l r : Shape) → f (son side l r) ≡ son side (f l) (f r)
 son_done f Left l r = refl
 son_done f Right l r = refl

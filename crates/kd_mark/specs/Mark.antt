@@ -1,4 +1,5 @@
--- An action on the chosen items, as it is done: a subtree that the choice covers owes it, and one that it misses is left alone.
+-- An action on the chosen items, as it is done: in a subtree that the choice covers it is pending, and one that it
+-- misses is left alone.
 use Rattle.std.specs.Prelude.{◌≡◌, ℕ, Bool, true, not, ◌&&◌, if◌then◌else◌}
 use Rattle.map_items.specs.declared.choice.Choice.{Choice}
 use Rattle.node_labels.specs.Labels.{composed, keep_tag}
@@ -10,7 +11,7 @@ use Rattle.kd_mark.specs.Reach.{covers, meets, reach_of}
 use Rattle.kd_mark.specs.declared.reach.Reach.{Reach}
 use Rattle.kd_mark.specs.Refresh.{IsNotDue}
 
--- the tree after the action on the chosen items, where it owes the action p before, and nothing is rebuilt
+-- the tree after the action on the chosen items, where the action p is pending above it, and nothing is rebuilt
 unfoldable pub marked_under : Choice → Tag → Tag → Shape → Shape
 marked_under c a p leaf = leaf
 marked_under c a p (fork h l r) =
@@ -19,7 +20,7 @@ marked_under c a p (fork h l r) =
     else fork (record h { item = marked_item (chosen_by c) a (relabelled p h.item); pending = keep_tag }) (marked_under c a (composed h.pending p) l) (marked_under c a (composed h.pending p) r))
     else tagged p (fork h l r)
 
--- the tree after the action on the chosen items, where it owes nothing before, and nothing is rebuilt
+-- the tree after the action on the chosen items, where nothing is pending above it, and nothing is rebuilt
 abbrev pub marked_shape : Choice → Tag → Shape → Shape
 marked_shape c a t = marked_under c a keep_tag t
 

@@ -14,17 +14,17 @@ abbrev pub IsBalancedClear : ℕ → List (List Side) → Shape → Type 0
 IsBalancedClear large ps leaf = Unit {0}
 IsBalancedClear large ps (fork h l r) = is_here ps ≡ false → IsBalancedTop large l r × IsBalancedClear large (onward Left ps) l × IsBalancedClear large (onward Right ps) r
 
--- a node of at least so many nodes stands at each path
+-- a node of at least `large` nodes is at each path
 abbrev pub AreLargeAt : ℕ → List (List Side) → Shape → Type 0
 AreLargeAt large [] t = Unit {0}
 AreLargeAt large (p ∷ ps) t = IsLargeAt large p t × AreLargeAt large ps t
 
--- the same stands at each path
+-- the same is at each path
 abbrev pub AreSameAt : List (List Side) → Shape → Shape → Type 0
 AreSameAt [] new old = Unit {0}
 AreSameAt (p ∷ ps) new old = (at p new ≡ at p old) × AreSameAt ps new old
 
--- from how many nodes on none is rebuilt: any, where a path ends, and else so many
+-- from how many nodes on none is rebuilt: 0 where a path ends, and else `large`
 abbrev pub large_at : List (List Side) → ℕ → ℕ
 large_at ps large = if is_here ps then 0 else large
 

@@ -13,11 +13,12 @@ abbrev pub IsBalancedBelow : ℕ → Shape → Type 0
 IsBalancedBelow large leaf = Unit {0}
 IsBalancedBelow large (fork h l r) = IsBalancedTop large l r × IsBalancedBelow large l × IsBalancedBelow large r
 
--- where the first tree is balanced, so is the second, from whatever number of nodes on a subtree is large
+-- where the first tree is balanced, so is the second, for each `large`
 abbrev pub KeepsBalance : Shape → Shape → Type 0
 KeepsBalance s t = (large : ℕ) → IsBalancedBelow large s → IsBalancedBelow large t
 
--- The new tree is the old one with subtrees rebuilt, no node from 10 nodes on breaches a criterion, and without a breach it is the same.
+-- The new tree is the old one with subtrees rebuilt, no node of at least 10 nodes breaches a criterion, and without a
+-- breach it is the old one.
 pub record IsSettled (old new : Shape) : Type 0 where
   pub refresh : IsRefresh old new
   pub criteria : AllMeetCriteria 10 new

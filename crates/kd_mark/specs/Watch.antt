@@ -15,7 +15,7 @@ use Rattle.kd_tree.specs.Parts.{at, son}
 use Rattle.kd_tree.specs.declared.path.Side.{Side}
 use Rattle.kd_mark.specs.Mark.{is_entered}
 
--- a node of at least so many nodes stands at the path
+-- a node of at least `large` nodes is at the path
 pub record IsLargeAt (large : ℕ) (path : List Side) (t : Shape) : Type 0 where
   pub node : Shape
   pub there : at path t ≡ Some node
@@ -25,8 +25,8 @@ pub record IsLargeAt (large : ℕ) (path : List Side) (t : Shape) : Type 0 where
 abbrev pub is_keep : Tag → Bool
 is_keep a = is_live a.live && is_suspended a.suspended
 
--- What a father hands down to his son, where the path goes on from the son: where the son is the watched root, an action other
--- than KEEP is an operation on all of it.
+-- What a parent hands down to its child, where the path goes on from the child: where the child is the watched root, an
+-- action other than KEEP is an operation on all of it.
 abbrev pub handed : List Side → Tag → List Op
 handed [] a = if is_keep a then [] else Mark all_items a ∷ []
 handed (side ∷ path) a = []

@@ -30,7 +30,7 @@ AreExtended [] vs = vs ≡ []
 AreExtended (w ∷ ws) [] = ⊥
 AreExtended (w ∷ ws) (v ∷ vs) = (v.path ≡ w.path) × Extends w.log v.log × AreExtended ws vs
 
--- no log has more than so many operations more than it had
+-- no log has more than n operations more than it had
 abbrev pub AreMore : ℕ → List Watch → List Watch → Type 0
 AreMore n [] vs = Unit {0}
 AreMore n (w ∷ ws) [] = Unit {0}

@@ -1,5 +1,4 @@
-//! Actions done in boxes of a k-d tree, and subtrees rebuilt where they have lost their balance. Nothing here knows how a point is put.
-//! While such a subtree is rebuilt elsewhere, it is watched: what an action does to it is logged here.
+//! Actions on chosen items of a k-d tree, what they do to watched subtrees, and rebuilding of unbalanced ones.
 #![tactic(auto)]
 
 mod log_mark;

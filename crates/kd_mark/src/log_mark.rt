@@ -1,4 +1,4 @@
-//! What an action on chosen items does to watched subtrees, logged before it is done. Nothing here takes a node apart.
+//! What an action on chosen items does to watched subtrees, logged before it is done.
 ghost use Rattle.std.specs.Prelude.{◌≡◌, ◌+◌, ◌≤◌, ◌++◌, length, OnOk};
 ghost use Rattle.map_items.specs.Ops.{Extends};
 ghost use Rattle.kd_tree.specs.Walk.{tagged};
@@ -11,7 +11,7 @@ use kd_tree::{Side, Tree};
 use map_items::{Choice, NoMemory, Op, Tag};
 use op_logger::{MAX_LOGGED, OpLog};
 
-/// Puts at the end of each watch's log what the action on the chosen items does to its subtree. The action is done afterwards.
+/// Logs for each watch what the action does to its subtree.
 pub fn log_each_mark(
     tree: &Tree,
     watches: &mut [Watch],
@@ -37,7 +37,7 @@ pub fn log_each_mark(
     log_each_mark(tree, rest, choice, tag)
 }
 
-// For the subtree at the sides. The tree owes the action `owed` before.
+// `owed` is pending above the tree.
 fn log_mark(
     tree: &Tree,
     owed: Tag,
@@ -76,7 +76,7 @@ fn log_mark(
     log_mark(next, owed, rest, choice, tag, log)
 }
 
-/// Logs an action that is handed down to a son from which the path goes on, where that son is the watched root.
+/// Logs the action handed down to a child, where that is the watched root: `rest` is the path from there.
 pub fn note_owed(owed: Tag, rest: &[Side], log: &mut OpLog) -> Result<(), NoMemory>
     requires { length log.old + length (handed rest.now owed) ≤ MAX_LOGGED }
     ensures logged { OnOk result (log.new ≡ log.old ++ handed rest.now owed) }

@@ -1,5 +1,5 @@
-//! Actions on chosen items, with watched subtrees left as they stand. What the choice covers is labelled at its top, and what it
-//! misses is left alone. Nothing here knows what is logged of watched subtrees.
+//! Actions on chosen items. A subtree that the choice covers is relabelled at its top, and one that it misses is left
+//! alone.
 ghost use Rattle.std.specs.Prelude.{◌≡◌, ◌+◌, ◌*◌, ◌≤◌, IfOk};
 ghost use Rattle.map_items.specs.Contents.{chosen_by, mark};
 ghost use Rattle.kd_tree.specs.Shape.{numbers};
@@ -18,13 +18,11 @@ use map_items::{Choice, NoMemory, Tag};
 use std::alloc::Global;
 use std::sync::ledger::Ledger;
 
-/// The tree after this action on each of its items that the choice chooses.
+/// The tree after this action on the chosen items. On `NoMemory` the tree is dropped.
 ///
-/// On the way out each node that was entered, and has from 10 nodes on and fewer than `large`, is rebuilt where it
-/// breaches a criterion. A node is entered where it is neither covered nor missed, and its father is entered. The choice
-/// covers a node where the box, if there is one, covers its extent, and its greatest number is below the bound, if there is one. It
-/// misses a node where the box doesn't meet its extent, or its least number isn't below the bound.
-/// Only these nodes and their sons are made. Where memory runs out, the tree is dropped.
+/// A node is entered where its parent is, and the choice neither covers nor misses its subtree. Only entered nodes and
+/// their children are made. On the way out an entered node of 10 to `large - 1` nodes is rebuilt where it breaches a
+/// criterion.
 pub fn marked<L: Ledger>(
     alloc: Global,
     tree: Tree,
@@ -38,10 +36,9 @@ pub fn marked<L: Ledger>(
     ensures balance { IsBalancedBelow large tree → IfOk result (λ t. IsBalancedBelow large t) }
     // The unrebuilt result, with some subtrees rebuilt.
     ensures refresh { IfOk result (λ t. IsRefresh (marked_shape choice.now tag tree) t) }
-    // Where no node that was entered is to be rebuilt, none is.
     ensures unrebuilt { RebuildsNoneEntered large choice.now (marked_shape choice.now tag tree)
         → IfOk result (λ t. t ≡ marked_shape choice.now tag tree) }
-    // Then at most so many nodes are made, whatever the call answers.
+    // On an error too.
     ensures ticks { RebuildsNoneEntered large choice.now (marked_shape choice.now tag tree)
         → steps.new ≤ steps.old + 5 * entered_mark choice.now tree + 1 }
 {
@@ -49,7 +46,7 @@ pub fn marked<L: Ledger>(
     marked_within(alloc, tree, large, choice, tag, &Unwatched, steps)
 }
 
-/// `marked`, by shape, where nothing is rebuilt above the ends of the ways, at them or below them.
+/// `marked` by shape, where nothing is rebuilt above the ends of the ways, at them or below.
 pub fn marked_within<L: Ledger, W: Ways>(
     alloc: Global,
     tree: Tree,

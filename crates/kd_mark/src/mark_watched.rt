@@ -1,4 +1,4 @@
-//! Actions on chosen items, while subtrees are watched: what each meets is logged first, and then the tree is changed.
+//! Actions on chosen items while subtrees are watched: logged first, then done.
 ghost use Rattle.std.specs.Prelude.{◌≡◌, ◌+◌, ◌*◌, ◌≤◌, IfOk, OnOk};
 ghost use Rattle.map_items.specs.Contents.{chosen_by, mark};
 ghost use Rattle.kd_tree.specs.Shape.{numbers};
@@ -19,9 +19,8 @@ use map_items::{Choice, NoMemory, Tag};
 use std::alloc::Global;
 use std::sync::ledger::Ledger;
 
-/// `marked`, while the subtrees at the watches' paths are watched: no node above one, at its top or in it is rebuilt, and
-/// what it meets is put at the end of its log. With no watch it is `marked`. Where memory runs out, the tree is dropped, and
-/// logs may have grown.
+/// `marked`, but no node above a watched subtree, at its top or in it is rebuilt, and what the subtree meets is put at
+/// the end of its log. On `NoMemory` the tree is dropped, and logs may have grown.
 pub fn marked_watched<L: Ledger>(
     alloc: Global,
     tree: Tree,
@@ -40,16 +39,15 @@ pub fn marked_watched<L: Ledger>(
         → IfOk result (λ t. IsBalancedClear large (paths_in watches.old) t) }
     ensures refresh { IfOk result (λ t. IsRefresh (marked_shape choice.now tag tree) t) }
     ensures there { IfOk result (λ t. AreLargeAt large (paths_in watches.old) t) }
-    // Whatever the call answers.
+    // On an error too.
     ensures begins { AreExtended watches.old watches.new }
     ensures few { AreFewMore watches.old watches.new }
     ensures logged { OnOk result (watches.new ≡ with_marks choice.now tag tree watches.old) }
-    // Of each watched subtree the new tree has what these operations make of the old one's own contents.
+    // The logged operations make the new own contents of the old ones.
     ensures watched { IfOk result (λ t. AreWatched (λ p. IsWatched p tree t (logged_mark choice.now tag p tree)) (paths_in watches.old)) }
-    // Where no node that was entered is to be rebuilt, none is.
     ensures unrebuilt { RebuildsNoneEntered large choice.now (marked_shape choice.now tag tree)
         → IfOk result (λ t. t ≡ marked_shape choice.now tag tree) }
-    // Then at most so many nodes are made, whatever the call answers.
+    // On an error too.
     ensures ticks { RebuildsNoneEntered large choice.now (marked_shape choice.now tag tree)
         → steps.new ≤ steps.old + 5 * entered_mark choice.now tree + 1 }
 {
@@ -62,7 +60,7 @@ pub fn marked_watched<L: Ledger>(
     marked_within(alloc, tree, large, choice, tag, &ways, steps)
 }
 
-// The same of all watches: a caller's proof then has their list in sight, and no borrow of it.
+// By itself: a caller's proof then has the watches' list in sight, and no borrow of it.
 fn log_marks(tree: &Tree, watches: &mut Watches, choice: &Choice, tag: Tag) -> Result<(), NoMemory>
     requires { HaveRoom watches.old }
     ensures logged { OnOk result (watches.new ≡ with_marks choice.now tag tree.now watches.old) }

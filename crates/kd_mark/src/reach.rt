@@ -1,4 +1,4 @@
-//! What a tree reaches, and whether a choice meets or covers that. Nothing here takes a node apart.
+//! What a tree reaches, and whether a choice meets or covers it.
 ghost use Rattle.std.specs.Prelude.{◌≡◌};
 ghost use Rattle.kd_mark.specs.Reach.{covers, covers_box, meets, meets_box, reach};
 ghost use Rattle.map_items.specs.Contents.{is_above};
@@ -7,14 +7,13 @@ use kd_tree::{Numbers, Tree};
 use map_items::Choice;
 use point_geom::{Cuboid, Extent};
 
-// Where the nodes of a tree lie, and from which number to which they go. Dropped ones count too.
+// The extent and the numbers of all nodes, dropped ones too.
 #[derive(Clone, Copy)]
 pub(crate) struct Reach {
     pub(crate) extent: Extent,
     pub(crate) numbers: Numbers,
 }
 
-// None where the tree has no node.
 #[inline]
 pub(crate) fn reach_of(tree: &Tree) -> Option<Reach>
     ensures { result ≡ reach tree.now }

@@ -1,4 +1,4 @@
-//! Rebuilding, by medians. Only `rebuilt` builds, and nothing here knows why a tree was changed.
+//! Rebuilding by medians.
 ghost use Rattle.std.specs.Prelude.{◌≡◌, ◌+◌, ◌≤◌, IfOk, length};
 ghost use Rattle.node_labels.specs.Labels.{keep_tag};
 ghost use Rattle.kd_tree.specs.Shape.{levels, nodes, numbers};
@@ -13,15 +13,14 @@ use map_items::NoMemory;
 use std::alloc::Global;
 use std::sync::ledger::Ledger;
 
-/// A node of fewer nodes is never rebuilt for itself.
+/// Smaller subtrees are never rebuilt for themselves.
 pub const LEAST: u32 = 10;
 
-/// No node has fewer than so many nodes: with this for `large`, none is rebuilt.
+/// With this for `large` none is rebuilt, as no subtree is smaller.
 pub const NEVER: u32 = 0;
 
-/// What is left in the tree, rebuilt by medians. n nodes take time in the order of n log n. The new ones are
-/// made in the memory of the old ones that nobody else holds, and beside these only a list of the items and one of that
-/// memory are needed. Where memory runs out, the tree is dropped.
+/// The remaining items, rebuilt by medians in O(n log n), as `Tree::rebuilt_with` does it with a new scratch. On
+/// `NoMemory` the tree is dropped.
 pub fn rebuilt<L: Ledger>(alloc: Global, tree: Tree, steps: &mut Steps<L>) -> Result<Tree, NoMemory>
     ensures contents { IfOk result (λ t. contents t ≡ contents tree) }
     ensures numbers { IfOk result (λ t. AreAmong (numbers t) (numbers tree)) }
@@ -29,14 +28,14 @@ pub fn rebuilt<L: Ledger>(alloc: Global, tree: Tree, steps: &mut Steps<L>) -> Re
     ensures criteria { IfOk result (λ t. AllMeetCriteria 10 t) }
     ensures nodes { IfOk result (λ t. nodes t ≡ length (contents tree)) }
     ensures levels { IfOk result (λ t. levels t ≤ 23) }
-    // A node for each item, whatever the call answers.
+    // On an error too.
     ensures ticks { steps.new ≤ steps.old + length (contents tree) }
 {
     let _size = tree.size();
     tree.rebuilt_with(alloc, &[], &mut Scratch::new(alloc), steps)
 }
 
-/// The joined parts, rebuilt where they are to be.
+/// `joined`, then `refreshed`.
 #[inline]
 pub fn rejoined<L: Ledger>(
     alloc: Global,
@@ -53,7 +52,7 @@ pub fn rejoined<L: Ledger>(
     refreshed(alloc, tree, large, steps)
 }
 
-/// The joined parts as they are.
+/// The joined parts, without rebuilding.
 #[inline]
 pub fn joined<L: Ledger>(
     alloc: Global,
@@ -68,7 +67,7 @@ pub fn joined<L: Ledger>(
     Tree::put_together(alloc, node, steps)
 }
 
-/// The tree, rebuilt where it has from 10 nodes on, and fewer than `large`, and its top breaches a criterion.
+/// The tree, rebuilt where it has 10 to `large - 1` nodes and its top breaches a criterion.
 #[inline]
 pub fn refreshed<L: Ledger>(
     alloc: Global,

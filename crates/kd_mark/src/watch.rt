@@ -1,4 +1,4 @@
-//! What is watched of a tree while updates cross it: the subtree at a path, and the operations that it has met.
+//! Subtrees that are watched while they are rebuilt elsewhere and updates go on.
 ghost use Rattle.std.specs.Prelude.{◌≡◌, ◌+◌, ◌<◌, ◌≤◌, [], ◌∷◌, ◌++◌, length, OnOk};
 ghost use Rattle.map_items.specs.Ops.{Extends};
 
@@ -6,7 +6,7 @@ use kd_tree::Path;
 use map_items::{NoMemory, Op};
 use op_logger::{MAX_LOGGED, OpLog};
 
-/// A subtree that is watched: its path, and the operations on its own items that were met since the log was empty.
+/// The path of a watched subtree, and the operations on its own items since the log was empty.
 #[derive(Drop)]
 pub struct Watch {
     pub path: Path,

@@ -7,7 +7,7 @@ use map_items::NoMemory;
 use std::alloc::Global;
 use std::marker::Model;
 
-/// At most four watches, in order. Their logs are written where they are.
+/// At most four watches, in order. Their logs are written in place.
 #[derive(Drop)]
 pub struct Watches {
     pub items: Vec<Watch>,
@@ -25,7 +25,7 @@ impl Model for Watches {
 }
 
 impl Watches {
-    /// None, which takes no memory.
+    /// Takes no memory.
     pub fn new(alloc: Global) -> Watches
         ensures { result ≡ [] }
     {
@@ -34,7 +34,6 @@ impl Watches {
         }
     }
 
-    /// How many there are.
     pub fn len(&self) -> usize
         ensures value { result ≡ length self.now }
         ensures few { result ≤ 4 }
@@ -42,14 +41,12 @@ impl Watches {
         self.items.len()
     }
 
-    /// Whether there is none.
     pub fn is_empty(&self) -> bool
         ensures { result ≡ (length self.now == 0) }
     {
         self.items.is_empty()
     }
 
-    /// All of them, in order.
     pub fn as_slice(&self) -> &[Watch]
         ensures value { result.now ≡ self.now }
         ensures few { length result.now ≤ 4 }
@@ -57,7 +54,7 @@ impl Watches {
         self.items.as_slice()
     }
 
-    /// Puts one more at the end. Where memory runs out, that one is dropped, and the others stay as they were.
+    /// On `NoMemory` the watch is dropped, and the others are unchanged.
     pub fn push(&mut self, watch: Watch) -> Result<(), NoMemory>
         requires { length self.old < 4 }
         ensures ok { OnOk result (self.new ≡ self.old ++ watch ∷ []) }
@@ -68,7 +65,7 @@ impl Watches {
         Ok(())
     }
 
-    /// Takes the one at this place out. The others stay in order.
+    /// The others stay in order.
     pub fn remove(&mut self, index: usize) -> Watch
         requires { index < length self.old }
         ensures value { result ≡ slice_index_or self.old index result }
@@ -77,7 +74,6 @@ impl Watches {
         self.items.remove(index)
     }
 
-    /// Their list.
     pub fn into_vec(self) -> Vec<Watch>
         ensures value { result.items ≡ self }
         ensures few { length result.items ≤ 4 }

@@ -1,4 +1,4 @@
-//! What is watched of a tree, as an update goes down: which paths end at a node, and which go on to a son.
+//! Which watched paths end at a node, and which go on to a child.
 ghost use Rattle.std.specs.Prelude.{◌≡◌, ◌-◌, ◌≤◌, ◌∷◌, ◌++◌, length};
 ghost use Rattle.kd_tree.specs.Apart.{is_here, is_none_left, onward};
 ghost use Rattle.kd_mark.specs.Several.{large_at};
@@ -9,8 +9,7 @@ use crate::rebuild::NEVER;
 use crate::watch::Watch;
 use kd_tree::Side;
 
-/// The paths that are left at a node. They are a parameter, so that an update of a tree of which nothing is watched asks nothing at
-/// its nodes, and hands nothing on.
+/// The remaining paths at a node. A type parameter, so that an update without watches asks and hands on nothing.
 pub trait Ways: Copy {
     ghost use Rattle.std.specs.Prelude.{◌≡◌, List};
     ghost use Rattle.kd_tree.specs.Apart.{is_here, onward};
@@ -31,7 +30,7 @@ pub trait Ways: Copy {
 #[derive(Clone, Copy)]
 pub struct Unwatched;
 
-/// At most four: the sides that each of them still takes. A list would take memory at each node above the ends.
+/// At most four, by their remaining sides. A list would take memory at each node.
 #[derive(Clone, Copy)]
 pub struct Watched<'a> {
     first: Option<&'a [Side]>,
@@ -74,7 +73,6 @@ impl Ways for Watched<'_> {
 }
 
 impl<'a> Watched<'a> {
-    /// The paths of the watches.
     pub fn of(watches: &'a [Watch]) -> Watched<'a>
         requires { length watches.now ≤ 4 }
         ensures { paths_of result ≡ paths_in watches.now }
@@ -91,7 +89,6 @@ impl<'a> Watched<'a> {
         }
     }
 
-    /// Whether there is none.
     pub fn is_empty(&self) -> bool
         ensures { result ≡ is_none_left (paths_of self.now) }
     {
@@ -102,7 +99,7 @@ impl<'a> Watched<'a> {
     }
 }
 
-/// From how many nodes on none is rebuilt: at the end of a path and below it that is any, and elsewhere it is as before.
+/// `large`, or `NEVER` where a path ends: there and below nothing is rebuilt.
 #[inline]
 pub fn spared_from<W: Ways>(ways: &W, large: u32) -> u32
     ensures { result ≡ large_at (W.paths ways.now) large }
@@ -110,7 +107,6 @@ pub fn spared_from<W: Ways>(ways: &W, large: u32) -> u32
     if ways.is_here() { NEVER } else { large }
 }
 
-// The path of the first watch, if there is one, and the other watches.
 fn next_way<'a>(watches: &'a [Watch]) -> (Option<&'a [Side]>, &'a [Watch])
     ensures paths { paths_in watches.now ≡ way_of result.0 ++ paths_in result.1.now }
     ensures length { length result.1.now ≡ length watches.now - 1 }

@@ -12,7 +12,7 @@ use Rattle.std.proofs.lemmas.Result.{on_ok_weaker}
 use Rattle.kd_mark.proofs.log_mark.+log_mark.Goals as goal
 use Rattle.kd_mark.proofs.log_mark.+log_mark.Goals.{In-Some-reach_of, After-is_met, After-son-next}
 
--- what is logged of an entered node is what it hands down, and what is logged of its son
+-- what is logged of an entered node is what it hands down, and what is logged of its child
 parts : (t : _) (c : After-son-next t) → let F = logged_mark c.args.choice.now c.args.tag in F c.args.sides.now (tagged c.args.owed c.args.tree.now) ≡ handed c.in-Some.rest.now c.then-owed.result ++ F c.in-Some.rest.now (tagged c.then-owed.result c.son-next.result.now)
 parts t c =
     let top = c.in-Some-top.top in
