@@ -66,7 +66,7 @@ less f x b apart before after z w m n =
     strict : (u v : ℕ) → u ≤ v → (u ≡ v → ⊥) → u < v
     strict u v h k = omega (arith, h, k)
 
--- the front of items that are parted at one of them
+-- the first part of items that are parted at one of them
 pub parted : (n : ℕ) (xs f : List Item) (x : Item) (b : List Item) → IsPermutation xs (f ++ x ∷ b) → AreDistinct xs → length f ≡ n
     → All (λ i. is_lt (nat_cmp x.number i.number) ≡ false) f → All (λ i. is_lt (nat_cmp i.number x.number) ≡ false) b → IsFront n xs f
 parted n xs f x b same once long before after =

@@ -89,7 +89,7 @@ one_more : (c : Bool) (i : Item) (xs ys rest : List Item) → xs ≡ ys ++ rest 
 one_more true i xs ys rest e = ap (λ z. i ∷ z) e
 one_more false i xs ys rest e = e
 
--- What is below a bound is the front of the whole, where the numbers rise.
+-- Where the numbers rise, what is below a bound is a prefix of the whole.
 front_of : (from bound : ℕ) (s : Sought) (m : List Item) → Rises m → (rest : List Item) × (wanted from None s m ≡ wanted from (Some bound) s m ++ rest)
 front_of from bound s [] k = ([], refl)
 front_of from bound s (i ∷ m) k = by_bound (nat_lt i.number bound) refl (front_of from bound s m k.1)
@@ -130,7 +130,7 @@ pub wanted-near : (from : ℕ) (q : Place) (d : ℕ) (m : List Item) → wanted 
 wanted-near from q d m =
     sym (ap (numbered_from from) (both_tests (is_near q d) (λ i. is_live i.label) m) ∙ both_tests (λ i. nat_le from i.number) (λ i. is_live i.label && is_near q d i) m)
 
--- no number stands twice among those that pass a test
+-- no number occurs twice among those that pass a test
 distinct_filter : (p : Item → Bool) (m : List Item) → AreDistinct m → AreDistinct (filter p m)
 distinct_filter p m k = record { once = λ n. omega (arith, k.once n, sum_by-filter_both p (λ i. not (p i)) (λ _. refl) (λ (i : Item). cond (n == i.number) 1 0) m) }
 

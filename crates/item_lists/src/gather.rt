@@ -8,8 +8,8 @@ use crate::sought::Sought;
 use kd_tree::Tree;
 use map_items::{Item, Label, NoMemory, Tag};
 
-/// Puts those of the tree, which owes this action, behind the items that are sought, and whose numbers are this one or greater,
-/// and below the bound where there is one: each node before its sons.
+/// Appends what is sought of a tree with this pending action, numbered from `from` on and below the bound: each node
+/// before its children.
 pub(crate) fn gather(
     tree: &Tree,
     owed: Tag,

@@ -1,8 +1,7 @@
-//! What a tree holds, all of it or what a box or a ball has, listed by number, as much as is asked for.
+//! What a tree holds, a box or a ball has, listed by number, a page at a time.
 //!
-//! Each list begins at a number and ends with a greatest length, so that the next one goes on where it ended. What isn't on the
-//! list is never put in order. Of a tree a list looks only at subtrees that reach to its numbers, and meet its box or ball; no
-//! contract says how many nodes that is.
+//! A page begins at a number, so that the next one goes on where it ended. Only what is on it is sorted. It looks only
+//! at subtrees that reach to its numbers and meet its box or ball; no contract says how many nodes that is.
 #![tactic(auto)]
 
 mod gather;

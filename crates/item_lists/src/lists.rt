@@ -1,4 +1,3 @@
-//! Lists by number: of all that is held, of a box, of a ball.
 ghost use Rattle.std.specs.Prelude.{◌≡◌, ◌≤◌, take, IfOk};
 ghost use Rattle.map_fold.specs.Answers.{inside_all};
 ghost use Rattle.map_fold.specs.Neighbours.{ball};
@@ -14,8 +13,7 @@ use map_items::{Items, MAX_WITHIN, NoMemory, Tag};
 use point_geom::{Cuboid, Point};
 use std::alloc::Global;
 
-/// The items of a number from this one on, live and suspended, in the order of their numbers; the first `most` where there are
-/// more.
+/// The items numbered from `from` on, live and suspended, by number: the first `most`.
 pub fn items_from(alloc: Global, tree: &Tree, from: u32, most: usize) -> Result<Items, NoMemory>
     ensures { IfOk result (λ items. items ≡ take most (numbered_from from (contents tree.now))) }
 {
@@ -30,8 +28,8 @@ pub fn items_from(alloc: Global, tree: &Tree, from: u32, most: usize) -> Result<
     list(alloc, tree, from, None, &Sought::Held, most)
 }
 
-// A number below which there should be as many, from this one on, where the numbers that are left are spread evenly. None where
-// all that is left is likely to be wanted.
+// A guess where `most` items end if numbers are spread evenly: else each page would gather all that remains. None where
+// that is likely wanted.
 fn likely_bound(tree: &Tree, from: u32, most: usize) -> Option<u32> {
     let _size = tree.size();
     let counts = tree.counts();
@@ -51,8 +49,7 @@ fn likely_bound(tree: &Tree, from: u32, most: usize) -> Option<u32> {
     Some(bound as u32)
 }
 
-/// The live items in the box, of a number from this one on, in the order of their numbers; the first `most` where there are
-/// more.
+/// The live items in the box, numbered from `from` on, by number: the first `most`.
 pub fn box_items(
     alloc: Global,
     tree: &Tree,
@@ -66,8 +63,7 @@ pub fn box_items(
     Ok(items)
 }
 
-/// The live items at most `r` millimetres from the place, of a number from this one on, in the order of their numbers; the
-/// first `most` where there are more.
+/// The live items at most `r` millimetres from the place, numbered from `from` on, by number: the first `most`.
 pub fn ball_items(
     alloc: Global,
     tree: &Tree,
@@ -86,7 +82,6 @@ pub fn ball_items(
     Ok(items)
 }
 
-// What is sought of the numbers from this one on, and below the bound where there is one; the first `most` of it.
 fn list(
     alloc: Global,
     tree: &Tree,

@@ -1,4 +1,4 @@
-//! The first of some items by number. What is behind them is never put in order.
+//! The first of some items by number. The others are never sorted.
 ghost use Rattle.std.specs.Prelude.{◌≡◌, ◌<◌, length, take, IfOk};
 ghost use Rattle.kd_tree.specs.Contents.{AreDistinct, by_number};
 ghost use Rattle.item_lists.specs.Page.{IsFront};
@@ -6,7 +6,6 @@ ghost use Rattle.item_lists.specs.Page.{IsFront};
 use map_items::{Item, Items, NoMemory};
 use std::alloc::Global;
 
-/// The first so many of them, in the order of their numbers.
 pub(crate) fn first_by_number(
     alloc: Global,
     items: Vec<Item>,
@@ -23,7 +22,6 @@ pub(crate) fn first_by_number(
     Ok(Items::from(items))
 }
 
-// Of more than are wanted.
 fn page(alloc: Global, items: &mut [Item], most: usize) -> Result<Items, NoMemory>
     requires more { most < length items.old }
     requires distinct { AreDistinct items.old }
@@ -34,7 +32,7 @@ fn page(alloc: Global, items: &mut [Item], most: usize) -> Result<Items, NoMemor
     Ok(Items::from(Vec::from_slice(alloc, front)?))
 }
 
-// Those that come first by number, in no order.
+// In no order.
 fn front(items: &mut [Item], most: usize) -> &mut [Item]
     requires more { most < length items.old }
     requires distinct { AreDistinct items.old }

@@ -7,14 +7,13 @@ ghost use Rattle.item_lists.specs.Sought.{has};
 use map_items::{Item, Label};
 use point_geom::{Cuboid, Extent, Point, dist2};
 
-/// Which items are sought, of those that are live or suspended.
+/// Of the items that are live or suspended.
 #[derive(Clone, Copy)]
 pub(crate) enum Sought {
-    /// All of them.
     Held,
-    /// The live ones in a box.
+    /// The live ones.
     InBox(Cuboid),
-    /// The live ones from which the square of the distance to the center is at most the limit.
+    /// The live ones; the limit is the square of a distance.
     InBall { center: Point, limit: u128 },
 }
 
@@ -31,7 +30,6 @@ impl Sought {
         }
     }
 
-    /// Whether an item with its point in the extent may be one of them.
     pub(crate) fn meets(&self, extent: &Extent) -> bool
         ensures { result ≡ false → (i : Item) → IsIn extent.now i.point → has self.now i ≡ false }
     {
