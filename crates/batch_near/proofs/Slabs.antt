@@ -28,7 +28,7 @@ put_next f qs lists slab n q x room lt read found to i d l s = elim (cases_eq i 
   | inr other ↦ get_or-set_other lists n i x [] other ∙ to i d (omega (arith, l, other)) s
 ]
 
--- a place of another slab is left as it is
+-- a place of another slab stays as it is
 pub skip_next : (f : Place → List Hit) (qs : List Place) (lists : List (List Hit)) (slab n : ℕ) (q : Place) → n < length qs
     → q ≡ get_or qs n q → (slab_of q ≡ slab → ⊥) → AreFilledTo f slab n qs lists → AreFilledTo f slab (n + 1) qs lists
 skip_next f qs lists slab n q lt read elsewhere to i d l s = elim (cases_eq i n) [

@@ -1,4 +1,3 @@
-//! The nearest live points of each place of a list.
 ghost use Rattle.std.specs.Prelude.{◌≡◌, ◌≤◌, ◌<◌, ◌+◌, length, IfOk};
 ghost use Rattle.std.specs.Option.{ForSome};
 ghost use Rattle.std.specs.Thread.{IsSync};
@@ -17,22 +16,21 @@ use rayon::{current_num_threads, join_mut};
 use std::alloc::Global;
 use std::thread::Threads;
 
-// A search takes microseconds, and a thread some dozens of them.
+// A search takes microseconds, and a thread dozens of them to begin.
 const LEAST_PIECE: usize = 128;
 
-// So many hits stand in a list itself.
+// A list of at most 16 hits has them inside itself.
 const INLINE: u32 = 16;
 
-// A slab is so wide, in millimetres of x, and the same comes again after so many of them.
+// In millimetres of x. After 32 slabs the same come again.
 const WIDTH: u64 = 2_048;
 
 const SLABS: u64 = 32;
 
-/// For each query, in order, what `nearest` answers for it on this tree: the first k live points by distance, within the greatest
-/// distance, in millimetres, where one is given. The queries are split among as many threads as there are processors, in pieces of
-/// 128 or more; what no thread can be made for is searched by the thread that calls. Up to k 16 no more memory is taken than the
-/// lists have. Above, where it runs out in one piece, the others are searched to their ends, and no list is given; and while the
-/// lists of the pieces are joined, they take about twice their memory, but for what a list holds outside itself.
+/// For each query, in order, what `nearest` returns: its first k live points, at most `within` millimetres away. Pieces
+/// of at least 128 queries go to as many threads as there are processors; what gets none is searched by the caller's.
+/// Up to k = 16 only the lists take memory. Above, `NoMemory` comes once the other pieces are searched; and joining the
+/// pieces takes about twice the lists' memory, without what is outside a list.
 pub fn nearest_each<R: Threads + Sync>(
     rt: &R,
     alloc: Global,
@@ -53,7 +51,7 @@ pub fn nearest_each<R: Threads + Sync>(
     Ok(HitLists::from(lists))
 }
 
-// Each list is made where it will stand. No search can be refused, and what is refused before is the room for them all.
+// Only room for the lists may be refused, no search.
 fn in_place<R: Threads + Sync>(
     rt: &R,
     alloc: Global,
@@ -81,8 +79,7 @@ fn in_place<R: Threads + Sync>(
     Ok(lists)
 }
 
-// Each piece but the last goes to a thread of its own. The thread that calls begins them all, since one that is begun takes
-// its time before it could begin another.
+// The calling thread starts the others: each takes its time before it could start another.
 fn fill<R: Threads + Sync>(
     rt: &R,
     alloc: Global,
@@ -118,7 +115,7 @@ fn fill<R: Threads + Sync>(
     );
 }
 
-// Slab by slab: of what a search reads, most is then still at hand from those before it.
+// Slab by slab: most of what a search reads is then still in the cache.
 fn fill_piece(
     alloc: Global,
     tree: &Tree,
@@ -176,7 +173,6 @@ fn empty_lists(alloc: Global, count: usize) -> Result<Vec<Hits>, NoMemory>
     Ok(lists)
 }
 
-// The lists of each piece, joined.
 fn in_pieces<R: Threads + Sync>(
     rt: &R,
     alloc: Global,
