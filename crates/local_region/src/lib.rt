@@ -1,8 +1,7 @@
 //! The region of a map that moves with the robot, and what it leaves behind.
 //!
-//! A region is a half-open cube, in whole millimetres. A ball round the robot is to stay clear of its faces: on each axis on
-//! which it touches one, the region moves by a step that way. What was in the region and no longer is comes out as up to
-//! three boxes that share no point, to be deleted. The intensity of a point plays no part in any of it.
+//! On each axis on which the ball round the robot touches or passes a face, the region moves by a step that way. What
+//! it leaves is at most three disjoint boxes, to be deleted. Intensities play no part.
 #![tactic(auto)]
 
 mod limits;

@@ -1,4 +1,3 @@
-//! Regions.
 ghost use Rattle.std.specs.Prelude.{◌≡◌, ◌≤◌, false, true, IfSome, IsNone};
 ghost use Rattle.point_geom.specs.Place.{IsCoordinate};
 ghost use Rattle.local_region.specs.Regions.{IsRegion, IsStart, IsStartCorner, begun, first_start, is_in};
@@ -9,7 +8,7 @@ use crate::limits::{FARTHEST, LONGEST};
 use point_geom::{Corner, Point};
 use std::marker::Model;
 
-/// A half-open cube of a map: a point is in it where `lo <= p < lo + side` on every axis, whatever its intensity.
+/// A half-open cube: a point is in it where `lo <= p < lo + side` on every axis.
 #[derive(Clone, Copy, Debug, PartialEq, Eq)]
 pub struct Region {
     rules: RegionRules,
@@ -29,7 +28,7 @@ impl Model for Region {
 }
 
 impl Region {
-    /// The region that begins with the point in its middle: on each axis `side / 2`, rounded down, above the lower corner.
+    /// The region with the point in its middle: `side / 2`, rounded down, above the lower corner.
     pub fn begin(rules: RegionRules, p: &Point) -> Region
         ensures value { result ≡ begun rules p.now }
         ensures inside { is_in result p.now ≡ true }
@@ -43,8 +42,8 @@ impl Region {
         Region { rules, lo }
     }
 
-    /// The region of these rules that has its corner with the least numbers here. None where on some axis the corner lies farther
-    /// than 4,398,046,511,104 millimetres from 0: no region does.
+    /// The region with this lower corner. None where it lies farther than 4,398,046,511,104 millimetres from 0 on an
+    /// axis.
     pub fn at(rules: RegionRules, lo: Corner) -> Option<Region>
         ensures some { IfSome result (λ r. r ≡ record { rules = rules; lo = lo }) }
         ensures start { IfSome result (λ r. IsStartCorner lo) }
@@ -57,7 +56,7 @@ impl Region {
         }
     }
 
-    /// The corner with the least numbers, in millimetres. It may lie outside the limits of points and boxes.
+    /// The lower corner, in millimetres. It may lie outside the limits of points and boxes.
     pub fn lo(&self) -> Corner
         ensures value { result ≡ self.now.lo }
         ensures region { IsRegion self.now }
@@ -73,7 +72,6 @@ impl Region {
         &self.rules
     }
 
-    /// The region after a move to the point.
     pub(crate) fn after(&self, p: &Point) -> Region
         ensures value { result ≡ after p.now self.now }
         ensures region { IsRegion self.now }
