@@ -91,7 +91,7 @@ balanced_more large ps qs (fork h l r) f k = λ e.
       balanced_more large (onward Right ps) (onward Right qs) r (λ p m. one_onward Right p qs (f (Right ∷ p) (onward_one Right p ps m))) all.2,
     )
 
--- one of several stands before the others
+-- one of several is before the others
 pub ones_moved : (front : List PartAt) (p : PartAt) (back : List PartAt) → AreOnesOf (paths (front ++ p ∷ back)) (p.path ∷ paths (front ++ back))
 ones_moved [] p back q k = k
 ones_moved (r ∷ front) p back q (inl e) = inr (inl e)

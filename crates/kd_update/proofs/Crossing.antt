@@ -128,7 +128,7 @@ fit_puts w (i ∷ is) d live few =
       subst (λ m. Fit m (puts_of is)) one (fit_puts (i ∷ w) is distinct (All-tail IsLive i is live) (omega (arith, few))),
     )
 
--- items that may come to a son
+-- items that may come to a child
 pub record MayCome (s : Shape) (is : List Item) : Type 0 where
   pub live : AreLive is
   pub distinct : AreDistinct (walk keep_tag s ++ is)

@@ -75,7 +75,7 @@ grown_moved s t is js p g = record {
   from = λ n k. Contains-permutation _ _ n (IsPermutation-append_right (numbers s) _ _ (IsPermutation-map (λ (i : Item). i.number) js is (IsPermutation-sym is js p))) (g.from n k);
 }
 
--- sons that have grown
+-- children that have grown
 pub grown_fork : (i : Item) (a : Axis) (l r l' r' : Shape) (xs ys : List Item) → IsGrown l xs l' → IsGrown r ys r' → IsGrown (fork (head i a) l r) (xs ++ ys) (fork (head i a) l' r')
 grown_fork i a l r l' r' xs ys f g =
     let own = i.number ∷ [] in
@@ -129,7 +129,7 @@ built_grown s t is live low b ns = record {
   from = built_from s t is ns;
 }
 
--- what is left and the items, built by medians: where the tree had a node, so much may be built
+-- what remains and the items, built by medians: where the tree had a node, there is room for that
 pub grown_anew : (s t : Shape) (is : List Item) → AreLive is → length (walk keep_tag s) + length is ≤ 4194304 → 1 ≤ nodes s + levels s → IsBuilt (walk keep_tag s ++ is) t → IsPermutation (map (λ i. i.number) (walk keep_tag s ++ is)) (numbers t) → IsGrown s is t
 grown_anew leaf t is live few some b ns = absurd (omega (arith, some))
 grown_anew (fork h l r) t is live few some b ns =
@@ -179,14 +179,14 @@ all_first P xs ys k = λ n d below. subst P (get_or_append_left xs ys d n below)
 pub all_last : (P : Item → Type 0) (xs ys : List Item) → All P (xs ++ ys) → All P ys
 all_last P xs ys k = λ n d below. subst P (get_or-append-add xs ys n d) (k (length xs + n) d (omega (arith, length-append xs ys)))
 
--- no number stands twice in a part
+-- no number occurs twice in a part
 pub distinct_front : (xs ys : List Item) → AreDistinct (xs ++ ys) → AreDistinct xs
 distinct_front xs ys d = record { once = λ n. let g : Item → ℕ = λ i. cond (n == i.number) 1 0 in omega (arith, d.once n, sum_by-append g xs ys) }
 
 pub distinct_back : (xs ys : List Item) → AreDistinct (xs ++ ys) → AreDistinct ys
 distinct_back xs ys d = record { once = λ n. let g : Item → ℕ = λ i. cond (n == i.number) 1 0 in omega (arith, d.once n, sum_by-append g xs ys) }
 
--- the items that go to each son may be put there
+-- the items that go to each child may be put there
 piece_sons : (large : ℕ) (i : Item) (a : Axis) (l r : Shape) (xs ys : List Item) → IsPiece large (fork (head i a) l r) (xs ++ ys) → IsPiece large l xs × IsPiece large r ys
 piece_sons large i a l r xs ys p =
     let both : AreDistinct ((walk keep_tag l ++ xs) ++ (walk keep_tag r ++ ys)) = distinct_back _ _ (once_moved _ _ (spread (kept (relabelled keep_tag i ∷ [])) (walk keep_tag l) (walk keep_tag r) xs ys) p.distinct) in
@@ -201,7 +201,7 @@ pub record GoBeside (i : Item) (a : Axis) (xs ys : List Item) : Type 0 where
   pub left : All (λ j. goes_left a j.point i.point ≡ true) xs
   pub right : All (λ j. goes_left a j.point i.point ≡ false) ys
 
--- sons that have grown by what goes there may be joined
+-- children that have grown by what goes there may be joined
 sound_grown : (large : ℕ) (i : Item) (a : Axis) (l r l' r' : Shape) (xs ys : List Item) → IsSoundFork (head i a) l r → IsPiece large (fork (head i a) l r) (xs ++ ys) → GoBeside i a xs ys
     → IsGrown l xs l' → IsGrown r ys r' → IsSoundFork (head i a) l' r'
 sound_grown large i a l r l' r' xs ys s p b f g =

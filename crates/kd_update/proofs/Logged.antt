@@ -35,7 +35,7 @@ put_few n p (side ∷ path) (fork h l r) =
 pub logged_put_few : (n : ℕ) (p : Place) (path : List Side) (t : Shape) → length (logged_put n p path t) ≤ 2
 logged_put_few n p path t = omega (arith, put_few n p path t)
 
--- no number is put by what is handed down, or by a mark
+-- no number is put by a pending action, or by a mark
 
 pub handed_puts : (path : List Side) (q : Tag) (ops : List Op) → numbers_put (handed path q ++ ops) ≡ numbers_put ops
 handed_puts [] q ops = cond_both (is_keep q) [] (Mark all_items q ∷ []) (λ os. numbers_put (os ++ ops) ≡ numbers_put ops) (λ _. refl) (λ _. refl)

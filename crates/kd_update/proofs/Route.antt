@@ -43,7 +43,7 @@ unfolding put_under
 put-tagged n p axis a leaf = refl
 put-tagged n p axis a (fork h l r) = rw (relabelled-keep (relabelled a h.item), composed-keep_right (composed h.pending a)) refl
 
--- a son that was handed the action owed
+-- a child that was handed the pending action
 pub son-put : (n : ℕ) (p : Place) (axis : Axis) (q : Tag) (t : Shape) → put_from n p axis (tagged q t) ≡ put_under n p axis (composed q keep_tag) t
 son-put n p axis q t = put-tagged n p axis q t ∙ ap (λ b. put_under n p axis b t) (sym (composed-keep_right q))
 
@@ -118,7 +118,7 @@ times-put m n p axis t =
 pub at_most_one : (m n x y : ℕ) → (m ≡ n → x ≡ y) → x ≤ 1 → y ≡ 0 → cond (m == n) 1 0 + x ≤ 1
 at_most_one m n x y same few none = grind (arith, nat_tests)
 
--- no number is left twice, where the new one wasn't held
+-- no number occurs twice, where the new one wasn't held
 pub once-put : (n : ℕ) (p : Place) (axis : Axis) (t : Shape) → ((m : ℕ) → times m keep_tag t ≤ 1) → times n keep_tag t ≡ 0 → (m : ℕ) → times m keep_tag (put_from n p axis t) ≤ 1
 once-put n p axis t once none m = omega (arith, times-put m n p axis t, at_most_one m n (times m keep_tag t) (times n keep_tag t) (λ e. ap (λ k. times k keep_tag t) e) (once m) none)
 
@@ -148,13 +148,13 @@ le_of_true a b h = grind (arith, ints)
 pub le_of_false : (a b : ℤ) → int_lt a b ≡ false → b ≤ℤ a
 le_of_false a b h = grind (arith, ints)
 
--- the point may go on to this son
+-- the point may go on to this child
 pub record IsFree (n : ℕ) (son : Shape) : Type 0 where
   pub low : levels son < 512
   pub few : nodes son < 4194304
   pub new : times n keep_tag son ≡ 0
 
--- what holds where the point goes on to the son on the side, when the top of s is taken apart to f
+-- what holds where the point goes on to the child on the side, when the top of s is taken apart to f
 pub record IsOnRoute (n : ℕ) (p : Place) (axis : Axis) (s : Shape) (f : Fork) (side : Side) : Type 0 where
   pub value : with_near side f (put_from n p (next_axis f.axis) (near side f)) ≡ put_from n p axis s
   pub sound : IsTopSound (with_near side f (put_from n p (next_axis f.axis) (near side f)))
@@ -198,7 +198,7 @@ entered_son : (p : Place) (h : Head) (l r : Shape) (b : Bool) → goes_left h.ax
 unfolding entered_put
 entered_son p h l r b e = rw (e, entered_put-tagged p h.pending l, entered_put-tagged p h.pending r) refl
 
--- a node with the point put below it is sound, where its sons lie on their sides
+-- a node with the point put below it is sound, where its children lie on their sides
 route_sound : (n : ℕ) (p : Place) (axis : Axis) (h : Head) (l r l' r' : Shape) → IsSound (fork h l r) → IsFree n (fork h l r) → fork (head h.item h.axis) l' r' ≡ put_from n p axis (fork h l r)
     → AllKept (λ q. on h.axis q ≤ℤ on h.axis h.item.point) keep_tag l' → AllKept (λ q. on h.axis h.item.point ≤ℤ on h.axis q) keep_tag r' → IsSoundFork (head h.item h.axis) l' r'
 route_sound n p axis h l r l' r' s k value below above = record {
@@ -258,7 +258,7 @@ unfolding entered_put
 apart_put p leaf a b k e = omega (arith, e refl)
 apart_put p (fork h l r) a b k e = omega (arith, k)
 
--- a node on the route: two for the sons, those of the way below it, and one for itself
+-- a node on the route: two for the children, those of the way below it, and one for itself
 pub route_ticks : (large : ℕ) (n : ℕ) (p : Place) (axis next : Axis) (s x : Shape) (f : Fork) (side : Side) (a b d e : ℕ) → IsOnRoute n p axis s f side → next ≡ next_axis f.axis → x ≡ near side f
     → b ≤ a + 2 → (RebuildsNoneOnRoute large p (put_from n p next x) → d ≤ b + (3 * entered_put p x + 1))
     → (RebuildsNoneOnRoute large p (put_from n p next x) → IsNotDue large (with_near side f (put_from n p next x)) → e ≤ d + 1)

@@ -10,11 +10,11 @@ use Rattle.kd_mark.specs.Update.{IsSettled}
 use Rattle.kd_mark.proofs.Refresh.{head, refresh_trans, refresh_fork, refresh_sound, refreshed_refresh}
 use Rattle.kd_mark.proofs.TakenApart.{apart}
 
--- the sons of a tree that was taken apart, settled, may be joined
+-- the children of a tree that was taken apart, settled, may be joined
 pub settled_sound : (s : Shape) (f : Fork) (l r : Shape) → Some f ≡ pushed s → IsSound s → IsSettled f.left l → IsSettled f.right r → IsSoundFork (head f.item f.axis) l r
 settled_sound s f l r x k left right = refresh_sound f.item f.axis f.left f.right l r (apart s f x k).sound left.refresh right.refresh
 
--- and their father is settled
+-- and their parent is settled
 pub settled_fork : (s : Shape) (f : Fork) (l r t : Shape) → Some f ≡ pushed s → IsSound s → IsSettled f.left l → IsSettled f.right r → RefreshesIfDue 4194305 (fork (head f.item f.axis) l r) t → (AllMeetCriteria 10 s → ⊥) → IsSettled s t
 settled_fork s f l r t x k left right done breach = record {
   refresh = refresh_trans s (fork (head f.item f.axis) f.left f.right) t (apart s f x k).refresh

@@ -25,7 +25,7 @@ use Rattle.kd_update.proofs.Watched.{watched-put}
 use Rattle.kd_mark.proofs.Large.{large_nodes, large_after, watched_new}
 use Rattle.kd_mark.proofs.Several.{clear_plain, IsPassedBy, passed_by, clear_fork}
 
--- the son on one side updated, the other as it was
+-- the child on one side updated, the other as it was
 clear_son : (large : ℕ) (ps : List (List Side)) (s : Shape) (f : Fork) (side : Side) (plain y t : Shape) (C Cs : ℕ → Type 0) → IsPassedBy large ps s f
     → ((m : ℕ) → C m → IsNotDue m (with_near side f plain) × Cs m) → C 0 → AreLargeAt large ps (with_near side f plain)
     → IsUpdatedClear (large_at ps large) (onward side ps) (near side f) plain (Cs (large_at ps large)) y

@@ -1,4 +1,4 @@
--- A subtree that another tree stands in for.
+-- A subtree that another tree replaces.
 use Rattle.std.proofs.Common.{◌≡◌, ℕ, ◌+◌, ◌≤◌, inl, inr, refl, ap, ◌∙◌, sym, subst, arith, List, [], ◌∷◌, length, None, Some, cond, ◌==◌, ◌≤ℤ◌, IsPermutation}
 use Rattle.std.proofs.lemmas.Bool.{cases_lt}
 use Rattle.std.proofs.lemmas.List.Elements.{Contains-append_left}
@@ -33,7 +33,7 @@ use Rattle.kd_mark.proofs.Refresh.{refresh_contents, refreshed_refresh}
 use Rattle.kd_mark.proofs.Several.{balanced_outside, refreshed_outside}
 use Rattle.kd_mark.proofs.Large.{large_nodes, large_same}
 
--- what is left under an action, by number, is what it leaves of the contents
+-- what remains under an action, by number, is what it leaves of the contents
 numbered-walk : (a : Tag) (t : Shape) → by_number (walk a t) ≡ mark (contents t) everything a
 numbered-walk a t =
     ap (λ b. by_number (walk b t)) (sym (composed-keep_left a)) ∙ ap by_number (walk-composed keep_tag a t) ∙ by_number-mark everything a (walk keep_tag t)
@@ -50,7 +50,7 @@ same_left P a s t e k = left_all P a t (All-permutation (λ (i : Item). P i.poin
 pub same_times : (n : ℕ) (a : Tag) (s t : Shape) → contents s ≡ contents t → times n a t ≡ times n a s
 same_times n a s t e = omega (arith, times_walk n a s, times_walk n a t, sum_by-IsPermutation (λ (i : Item). cond (n == i.number) 1 0) _ _ (moved_under a s t e))
 
--- a sound node with sons that hold the same
+-- a sound node with children that hold the same
 pub same_sound : (h : Head) (l r l' r' : Shape) → IsSoundFork h l r → contents l ≡ contents l' → contents r ≡ contents r' → nodes l' + nodes r' + 1 ≤ 4194304 → levels l' ≤ 511 → levels r' ≤ 511 → IsSoundFork h l' r'
 same_sound h l r l' r' s e f few low lower = record {
   below = same_left (λ p. on h.axis p ≤ℤ on h.axis h.item.point) h.pending l l' e s.below;
@@ -77,7 +77,7 @@ refreshed_spared large s t (inr k) c = absurd (k.0 c)
 large_spared : (large : ℕ) (p : List Side) (s t : Shape) → RefreshesIfDue large s t → IsLargeAt large p s → t ≡ s
 large_spared large p s t k big = refreshed_spared large s t k (λ many few. absurd (omega (arith, few, large_nodes large p s big)))
 
--- what was done in a son, and then the father rebuilt where he is to be
+-- what was done in a child, and then the parent rebuilt where it is to be
 replaced_left : (large : ℕ) (path : List Side) (h : Head) (l r other l' t : Shape) → IsSound (fork h l r) → IsReplaced large path l other l' → RefreshesIfDue large (fork h l' r) t → IsSoundFork h l' r
     → IsReplaced large (Left ∷ path) (fork h l r) other t
 replaced_left large path h l r other l' t s u k sound =
@@ -146,7 +146,7 @@ replaced_nodes (side ∷ path) other leaf s e = absurd (cc)
 replaced_nodes (Left ∷ path) other (fork h l r) s e = omega (arith, replaced_nodes path other l s e)
 replaced_nodes (Right ∷ path) other (fork h l r) s e = omega (arith, replaced_nodes path other r s e)
 
--- the son on the way
+-- the child on the way
 
 pub son_stands : (side : Side) (path : List Side) (t other s : Shape) → at (side ∷ []) t ≡ Some s → StandsFor (side ∷ path) t other → StandsFor path s other
 son_stands side path leaf other s e k = absurd (cc)
@@ -158,7 +158,7 @@ son_room side path leaf other s e k = absurd (cc)
 son_room Left path (fork h l r) other s e k = subst (HasRoomAt path other) (same_Some l s e) (record { low = omega (arith, k.low); few = omega (arith, k.few) })
 son_room Right path (fork h l r) other s e k = subst (HasRoomAt path other) (same_Some r s e) (record { low = omega (arith, k.low); few = omega (arith, k.few) })
 
--- where no node above the path is to be rebuilt, neither is the father nor one above it in the son
+-- where no node above the path is to be rebuilt, neither is the parent nor one above it in the child
 pub son_calm : (large : ℕ) (side : Side) (path : List Side) (t other s : Shape) → at (side ∷ []) t ≡ Some s → RebuildsNoneAbove large (side ∷ path) (replaced_at (side ∷ path) other t)
     → IsNotDue large (with_son side (replaced_at path other s) t) × RebuildsNoneAbove large path (replaced_at path other s)
 son_calm large side path leaf other s e k = absurd (cc)
@@ -171,7 +171,7 @@ son_there side path leaf other e k = cc k.there
 son_there Left path (fork h l r) other e k = cc
 son_there Right path (fork h l r) other e k = cc
 
--- the tree with the changed son is sound
+-- the tree with the changed child is sound
 pub son_sound : (large : ℕ) (side : Side) (path : List Side) (t other s new : Shape) → at (side ∷ []) t ≡ Some s → IsSound t → HasRoomAt (side ∷ path) other t → IsReplaced large path s other new → IsTopSound (with_son side new t)
 son_sound large side path leaf other s new e sound k u = absurd (cc)
 son_sound large Left path (fork h l r) other s new e sound k u =
@@ -192,7 +192,7 @@ son_replaced large Right path (fork h l r) other s new u e sound k f g =
 
 -- several paths
 
--- the same stands at large subtrees apart from the path
+-- large subtrees apart from the path are unchanged
 pub same_beside : (large : ℕ) (path : List Side) (ps : List (List Side)) (old other new : Shape) → IsReplaced large path old other new → IsClear path ps → AreLargeAt large ps old → AreSameAt ps new old
 same_beside large path [] old other new u a k = tt
 same_beside large path (p ∷ ps) old other new u a k = (u.beside p a.0 k.0, same_beside large path ps old other new u a.1 k.1)
@@ -208,7 +208,7 @@ replaced_contents (Left ∷ path) (fork h l r) other sound k =
 replaced_contents (Right ∷ path) (fork h l r) other sound k =
     same_fork h l r l (replaced_at path other r) sound.0.once refl (sym (replaced_contents path r other sound.2 (son_stands Right path (fork h l r) other r refl k)))
 
--- what is built of all that is left is no larger
+-- what is built of all that remains is no larger
 pub anew_no_larger : (path : List Side) (t other new : Shape) → IsSound t → StandsFor path t other → (HasRoomAt path other t → ⊥) → nodes new ≡ length (contents t) → levels new ≤ 23 → IsNoLarger (replaced_at path other t) new
 anew_no_larger path t other new sound k none few low =
     let plain = replaced_at path other t in

@@ -38,7 +38,7 @@ at_son_tagged path q t s e =
     let u = at-tagged path q t s e in
     subst (λ b. IsWatched path t (tagged b t) (handed path q ++ [])) (sym (composed-keep_right q)) (watched_handed path q t (tagged q t) s [] e (watched_same path (tagged q t) u.0 u.1))
 
--- a son of a sound tree that a point may go on to
+-- a child of a sound tree that a point may go on to
 sound_on : (side : Side) (h : Head) (l r : Shape) → IsSound (fork h l r) → IsSound (tagged h.pending (son side l r))
 sound_on Left h l r sound = (pushed_sound h l r sound).1
 sound_on Right h l r sound = (pushed_sound h l r sound).2
@@ -47,7 +47,7 @@ free_on : (n : ℕ) (side : Side) (h : Head) (l r : Shape) → times n keep_tag 
 free_on n Left h l r new few = ((new_sons n h l r new).0, omega (arith, few, tagged_nodes h.pending l))
 free_on n Right h l r new few = ((new_sons n h l r new).1, omega (arith, few, tagged_nodes h.pending r))
 
--- the watched son of a node on the route, whether the point goes on to it or not
+-- the watched child of a node on the route, whether the point goes on to it or not
 route_watched : (side : Side) (b : Bool) (path : List Side) (h g : Head) (l r l' r' lo ro : Shape) (xs ops : List Op) → IsWatched path (son side l r) (son side l' r') (xs ++ ops) → IsWatched path (son side l r) (son side lo ro) (xs ++ [])
     → IsWatched (side ∷ path) (fork h l r) (cond b (fork g l' ro) (fork g lo r')) (xs ++ cond (goes_to side b) ops [])
 route_watched Left true path h g l r l' r' lo ro xs ops u v = watched_son Left path h g l r l' ro (xs ++ ops) u

@@ -26,15 +26,15 @@ puts_of (i ∷ is) = Put i.number i.point ∷ puts_of is
 abbrev pub going : Side → Axis → Place → List Item → List Item
 going side axis q is = filter (λ i. goes_to side (goes_left axis i.point q)) is
 
--- What is logged of items that are put, for the subtree at the path. Where one of them at least meets each node above, it is what
--- the last of these hands down to the watched root, once, and then each item whose route goes on to the root's place.
+-- What is logged of items that are put, for the subtree at the path. Where at least one meets each node above, it is the action that
+-- the last of these has pending for the watched root, once, and then each item whose route goes on to the root.
 abbrev pub logged_scan : List Side → List Item → Shape → List Op
 logged_scan [] is t = puts_of is
 logged_scan (side ∷ path) [] t = []
 logged_scan (side ∷ path) (i ∷ is) leaf = []
 logged_scan (side ∷ path) (i ∷ is) (fork h l r) = handed path h.pending ++ logged_scan path (going side h.axis h.item.point (i ∷ is)) (tagged h.pending (son side l r))
 
--- The second tree has what is left of the first and the items, and no node of the first is gone.
+-- The second tree has what remains of the first and the items, and no node of the first is gone.
 pub record IsWholeGrown (s : Shape) (is : List Item) (t : Shape) : Type 0 where
   pub grown : IsGrown s is t
   pub many : nodes s + length is ≤ nodes t
@@ -48,7 +48,7 @@ IsMet (side ∷ path) (i ∷ is) leaf t = ⊥
 IsMet (side ∷ path) (i ∷ is) (fork h l r) leaf = ⊥
 IsMet (side ∷ path) (i ∷ is) (fork h l r) (fork g l' r') = IsMet path (going side h.axis h.item.point (i ∷ is)) (tagged h.pending (son side l r)) (son side l' r')
 
--- the same for the subtree at each of the paths
+-- `IsMet` for the subtree at each of the paths
 abbrev pub AreMet : List (List Side) → List Item → Shape → Shape → Type 0
 AreMet [] is s t = Unit {0}
 AreMet (p ∷ ps) is s t = IsMet p is s t × AreMet ps is s t
@@ -64,7 +64,7 @@ abbrev pub HaveRoomAtOnce : ℕ → List Watch → Type 0
 HaveRoomAtOnce n [] = Unit {0}
 HaveRoomAtOnce n (w ∷ ws) = (length w.log + n + 2 ≤ MAX_LOGGED) × HaveRoomAtOnce n ws
 
--- the same watches, each log with what the items do to its subtree
+-- the watches, each log with what the items do to its subtree
 abbrev pub with_scan : List Item → Shape → List Watch → List Watch
 with_scan is t [] = []
 with_scan is t (w ∷ ws) = record w { log = w.log ++ logged_scan w.path is t } ∷ with_scan is t ws

@@ -1,5 +1,5 @@
--- Detached subtrees as their state sees them: what it keeps of each, and what a step leaves of them. Here, since `map_update` and
--- `rebuild_parts`, neither of which stands on the other, both cite it.
+-- Detached subtrees as their state sees them: what it keeps of each, and which a step leaves. Here, since `map_update` and
+-- `rebuild_parts`, neither of which uses the other, both cite it.
 use Rattle.std.specs.Prelude.{◌≡◌, ℕ, ◌+◌, ◌<◌, ◌≤◌, ◌⊎◌, List, [], ◌∷◌, ◌++◌, length, map, All, Option, ◌==◌, if◌then◌else◌}
 use Rattle.std.specs.List.{find}
 use Rattle.map_items.specs.declared.item.Item.{Item}
@@ -14,7 +14,7 @@ use Rattle.kd_mark.specs.declared.watch.Watch.{Watch}
 use Rattle.kd_mark.specs.Watch.{IsLargeAt}
 use Rattle.op_logger.specs.declared.log.TheConstants.{MAX_LOGGED}
 
--- a detached subtree: its slot, where it stands, its ticket, what it held when it was detached, and the operations since
+-- a detached subtree: its slot, its path, its ticket, what it held when it was detached, and the operations since
 pub record PartAt : Type 0 where
   pub slot : ℕ
   pub path : List Side
@@ -22,7 +22,7 @@ pub record PartAt : Type 0 where
   pub items : List Item
   pub log : List Op
 
--- The part is lawful in a tree, where so many points were submitted and so many tickets given.
+-- The part is lawful in a tree, where `next` points were submitted and `last` tickets given.
 pub record IsLawfulPart (large next last : ℕ) (t : Shape) (p : PartAt) : Type 0 where
   pub there : IsLargeAt large p.path t
   pub few : length p.log ≤ MAX_LOGGED
@@ -59,7 +59,7 @@ abbrev pub HaveOwnTickets : List PartAt → Type 0
 HaveOwnTickets [] = Unit {0}
 HaveOwnTickets (p ∷ ps) = IsNewTicket p.ticket ps × HaveOwnTickets ps
 
--- where the parts stand
+-- the paths of the parts
 abbrev pub paths : List PartAt → List (List Side)
 paths ps = map (λ p. p.path) ps
 
@@ -88,7 +88,7 @@ abbrev pub without : ℕ → List PartAt → List PartAt
 without ticket [] = []
 without ticket (p ∷ ps) = if ticket == p.ticket then ps else p ∷ without ticket ps
 
--- The part of the ticket, the first of it, stands at the place.
+-- The part of the ticket, the first of it, has this index.
 pub record IsPlaceOf (ticket i : ℕ) (ps : List PartAt) : Type 0 where
   pub front : List PartAt
   pub part : PartAt

@@ -1,4 +1,4 @@
--- A subtree that another tree stands in for.
+-- A subtree that another tree replaces.
 use Rattle.std.specs.Prelude.{◌≡◌, ℕ, ◌≤◌, List, [], ◌∷◌, ◌++◌, Some}
 use Rattle.kd_tree.specs.Shape.{Shape, leaf, fork, nodes, levels, numbers}
 use Rattle.kd_tree.specs.Contents.{contents}
@@ -12,7 +12,7 @@ use Rattle.kd_mark.specs.Watch.{IsLargeAt}
 use Rattle.kd_mark.specs.Several.{IsBalancedClear}
 use Rattle.kd_tree.specs.declared.limits.TheConstants.{MAX_LEVELS, MAX_NODES}
 
--- a subtree stands at the path, and the other tree holds what the subtree by itself holds
+-- there is a subtree at the path, and the other tree holds what it holds by itself
 pub record StandsFor (path : List Side) (t other : Shape) : Type 0 where
   pub node : Shape
   pub there : at path t ≡ Some node
@@ -35,8 +35,8 @@ pub record IsNoLarger (s t : Shape) : Type 0 where
   pub few : nodes t ≤ nodes s
   pub low : levels t ≤ levels s
 
--- The new tree is the old one with the other at the path, and some nodes above it rebuilt: none that has a large subtree
--- beside the path, none at all where none is to be, and enough to stay balanced.
+-- The new tree is the old one with the other at the path, and some nodes above it rebuilt: none with a large subtree next to
+-- the path, none at all where none is to be, and enough to stay balanced.
 pub record IsReplaced (large : ℕ) (path : List Side) (old other new : Shape) : Type 0 where
   pub held : contents new ≡ contents old
   pub size : IsNoLarger (replaced_at path other old) new

@@ -32,7 +32,7 @@ AreLive is = All (λ i. i.label ≡ Live) is
 abbrev pub numbers_in : List Item → List ℕ
 numbers_in is = map (λ i. i.number) is
 
--- The items may be put beside those that are held: they are live, no number stands twice, and there is room for all.
+-- The items may be put as well as those that are held: they are live, no number occurs twice, and there is room for all.
 pub record MayJoin (m is : List Item) : Type 0 where
   pub live : AreLive is
   pub distinct : AreDistinct (m ++ is)
@@ -54,7 +54,7 @@ pub record IsPiece (large : ℕ) (s : Shape) (is : List Item) : Type 0 where
   pub low : levels s ≤ MAX_PASS_LEVELS
   pub few : nodes s + length is ≤ MAX_NODES
 
--- The second tree has what is left of the first and the items, on no more nodes than both and on few more levels.
+-- The second tree has what remains of the first and the items, on no more nodes than both and on few more levels.
 pub record IsGrown (s : Shape) (is : List Item) (t : Shape) : Type 0 where
   pub same : IsPermutation (walk keep_tag s ++ is) (walk keep_tag t)
   pub few : nodes t ≤ nodes s + length is

@@ -16,8 +16,8 @@ abbrev pub goes_to : Side → Bool → Bool
 goes_to Left b = b
 goes_to Right b = not b
 
--- What is logged of a point that is put, for the subtree at the path. Where the point's route meets each node above, it is what
--- the last of them hands down to the watched root, and the point, if its route goes on to the root's place.
+-- What is logged of a point that is put, for the subtree at the path. Where its route meets each node above, it is the action that
+-- the last of them has pending for the watched root, and the point, if its route goes on to the root.
 unfoldable pub logged_put : ℕ → Place → List Side → Shape → List Op
 logged_put n p [] t = Put n p ∷ []
 logged_put n p (side ∷ path) leaf = []

@@ -5,7 +5,7 @@ use Rattle.kd_tree.specs.Shape.{Shape}
 use Rattle.kd_mark.specs.declared.watch.Watch.{Watch}
 use Rattle.kd_update.specs.Watch.{logged_put}
 
--- the same watches, each log with what the point that is put does to its subtree
+-- the watches, each log with what the point that is put does to its subtree
 abbrev pub with_puts : ℕ → Place → Shape → List Watch → List Watch
 with_puts n p t [] = []
 with_puts n p t (w ∷ ws) = record w { log = w.log ++ logged_put n p w.path t } ∷ with_puts n p t ws

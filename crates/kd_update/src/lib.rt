@@ -1,5 +1,5 @@
-//! Points put into a k-d tree, one by one or a scan in one pass; subtrees replaced, whole trees settled, operations replayed. Actions and
-//! rebuilding are `kd_mark`'s. While a subtree is rebuilt elsewhere, what it meets is logged.
+//! Points put into a k-d tree, one by one or a scan in one pass; subtrees replaced, operations replayed. What a subtree
+//! meets while it is rebuilt elsewhere is logged.
 #![tactic(auto)]
 
 mod limits;

@@ -1,8 +1,6 @@
-//! When points are put in one pass.
-
 /// The most levels of a tree before a pass, which adds at most 22.
 pub const MAX_PASS_LEVELS: u32 = 490;
 
-/// From as many points on they are put in one pass. Of fewer each has most of its path to itself, so that a pass would save little; and
-/// one by one they leave every node where the last of them alone would.
+/// From this many points on they are put in one pass. Of fewer each has most of its path to itself; and one by one they
+/// leave every node where the last of them alone would.
 pub const PASS_FROM: usize = 64;

@@ -1,5 +1,3 @@
-//! One point put into a tree.
-
 pub(crate) mod insert;
 pub(crate) mod room;
 pub(crate) mod sides;

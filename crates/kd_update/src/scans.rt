@@ -1,5 +1,3 @@
-//! The points of a scan, put in as few passes as may be.
-
 pub(crate) mod numbered;
 pub(crate) mod one_pass;
 pub(crate) mod part_items;

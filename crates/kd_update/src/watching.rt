@@ -1,5 +1,3 @@
-//! Points put while subtrees are watched: what each of these meets is logged first.
-
 pub(crate) mod insert_watched;
 pub(crate) mod log_put;
 pub(crate) mod log_scan;

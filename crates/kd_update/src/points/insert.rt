@@ -1,4 +1,3 @@
-//! Points put into a tree, with watched subtrees left as they stand. A new node is a leaf: no node is moved to make room for it.
 //! Nothing here knows what is logged of watched subtrees.
 ghost use Rattle.std.specs.Prelude.{◌≡◌, ◌+◌, ◌*◌, ◌<◌, ◌≤◌, ◌∷◌, IfOk};
 ghost use Rattle.node_labels.specs.Labels.{keep_tag};
@@ -22,11 +21,10 @@ use std::sync::ledger::Ledger;
 
 /// The tree with this point under this number, live.
 ///
-/// The point goes left where its coordinate on a node's axis is smaller than the node's, and else right. The new leaf's
-/// axis is the next one after its father's, and X in the empty tree. On the way out each node of the route that has from 10
-/// nodes on, and fewer than `large`, is rebuilt where it breaches a criterion; but for that only nodes on the route and
-/// their sons are made. Where one is rebuilt, no clause says which: that is what the code does. Where memory runs out,
-/// the tree is dropped.
+/// The point goes left where its coordinate on a node's axis is smaller than the node's, and else right, to be a leaf
+/// with the axis after its parent's, or X in the empty tree. On the way out each node of the route with at least 10 and
+/// fewer than `large` nodes is rebuilt where it breaches a criterion; which, no clause says. On `NoMemory` the tree is
+/// dropped.
 pub fn put<L: Ledger>(
     alloc: Global,
     tree: Tree,
@@ -41,12 +39,10 @@ pub fn put<L: Ledger>(
     ensures contents { IfOk result (λ t. contents t ≡ put (contents tree) number point) }
     ensures numbers { IfOk result (λ t. AreAmong (numbers t) (number ∷ numbers tree)) }
     ensures balance { IsBalancedBelow large tree → IfOk result (λ t. IsBalancedBelow large t) }
-    // The unrebuilt result, with some subtrees rebuilt.
     ensures refresh { IfOk result (λ t. IsRefresh (put_shape number point tree) t) }
-    // Where no node of the route is to be rebuilt, none is.
     ensures unrebuilt { RebuildsNoneOnRoute large point (put_shape number point tree)
         → IfOk result (λ t. t ≡ put_shape number point tree) }
-    // Then at most so many nodes are made, whatever the call answers.
+    // On errors too.
     ensures ticks { RebuildsNoneOnRoute large point (put_shape number point tree)
         → steps.new ≤ steps.old + 5 * entered_put point tree + 1 }
 {
@@ -56,8 +52,8 @@ pub fn put<L: Ledger>(
     put_below(alloc, tree, large, item, Axis::X, &Unwatched, block, steps)
 }
 
-// The same, by shape, where nothing is rebuilt above the ends of the ways, at them or below them. The axis is that of the new
-// leaf, should the tree be empty, and the block is what the leaf is made in.
+// `put` by shape, with nothing rebuilt above the ends of the ways, at them or below them. The axis is that of a new
+// leaf in the empty tree.
 pub(crate) fn put_below<L: Ledger, W: Ways>(
     alloc: Global,
     tree: Tree,
@@ -117,14 +113,12 @@ pub(crate) fn leaf<L: Ledger>(
     Tree::put_together(alloc, node, steps)
 }
 
-// Whether the point belongs to the left of a node at the other point, with this axis.
 pub(crate) fn goes_left(point: &Point, axis: Axis, other: &Point) -> bool
     ensures { result ≡ goes_left axis point.now other.now }
 {
     point.on(axis) < other.on(axis)
 }
 
-// The side of a node at the other point, with this axis, to which the point belongs.
 #[inline]
 pub(crate) fn side_of(point: &Point, axis: Axis, other: &Point) -> Side
     ensures { result ≡ side_of axis point.now other.now }

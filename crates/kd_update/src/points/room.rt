@@ -1,4 +1,4 @@
-//! Room for one more point. Nothing here knows which point is put.
+//! Nothing here knows which point is put.
 ghost use Rattle.std.specs.Prelude.{◌≡◌, ◌+◌, ◌<◌, ◌≤◌, IfOk, length};
 ghost use Rattle.kd_tree.specs.Shape.{levels, nodes, numbers};
 ghost use Rattle.kd_tree.specs.Contents.{contents};
@@ -11,8 +11,8 @@ use map_items::NoMemory;
 use std::alloc::Global;
 use std::sync::ledger::Ledger;
 
-/// The tree, with room for one more point: where it has 512 levels or 4,194,304 nodes, what is left in it is rebuilt.
-/// Where memory runs out, the tree is dropped.
+/// The tree with room for one more point: rebuilt with its remaining items if it has 512 levels or 4,194,304 nodes. On
+/// `NoMemory` it is dropped.
 pub fn roomy<L: Ledger>(alloc: Global, tree: Tree, steps: &mut Steps<L>) -> Result<Tree, NoMemory>
     requires { length (contents tree) < MAX_NODES }
     ensures contents { IfOk result (λ t. contents t ≡ contents tree) }
@@ -21,10 +21,9 @@ pub fn roomy<L: Ledger>(alloc: Global, tree: Tree, steps: &mut Steps<L>) -> Resu
     ensures refresh { IfOk result (λ t. IsRefresh tree t) }
     ensures low { IfOk result (λ t. levels t < MAX_LEVELS) }
     ensures few { IfOk result (λ t. nodes t < MAX_NODES) }
-    // Where there is room, nothing is rebuilt.
     ensures unrebuilt { levels tree < MAX_LEVELS → nodes tree < MAX_NODES → IfOk result (λ t. t ≡ tree) }
     ensures still { levels tree < MAX_LEVELS → nodes tree < MAX_NODES → steps.new ≡ steps.old }
-    // And else a node for each item at most, whatever the call answers.
+    // On errors too.
     ensures ticks { steps.new ≤ steps.old + length (contents tree) }
 {
     if tree.levels() < MAX_LEVELS && tree.size() < MAX_NODES {

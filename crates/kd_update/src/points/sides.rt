@@ -1,12 +1,10 @@
-//! The sons of a node by side.
 ghost use Rattle.std.specs.Prelude.{◌≡◌};
 ghost use Rattle.kd_tree.specs.Parts.{son};
 ghost use Rattle.kd_update.specs.Watch.{goes_to};
 
 use kd_tree::{Side, Tree};
 
-// The first of two sons and the second, where the side is the left one, and else the other way round: so the son on this side
-// comes first, and both go back to their places by the same.
+// The child on this side comes first. Doing it again puts both in their places.
 #[inline]
 pub(crate) fn by_side(side: Side, left: Tree, right: Tree) -> (Tree, Tree)
     ensures near { result.0 ≡ son side left right }
@@ -18,7 +16,6 @@ pub(crate) fn by_side(side: Side, left: Tree, right: Tree) -> (Tree, Tree)
     }
 }
 
-// Whether what goes left, or doesn't, goes to this side.
 pub(crate) fn goes_to(side: Side, on_left: bool) -> bool
     ensures { result ≡ goes_to side on_left }
 {

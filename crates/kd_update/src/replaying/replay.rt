@@ -1,4 +1,4 @@
-//! Operations done in their order, runs of points at once. Nothing here knows where they were logged.
+//! Nothing here knows where operations were logged.
 ghost use Rattle.std.specs.Prelude.{◌≡◌, ◌+◌, ◌<◌, ◌≤◌, [], ◌∷◌, ◌++◌, length, IfOk};
 ghost use Rattle.map_items.specs.Ops.{Fit, numbers_put, perform, replay};
 ghost use Rattle.kd_tree.specs.Shape.{levels, nodes, numbers};
@@ -17,22 +17,21 @@ use std::alloc::Global;
 use std::marker::Brand;
 use std::sync::ledger::{Blank, Ledger};
 
-/// The tree after these operations, done one after the other. Points that stand side by side, 64 of them at least, are put in
-/// passes of fewer than `large`. Where a point finds 512 levels or 4,194,304 nodes, the tree is rebuilt by medians first.
-/// Where memory runs out, the tree is dropped.
+/// The tree after these operations, one after the other. Runs of at least 64 points are put in passes of fewer than
+/// `large`. Where a point finds 512 levels or 4,194,304 nodes, the tree is rebuilt by medians first. On `NoMemory` it
+/// is dropped.
 pub fn replayed(alloc: Global, tree: Tree, large: u32, ops: &[Op]) -> Result<Tree, NoMemory>
     requires fit { Fit (contents tree) ops.now }
     ensures contents { IfOk result (λ t. contents t ≡ replay (contents tree) ops.now) }
     ensures numbers { IfOk result (λ t. AreAmong (numbers t) (numbers_put ops.now ++ numbers tree)) }
     ensures balance { IsBalancedBelow large tree → IfOk result (λ t. IsBalancedBelow large t) }
-    // Each point that is put adds a level and a node at most.
+    // Each point adds a level and a node at most.
     ensures low { IfOk result (λ t. levels t ≤ levels tree + length (numbers_put ops.now)) }
     ensures few { IfOk result (λ t. nodes t ≤ nodes tree + length (numbers_put ops.now)) }
 {
     replayed_by::<Brand>(alloc, tree, large, ops, Blank::new(1))
 }
 
-// The same, said as one fact, with a counter of its own.
 fn replayed_by<L: Ledger>(
     alloc: Global,
     tree: Tree,
@@ -57,7 +56,6 @@ fn replayed_by<L: Ledger>(
     Ok(tree)
 }
 
-// A run, or one operation alone.
 fn done<L: Ledger>(
     alloc: Global,
     tree: Tree,
@@ -79,7 +77,6 @@ fn done<L: Ledger>(
     put_run(alloc, tree, large, piece, scratch, steps)
 }
 
-// One operation.
 fn performed<L: Ledger>(
     alloc: Global,
     tree: Tree,

@@ -1,4 +1,3 @@
-//! Runs of points among operations: how long one is, and one put in a single pass. Nothing here does another operation.
 ghost use Rattle.std.specs.Prelude.{◌≡◌, ◌<◌, ◌≤◌, take, length, IfOk};
 ghost use Rattle.map_items.specs.Ops.{Fit};
 ghost use Rattle.kd_tree.specs.Contents.{contents};
@@ -11,7 +10,7 @@ use point_geom::Axis;
 use std::alloc::Global;
 use std::sync::ledger::Ledger;
 
-// How many of the operations are done next: a run, as far as one pass may take it, or one operation alone.
+// A run, as far as one pass may take it, or one operation alone.
 pub(crate) fn most_at_once(tree: &Tree, large: u32, ops: &[Op]) -> usize
     requires { 1 ≤ length ops.now }
     ensures some { 1 ≤ result }
@@ -33,7 +32,6 @@ pub(crate) fn most_at_once(tree: &Tree, large: u32, ops: &[Op]) -> usize
     count
 }
 
-// How many points are put before anything else is done, or so many if there are more.
 fn run_length(ops: &[Op], most: usize) -> usize
     ensures most { result ≤ most }
     ensures within { result ≤ length ops.now }
@@ -58,7 +56,6 @@ fn is_put(op: &Op) -> bool
     }
 }
 
-// The tree with the points of this run put.
 pub(crate) fn put_run<L: Ledger>(
     alloc: Global,
     tree: Tree,
@@ -77,7 +74,6 @@ pub(crate) fn put_run<L: Ledger>(
     put_at_once(alloc, tree, large, items, Axis::X, scratch, steps)
 }
 
-// The items that the operations put.
 fn items_put(alloc: Global, ops: &[Op]) -> Result<Vec<Item>, NoMemory>
     ensures { IfOk result (λ v. v.items ≡ items_put ops.now) }
 {

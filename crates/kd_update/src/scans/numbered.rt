@@ -1,4 +1,3 @@
-//! Points put into a tree under the numbers that come next.
 ghost use Rattle.std.specs.Prelude.{◌≡◌, ◌+◌, ◌≤◌, ◌++◌, length, IfOk};
 ghost use Rattle.map_items.specs.Contents.{AreContents};
 ghost use Rattle.map_items.specs.Fold.{add_points};
@@ -15,8 +14,7 @@ use point_geom::Point;
 use std::alloc::Global;
 use std::sync::ledger::Ledger;
 
-/// The tree with these points put, live, under the numbers from `first` on, as `put_all` puts them. Where memory runs out,
-/// the tree is dropped.
+/// `put_all` of these points, live, under the numbers from `first` on. On `NoMemory` the tree is dropped.
 pub fn put_points<L: Ledger>(
     alloc: Global,
     tree: Tree,
@@ -37,7 +35,7 @@ pub fn put_points<L: Ledger>(
     put_all(alloc, tree, large, items.as_slice(), scratch, steps)
 }
 
-/// These points as live items, under the numbers from `first` on.
+/// Live items of these points, numbered from `first` on.
 pub fn live_items(alloc: Global, first: u32, points: &[Point]) -> Result<Vec<Item>, NoMemory>
     requires few { first + length points.now ≤ MAX_POINTS }
     ensures items { IfOk result (λ v. v.items ≡ live_from first points.now) }

@@ -1,6 +1,4 @@
-//! Many points put into a tree in one pass: they are parted at each node that they meet, a node of their routes is made anew
-//! once, and a subtree that is due is rebuilt with its points at once, at the topmost node. Nothing here knows whether the
-//! bounds of a tree allow it.
+//! Nothing here knows whether the bounds of a tree allow a pass.
 ghost use Rattle.std.specs.Prelude.{◌+◌, ◌<◌, max, length, IfOk};
 ghost use Rattle.kd_tree.specs.Shape.{leaf, nodes};
 ghost use Rattle.kd_tree.specs.Contents.{AreDistinct};
@@ -18,12 +16,10 @@ use point_geom::Axis;
 use std::alloc::Global;
 use std::sync::ledger::Ledger;
 
-/// The tree with the items put in one pass. They are moved about. The axis is that of the new leaf, should there be one item alone and the
-/// tree be empty. A node is made in the memory of its old one, or of the scratch's, while there is any. Where memory runs out, the
-/// tree is dropped.
-///
-/// Each node on the items' routes is made anew once, and each item is compared at each node of its route: n items take time in the order of n times
-/// the tree's levels, beside what is rebuilt.
+/// The tree with the items put in one pass, which moves them about. The axis is that of a new leaf in the empty tree.
+/// Each node on their routes is made anew once, in the memory of the old one or of the scratch while there is any; a
+/// subtree that is due is rebuilt with its points, at the topmost node. n items take time in the order of n times the
+/// tree's levels, without what is rebuilt. On `NoMemory` the tree is dropped.
 pub fn put_at_once<L: Ledger>(
     alloc: Global,
     tree: Tree,
@@ -60,7 +56,7 @@ pub fn put_at_once<L: Ledger>(
     rejoined(alloc, node, large, steps)
 }
 
-// The tree with the items, none of which goes on to a son. No large subtree is built.
+// No item goes on to a child. No large subtree is built.
 fn put_here<L: Ledger>(
     alloc: Global,
     tree: Tree,
@@ -81,7 +77,7 @@ fn put_here<L: Ledger>(
     tree.rebuilt_with(alloc, items, scratch, steps)
 }
 
-// The items alone: one is a leaf, and more are built by medians.
+// One item is a leaf; more are built by medians.
 pub(crate) fn put_first<L: Ledger>(
     alloc: Global,
     items: &[Item],

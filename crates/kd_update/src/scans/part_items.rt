@@ -1,4 +1,4 @@
-//! Where the points of a list go at the top of a tree. Nothing here changes a tree.
+//! Where the points of a list go at the top of a tree.
 ghost use Rattle.std.specs.Prelude.{◌≡◌, ◌+◌, ◌<◌, ◌≤◌, true, false, max, length, take, drop, All, IfSome, IsNone, IsPermutation};
 ghost use Rattle.kd_tree.specs.Shape.{nodes};
 ghost use Rattle.kd_update.specs.Put.{goes_left};
@@ -10,8 +10,8 @@ use kd_tree::{MAX_NODES, Tree};
 use map_items::Item;
 use point_geom::{Axis, Point};
 
-// How many of the items go left of the top: they are moved to the front. None where the tree is to be rebuilt with the
-// items: it has no node, or its top would breach a criterion with so many more nodes on its sides.
+// Moves the items that go left of the top to the front, and returns how many. None where the tree is to be rebuilt with
+// them: it has no node, or its top would breach a criterion.
 pub(crate) fn parted(tree: &Tree, large: u32, items: &mut [Item]) -> Option<usize>
     requires few { nodes tree.now + length items.old ≤ MAX_NODES }
     requires small { length items.old < max 2 large }
@@ -32,7 +32,7 @@ pub(crate) fn parted(tree: &Tree, large: u32, items: &mut [Item]) -> Option<usiz
     Some(count)
 }
 
-// Whether the top would have to be rebuilt if its sons had so many nodes, with as many dropped ones as now.
+// With as many dropped nodes as now.
 fn is_due(tree: &Tree, large: u32, left: u32, right: u32) -> bool
     requires { left + right + 1 ≤ MAX_NODES }
     ensures { result ≡ true → left + right + 1 < large }
@@ -46,7 +46,6 @@ fn is_due(tree: &Tree, large: u32, left: u32, right: u32) -> bool
     most <= 5 * left || most <= 5 * right || size <= 2 * tree.counts().dropped
 }
 
-// Moves the items that go left of the point to the front, and answers how many there are.
 pub(crate) fn moved_left(items: &mut [Item], axis: Axis, point: &Point) -> usize
     ensures moved { IsPermutation items.old items.new }
     ensures count { result ≤ length items.new }

@@ -1,4 +1,3 @@
-//! Scans of points put into a tree, in as few passes as may be.
 ghost use Rattle.std.specs.Prelude.{◌≡◌, ℕ, ◌+◌, ◌<◌, ◌≤◌, max, [], ◌∷◌, ◌++◌, length, IfOk};
 ghost use Rattle.kd_tree.specs.Shape.{levels, nodes, numbers};
 ghost use Rattle.kd_tree.specs.Contents.{contents};
@@ -16,14 +15,12 @@ use point_geom::Axis;
 use std::alloc::Global;
 use std::sync::ledger::Ledger;
 
-/// The tree with these items put: each of them is live, and its number isn't held.
+/// The tree with these items put: each is live, and its number isn't held.
 ///
-/// The items are put in passes of fewer than `large`. In a pass each node that they meet is made anew once, however many of
-/// them meet it, and a subtree of fewer than `large` nodes that would breach a criterion is rebuilt with them at once. Near
-/// the bounds of a tree they are put one by one, and once it is full, so that it has to be rebuilt anyway, it is built with
-/// all that are left: so a scan rebuilds it at most once, however its points lie. The contents are those of `put`, done in
-/// turn; where nodes stand isn't. New nodes are made in the memory of the scratch, as far as that goes. Where memory runs out,
-/// the tree is dropped.
+/// They are put in passes of fewer than `large`. Near the bounds of a tree they are put one by one, and a full one,
+/// which has to be rebuilt anyway, is built with all remaining items: so a scan rebuilds it at most once, however its
+/// points lie. The contents are those of `put`, done in turn; where nodes are isn't. New nodes are made in the memory
+/// of the scratch, as far as that goes. On `NoMemory` the tree is dropped.
 pub fn put_all<L: Ledger>(
     alloc: Global,
     tree: Tree,
@@ -41,7 +38,6 @@ pub fn put_all<L: Ledger>(
     put_in_pieces(alloc, tree, large, items, scratch, steps)
 }
 
-// The same, said as one fact.
 fn put_in_pieces<L: Ledger>(
     alloc: Global,
     tree: Tree,
@@ -71,7 +67,6 @@ fn put_in_pieces<L: Ledger>(
     Ok(tree)
 }
 
-// How many items are put next.
 fn most_at_once(tree: &Tree, large: u32) -> usize
     ensures some { 1 ≤ result }
     ensures small { result < max 2 large }
@@ -83,7 +78,7 @@ fn most_at_once(tree: &Tree, large: u32) -> usize
     large.clamp(2, MAX_NODES) as usize - 1
 }
 
-// The tree is full: what is left of it and the items, built by medians. The tree is dropped.
+// For a full tree: its remaining items and these, built by medians.
 fn built_with_rest<L: Ledger>(
     alloc: Global,
     tree: Tree,
@@ -98,7 +93,7 @@ fn built_with_rest<L: Ledger>(
     tree.rebuilt_with(alloc, items, scratch, steps)
 }
 
-// Fewer items than large nodes are: in one pass if there is room.
+// In one pass if there is room.
 fn put_piece<L: Ledger>(
     alloc: Global,
     tree: Tree,

@@ -1,4 +1,3 @@
-//! Points put into a tree, while subtrees are watched: what each meets is logged first, and then the tree is changed.
 ghost use Rattle.std.specs.Prelude.{◌≡◌, ◌+◌, ◌*◌, ◌<◌, ◌≤◌, ◌∷◌, IfOk, OnOk};
 ghost use Rattle.node_labels.specs.Labels.{keep_tag};
 ghost use Rattle.map_items.specs.Contents.{put};
@@ -23,9 +22,8 @@ use point_geom::{Axis, Point};
 use std::alloc::Global;
 use std::sync::ledger::Ledger;
 
-/// `put`, while the subtrees at the watches' paths are watched: no node above one, at its top or in it is rebuilt, and what
-/// it meets is put at the end of its log. With no watch it is `put`. Where memory runs out, the tree is dropped, and logs may
-/// have grown.
+/// `put`, while the subtrees at the watches' paths are watched: no node above one, at its top or in it is rebuilt, and
+/// what it meets is logged first. On `NoMemory` the tree is dropped, and logs may have grown.
 pub fn put_watched<L: Ledger>(
     alloc: Global,
     tree: Tree,
@@ -47,16 +45,14 @@ pub fn put_watched<L: Ledger>(
         → IfOk result (λ t. IsBalancedClear large (paths_in watches.old) t) }
     ensures refresh { IfOk result (λ t. IsRefresh (put_shape number point tree) t) }
     ensures there { IfOk result (λ t. AreLargeAt large (paths_in watches.old) t) }
-    // Whatever the call answers.
+    // On errors too.
     ensures begins { AreExtended watches.old watches.new }
     ensures few { AreFewMore watches.old watches.new }
     ensures logged { OnOk result (watches.new ≡ with_puts number point tree watches.old) }
-    // Of each watched subtree the new tree has what these operations make of the old one's own contents.
     ensures watched { IfOk result (λ t. AreWatched (λ p. IsWatched p tree t (logged_put number point p tree)) (paths_in watches.old)) }
-    // Where no node of the route is to be rebuilt, none is.
     ensures unrebuilt { RebuildsNoneOnRoute large point (put_shape number point tree)
         → IfOk result (λ t. t ≡ put_shape number point tree) }
-    // Then at most so many nodes are made, whatever the call answers.
+    // On errors too.
     ensures ticks { RebuildsNoneOnRoute large point (put_shape number point tree)
         → steps.new ≤ steps.old + 5 * entered_put point tree + 1 }
 {

@@ -1,4 +1,4 @@
-//! What a point that is put does to watched subtrees, logged before it is put. Nothing here takes a node apart.
+//! What a point does to watched subtrees, logged first.
 ghost use Rattle.std.specs.Prelude.{◌≡◌, ◌+◌, ◌≤◌, ◌++◌, length, OnOk};
 ghost use Rattle.map_items.specs.Ops.{Extends};
 ghost use Rattle.kd_tree.specs.Walk.{tagged};
@@ -53,7 +53,7 @@ fn log_each_put(
     log_each_put(tree, rest, number, point)
 }
 
-// For the subtree at the sides. The tree owes the action `owed` before.
+// For the subtree at the sides, of a tree with this pending action.
 fn log_put(
     tree: &Tree,
     owed: Tag,

@@ -1,4 +1,4 @@
-//! What the points of a scan do to watched subtrees, logged in their order before they are put. Nothing here takes a node apart.
+//! As `log_put`, for the points of a scan in their order.
 ghost use Rattle.std.specs.Prelude.{◌≡◌, ◌+◌, ◌≤◌, true, false, [], ◌++◌, length, OnOk};
 ghost use Rattle.map_items.specs.Ops.{Extends};
 ghost use Rattle.kd_tree.specs.Walk.{tagged};
@@ -53,7 +53,7 @@ fn log_each_scan(
     log_each_scan(alloc, tree, rest, items)
 }
 
-// For the subtree at the sides. The tree owes the action `owed` before. Of the items those that come there are left.
+// Of the items those that come to the subtree remain.
 fn log_scan(
     tree: &Tree,
     owed: Tag,
@@ -89,7 +89,6 @@ fn is_none(items: &[Item]) -> bool
     items.is_empty()
 }
 
-// Leaves those that go to this side.
 fn keep_going(items: &mut Vec<Item>, side: Side, axis: Axis, point: &Point)
     ensures { items.new.items ≡ going side axis point.now items.old.items }
 {

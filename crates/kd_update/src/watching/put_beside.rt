@@ -1,5 +1,4 @@
-//! Many points put into a tree in one pass, with watched subtrees left as they stand. Nothing here knows what is logged of them,
-//! or whether the bounds of a tree allow it.
+//! Nothing here knows what is logged, or the bounds of a tree.
 ghost use Rattle.std.specs.Prelude.{ℕ, IfOk};
 ghost use Rattle.kd_tree.specs.Apart.{AreAllApart};
 ghost use Rattle.kd_update.specs.Scan.{IsPiece};
@@ -16,7 +15,7 @@ use point_geom::Axis;
 use std::alloc::Global;
 use std::sync::ledger::Ledger;
 
-// `put_at_once`, where nothing is rebuilt above the ends of the ways, at them or below them.
+// `put_at_once`, with nothing rebuilt above the ends of the ways, at them or below them.
 pub(crate) fn put_beside<L: Ledger>(
     alloc: Global,
     tree: Tree,
@@ -65,7 +64,7 @@ pub(crate) fn put_beside<L: Ledger>(
     joined(alloc, node, steps)
 }
 
-// The tree with the items put, and none of its nodes rebuilt: only where it has no node are they built by medians.
+// No node is rebuilt: only where there is none are items built by medians.
 fn put_within<L: Ledger>(
     alloc: Global,
     tree: Tree,

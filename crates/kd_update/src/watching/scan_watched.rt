@@ -1,5 +1,3 @@
-//! Scans of points put into a tree in one pass, while subtrees are watched: what each meets is logged first, and then the tree is
-//! changed.
 ghost use Rattle.std.specs.Prelude.{◌≡◌, ◌+◌, ◌<◌, ◌≤◌, max, ◌++◌, length, IfOk, OnOk};
 ghost use Rattle.kd_tree.specs.Shape.{levels, nodes, numbers};
 ghost use Rattle.kd_tree.specs.Contents.{contents};
@@ -21,11 +19,9 @@ use point_geom::Axis;
 use std::alloc::Global;
 use std::sync::ledger::Ledger;
 
-/// The tree with these items put in one pass, while the subtrees at the watches' paths are watched.
-///
-/// No node above a watched subtree, at its top or in it is rebuilt. At the end of its log comes what the last node above it owes,
-/// where one item comes there at least, and then each item that comes to it, in the order of the list. Elsewhere it is a pass of
-/// `put_all`. Where memory runs out, the tree is dropped, and logs may have grown.
+/// A pass of `put_all`, while the subtrees at the watches' paths are watched: no node above one, at its top or in it is
+/// rebuilt. Where items come to one, its log gets the pending action of the last node above it, and then these items in
+/// the order of the list. On `NoMemory` the tree is dropped, and logs may have grown.
 pub fn put_all_watched<L: Ledger>(
     alloc: Global,
     tree: Tree,
@@ -51,11 +47,10 @@ pub fn put_all_watched<L: Ledger>(
     ensures balance { IsBalancedClear large (paths_in watches.old) tree
         → IfOk result (λ t. IsBalancedClear large (paths_in watches.old) t) }
     ensures there { IfOk result (λ t. AreLargeAt large (paths_in watches.old) t) }
-    // Whatever the call answers.
+    // On errors too.
     ensures begins { AreExtended watches.old watches.new }
     ensures few { AreMore (length items.now + 1) watches.old watches.new }
     ensures logged { OnOk result (watches.new ≡ with_scan items.now tree watches.old) }
-    // Of each watched subtree the new tree has what these operations make of the old one's own contents.
     ensures watched { IfOk result (λ t. AreWatched (λ p. IsWatched p tree t (logged_scan p items.now tree)) (paths_in watches.old)) }
 {
     let _size = tree.size();

@@ -16,11 +16,11 @@ use Rattle.kd_update.proofs.Near.{near_smaller, near_sound, sides_back, with_nea
 use Rattle.kd_update.proofs.points.insert.+put_below.Goals as goal
 use Rattle.kd_update.proofs.points.insert.+put_below.Goals.{After-by_side-left, After-side_of-side}
 
--- the node is on the route, which goes on to the son on the side
+-- the node is on the route, which goes on to the child on the side
 on_way : (g : _) (t : _) (c : After-side_of-side g t) → IsOnRoute c.args.item.number c.args.item.point c.args.axis c.args.tree (fork_of c.in-Some.node) c.side_of-side.result
 on_way g t c = on_route _ _ _ _ _ _ (ap fork_in (sym c.in-Some.is) ∙ c.in_ok-node.ensures.parts) c.side_of-side.ensures c.size-size.ensures.sound (record { low = c.requires.low; few = c.requires.few; new = c.requires.new })
 
--- the node with its sons put back
+-- the node with its children put back
 back : (g : _) (t : _) (c : After-by_side-left g t) → fork (head c.in-Some.node.item c.in-Some.node.axis) c.by_side-left.result.0 c.by_side-left.result.1 ≡ with_near c.side_of-side.result (fork_of c.in-Some.node) c.in_ok-near.near
 back g t c = sides_back c.side_of-side.result (fork_of c.in-Some.node) _ _ _ _ c.by_side-near.ensures.far c.by_side-left.ensures.near c.by_side-left.ensures.far
 

@@ -27,7 +27,7 @@ replaced_along-requires g t c κs within =
     let room = son_room side rest c.args.tree c.args.with son there (subst (λ (p : List Side). HasRoomAt p c.args.with c.args.tree) c.in-Some.ensures.cases.0 c.requires.room) in
     (omega (arith, c.in-Some.ensures.cases.1), (within, (subst (λ (s : Shape). StandsFor rest s c.args.with) (sym c.in_ok-son.ensures.shape) stands, subst (λ (s : Shape). HasRoomAt rest c.args.with s) (sym c.in_ok-son.ensures.shape) room)))
 
--- the same of the son's copy
+-- `son_calm` of a copy of the child
 calm : (g : _) (t : _) (c : In_ok-son g t) → RebuildsNoneAbove c.args.large c.args.sides.now (replaced_at c.args.sides.now c.args.with c.args.tree)
     → IsNotDue c.args.large (with_son c.in-Some.side.now (replaced_at c.in-Some.rest.now c.args.with c.in_ok-son.son) c.args.tree) × RebuildsNoneAbove c.args.large c.in-Some.rest.now (replaced_at c.in-Some.rest.now c.args.with c.in_ok-son.son)
 calm g t c k =

@@ -7,7 +7,7 @@ use Rattle.kd_update.specs.Put.{goes_left}
 use Rattle.kd_update.proofs.scans.part_items.moved_left.Goals.{then-goes_left, else-goes_left}
 use Rattle.kd_update.proofs.scans.part_items.moved_left.Goals as goal
 
--- the item at i passes and has come to the place n, and what stood there to i
+-- the item at i passes and has come to the place n, and what was there to i
 left_more : (p : Item → Bool) (ys zs : List Item) (n i : ℕ) → ((d : Item) → p (slice_index_or ys i d) ≡ true) → n ≤ i → SwappedAt ys zs n i
     → AllWithin (λ y. p y ≡ true) ys 0 n → AllWithin (λ y. p y ≡ true) zs 0 (n + 1)
 left_more p ys zs n i here from moved old = λ k d low below.

@@ -9,7 +9,7 @@ use Rattle.std.proofs.lemmas.Result.{on_ok_weaker}
 use Rattle.kd_update.proofs.watching.log_put.+log_put.Goals as goal
 use Rattle.kd_update.proofs.watching.log_put.+log_put.Goals.{After-goes_to-goes_on}
 
--- what is logged of a node is what it hands down, and what is logged of its son, if the point goes on to it
+-- what is logged of a node is its pending action, and what is logged of its child, if the point goes on to it
 parts : (t : _) (c : After-goes_to-goes_on t) (b : Bool) → c.goes_to-goes_on.result ≡ b → logged_put c.args.number c.args.point c.args.sides.now (tagged c.args.owed c.args.tree.now)
     ≡ handed c.in-Some.rest.now c.then-owed.result ++ cond b (logged_put c.args.number c.args.point c.in-Some.rest.now (tagged c.then-owed.result c.son-next.result.now)) []
 parts t c b e =

@@ -11,7 +11,7 @@ use Rattle.std.proofs.lemmas.Result.{on_ok_weaker}
 use Rattle.kd_update.proofs.watching.log_scan.+log_scan.Goals as goal
 use Rattle.kd_update.proofs.watching.log_scan.+log_scan.Goals.{After-as_slice, After-keep_going}
 
--- what is logged of a node is what it hands down, and what is logged of its son
+-- what is logged of a node is its pending action, and what is logged of its child
 parts : (t : _) (c : After-keep_going t) → logged_scan c.args.sides.now c.args.items.now.items (tagged c.args.owed c.args.tree.now)
     ≡ handed c.in-Some.rest.now c.then-owed.result ++ logged_scan c.in-Some.rest.now c.keep_going.new.items.items (tagged c.then-owed.result c.son-next.result.now)
 parts t c =
