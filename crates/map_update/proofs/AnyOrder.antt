@@ -1,4 +1,4 @@
--- A map is left with the same by all points of a scan in turn and by the first ones of their voxels in any order.
+-- All points of a scan in turn, and the first ones of their voxels in any order, leave a map with the same.
 use Rattle.std.proofs.Common.{◌≡◌, ℕ, ◌+◌, ◌≤◌, ◌⊎◌, inl, inr, Bool, true, false, List, [], ◌∷◌, length, refl, ap, sym, ◌∙◌, subst, arith}
 use Rattle.std.proofs.lemmas.Bool.{and_parts}
 use Rattle.std.specs.Cmp.Derive.{both_true}
@@ -87,7 +87,7 @@ pool_before edge high is m i k entry (inr there) = over (entered_from edge high 
     over (inl stays) = inr stays.0
     over (inr wins) = one_more is m i k (rival_from edge high m i k entry.may (subst (λ (x : Item). Member x (rivals edge m i.number i.point)) (sym wins) (winner_rival edge i.number m i.point)))
 
--- the winner doesn't come before what is left in the voxel
+-- the winner doesn't come before what remains in the voxel
 won_behind : (edge high : ℕ) (is m : List Item) (i k : Item) → IsEntry edge high m i → IsLeft edge is (after edge m i) k → is_live_in (voxel edge i.point) k ≡ true → comes_before (voxel edge i.point) (won edge m i) k ≡ false
 won_behind edge high is m i k entry left live = by_pool left.held
   where
@@ -102,12 +102,12 @@ won_behind edge high is m i k entry left live = by_pool left.held
     by_pool (inl there) = first_by edge is (after edge m i) k k c (won edge m i) left there (voxel_in edge i.point k entry.from live) (inr (won_held edge high m i entry)) live (rival_in edge m i (won edge m i) entry.from (winner_rival edge i.number m i.point))
     by_pool (inr there) = over (entered_from edge high i.number m i.point k entry.contents entry.may.unheld there)
 
--- an item of the voxel, the one that enters or one that is held, doesn't come before what is left there
+-- an item of the voxel, the one that enters or one that is held, doesn't come before what remains there
 rival_behind : (edge high : ℕ) (is m : List Item) (i j k : Item) → IsEntry edge high m i → IsLeft edge is (after edge m i) k → (j ≡ i) ⊎ Member j m → is_live_in (voxel edge i.point) j ≡ true → is_live_in (voxel edge i.point) k ≡ true → comes_before (voxel edge i.point) j k ≡ false
 rival_behind edge high is m i j k entry left pool inside live =
     (order (voxel edge i.point)).chain j (won edge m i) k (winner_first edge i.number m i.point j (is_rival edge high m i j entry.may pool inside)) (won_behind edge high is m i k entry left live)
 
--- what is left when one entered and then the others is left by all
+-- what remains when one entered and then the others, all leave
 left_before : (edge high : ℕ) (is m : List Item) (i k : Item) → IsEntry edge high m i → IsLeft edge is (after edge m i) k → IsLeft edge (i ∷ is) m k
 left_before edge high is m i k entry left = record { held = pool_before edge high is m i k entry left.held; first = first }
   where
@@ -133,7 +133,7 @@ left_before edge high is m i k entry left = record { held = pool_before edge hig
     first e j there (inl (inr later)) live other = first_by edge is (after edge m i) k j (voxel edge e.point) j left later (voxel_in edge e.point j entry.from other) (inl later) live other
     first e j there (inr held) live other = by_voxel (is_live_in (voxel edge i.point) j) e j refl there (inr held) live other
 
--- what is left by all is left when one entered and then the others
+-- what all leave remains when one entered and then the others
 left_after : (edge high : ℕ) (is m : List Item) (i k : Item) → IsEntry edge high m i → IsLeft edge (i ∷ is) m k → IsLeft edge is (after edge m i) k
 left_after edge high is m i k entry left = record {
   held = held left.held;
@@ -161,14 +161,14 @@ left_after edge high is m i k entry left = record {
 
 -- all enter
 
--- what a map holds when all entered is left by them
+-- what a map holds when all entered, they leave
 each_from : (edge high : ℕ) (is m : List Item) (k : Item) → 1 ≤ edge → AreContents 0 high m → AreEntrants high m is → Member k (thin_each edge m is) → IsLeft edge is m k
 each_from edge high [] m k from h may there = record { held = inr there; first = λ e j none. absurd none }
 each_from edge high (i ∷ is) m k from h may there =
     left_before edge high is m i k (record { from = from; contents = h; may = may.0 })
     (each_from edge high is (after edge m i) k from (contents_entered edge high i.number m i.point h may.0.below) (entrants_after edge high m i is h may) there)
 
--- and what is left by them is held
+-- and what they leave is held
 each_in : (edge high : ℕ) (is m : List Item) (k : Item) → 1 ≤ edge → AreContents 0 high m → AreEntrants high m is → IsLeft edge is m k → Member k (thin_each edge m is)
 each_in edge high [] m k from h may left = elim left.held [ inl none ↦ absurd none | inr there ↦ there ]
 each_in edge high (i ∷ is) m k from h may left =
@@ -177,7 +177,7 @@ each_in edge high (i ∷ is) m k from h may left =
 
 -- the first ones and all
 
--- what the first ones leave is left by all
+-- what the first ones leave, all leave
 left_all : (edge next : ℕ) (ps : List Place) (fs m : List Item) (k : Item) → 1 ≤ edge → AreFirsts edge next ps fs → IsLeft edge fs m k → IsLeft edge (live_from next ps) m k
 left_all edge next ps fs m k from firsts left = record { held = held left.held; first = first }
   where
@@ -207,7 +207,7 @@ points_rising : (n : ℕ) (ps : List Place) → IsRising n (live_from n ps)
 points_rising n [] = tt
 points_rising n (p ∷ ps) = (omega arith, points_rising (n + 1) ps)
 
--- and what all leave is left by the first ones
+-- and what all leave, the first ones leave
 left_firsts : (edge next : ℕ) (ps : List Place) (fs m : List Item) (k : Item) → 1 ≤ edge → AreFirsts edge next ps fs → IsLeft edge (live_from next ps) m k → IsLeft edge fs m k
 left_firsts edge next ps fs m k from firsts left = record { held = held left.held; first = λ e j there pool. left.first e j (firsts.within e there) (wider j pool) }
   where
@@ -218,7 +218,7 @@ left_firsts edge next ps fs m k from firsts left = record { held = held left.hel
     live : (e : Item) → Member e (live_from next ps) → is_live e.label ≡ true
     live e there = ap is_live (from_is next ps e there).0
 
-    -- a point that is left is the first one of its voxel
+    -- a point that remains is the first one of its voxel
     own_first : Member k (live_from next ps) → IsBeaten edge fs k → Member k fs
     own_first there beaten =
         let f = beaten.by in

@@ -33,7 +33,7 @@ use Rattle.kd_update.proofs.Grown.{IsLive, live_of}
 abbrev pub both : Shape → List Item → List Item
 both t ws = by_number (contents t ++ ws)
 
--- no number stands twice
+-- no number occurs twice
 pub distinct_both : (next : ℕ) (t : Shape) (ws : List Item) → AreContents 0 next (both t ws) → AreDistinct (contents t ++ ws)
 distinct_both next t ws k =
     let xs = contents t ++ ws in
@@ -43,7 +43,7 @@ distinct_both next t ws k =
 pub none_held : (t : Shape) → IsSound t → both t [] ≡ contents t
 none_held t sound = ap by_number (append-nil (contents t)) ∙ by_number-contents t sound
 
--- a new number stands once
+-- a new number occurs once
 distinct_new : (x : Item) (xs : List Item) → IsUnheld x.number xs → AreDistinct xs → AreDistinct (x ∷ xs)
 distinct_new x xs new k = record { once = λ n. cases n (n == x.number) refl }
   where
@@ -70,7 +70,7 @@ with_held t ws x live k new =
     ∙ ap (λ j. insert_item j (by_number xs)) (live_of x live)
     ∙ insert-put (by_number xs) x.number x.point (λ i m e. absurd (omega (arith, counted_in i x.number (by_number xs) m e, new)))
 
--- the first of what is left to be put has a number that isn't held
+-- the first of what is still to be put has a number that isn't held
 first_new : (m us vs : List Item) (x : Item) → AreDistinct (m ++ (us ++ x ∷ vs)) → IsUnheld x.number (by_number (m ++ us)) × AreDistinct (m ++ us)
 first_new m us vs x k = (
   omega (arith, sum_by-IsPermutation (f x.number) (m ++ us) (by_number (m ++ us)) (by_number_moves (m ++ us)), parts x.number, own, k.once x.number),
@@ -119,7 +119,7 @@ all_left : (p : Item → Bool) (xs : List Item) → filter p xs ≡ [] → filte
 all_left p [] e = refl
 all_left p (x ∷ xs) e = let parts = filter_none p x xs e in rw parts.0 (ap (λ ys. x ∷ ys) (all_left p xs parts.1))
 
--- what is left of both without what is live in the box
+-- what remains of both without what is live in the box
 cleared_held : (c : Bounds) (next : ℕ) (t u : Shape) (ws : List Item) → AreContents 0 next (both t ws) → AreContents 0 next (contents t) → contents u ≡ mark (contents t) (in_box c) thin_tag
     → both u (filter (left_out c) ws) ≡ mark (both t ws) (in_box c) thin_tag
 cleared_held c next t u ws k h e =

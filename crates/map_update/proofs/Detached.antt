@@ -40,7 +40,7 @@ part_watched large next more last t u p ops k w room le below =
       ticket_to = k.ticket_to;
     }
 
--- where the same stands at its path, a part is lawful, also with more numbers and tickets
+-- where the subtree at its path is unchanged, a part is lawful, also with more numbers and tickets
 part_same : (large next more last later : ℕ) (t u : Shape) (p : PartAt) → at p.path u ≡ at p.path t → next ≤ more → last ≤ later → IsLawfulPart large next last t p → IsLawfulPart large more later u p
 part_same large next more last later t u p same le after k = record {
   there = record { node = k.there.node; there = same ∙ k.there.there; size = k.there.size };
@@ -79,7 +79,7 @@ pub paths-logged : (F : List Side → List Op) (ps : List PartAt) → paths (log
 paths-logged F [] = refl
 paths-logged F (p ∷ ps) = ap (λ (qs : List (List Side)). p.path ∷ qs) (paths-logged F ps)
 
--- each log has room for so many operations more
+-- each log has room for n operations more
 abbrev pub HaveLogRoomOf : ℕ → List PartAt → Type 0
 HaveLogRoomOf n [] = Unit {0}
 HaveLogRoomOf n (p ∷ ps) = (length p.log + n ≤ 65536) × HaveLogRoomOf n ps
@@ -96,7 +96,7 @@ each_logged large next more last n F t u (p ∷ ps) k w room few le below = (
   each_logged large next more last n F t u ps k.1 w.1 room.1 few le below,
 )
 
--- what is left of parts
+-- parts that remain
 
 pub left_itself : (ps : List PartAt) → AreLeft ps ps
 left_itself [] = refl
@@ -153,7 +153,7 @@ left_slots from [] qs k s = subst (AreInSlots from) (sym k) tt
 left_slots from (p ∷ ps) qs (inl k) s = slots_from from (p.slot + 1) qs (omega (arith, s.0)) (left_slots (p.slot + 1) ps qs k s.2)
 left_slots from (p ∷ ps) qs (inr k) s = subst (AreInSlots from) (sym k.2) (s.0, s.1, left_slots (p.slot + 1) ps k.1 k.4 s.2)
 
--- what is left is lawful where each of it is
+-- what remains is lawful where each of it is
 pub left_lawful : (large next more last later : ℕ) (t u : Shape) (ps qs : List PartAt) → AreLeft ps qs → AreLawfulParts large next last t ps → AreEachLawful large more later u qs → AreLawfulParts large more later u qs
 left_lawful large next more last later t u ps qs k lawful each = record {
   each = each;

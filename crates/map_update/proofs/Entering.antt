@@ -37,7 +37,7 @@ above_of : (n low : ℕ) (m : List Item) → n < low → IsRising low m → Abov
 above_of n low [] below h = tt
 above_of n low (i ∷ m) below h = (omega (arith, h.0), above_of n (i.number + 1) m (omega (arith, h.0)) h.1)
 
--- what a map holds stands by number
+-- what a map holds is by number
 pub contents_rises : (low high : ℕ) (m : List Item) → AreContents low high m → Rises m
 contents_rises low high [] h = tt
 contents_rises low high (i ∷ m) h = (above_of i.number (i.number + 1) m (omega arith) (contents_rise (i.number + 1) high m h.3), contents_rises (i.number + 1) high m h.3)
@@ -65,7 +65,7 @@ winner_below edge high n m p h below = over (winner_rival edge n m p)
     over (inl same) = subst (λ (i : Item). i.number < high) (sym same) below
     over (inr held) = item_below 0 high m (winner edge m n p) h (inside_is (voxel edge p) m (winner edge m n p) held).0
 
--- what is left beside the winner isn't live in the voxel, and was held
+-- what remains next to the winner isn't live in the voxel, and was held
 left_is : (edge high : ℕ) (m : List Item) (p : Place) (k : Item) → AreContents 0 high m → Member k (mark m (in_box (voxel edge p)) thin_tag) → Member k m × (is_live_in (voxel edge p) k ≡ false)
 left_is edge high m p k h there =
     let parts = member-filter (left_out (voxel edge p)) k m (subst (Member k) (mark-thin (voxel edge p) 0 high m h) there) in
@@ -75,12 +75,12 @@ left_is edge high m p k h there =
     over true e = absurd (cc)
     over false e = refl
 
--- and what isn't live in the voxel is left
+-- and what isn't live in the voxel remains
 is_left : (edge high : ℕ) (m : List Item) (p : Place) (k : Item) → AreContents 0 high m → Member k m → is_live_in (voxel edge p) k ≡ false → Member k (mark m (in_box (voxel edge p)) thin_tag)
 is_left edge high m p k h there out =
     subst (Member k) (sym (mark-thin (voxel edge p) 0 high m h)) (member-filter_of (left_out (voxel edge p)) k m there (ap not out))
 
--- its number is that of nothing that is left beside it
+-- its number is that of nothing else that remains
 pub winner_new : (edge high n : ℕ) (m : List Item) (p : Place) → AreContents 0 high m → IsUnheld n m → IsUnheld (winner edge m n p).number (mark m (in_box (voxel edge p)) thin_tag)
 winner_new edge high n m p h new = unheld_by w.number (mark m (in_box (voxel edge p)) thin_tag) (λ k there e. other k (left_is edge high m p k h there) e (winner_rival edge n m p))
   where

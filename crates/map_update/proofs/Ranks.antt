@@ -75,7 +75,7 @@ rank_cmp_total =
 ahead_order : IsStrictWeakOrder is_ahead
 ahead_order = ranks_by rank_cmp_total rank_of
 
--- none of the list is ahead of one that stands before it
+-- none of the list is ahead of one that comes before it
 abbrev Ascend : List Entrant → Type 0
 Ascend [] = Unit {0}
 Ascend (e ∷ es) = All (λ f. is_ahead f e ≡ false) es × Ascend es
@@ -93,7 +93,7 @@ then_assoc Less p q = refl
 then_assoc Equal p q = refl
 then_assoc Greater p q = refl
 
--- how the voxels stand to each other, and how each stands in its own
+-- how voxels are ordered, and how entrants are in their own
 abbrev voxel_cmp : Entrant → Entrant → Ordering
 voxel_cmp e f = corner_cmp e.cube.lo f.cube.lo
 
@@ -128,7 +128,7 @@ same_corner : (edge : ℕ) (e f : Entrant) → e.cube ≡ voxel edge e.item.poin
 same_corner edge e f own other same =
     own ∙ ap (cube edge) (sym (ap (λ (c : Bounds). c.lo) own) ∙ same ∙ ap (λ (c : Bounds). c.lo) other) ∙ sym other
 
--- what stands behind an entrant of another voxel lies in none that was before
+-- what comes behind an entrant of another voxel lies in none that was before
 later_voxel : (edge : ℕ) (k x y : Entrant) → k.cube ≡ voxel edge k.item.point → x.cube ≡ voxel edge x.item.point → is_ahead x k ≡ false → is_ahead y x ≡ false → (x.cube ≡ k.cube → ⊥) → y.cube ≡ k.cube → ⊥
 later_voxel edge k x y own next behind after other same =
     let first = voxel_behind x k behind in
@@ -147,7 +147,7 @@ not_held edge k y from own other apart =
 different : (x k : Entrant) → is_same_voxel x k ≡ false → x.cube ≡ k.cube → ⊥
 different x k e same = let f = (bounds_Decides x.cube k.cube).1 same in absurd (cc)
 
--- what is left has one entrant of a voxel
+-- what remains has one entrant of a voxel
 pub left_apart : (edge : ℕ) (k : Entrant) (es : List Entrant) → 1 ≤ edge → HaveVoxels edge (k ∷ es) → Ascend (k ∷ es) → HaveOwnVoxels edge (items_in (dedup_from is_same_voxel k es))
 left_apart edge k [] from own up = (All-nil (λ (j : Item). holds (voxel edge k.item.point) j.point ≡ false), tt)
 left_apart edge k (x ∷ xs) from own up =
@@ -167,7 +167,7 @@ left_apart edge k (x ∷ xs) from own up =
           rw e (All-map (λ (j : Item). holds (voxel edge k.item.point) j.point ≡ false) (λ (y : Entrant). y.item) (dedup_from is_same_voxel x xs) kept, left_apart edge x xs from rest up.1)
     ]
 
--- of what is left one lies in the voxel of e, and e doesn't come before it
+-- of what remains one lies in the voxel of e, and e doesn't come before it
 record Keeps (fs : List Entrant) (e : Entrant) : Type 0 where
   by : Entrant
   there : Member by fs
@@ -180,7 +180,7 @@ keeps_more k e fs h = record { by = h.by; there = inr h.there; same = h.same; be
 keeps_itself : (e : Entrant) (fs : List Entrant) → Keeps (e ∷ fs) e
 keeps_itself e fs = record { by = e; there = inl refl; same = refl; behind = not_itself e.cube e.item }
 
--- each entrant was beaten by one that is left
+-- each entrant was beaten by one that remains
 left_keeps : (k : Entrant) (es : List Entrant) → Ascend (k ∷ es) → (e : Entrant) → Member e (k ∷ es) → Keeps (dedup_from is_same_voxel k es) e
 left_keeps k [] up e (inl same) = subst (Keeps (k ∷ [])) (sym same) (keeps_itself k [])
 left_keeps k [] up e (inr none) = absurd none
@@ -206,7 +206,7 @@ left_keeps k (x ∷ xs) up e m =
     apart rest (inl own) = subst (Keeps (k ∷ dedup_from is_same_voxel x xs)) (sym own) (keeps_itself k (dedup_from is_same_voxel x xs))
     apart rest (inr later) = keeps_more k e (dedup_from is_same_voxel x xs) (rest e later)
 
--- what is left was there
+-- what remains was there
 left_within : (k : Entrant) (es : List Entrant) (f : Entrant) → Member f (dedup_from is_same_voxel k es) → Member f (k ∷ es)
 left_within k [] f m = m
 left_within k (x ∷ xs) f m =
@@ -215,7 +215,7 @@ left_within k (x ∷ xs) f m =
       | false ↦ λ n. elim n [ inl own ↦ inl own | inr later ↦ inr (left_within x xs f later) ]
     ] m
 
--- the same entrants stand in another order
+-- each of the one list is in the other
 itself : (xs zs : List Entrant) → ((z : Entrant) → Member z xs → Member z zs) → All (λ i. Member i zs) xs
 itself [] zs f = All-nil (λ (i : Entrant). Member i zs)
 itself (x ∷ xs) zs f = All-cons (λ (i : Entrant). Member i zs) x xs (f x (inl refl)) (itself xs zs (λ z m. f z (inr m)))
@@ -281,7 +281,7 @@ sorted_firsts edge next ps es from same up = by_list es refl
           All-dedup is_same_voxel P (k ∷ xs) voxels,
         )
 
--- no more are left than there were
+-- no more remain than there were
 
 kept_few : (k : Entrant) (es : List Entrant) → length (dedup_from is_same_voxel k es) ≤ length es + 1
 kept_few k [] = omega arith

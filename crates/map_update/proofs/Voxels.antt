@@ -10,7 +10,7 @@ use Rattle.point_geom.proofs.Laws.{all_parts, voxel_held, voxel_on_grid, between
 times_less : (a b n : ℕ) → a * n < suc b * n → a ≤ b
 times_less a b n h = let below : a < suc b = lt_of_mul-lt-mul_right n h in omega arith
 
--- one multiple alone stands where a number is on or above it, and below the next
+-- one multiple alone has a number on or above it that is below the next
 multiple_alone : (n : ℕ) (k l c : ℤ) → 1 ≤ n → (k *ℤ pos n) ≤ℤ c → c <ℤ ((k *ℤ pos n) +ℤ pos n) → (l *ℤ pos n) ≤ℤ c → c <ℤ ((l *ℤ pos n) +ℤ pos n) → k ≡ l
 multiple_alone n (pos a) (pos b) c from h k u v =
     let more : suc a * n ≡ a * n + n = grind arith in

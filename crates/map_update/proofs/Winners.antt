@@ -1,4 +1,4 @@
--- Which item a voxel is left with, and where nothing changes.
+-- Which item remains in a voxel, and where nothing changes.
 use Rattle.std.proofs.Common.{◌≡◌, ℕ, ◌+◌, ◌<◌, true, false, [], ◌∷◌, List, inl, inr, refl, drop, length, sym, subst, ap, ◌∙◌, arith}
 use Rattle.std.specs.Prelude.{IfOk}
 use Rattle.std.specs.declared.result.Result.{Result}
@@ -62,7 +62,7 @@ pub becomes : (r : Result Work NoMemory) (xs ys : List Item) → xs ≡ ys → I
 becomes (Ok w) xs ys e f = f ∙ e
 becomes (Err x) xs ys e f = tt
 
--- of equal trees, numbers and points the same are turned away
+-- equal points are rejected for equal trees and numbers
 pub turned_same : (edge : ℕ) (s t : Shape) (k n : ℕ) (p q : Place) → t ≡ s → n ≡ k → q ≡ p → IsTurnedAway edge (map_of s k) p → IsTurnedAway edge (map_of t n) q
 turned_same edge s t k n p q e f h turned =
     let one : IsTurnedAway edge (map_of t k) p = subst (λ (x : Shape). IsTurnedAway edge (map_of x k) p) (sym e) turned in

@@ -88,7 +88,7 @@ worked_then a b c d e f u v w le le' k l = record {
       still_then b d f u.watches v.watches w.watches le' first (l.still then);
 }
 
--- the room that is left after them
+-- the room that remains after them
 pub room_left : (a b c d e f : ℕ) (v w : Work) → a + c ≤ e → b + d ≤ f → IsWorked a b v w → HasRoomFor e f v → HasRoomFor c d w
 room_left a b c d e f v w le le' k r =
     let first = k.still (room_some a b e f v (omega (arith, le)) (omega (arith, le')) r) in
@@ -132,7 +132,7 @@ plain_put large n p v w u vs same made logged unrebuilt =
     let seen : vs ≡ with_puts n p v.tree v.watches = logged ∙ ap (λ (x : Work). with_puts n p x.tree x.watches) same in
     ap (λ (t : Shape). record { tree = t; watches = vs }) shape ∙ ap (λ (ws : List Watch). record { tree = put_shape n p v.tree; watches = ws }) seen
 
--- the same said of equal values
+-- a promise that nothing is rebuilt, moved to equal values
 pub plain_same : (large : ℕ) (o op : Op) (v w new : Work) → o ≡ op → v ≡ w → (RebuildsNothing large o v.tree → new ≡ plain_work o v) → RebuildsNothing large op w.tree → new ≡ plain_work op w
 plain_same large o op v w new e f k =
     let first : RebuildsNothing large op v.tree → new ≡ plain_work op v = subst (λ (x : Op). RebuildsNothing large x v.tree → new ≡ plain_work x v) e k in

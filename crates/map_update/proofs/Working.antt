@@ -1,4 +1,4 @@
--- Work beside watched subtrees.
+-- Work while subtrees are watched.
 use Rattle.std.proofs.Common.{◌≡◌, ℕ, ◌<◌, ◌≤◌, List, [], ◌∷◌, ◌++◌, length, get_or, refl, ap, sym, ◌∙◌, arith, suc, zero, subst, inl, inr, Some}
 use Rattle.std.specs.Prelude.{All, Contains}
 use Rattle.std.specs.List.{remove}
@@ -124,7 +124,7 @@ draft_put large next last n p w u vs ps less d room is among balanced watched =
     draft_logged large next last 2 (λ q. logged_put n p q w.tree) w u vs ps d (room_of_two ps (room_watched ps (subst HaveRoom d.watched room))) (is ∙ ap (with_puts n p w.tree) d.watched ∙ puts-watched n p w.tree ps) (below_put next n (numbers u) (numbers w.tree) less among d.below) balanced watched
     (λ q. logged_put_few n p q w.tree) (λ q. put_puts (λ m. m < next) n p q w.tree less)
 
--- what is left of what is left
+-- what remains of what remains
 pub draft_on : (large next last : ℕ) (ps qs : List PartAt) (w : Work) → AreLeft ps qs → IsDraftLeft large next last qs w → IsDraftLeft large next last ps w
 draft_on large next last ps qs w k d = (d.0, left_trans ps qs d.0 k d.1, d.2)
 
@@ -143,7 +143,7 @@ draft_anew large next last w u ps d among criteria = (
 
 -- one watch is taken out
 
--- the part stands at this place
+-- the part has this index
 pub record IsPartAt (i : ℕ) (ps : List PartAt) : Type 0 where
   pub front : List PartAt
   pub part : PartAt
@@ -208,7 +208,7 @@ without_of large next last ps w i gone ws d below is left =
     subst (λ (qs : List PartAt). IsWithout large qs w gone ws) (sym at.all)
     (without_at large next last w at.front at.part at.back gone ws (subst (λ (qs : List PartAt). IsDraft large next last qs w) at.all d) one others)
 
--- the others are left, where the same stands at their paths
+-- the others remain, where the subtrees at their paths are unchanged
 pub draft_without : (large next last : ℕ) (ps : List PartAt) (w : Work) (gone : Watch) (ws : List Watch) (u : Shape) → IsDraft large next last ps w → IsWithout large ps w gone ws
     → AreSameAt (paths_in ws) u w.tree → IsBalancedClear large (paths_in ws) u → AreAmong (numbers u) (numbers w.tree) → IsDraftLeft large next last ps (record { tree = u; watches = ws })
 draft_without large next last ps w gone ws u d k same balanced among =

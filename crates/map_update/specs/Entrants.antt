@@ -37,7 +37,7 @@ pub record MayEnter (high : ℕ) (m : List Item) (i : Item) : Type 0 where
   pub below : i.number < high
   pub unheld : IsUnheld i.number m
 
--- each of the items may enter, and no number stands twice
+-- each of the items may enter, and no number occurs twice
 abbrev pub AreEntrants : ℕ → List Item → List Item → Type 0
 AreEntrants high m [] = Unit {0}
 AreEntrants high m (i ∷ is) = MayEnter high m i × All (λ j. j.number ≢ i.number) is × AreEntrants high m is

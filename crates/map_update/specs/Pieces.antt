@@ -1,4 +1,4 @@
--- Items that are put in one pass beside what is watched. Cited by private functions alone.
+-- Items that are put in one pass while a tree is watched. Cited by private functions alone.
 use Rattle.std.specs.Prelude.{ℕ, ◌+◌, ◌<◌, ◌≤◌, max}
 use Rattle.kd_tree.specs.Shape.{levels, nodes}
 use Rattle.kd_update.specs.Crossing.{HaveRoomAtOnce}
@@ -6,7 +6,7 @@ use Rattle.map_update.specs.declared.work.Work.{Work}
 use Rattle.kd_tree.specs.declared.limits.TheConstants.{MAX_NODES}
 use Rattle.kd_update.specs.declared.limits.TheConstants.{MAX_PASS_LEVELS}
 
--- So many items may be put in one pass: they are fewer than large nodes are, the tree's bounds aren't near, and each log has room.
+-- n items may be put in one pass: they are fewer than large nodes are, the tree's bounds aren't near, and each log has room.
 -- They are at least as many as a pass may add levels.
 pub record MayPass (large n : ℕ) (w : Work) : Type 0 where
   pub many : 22 ≤ n

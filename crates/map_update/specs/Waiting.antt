@@ -13,7 +13,7 @@ use Rattle.map_update.specs.declared.waiting.Waiting.{Waiting}
 abbrev pub held_by : Waiting → List Item
 held_by w = by_number (contents w.work.tree ++ w.items.items)
 
--- What waits is live, no number stands twice, each is below the next one, and the tree is at work beside what is watched.
+-- What waits is live, no number occurs twice, each is below the next one, and the tree is at work while it is watched.
 pub record IsWaiting (large next : ℕ) (w : Waiting) : Type 0 where
   pub live : AreLive w.items.items
   pub held : AreContents 0 next (held_by w)

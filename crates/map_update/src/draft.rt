@@ -1,4 +1,4 @@
-//! What an update makes of a tree and the subtrees that are watched in it, operation by operation.
+//! What an update makes of a tree and of what is watched of it, operation by operation.
 ghost use Rattle.std.specs.Prelude.{◌≡◌, ◌+◌, ◌<◌, ◌≤◌, [], ◌∷◌, Some, length, IfOk};
 ghost use Rattle.point_geom.specs.Place.{Place};
 ghost use Rattle.map_items.specs.declared.op.Op.{Op};
@@ -20,10 +20,11 @@ use point_geom::Point;
 use std::alloc::Global;
 use std::sync::ledger::Ledger;
 
-/// The work after the update, where so many points were submitted before. What crosses a watched subtree is logged for it; one whose log
-/// has no room for two operations more is rebuilt where it stands before, and forgotten. Each node on an operation's way is looked at, and what
-/// breaches a criterion is rebuilt as far as it is smaller than `large` and holds nothing that is watched. Where memory runs out, the work is dropped.
-/// The time is that of the operations, by the subtrees that they meet; of a scan that of few passes over what it meets.
+/// The work after the update, where `next` points were submitted before. What crosses a watched subtree is logged for
+/// it; one whose log has no room for two operations more is rebuilt where it is before, and forgotten. On an
+/// operation's way, what breaches a criterion is rebuilt if it is smaller than `large` and nothing in it is watched. On
+/// `NoMemory` the work is dropped. The time is that of the operations, by the subtrees that they meet; of a scan that
+/// of few passes over what it meets.
 pub fn changed<L: Ledger>(
     alloc: Global,
     work: Work,
@@ -59,7 +60,6 @@ pub fn changed<L: Ledger>(
     }
 }
 
-// The work with these points put under the next numbers. From a scan on that is done in as few passes as may be.
 fn added<L: Ledger>(
     alloc: Global,
     work: Work,
@@ -91,7 +91,6 @@ fn added<L: Ledger>(
     Ok(work)
 }
 
-// The work with the point under the next number.
 pub(crate) fn added_one<L: Ledger>(
     alloc: Global,
     work: Work,

@@ -1,5 +1,4 @@
-//! The points of a scan that may win their voxels: of each voxel the one that is nearest to its centre. Nothing here knows a
-//! tree.
+//! The points of a scan that may win their voxels. Nothing here knows a tree.
 ghost use Rattle.std.specs.Prelude.{◌≡◌, ◌+◌, ◌≤◌, length, map, IfOk};
 ghost use Rattle.point_geom.specs.Boxes.{voxel};
 ghost use Rattle.kd_update.specs.Scan.{live_from};
@@ -10,15 +9,14 @@ use map_items::{Item, MAX_POINTS, NoMemory, Settings};
 use point_geom::{Cuboid, MAX_EDGE, Point, centre_dist2, voxel};
 use std::alloc::Global;
 
-// A point under its number, and its voxel.
 #[derive(Clone, Copy)]
 pub(crate) struct Entrant {
     pub(crate) item: Item,
     pub(crate) cube: Cuboid,
 }
 
-// Of each voxel that some of the points lie in, the first of these towards its centre, under the numbers from `next` on. The others
-// leave the map as it is once this one has thinned the voxel. n points take time in the order of n log n.
+// Of each voxel the point that is nearest to its centre, under its number: the others change nothing once this one has
+// thinned the voxel. n points take time in the order of n log n.
 pub(crate) fn firsts(
     alloc: Global,
     settings: &Settings,
@@ -37,7 +35,6 @@ pub(crate) fn firsts(
     Ok(entrants)
 }
 
-// All of the points, on a grid of this edge.
 fn entrants(alloc: Global, edge: u32, next: u32, points: &[Point]) -> Result<Vec<Entrant>, NoMemory>
     requires positive { 1 ≤ edge }
     requires short { edge ≤ MAX_EDGE }

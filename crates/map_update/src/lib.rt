@@ -1,7 +1,8 @@
-//! What an update does to a tree and to what is watched of it. Nothing here knows a state, its history or its detached subtrees.
+//! What an update does to a tree and to what is watched of it. Nothing here knows a state, its history or its detached
+//! subtrees.
 //!
-//! `draft` takes an update apart, `work` does one operation or puts items, in the pieces of `pieces`. Scans that thin: `thin`, whose
-//! points, one of each voxel, are `entrants`, and wait in `waiting` until they are put.
+//! `draft` takes an update apart; `work` does one operation, and `pieces` puts many items. Scans that thin are
+//! `thin`'s: their points, one of each voxel, are `entrants`, and wait in `waiting` until they are put.
 #![tactic(auto)]
 
 mod draft;

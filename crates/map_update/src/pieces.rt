@@ -1,4 +1,4 @@
-//! Items that are put into a tree in as few passes as may be, beside what is watched in it. Nothing here knows where they come from.
+//! Items put in as few passes as may be, while a tree is watched. Nothing here knows where they come from.
 ghost use Rattle.std.specs.Prelude.{◌≡◌, ℕ, ◌<◌, ◌≤◌, List, length, All, IfOk};
 ghost use Rattle.kd_tree.specs.Contents.{contents};
 ghost use Rattle.kd_update.specs.Crossing.{HaveRoomAtOnce};
@@ -16,8 +16,8 @@ use std::alloc::Global;
 use std::sync::ledger::Ledger;
 
 impl Work {
-    // The work with these items put, in as few passes as may be. Where nothing is watched that is one, before which a full tree is
-    // rebuilt with all that is left. Else a full log is asked for before each pass, as before each item that is put alone.
+    // `put_all` where nothing is watched. Else a pass takes what each log has room for, and where that is little an
+    // item is put alone, after full logs are forgotten.
     pub(crate) fn put_items<L: Ledger>(
         self,
         alloc: Global,
@@ -49,13 +49,13 @@ impl Work {
         Ok(work)
     }
 
-    // Whether each log has room for all that thinning by so many points at once may add, and two operations more. To each voxel
-    // belong a mark, which may be two operations, and a point; and the points may add an action that is handed down to them.
+    // A voxel adds a mark, which may be two operations, and a point to a log; and the points may add an action that is
+    // handed down to them.
     pub(crate) fn may_thin_at_once(&self, points: usize) -> bool {
         self.watches.len() == 0 || points < least_room(self.watches.as_slice()) as usize / 3
     }
 
-    // How many of so many items are put next: as many as one pass may take, and one alone where these would be few.
+    // One alone where a pass would take few.
     fn most_at_once(&self, large: u32, wanted: usize) -> usize
         requires { 1 ≤ wanted }
         ensures some { 1 ≤ result }
@@ -77,7 +77,6 @@ impl Work {
         count
     }
 
-    // The work with these put: all in one pass, and one alone by itself.
     fn put_piece<L: Ledger>(
         self,
         alloc: Global,
@@ -106,7 +105,7 @@ impl Work {
     }
 }
 
-// How many operations each log has room for, beside two more.
+// With two operations to spare in each.
 fn least_room(watches: &[Watch]) -> u32
     ensures { (n : ℕ) → 1 ≤ n → n ≤ result → HaveRoomAtOnce n watches.now }
 {

@@ -1,5 +1,4 @@
-//! Points that thin their voxels in a tree, beside what is watched in it. Nothing here knows the state that both are copied
-//! from.
+//! Points that thin their voxels, while a tree is watched. Nothing here knows the state.
 ghost use Rattle.std.specs.Prelude.{◌≡◌, ◌+◌, ◌*◌, ◌≤◌, ◌<◌, [], ◌∷◌, length, IfOk};
 ghost use Rattle.point_geom.specs.Place.{Place};
 ghost use Rattle.node_labels.specs.Labels.{thin_tag};
@@ -22,7 +21,6 @@ use point_geom::{Cuboid, Point, voxel};
 use std::alloc::Global;
 use std::sync::ledger::Ledger;
 
-// The work after each point in turn has taken the next number and thinned its voxel.
 pub(crate) fn thinned<L: Ledger>(
     alloc: Global,
     work: Work,
@@ -55,8 +53,7 @@ pub(crate) fn thinned<L: Ledger>(
     Ok(work)
 }
 
-// The work with the point under the next number, or without it where the voxel's best item stays. A point that changes
-// nothing makes no node.
+// A point that changes nothing makes no node.
 fn thinned_one<L: Ledger>(
     alloc: Global,
     work: Work,
@@ -90,7 +87,6 @@ fn thinned_one<L: Ledger>(
     left_alone(alloc, work, large, next, &cube, held, steps)
 }
 
-// The work with this item as the only live one in the cuboid.
 fn left_alone<L: Ledger>(
     alloc: Global,
     work: Work,

@@ -1,5 +1,4 @@
-//! Points of a scan that have won their voxels, and wait to be put into the tree at once. Nothing here knows the state that the
-//! tree is copied from.
+//! Points that have won their voxels, and wait to be put at once. Nothing here knows the state.
 ghost use Rattle.std.specs.Prelude.{◌≡◌, ℕ, ◌+◌, ◌*◌, ◌≤◌, ◌<◌, List, [], ◌∷◌, ◌++◌, ◌↔◌, length, IfOk, IfSome, IsNone};
 ghost use Rattle.point_geom.specs.Boxes.{voxel};
 ghost use Rattle.node_labels.specs.Labels.{thin_tag};
@@ -24,16 +23,15 @@ use point_geom::{Cuboid, Point};
 use std::alloc::Global;
 use std::sync::ledger::Ledger;
 
-// A tree that is at work, and live items that it doesn't hold yet. A point that is turned away makes no node.
+// A tree, and live items that it doesn't hold yet. A rejected point makes no node.
 #[derive(Drop)]
 pub(crate) struct Waiting {
     pub(crate) work: Work,
     pub(crate) items: Vec<Item>,
 }
 
-// The work after each point in turn has taken the next number and thinned its voxel. What that leaves doesn't depend on the
-// order of the voxels, and in a voxel only the first of the points counts: so the tree is searched once a voxel, and all that win
-// are put at once, after all voxels were cleared.
+// The result doesn't depend on the order of the voxels, and in a voxel only the first point counts: so the tree is
+// searched once a voxel, and all that win are put at once, after all voxels were cleared.
 pub(crate) fn thinned_at_once<L: Ledger>(
     alloc: Global,
     work: Work,
@@ -74,7 +72,6 @@ impl Waiting {
         }
     }
 
-    // The work with all that wait.
     fn put<L: Ledger>(
         self,
         alloc: Global,
@@ -94,8 +91,7 @@ impl Waiting {
         work.put_items(alloc, large, items.as_slice(), scratch, steps)
     }
 
-    // With the entrant, or without it where the voxel's best item stays. Nothing that waits lies in its voxel, so that the tree
-    // alone is searched.
+    // Nothing that waits lies in the entrant's voxel, so the tree alone is searched.
     fn thinned<L: Ledger>(
         self,
         alloc: Global,
@@ -134,7 +130,6 @@ impl Waiting {
         cleared.with(large, high, best)
     }
 
-    // What is live in the cuboid.
     fn rivals(&self, cuboid: &Cuboid) -> Rivals
         requires clear { NoneWaitsIn cuboid.now self.now }
         requires distinct { AreDistinct (contents self.now.work.tree ++ self.now.items.items) }
@@ -145,7 +140,6 @@ impl Waiting {
         rivals_in(&self.work.tree, cuboid)
     }
 
-    // Without what is live in the cuboid.
     fn cleared<L: Ledger>(
         self,
         alloc: Global,
@@ -170,7 +164,6 @@ impl Waiting {
         Ok(Waiting { work, items })
     }
 
-    // With one more that waits.
     fn with(self, large: u32, high: u32, item: Item) -> Result<Waiting, NoMemory>
         requires waiting { IsWaiting large high self }
         requires live { item.label ≡ Live }

@@ -59,7 +59,7 @@ loop-entrant-init g c =
       few = omega (arith, ap (λ (xs : List Item). length xs) c.none-waiting.ensures.none);
     }
 
--- the entrant and those that are left
+-- the entrant and those that remain
 cut : (es : List Entrant) (k : ℕ) (e : Entrant) → k < length es → e ≡ get_or es k e → drop k es ≡ e ∷ drop (k + 1) es
 cut es k e below is = drop-at es (k + 1) k e (omega arith) below is
 
