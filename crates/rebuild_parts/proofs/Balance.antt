@@ -1,4 +1,4 @@
--- Trees in balance.
+-- Balanced trees.
 use Rattle.std.proofs.Common.{ℕ, ◌<◌, arith}
 use Rattle.kd_tree.specs.Shape.{Shape, leaf, fork, nodes}
 use Rattle.kd_mark.specs.Update.{IsBalancedBelow}

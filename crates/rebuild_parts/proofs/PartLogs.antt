@@ -79,7 +79,7 @@ forget_next ps i p logs new below is added all rest =
     ap (λ (z : List LogPlan). planned_parts z (take (i + 1) ps ++ rest)) added ∙ planned-append logs (x ∷ []) (take (i + 1) ps ++ rest)
     ∙ ap (λ (z : List PartAt). relogged x (planned_parts logs z)) front ∙ ap (relogged x) (all (p ∷ rest)) ∙ relogged_here x p rest refl
 
--- what is left of parts that are apart from a path is apart from it
+-- those that remain of parts that are apart from a path are apart from it
 left_apart : (path : List Side) (ps : List PartAt) (q : PartAt) (qs : List PartAt) → AreLeft ps (q ∷ qs) → IsClear path (paths ps) → AreApart path q.path
 left_apart path [] q qs k clear = absurd cc
 left_apart path (p ∷ ps) q qs (inl k) clear = left_apart path ps q qs k clear.1
@@ -138,7 +138,7 @@ added_logs p ps qs (Some log) before after old new own (inr k) is none other som
     let left : after ≡ watches_of k.1 = cc in
     subst (λ (z : List PartAt). AddsLogs old (p ∷ ps) z new) (sym (k.2 ∙ ap (λ (l : List Op). record p { log = l } ∷ k.1) logs)) (add_some p log ps k.1 old new own.tickets.0 (rest k.1 k.4 left))
 
--- the same of an answer
+-- `added_logs` of a result
 pub logs_step : (r : Result (Unit {0}) NoMemory) (p : PartAt) (ps qs : List PartAt) (o : Option (List Op)) (before after : List Watch) (old new : List LogPlan)
     → AreOwn (p ∷ ps) → AreLeft (p ∷ ps) qs → before ≡ watches_of qs
     → (IsNone o → after ≡ before) → ((w : Watch) (ws : List Watch) → IsNone o → before ≡ w ∷ ws → w.path ≡ p.path → ⊥) → IfSome o (λ log. before ≡ record { path = p.path; log = log } ∷ after)

@@ -129,7 +129,7 @@ rest_in : (n : ℕ) (xs : List Item) (y : Item) (ys : List Item) → y.number �
 rest_in n xs y ys le above k z m =
     elim (k z m) [ inl e ↦ let up = above_in n z xs above m in let same : z.number ≡ y.number = ap (λ (i : Item). i.number) e in absurd (omega (arith, up, le, same)) | inr is ↦ is ]
 
--- where the first stands among the rest, so do all
+-- where the first is among the rest, all are
 all_in_rest : (x : Item) (xs : List Item) (y : Item) (ys : List Item) → Rises (x ∷ xs) → Rises (y ∷ ys) → Member x ys → AreAllFrom (x ∷ xs) (y ∷ ys) → AreAllFrom (x ∷ xs) ys
 all_in_rest x xs y ys r s is k =
     let up : y.number < x.number = above_in y.number x ys s.0 is in

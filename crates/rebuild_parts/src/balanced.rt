@@ -1,11 +1,10 @@
-//! Whether trees are in balance.
 ghost use Rattle.std.specs.Prelude.{◌≡◌, ◌↔◌, true};
 ghost use Rattle.kd_tree.specs.Criteria.{IsBalanced};
 ghost use Rattle.kd_mark.specs.Update.{IsBalancedBelow};
 
 use kd_tree::Tree;
 
-// Whether each node of 10 nodes and more, and fewer than these, meets the balance criterion. A subtree of fewer nodes isn't
+// Whether each node of at least 10 and fewer than `large` nodes meets the balance criterion. Smaller subtrees aren't
 // looked into.
 pub(crate) fn is_balanced(tree: &Tree, large: u32) -> bool
     ensures { result ≡ true ↔ IsBalancedBelow large tree.now }
@@ -23,7 +22,7 @@ pub(crate) fn is_balanced(tree: &Tree, large: u32) -> bool
     is_balanced(top.left, large) && is_balanced(top.right, large)
 }
 
-// Whether each son has fewer than three fifths of the nodes below the top.
+// Whether each child has fewer than three fifths of the nodes below.
 fn are_balanced(left: &Tree, right: &Tree) -> bool
     ensures { result ≡ true ↔ IsBalanced left.now right.now }
 {

@@ -1,4 +1,4 @@
-//! Detached subtrees that were rebuilt, and are brought up to date. Nothing here knows the state that they come from.
+//! Rebuilt subtrees, which are brought up to date. Nothing here knows the state that they come from.
 ghost use Rattle.std.specs.Prelude.{◌≡◌, ◌+◌, ◌≤◌, [], ◌++◌, length, IfErr, IfOk};
 ghost use Rattle.map_items.specs.Ops.{Fit, numbers_put, replay};
 ghost use Rattle.kd_tree.specs.Shape.{levels, nodes, numbers};
@@ -25,7 +25,6 @@ pub struct Built {
     pub(crate) job: Job,
     done: Vec<Op>,
     tree: Tree,
-    // Each node of 10 nodes and more, and fewer than these, meets the balance criterion.
     large: u32,
 }
 
@@ -45,7 +44,7 @@ impl Model for Built {
     ghost invariant = { λ b. IsLawfulBuilt (record { ticket = b.job.ticket; items = b.job.items; done = b.done.items; tree = b.tree; large = b.large }) × IsBalancedBelow b.large b.tree };
 }
 
-// By hand, so that whoever lets a value go proves one call.
+// Manual, as `Job`'s.
 impl Drop for Built {
     fn drop(self) {
         let Built {
@@ -57,14 +56,13 @@ impl Drop for Built {
     }
 }
 
-/// A value on which nothing more was done for lack of memory.
+/// A value as it was, on `NoMemory`.
 #[derive(Drop)]
 pub struct BuiltLeft {
     pub built: Built,
 }
 
 impl Built {
-    // A tree of the job's items, with nothing done on it.
     pub(crate) fn new(alloc: Global, job: Job, large: u32, tree: Tree) -> Built
         requires held { contents tree ≡ job.items }
         requires numbers { AreNumbersOf job.items tree }
@@ -116,7 +114,7 @@ impl Built {
         self.done.as_slice()
     }
 
-    /// The tree, which holds what the operations make of the items.
+    /// What the operations make of the items.
     pub fn tree(&self) -> &Tree
         ensures value { result.now ≡ self.now.tree }
         ensures lawful { IsLawfulBuilt self.now }
@@ -124,7 +122,7 @@ impl Built {
         &self.tree
     }
 
-    /// The `large` for which the tree is balanced.
+    /// The tree's nodes of at least 10 and fewer than `large` nodes meet the balance criterion.
     pub fn large(&self) -> u32
         ensures value { result ≡ self.now.large }
         ensures balanced { IsBalancedBelow result self.now.tree }
@@ -132,7 +130,7 @@ impl Built {
         self.large
     }
 
-    /// The same value once more. Its list and its nodes are shared, and what is done on it is copied.
+    /// The same value once more, sharing its list and nodes. The operations are copied.
     pub fn again(&self, alloc: Global) -> Result<Built, NoMemory>
         ensures { IfOk result (λ b. b ≡ self.now) }
     {
@@ -148,9 +146,8 @@ impl Built {
         })
     }
 
-    /// The value with these operations done too, one after the other, as `replayed` does them. Where its tree is out of balance
-    /// for this `large`, since it was built with another, it is rebuilt by medians before. Where memory runs out, the value
-    /// is handed back as it was.
+    /// The value with these operations done too, as `replayed` does them. A tree that is unbalanced for this `large`,
+    /// since it was built with another, is rebuilt by medians before. On `NoMemory` the value is handed back as it was.
     pub fn replay(self, alloc: Global, large: u32, ops: &[Op]) -> Result<Built, BuiltLeft>
         requires { Fit (contents self.tree) ops.now }
         ensures replayed { IfOk result (IsReplayOf self ops.now) }
@@ -167,8 +164,7 @@ impl Built {
         Ok(built)
     }
 
-    /// `replay`, done in the place of the value's own nodes, so that none of them is copied: the value is dropped where memory runs
-    /// out.
+    /// `replay` in the value's own nodes, none of which is copied: so on `NoMemory` the value is dropped.
     pub fn replay_in_place(self, alloc: Global, large: u32, ops: &[Op]) -> Result<Built, NoMemory>
         requires { Fit (contents self.tree) ops.now }
         ensures replayed { IfOk result (IsReplayOf self ops.now) }
@@ -192,7 +188,6 @@ impl Built {
     }
 }
 
-// The tree after the operations, with a counter that nothing looks at.
 fn replayed_from<L: Ledger>(
     alloc: Global,
     tree: Tree,
@@ -212,8 +207,7 @@ fn replayed_from<L: Ledger>(
     caught_up(alloc, tree, made_with, large, ops, &mut steps)
 }
 
-/// The tree after the operations, which are done one after the other. It is balanced for this `large`, for which it is rebuilt by medians
-/// before, where it was made with another and isn't. Where memory runs out, the tree is dropped.
+/// The tree after the operations, done as by `replay`. On `NoMemory` it is dropped.
 pub fn caught_up<L: Ledger>(
     alloc: Global,
     tree: Tree,
@@ -229,7 +223,6 @@ pub fn caught_up<L: Ledger>(
     ensures balance { IfOk result (λ t. IsBalancedBelow large t) }
     ensures low { IfOk result (λ t. levels t ≤ levels tree + length (numbers_put ops.now)) }
     ensures few { IfOk result (λ t. nodes t ≤ nodes tree + length (numbers_put ops.now)) }
-    // A balanced tree stays where nothing is to be done, and no node is made.
     ensures same { ops.now ≡ [] → IsBalancedBelow large tree → IfOk result (λ t. t ≡ tree) }
     ensures still { ops.now ≡ [] → IsBalancedBelow large tree → steps.new ≡ steps.old }
 {
@@ -240,7 +233,7 @@ pub fn caught_up<L: Ledger>(
     replayed(alloc, tree, large, ops)
 }
 
-// The tree, rebuilt where it isn't balanced for this `large`. Only where it was made with another is it looked at.
+// Only a tree that was made with another `large` is looked at.
 fn balanced_for<L: Ledger>(
     alloc: Global,
     tree: Tree,

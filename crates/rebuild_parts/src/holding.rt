@@ -1,4 +1,4 @@
-//! What detached subtrees held: trees as long as nobody has listed them, and then lists.
+//! What detached subtrees held: trees until somebody lists them, and then lists.
 ghost use Rattle.std.specs.Prelude.{◌≡◌, ◌↔◌, true, IfOk};
 ghost use Rattle.map_items.specs.Contents.{AreContents};
 ghost use Rattle.kd_tree.specs.Contents.{contents};
@@ -13,13 +13,13 @@ use std::marker::{Brand, Model};
 use std::sync::Arc;
 use std::sync::ledger::{Blank, Ledger};
 
-/// What a detached subtree held, by itself, when it was detached. Contracts see the list of its items, whether it is kept as a
-/// list or as a tree, which shares its nodes with the map's tree.
+/// What a detached subtree held, by itself, when it was detached. Contracts see a list of items, also where it is a
+/// tree, which shares its nodes with the map's.
 pub struct Holding {
     held: Held,
 }
 
-// By hand, so that whoever lets one go proves one call.
+// Manual, as `Job`'s.
 impl Drop for Holding {
     fn drop(self) {
         let Holding { held: _held } = self;
@@ -49,7 +49,7 @@ impl Model for Holding {
 }
 
 impl Holding {
-    /// What the tree holds. It takes no time that depends on how many nodes there are.
+    /// What the tree holds, in the same time for each tree.
     pub fn of(alloc: Global, tree: &Tree) -> Result<Holding, NoMemory>
         requires { AreContents 0 MAX_POINTS (contents tree.now) }
         ensures { IfOk result (λ h. h ≡ contents tree.now) }
@@ -61,7 +61,6 @@ impl Holding {
         })
     }
 
-    // The items of a list.
     pub(crate) fn listed(items: Arc<Items>) -> Holding
         requires { AreContents 0 MAX_POINTS items.value }
         ensures { result ≡ items.value }
@@ -71,7 +70,7 @@ impl Holding {
         }
     }
 
-    /// The same, held once more: a pointer is copied.
+    /// The same once more: a pointer is copied.
     pub fn again(&self) -> Result<Holding, NoMemory>
         ensures { IfOk result (λ h. h ≡ self.now) }
     {
@@ -82,7 +81,7 @@ impl Holding {
         Ok(Holding { held })
     }
 
-    // The items as a list. n of them take time in the order of n log n, where they are kept as a tree.
+    // A tree of n items takes time in the order of n log n.
     pub(crate) fn list(&self, alloc: Global) -> Result<Arc<Items>, NoMemory>
         ensures value { IfOk result (λ items. items.value ≡ self.now) }
         ensures lawful { AreContents 0 MAX_POINTS self.now }
@@ -99,7 +98,8 @@ impl Holding {
         }
     }
 
-    /// Whether the value was built of these items. A list is compared item by item; a tree takes time in the order of n log n.
+    /// Whether the value was built of these items. A list is compared item by item; a tree takes time in the order of n
+    /// log n.
     pub fn is_of(&self, built: &Built) -> bool
         ensures { result ≡ true ↔ (self.now ≡ built.now.items) }
     {
@@ -111,7 +111,6 @@ impl Holding {
     }
 }
 
-// A tree with the same nodes, with a counter that nothing looks at.
 pub(crate) fn twin_by<L: Ledger>(alloc: Global, tree: &Tree, blank: Blank) -> Result<Tree, NoMemory>
     requires blank { IsBlankOf L.name L.parts blank }
     ensures { IfOk result (λ t. t ≡ tree.now) }

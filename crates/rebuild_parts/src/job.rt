@@ -19,7 +19,7 @@ pub struct Job {
     pub(crate) items: Arc<Items>,
 }
 
-// By hand, so that whoever lets a job go proves one call.
+// Manual `Drop`: a derived one is proved at every exit of every owner.
 impl Drop for Job {
     fn drop(self) {
         let Job {
@@ -42,7 +42,7 @@ impl Model for Job {
     ghost invariant = { λ j. AreContents 0 MAX_POINTS j.items.value };
 }
 
-/// A job that wasn't done for lack of memory.
+/// A job as it was, on `NoMemory`.
 #[derive(Drop)]
 pub struct JobLeft {
     pub job: Job,
@@ -63,7 +63,7 @@ impl Job {
         self.items.as_slice()
     }
 
-    /// The same, held once more: a pointer is copied.
+    /// The items once more: a pointer is copied.
     pub fn holding(&self) -> Result<Holding, NoMemory>
         ensures { IfOk result (λ h. h ≡ self.now.items) }
     {
@@ -71,7 +71,6 @@ impl Job {
         Ok(Holding::listed(items))
     }
 
-    // The same job once more. Its list is shared.
     pub(crate) fn again(&self) -> Result<Job, NoMemory>
         ensures { IfOk result (λ j. j ≡ self.now) }
     {
@@ -82,8 +81,8 @@ impl Job {
         })
     }
 
-    /// A tree of the items, built by medians, with nothing done on it yet. n items take time in the order of n log n. Where
-    /// memory runs out, the job is handed back. The value is best swapped into a state with the same `large`.
+    /// A tree of the items, built by medians: n of them take time in the order of n log n. On `NoMemory` the job is
+    /// handed back. `large` is best the state's.
     pub fn build(self, alloc: Global, large: u32) -> Result<Built, JobLeft>
         ensures built { IfOk result (IsBuiltOf self) }
         ensures large { IfOk result (λ b. b.large ≡ large) }
@@ -95,7 +94,6 @@ impl Job {
         }
     }
 
-    // The tree, with a counter that nothing looks at.
     fn tree_by<L: Ledger>(&self, alloc: Global, blank: Blank) -> Result<Tree, NoMemory>
         requires blank { IsBlankOf L.name L.parts blank }
         ensures contents { IfOk result (λ t. contents t ≡ self.now.items) }

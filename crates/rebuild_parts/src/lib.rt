@@ -1,6 +1,5 @@
-//! What the state of a map keeps and hands out: versions, which queries see, and detached subtrees, which are rebuilt elsewhere. Of each the
-//! state keeps a part, with its log; handed out are what it held, the job of rebuilding it, and the tree that was built. And why a state
-//! refuses what it is asked. Nothing here knows the state.
+//! What the state of a map keeps and hands out: versions, which queries see, and detached subtrees, as parts,
+//! snapshots, jobs and built values. And why it refuses a step. Nothing here knows the state.
 #![tactic(auto)]
 
 mod balanced;

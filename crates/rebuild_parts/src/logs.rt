@@ -16,9 +16,8 @@ use std::marker::Model;
 /// What becomes of the part of a ticket.
 #[derive(Drop)]
 pub struct PartLog {
-    /// The ticket that the part was detached with.
     pub ticket: u64,
-    /// Its new log, or none where the part is forgotten.
+    /// The new log, or none where the part is forgotten.
     pub log: Option<OpLog>,
 }
 
@@ -30,7 +29,7 @@ impl Model for PartLog {
     ghost view = { λ l. record { ticket = l.ticket; log = l.log } };
 }
 
-/// What becomes of each part where these watches are left of them, in their order: one without a watch is forgotten.
+/// What becomes of each part where these watches remain, in their order: a part without a watch is forgotten.
 pub fn logs_of(alloc: Global, parts: &[Part], watches: Watches) -> Result<Vec<PartLog>, NoMemory>
     requires { AreOwn parts.now }
     ensures { (qs : List PartAt) → AreLeft parts.now qs → watches ≡ watches_of qs
@@ -62,7 +61,6 @@ fn add_logs(
     add_logs(rest, watches, logs)
 }
 
-// The log of the first watch, if that has this path.
 fn taken(watches: &mut Vec<Watch>, path: &Path) -> Option<OpLog>
     ensures none { IsNone result → watches.new.items ≡ watches.old.items }
     ensures other { (w : Watch) (ws : List Watch) → IsNone result → watches.old.items ≡ w ∷ ws → w.path ≡ path.now → ⊥ }
@@ -82,7 +80,6 @@ fn is_same(path: &Path, other: &Path) -> bool
     path.as_slice() == other.as_slice()
 }
 
-/// All parts are forgotten.
 pub fn forgotten(alloc: Global, parts: &[Part]) -> Result<Vec<PartLog>, NoMemory>
     ensures { IfOk result (λ v. planned_parts v.items parts.now ≡ []) }
 {
@@ -114,7 +111,7 @@ pub fn forgotten_for(
     Ok(logs)
 }
 
-/// Does what was planned, one plan after the other.
+/// Does the plans in turn.
 pub fn relog_all(parts: &mut Vec<Part>, logs: Vec<PartLog>)
     ensures { parts.new.items ≡ planned_parts logs.items parts.old.items }
 {

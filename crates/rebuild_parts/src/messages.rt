@@ -1,4 +1,3 @@
-//! What refusals say to people.
 use crate::{Late, LogAsk, StateFault, SwapFault};
 use std::fmt::{Display, Error, Formatter, Write};
 

@@ -1,4 +1,3 @@
-//! Detached subtrees, as a state keeps them.
 ghost use Rattle.std.specs.Prelude.{◌≡◌, ◌≤◌, length, IfOk, IfSome, IsNone};
 ghost use Rattle.std.specs.Option.{option_map};
 ghost use Rattle.kd_update.specs.Detached.{IsNewTicket, IsPlaceOf, part_in, part_of, paths, without, watches_of};
@@ -15,20 +14,18 @@ use std::marker::Model;
 /// What can be seen of a detached subtree.
 #[derive(Clone, Copy, Debug, PartialEq, Eq)]
 pub struct PartInfo {
-    /// The ticket that it was detached with.
     pub ticket: u64,
-    /// How many operations were logged since.
+    /// How many operations were logged since it was detached.
     pub logged: u32,
 }
 
-/// A detached subtree. What it held is shared with the snapshot or the job that was made of it.
+/// A detached subtree. It shares what it held with its snapshot or job.
 #[derive(Drop)]
 pub struct Part {
-    /// From 1 to 4 among the parts of a state, no two of which have one slot.
+    /// From 1 to 4. No two parts of a state have the same.
     pub slot: u8,
-    /// Where it stands in the tree.
+    /// Where it is in the tree.
     pub path: Path,
-    /// The ticket that it was detached with.
     pub ticket: u64,
     /// What it held when it was detached.
     pub held: Holding,
@@ -60,21 +57,19 @@ pub fn watched(alloc: Global, parts: &[Part]) -> Result<Watches, NoMemory>
     Ok(watches)
 }
 
-/// The part in the slot.
 pub fn part_in(parts: &[Part], slot: u8) -> Option<&Part>
     ensures { option_map (λ p. p.now) result ≡ part_in slot parts.now }
 {
     parts.iter().find(|part| slot == part.slot)
 }
 
-/// The part of the ticket.
 pub fn part_of(parts: &[Part], ticket: u64) -> Option<&Part>
     ensures { option_map (λ p. p.now) result ≡ part_of ticket parts.now }
 {
     parts.iter().find(|part| ticket == part.ticket)
 }
 
-/// Where the parts stand, but for that of the ticket.
+/// The paths of the parts, except for that of the ticket.
 pub fn others_of(alloc: Global, parts: &[Part], ticket: u64) -> Result<Vec<Path>, NoMemory>
     ensures { IfOk result (λ v. v.items ≡ paths (without ticket parts.now)) }
 {
@@ -86,7 +81,6 @@ pub fn others_of(alloc: Global, parts: &[Part], ticket: u64) -> Result<Vec<Path>
     Ok(paths)
 }
 
-/// Where the parts stand.
 pub fn paths_of(alloc: Global, parts: &[Part]) -> Result<Vec<Path>, NoMemory>
     ensures { IfOk result (λ v. v.items ≡ paths parts.now) }
 {
@@ -97,7 +91,7 @@ pub fn paths_of(alloc: Global, parts: &[Part]) -> Result<Vec<Path>, NoMemory>
     Ok(paths)
 }
 
-/// Where the part of the ticket stands.
+/// The index of the part of the ticket.
 pub fn place_of(parts: &[Part], ticket: u64) -> Option<usize>
     ensures none { IsNone result → IsNewTicket ticket parts.now }
     ensures some { IfSome result (λ i. IsPlaceOf ticket i parts.now) }

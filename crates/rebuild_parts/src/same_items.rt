@@ -14,7 +14,7 @@ pub(crate) fn are_same(items: &[Item], others: &[Item]) -> bool
     items == others
 }
 
-// Whether the tree holds these items, and no others. Each item of the tree is looked for in the list.
+// Each item of the tree is looked for in the list.
 pub(crate) fn holds(tree: &Tree, items: &[Item]) -> bool
     requires { AreContents 0 MAX_POINTS items.now }
     ensures { result ≡ true ↔ (contents tree.now ≡ items.now) }
@@ -27,7 +27,6 @@ pub(crate) fn holds(tree: &Tree, items: &[Item]) -> bool
     are_among(tree, Tag::KEEP, items)
 }
 
-// Whether each item that is left of the tree under this action is one of the items.
 fn are_among(tree: &Tree, owed: Tag, items: &[Item]) -> bool
     requires { AreContents 0 MAX_POINTS items.now }
     ensures { result ≡ true ↔ AreAllFrom (walk owed tree.now) items.now }
@@ -45,7 +44,6 @@ fn are_among(tree: &Tree, owed: Tag, items: &[Item]) -> bool
     are_among(top.right, below, items)
 }
 
-// Whether the item is dropped or one of the items.
 fn is_among(item: &Item, items: &[Item]) -> bool
     requires { AreContents 0 MAX_POINTS items.now }
     ensures { result ≡ true ↔ AreAllFrom (kept (item.now ∷ [])) items.now }

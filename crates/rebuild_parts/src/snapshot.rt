@@ -1,4 +1,3 @@
-//! Detached subtrees that nobody has listed yet.
 ghost use Rattle.std.specs.Prelude.{◌≡◌, IfErr, IfOk};
 
 use crate::{Holding, Job};
@@ -6,7 +5,7 @@ use map_items::NoMemory;
 use std::alloc::Global;
 use std::marker::Model;
 
-/// A detached subtree, as it was when it was detached. It shares its nodes with the map's tree.
+/// A detached subtree, not listed yet. It shares its nodes with the map's tree.
 #[derive(Drop)]
 pub struct Snapshot {
     ticket: u64,
@@ -21,14 +20,14 @@ impl Model for Snapshot {
     ghost view = { λ s. record { ticket = s.ticket; items = s.holding } };
 }
 
-/// A snapshot whose items weren't listed for lack of memory.
+/// A snapshot as it was, on `NoMemory`.
 #[derive(Drop)]
 pub struct SnapshotLeft {
     pub snapshot: Snapshot,
 }
 
 impl Snapshot {
-    /// The subtree of the ticket, which holds this.
+    /// The subtree of the ticket, which held this.
     pub fn new(ticket: u64, holding: Holding) -> Snapshot
         ensures { result ≡ record { ticket = ticket; items = holding } }
     {
@@ -42,15 +41,14 @@ impl Snapshot {
         self.ticket
     }
 
-    /// What the subtree held, by itself, when it was detached: a pointer is copied.
+    /// What the subtree held: a pointer is copied.
     pub fn holding(&self) -> Result<Holding, NoMemory>
         ensures { IfOk result (λ h. h ≡ self.now.items) }
     {
         self.holding.again()
     }
 
-    /// The job of rebuilding the subtree. n items take time in the order of n log n, since they are sorted by number. Where
-    /// memory runs out, the snapshot is handed back.
+    /// The job of rebuilding it. n items take time in the order of n log n. On `NoMemory` the snapshot is handed back.
     pub fn job(self, alloc: Global) -> Result<Job, SnapshotLeft>
         ensures job { IfOk result (λ j. j ≡ self) }
         ensures left { IfErr result (λ l. l.snapshot ≡ self) }

@@ -1,4 +1,3 @@
-//! Versions of a map: what queries see.
 ghost use Rattle.std.specs.Prelude.{◌≡◌, IfOk};
 ghost use Rattle.map_items.specs.Contents.{totals};
 ghost use Rattle.kd_tree.specs.Shape.{leaf};
@@ -63,7 +62,7 @@ impl Version {
         Ok(version)
     }
 
-    /// Lets a version go. Where nobody else holds it, the memory of its nodes is taken into the scratch.
+    /// Drops a version. Where nobody else holds it, the scratch takes the memory of its nodes.
     pub fn scrap(version: Arc<Version>, scratch: &mut Scratch) {
         let mut version = version;
         if let Some(version) = Arc::get_mut(&mut version) {
@@ -72,7 +71,7 @@ impl Version {
         }
     }
 
-    /// A tree of what the map holds.
+    /// What the map holds.
     pub fn tree(&self) -> &Tree
         ensures { result.now ≡ self.now.tree }
     {
@@ -93,7 +92,7 @@ impl Version {
         self.len
     }
 
-    /// How many points are live and how many suspended. None that it holds is dropped.
+    /// How many points are live and how many suspended.
     pub fn counts(&self) -> Counts
         ensures { result ≡ totals (contents self.now.tree) }
     {
