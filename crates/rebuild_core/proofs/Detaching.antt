@@ -34,7 +34,7 @@ in_clear path slot [] p e k = absurd cc
 in_clear path slot (r ∷ ps) p e k =
     cond_both (slot == r.slot) (Some r) (part_in slot ps) (λ o. o ≡ Some p → AreApart path p.path) (λ _ f. subst (λ (x : PartAt). AreApart path x.path) (same_Some r p f) k.0) (λ _ f. in_clear path slot ps p f k.1) e
 
--- whether a part of the slot's path fits beside the parts: it stands where the slot's part does, and is apart from the others
+-- whether a part of the slot fits next to the parts: it is where the slot's part is, and apart from the others
 abbrev FitsBeside : PartAt → List PartAt → Type 0
 FitsBeside q [] = Unit {0}
 FitsBeside q (p ∷ ps) = (q.slot ≡ p.slot → q.path ≡ p.path) × ((q.slot ≡ p.slot → ⊥) → AreApart q.path p.path) × FitsBeside q ps
@@ -106,7 +106,7 @@ clear_with : (path : List Side) (q : PartAt) → AreApart path q.path → (ps : 
 clear_with path q apart =
     with_cases (λ ps qs. IsClear path (paths ps) → IsClear path (paths qs)) q (λ _. (apart, tt)) (λ p ps _ k. (apart, k.1)) (λ p ps _ k. (apart, k)) (λ p ps qs _ f k. (k.0, f k.1))
 
--- a part below all slots that fits beside them is clear of them
+-- a part below all slots that fits next to them is clear of them
 clear_beside : (q : PartAt) (from : ℕ) (ps : List PartAt) → q.slot < from → AreInSlots from ps → FitsBeside q ps → IsClear q.path (paths ps)
 clear_beside q from [] low s k = tt
 clear_beside q from (p ∷ ps) low s k = (k.1 (λ same. omega (arith, low, s.0, same)), clear_beside q (p.slot + 1) ps (omega (arith, low, s.0)) s.2 k.2)
@@ -131,7 +131,7 @@ ones_with q (p ∷ ps) k r m =
     (λ e. elim m [ inl here ↦ inl (here ∙ sym (k.0 (eqb-true q.slot p.slot e))) | inr later ↦ inr later ])
     (λ _. cond_both (nat_lt q.slot p.slot) (q ∷ p ∷ ps) (p ∷ with_part q ps) (λ qs. IsOneOf r (paths qs)) (λ _. inr m) (λ _. elim m [ inl here ↦ inl here | inr later ↦ inr (rest later) ]))
 
--- a state with one subtree more, or one afresh
+-- a state with one subtree more, or one again
 
 -- where a subtree is detached, there is a large one
 pub detach_large : (slot : ℕ) (s : StateAt) (path : List Side) → IsLawful s → IsDetachedAt (part_in slot s.parts) s path → IsLargeAt s.settings.large path s.tree
@@ -201,7 +201,7 @@ detached_lawful slot s path node from to k sound chosen there =
       shown_len = k.shown_len;
     }
 
--- where there is no part in the slot, what is told of the nodes that are clear of the parts
+-- where there is no part in the slot, what is known of the nodes that are clear of the parts
 
 pub none_free : (s : StateAt) (large : ℕ) (qs : List (List Side)) (t : Shape) (o : Option (List Side)) (q : Option PartAt) → q ≡ None → large ≡ s.settings.large → qs ≡ paths s.parts → t ≡ s.tree
     → (IsNone o ↔ AllClearMeetCriteria large qs t) → IsNone o ↔ IsNoneToDetach q s

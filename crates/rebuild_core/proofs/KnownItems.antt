@@ -72,7 +72,7 @@ held_again ticket items ps i q known k is =
 pub items_of_entered : (ticket : ℕ) (items : List Item) (p : PlannedAt) (s : StateAt) → AreItemsOf ticket items s.parts → AreItemsOf ticket items (entered p s).parts
 items_of_entered ticket items p s k = items_of_planned ticket items p.logs s.parts k
 
--- with one part more, or one afresh
+-- with one part more, or one again
 pub items_of_with : (ticket : ℕ) (items : List Item) (q : PartAt) → (q.ticket ≡ ticket → q.items ≡ items) → (ps : List PartAt) → AreItemsOf ticket items ps → AreItemsOf ticket items (with_part q ps)
 items_of_with ticket items q own =
     with_cases (λ ps qs. AreItemsOf ticket items ps → AreItemsOf ticket items qs) q (λ _. (own, tt)) (λ p ps _ k. (own, k.1)) (λ p ps _ k. (own, k)) (λ p ps qs _ f k. (k.0, f k.1))

@@ -15,7 +15,7 @@ use Rattle.kd_tree.specs.Maps.{map_of}
 use Rattle.rebuild_core.specs.OnePoint.{IsThinnedFrom, IsTurnedAwayFrom}
 use Rattle.map_update.specs.OnePoint.{IsTurnedAway}
 
--- what is turned away from a state is turned away from a copy of its tree
+-- what a state rejects, a copy of its tree rejects
 pub turned_copy : (s z : StateAt) (t : Shape) (p : Place) → s ≡ z → t ≡ s.tree → IsTurnedAwayFrom z p → IsTurnedAway s.settings.voxel (map_of t s.next) p
 turned_copy s z t p is same turned =
     let here : IsTurnedAwayFrom s p = subst (λ (x : StateAt). IsTurnedAwayFrom x p) (sym is) turned in

@@ -18,7 +18,7 @@ use Rattle.rebuild_core.specs.Steps.{PlannedAt, entered}
 use Rattle.rebuild_core.proofs.OnePoint.{turned_copy}
 use Rattle.rebuild_core.proofs.Plans.{plan_ticks}
 
--- where the counter stands still, no node is made
+-- where the counter doesn't rise, no node is made
 pub makes_none : (u : Update) (s : StateAt) (n k : ℕ) → k ≡ n → MakesNodes u s n k
 makes_none u s n k same = record { ticks = λ op unrebuilt. omega (arith, same); still = λ p one turned. same }
 

@@ -34,7 +34,7 @@ use Rattle.rebuild_core.proofs.KnownParts.{built_part, log_parts, undone_fit, un
 among : (s : StateAt) (b : BuiltAt) (p : PartAt) → IsPartOf b s.parts p → IsAmongOthers b.ticket s.parts p
 among s b p o = part_among b.ticket s.parts p o.found
 
--- what was caught up stands for the part's subtree
+-- what was replayed may replace the part's subtree
 pub swap_stands : (s : StateAt) (b : BuiltAt) (p : PartAt) (with : Shape) → IsLawful s → IsLawfulBuilt b → IsPartOf b s.parts p → contents with ≡ replay (contents b.tree) (undone b p) → StandsFor p.path s.tree with
 swap_stands s b p with k h o held = let there = (built_part s b p k o).there in record { node = there.node; there = there.there; same = held ∙ undone_same s b p k h o }
 
@@ -42,7 +42,7 @@ swap_stands s b p with k h o held = let there = (built_part s b p k o).there in 
 pub swap_fit : (s : StateAt) (b : BuiltAt) (p : PartAt) (t : Shape) (ops : List Op) → IsLawful s → IsTreeOf b p s.parts t ops → Fit (contents t) ops
 swap_fit s b p t ops k r = subst (λ (os : List Op). Fit (contents t) os) (sym r.undone) (subst (λ (x : Shape). Fit (contents x) (undone b p)) r.tree (undone_fit s b p k r.lawful r.of))
 
--- a value's tree that was caught up
+-- a value's tree that was replayed
 pub swap_caught : (large : ℕ) (b : BuiltAt) (p : PartAt) (ps : List PartAt) (t with : Shape) (ops : List Op) → IsTreeOf b p ps t ops → IsCaughtUp large (record b { tree = t }) ops with → IsCaughtUp large b (undone b p) with
 swap_caught large b p ps t with ops r k = subst (λ (os : List Op). IsCaughtUp large b os with) r.undone (subst (λ (x : Shape). IsCaughtUp large (record b { tree = x }) ops with) (sym r.tree) k)
 
@@ -79,7 +79,7 @@ items_below low next n m k c = All-contains (λ x. x < next) (map (λ (i : Item)
     all low [] k = All-nil (λ x. x < next)
     all low (i ∷ m) k = All-cons (λ x. x < next) i.number (map (λ (j : Item). j.number) m) k.1 (all (i.number + 1) m k.3)
 
--- each number of what was caught up is below the next one
+-- each number of what was replayed is below the next one
 pub swap_below : (s : StateAt) (b : BuiltAt) (p : PartAt) (with : Shape) → IsLawful s → IsLawfulBuilt b → IsPartOf b s.parts p → AreAmong (numbers with) (numbers_put (undone b p) ++ numbers b.tree) → All (λ n. n < s.next) (numbers with)
 swap_below s b p with k h o f = All-weaker (λ n. Contains (numbers with) n) (λ n. n < s.next) below (numbers with) (All-contains_itself (numbers with))
   where
@@ -106,7 +106,7 @@ below_both next new with old f k l = All-weaker (λ n. Contains new n) (λ n. n 
 
 -- the plan of a swap
 
--- the parts that are left are lawful, and the tree is balanced outside them
+-- the remaining parts are lawful, and the tree is balanced outside them
 left_by_swap : (s : StateAt) (b : BuiltAt) (p : PartAt) (t : Shape) (anew : Bool) (ps : List PartAt) → IsLawful s → IsPartOf b s.parts p → (anew ≡ true → AllMeetCriteria 10 t) → (anew ≡ false → AreSameAt (paths (without b.ticket s.parts)) t s.tree)
     → IsBalancedClear s.settings.large (paths (without b.ticket s.parts)) t → (anew ≡ true → ps ≡ []) → (anew ≡ false → ps ≡ without b.ticket s.parts) → AreLawfulParts s.settings.large s.next s.last t ps × IsBalancedClear s.settings.large (paths ps) t
 left_by_swap s b p t true ps k o criteria same balanced none one =
@@ -138,6 +138,6 @@ swaps s b p with t anew logs k o sound caught held below room criteria same bala
       parts = which_left s b p with anew (planned_parts logs s.parts) o caught room none one;
     }
 
--- how many operations are left
+-- how many operations are pending
 pub left_is : (b : BuiltAt) (p : PartAt) (all done : ℕ) (log ops : List Op) → all ≡ length log → log ≡ p.log → done ≡ length ops → ops ≡ b.done → length (undone b p) ≡ all - done
 left_is b p all done log ops of_log same of_ops begun = omega (arith, length-drop (length b.done) p.log, of_log, of_ops, ap (λ (xs : List Op). length xs) same, ap (λ (xs : List Op). length xs) begun)

@@ -15,7 +15,7 @@ use Rattle.rebuild_parts.specs.declared.fault.LogAsk.{LogAsk}
 use Rattle.rebuild_parts.specs.declared.fault.LogAsk.TheVariants.{Stale, NoMemory}
 use Rattle.kd_update.specs.Detached.{PartAt, part_in, paths}
 
--- a subtree is detached afresh where its part stands, and else where the first node that is clear of the parts breaches a criterion
+-- a subtree is detached again where its part is, and else where the first node that is clear of the parts breaches a criterion
 abbrev pub IsDetachedAt : Option PartAt → StateAt → List Side → Type 0
 IsDetachedAt (Some p) s path = path ≡ p.path
 IsDetachedAt None s path = IsFirstFree s.settings.large (paths s.parts) s.tree path
@@ -60,7 +60,7 @@ pub record IsSlot (slot : ℕ) : Type 0 where
   pub slot_from : 1 ≤ slot
   pub slot_to : slot ≤ 4
 
--- What detaching into the slot answers, and makes of a state: a refusal leaves it as it was, and so does an answer that there is
+-- What detaching into the slot returns, and makes of a state: a refusal leaves it as it was, and so does None, where there is
 -- nothing to be detached.
 pub record Detaches (slot : ℕ) (s : Stored) (found : Result (Option JobAt) memory.NoMemory) (t : Stored) : Type 0 where
   pub none : IfOk found (λ o. IsNone o ↔ IsNoDetach slot s.state)

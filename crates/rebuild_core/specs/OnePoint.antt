@@ -7,7 +7,7 @@ use Rattle.kd_tree.specs.Maps.{map_of}
 use Rattle.map_update.specs.OnePoint.{IsTurnedAway}
 use Rattle.rebuild_core.specs.Lawful.{StateAt}
 
--- the point p is turned away from a state
+-- the point p is rejected by a state
 abbrev pub IsTurnedAwayFrom : StateAt → Place → Type 0
 IsTurnedAwayFrom s p = IsTurnedAway s.settings.voxel (map_of s.tree s.next) p
 

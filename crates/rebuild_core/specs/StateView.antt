@@ -12,7 +12,7 @@ use Rattle.rebuild_core.specs.declared.plan.TheConstants.{MAX_UPDATES}
 abbrev pub state_of : Inside → StateAt
 state_of s = record { settings = s.settings; tree = s.tree; next = s.next; history = s.history.items; parts = s.parts.items; last = s.last; version = s.version.value }
 
--- for how many more entries the history has room as it stands
+-- for how many more entries the history has room as it is
 abbrev pub spare_of : Inside → ℕ
 spare_of s = s.history.cap - length s.history.items
 

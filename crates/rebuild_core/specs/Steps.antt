@@ -33,7 +33,7 @@ pub record PlannedAt : Type 0 where
 abbrev pub plan_with : Shape → List LogPlan → StateAt → PlannedAt
 plan_with t logs s = record { tree = t; next = s.next; version = record { tree = t; next = s.next; len = length s.history }; entry = None; logs = logs }
 
--- the state with what was planned put in
+-- the state after the planned step
 abbrev pub entered : PlannedAt → StateAt → StateAt
 entered p s = record s { tree = p.tree; next = p.next; version = p.version; history = s.history ++ listed p.entry; parts = planned_parts p.logs s.parts }
 
@@ -48,7 +48,7 @@ IsFault u s (TooManyUpdates len) = (length s.history ≡ MAX_UPDATES) × (len �
 IsFault u s (TooManyPoints next asked) = (length s.history < MAX_UPDATES) × (MAX_POINTS < s.next + points_in u) × (next ≡ s.next) × (asked ≡ points_in u)
 IsFault u s NoMemory = HasRoom u s
 
--- The draft is the tree after the update, which is balanced outside the parts that are left, and they are lawful in it.
+-- The draft is the tree after the update, which is balanced outside the remaining parts, and they are lawful in it.
 pub record IsDrafted (u : Update) (s : StateAt) (d : Drafted) : Type 0 where
   pub stepped : map_of d.tree (s.next + points_in u) ≡ step s.settings.voxel u (map_of s.tree s.next)
   pub left : AreLeft s.parts (planned_parts d.logs.items s.parts)

@@ -30,12 +30,12 @@ IsSwapFault b force s (Stale ticket) = (ticket ≡ b.ticket) × IsStale b s.part
 IsSwapFault b force s (Behind n) = (force ≡ false) × (p : PartAt) × IsPartOf b s.parts p × (n ≡ length (undone b p)) × (MAX_UNFORCED < n)
 IsSwapFault b force s NoMemory = MaySwap b force s
 
--- the value is of one of the parts, and at most so many operations behind
+-- the value is of one of the parts, and at most `most` operations behind
 abbrev pub IsNear : BuiltAt → ℕ → StateAt → Type 0
 IsNear b most s = (p : PartAt) × IsPartOf b s.parts p × (length (undone b p) ≤ most)
 
--- Why a value isn't swapped in where at most so many operations are done. It is handed back, and where it is further behind with the
--- operations that it hasn't done. A value for which memory ran out is of a part.
+-- Why a value isn't swapped in where at most `most` operations are done. It is handed back, and where it is further behind
+-- with its pending operations. On `NoMemory` the value is of a part.
 abbrev pub IsLate : BuiltAt → ℕ → StateAt → Late → Type 0
 IsLate b most s (late_of.Stale built) = (built ≡ b) × IsStale b s.parts
 IsLate b most s (late_of.Behind built ops) = (built ≡ b) × Fit (contents b.tree) ops × IsLogAfter b s ops × (most < length ops)
@@ -49,8 +49,8 @@ pub record IsCaughtUp (large : ℕ) (b : BuiltAt) (ops : List Op) (with : Shape)
   pub few : nodes with ≤ nodes b.tree + length (numbers_put ops)
   pub same : ops ≡ [] → IsBalancedBelow large b.tree → with ≡ b.tree
 
--- What is left of the parts. The value's tree after the operations that it hasn't done was put in the place of its part's
--- subtree: then the others stay. Where there was no room for it, none is left.
+-- The remaining parts. The value's tree after its pending operations was put in the place of its part's
+-- subtree: then the others stay. Where there was no room for it, none remains.
 pub record IsLeftBySwap (b : BuiltAt) (s : StateAt) (ps : List PartAt) : Type 0 where
   pub part : PartAt
   pub of : IsPartOf b s.parts part
@@ -75,7 +75,7 @@ pub record IsSwapStep (b : BuiltAt) (s t : StateAt) : Type 0 where
   pub parts : IsLeftBySwap b s t.parts
   pub last : t.last ≡ s.last
 
--- The swap rebuilds nothing: the value's part has no operation left for it, its tree is balanced, there is room for it, and no node
+-- The swap rebuilds nothing: the value has no pending operation, its tree is balanced, there is room for it, and no node
 -- above it is to be rebuilt.
 pub record IsUnrebuiltSwap (b : BuiltAt) (p : PartAt) (s : StateAt) : Type 0 where
   pub of : IsPartOf b s.parts p

@@ -1,4 +1,3 @@
-//! What a worker asks of a map that others use too.
 ghost use Rattle.std.specs.Prelude.{◌≡◌, ◌≤◌, IfErr, IfOk, IfSome};
 ghost use Rattle.rebuild_parts.specs.Built.{CanBeDoneOn};
 ghost use Rattle.rebuild_core.specs.Desk.{IsAskCause, IsHandedBack, IsSwapCause};
@@ -9,37 +8,36 @@ use rebuild_parts::{Built, Job, Late, LogAsk, SwapFault};
 use std::alloc::Global;
 use std::sync::Wait;
 
-/// What a swap answers: a value that isn't swapped in comes back.
+/// A value that isn't swapped in comes back.
 pub type Swapped = Result<(), SwapLeft>;
 
-/// What a swap answers that does few operations: a value that is further behind comes back with those that it lacks.
+/// A value that is too far behind comes back with its pending operations.
 pub type SwapOrLate = Result<(), Late>;
 
-/// A map that several threads use, as a worker sees it: each call is one step of its state, and may wait for those of others.
-/// Since the state isn't lent, no clause ties an answer to what a call found there; those of `MapState` do.
+/// A shared map, for a worker. Each call is one step of its state; since that isn't lent, no clause ties a result to
+/// what a call found there.
 pub trait Desk {
-    /// Detaches a subtree into the slot, from 1 to 4, as `MapState::detach` does. Tickets are given from 1 on.
+    /// Detaches as `MapState::detach` does. Tickets are given from 1 on.
     fn detach<R: Wait>(&self, rt: &R, alloc: Global, slot: u8) -> Result<Option<Job>, NoMemory>
         requires slot_from { 1 ≤ slot }
         requires slot_to { slot ≤ 4 }
         ensures ticket { IfOk result (λ o. IfSome o (λ job. 1 ≤ job.ticket)) };
 
-    /// The operations that a built value hasn't done, as `MapState::log_after` answers them. A stale value's ticket is told.
+    /// Returns what `MapState::log_after` does.
     fn log_after<R: Wait>(&self, rt: &R, alloc: Global, built: &Built) -> Result<Ops, LogAsk>
         ensures fit { IfOk result (CanBeDoneOn built.now) }
         ensures refused { IfErr result (IsAskCause built.now) };
 
-    /// Swaps a built value in, as `MapState::swap` does. A refused value comes back as it was, with the cause.
+    /// Swaps as `MapState::swap` does. A refused value comes back as it was.
     fn swap<R: Wait>(&self, rt: &R, alloc: Global, built: Built, force: bool) -> Swapped
         ensures left { IfErr result (λ l. l.built ≡ built) }
         ensures refused { IfErr result (λ l. IsSwapCause built force l.fault) };
 
-    /// Swaps a built value in that is at most so many operations behind, as `MapState::plan_swap_or_log` does. One that is stale
-    /// or further behind comes back as it was, and where memory runs out the value is dropped.
+    /// Swaps as `MapState::plan_swap_or_log` does. A stale value, or one more than `_most` operations behind, comes
+    /// back as it was; on `NoMemory` it is dropped.
     ///
-    /// By itself it asks `swap` without force and then `log_after`, which are two steps, and does as many operations as `swap`
-    /// does, whatever is asked for. A map that can do it in one step compares the value's items once, and may do the operations
-    /// in the value's own nodes.
+    /// By default this is `swap` without force and then `log_after`, whatever `_most` is. In one step the items are
+    /// compared once, and the value's own nodes may be used.
     fn swap_or_log<R: Wait>(&self, rt: &R, alloc: Global, built: Built, _most: u32) -> SwapOrLate
         ensures refused { IfErr result (IsHandedBack built) }
     {

@@ -1,4 +1,3 @@
-//! Subtrees, detached to be rebuilt elsewhere, and what they have met since.
 ghost use Rattle.std.specs.Prelude.{◌≡◌, ◌+◌, ◌<◌, ◌≤◌, ◌↔◌, length, slice_set, Some, IfErr, IfOk, IfSome, IsNone, OnErr, OnOk};
 ghost use Rattle.std.specs.List.{insert};
 ghost use Rattle.rebuild_parts.specs.Built.{CanBeDoneOn};
@@ -14,10 +13,9 @@ use rebuild_parts::{Built, Holding, Job, LogAsk, Part, Snapshot, part_in, part_o
 use std::alloc::Global;
 
 impl MapState {
-    /// Detaches a subtree into the slot: that of the slot's part afresh, where there is one, and else that of the first node, in
-    /// the order node, left, right, that has at least `large` nodes, breaches a criterion, and is neither above a detached
-    /// subtree nor in one. None where there is no such node, or all tickets were given. n items take time in the order of
-    /// n log n, since they are sorted by number.
+    /// Detaches a subtree into the slot: that of its part again, if there is one, and else the first, in the order
+    /// node, left, right, that has at least `large` nodes and breaches a criterion, and is neither above a detached one
+    /// nor in one. None without any, or where all tickets were given. n items take time in the order of n log n.
     pub fn detach(&mut self, alloc: Global, slot: u8) -> Result<Option<Job>, NoMemory>
         requires slot { IsSlot slot }
         ensures { Detaches slot self.old result self.new }
@@ -33,8 +31,8 @@ impl MapState {
         Ok(Some(job))
     }
 
-    /// Does the same, and lists nothing: the subtree is handed out as the tree that it is, and the state keeps that too. So it
-    /// takes no time that depends on how many nodes the subtree has. `hold` can give the state the list later.
+    /// `detach` without a list, in a time that doesn't depend on its nodes: the tree itself is handed out and kept.
+    /// `hold` can give the state the list later.
     pub fn snapshot(&mut self, alloc: Global, slot: u8) -> Result<Option<Snapshot>, NoMemory>
         requires slot { IsSlot slot }
         ensures { Detaches slot self.old result self.new }
@@ -47,7 +45,6 @@ impl MapState {
         Ok(Some(snapshot))
     }
 
-    // The subtree that is detached into the slot next, and where it stands.
     fn detachable(&self, alloc: Global, slot: u8) -> Result<Option<(Path, Snapshot)>, NoMemory>
         ensures none { IfOk result (λ o. IsNone o ↔ IsNoDetach slot self.now.state) }
         ensures some { IfOk result (λ o. IfSome o (λ r. IsDetachable slot self.now.state r.0 r.1)) }
@@ -68,7 +65,6 @@ impl MapState {
         Ok(Some((path, Snapshot::new(ticket, holding))))
     }
 
-    // Puts it into the slot, with the next ticket.
     fn put_part(
         &mut self,
         alloc: Global,
@@ -95,7 +91,6 @@ impl MapState {
         Ok(())
     }
 
-    // Where a subtree is detached into the slot.
     fn detach_path(&self, alloc: Global, slot: u8) -> Result<Option<Path>, NoMemory>
         ensures none { IfOk result (λ o. IsNone o ↔ IsNoneToDetach (part_in slot self.now.state.parts) self.now.state) }
         ensures some { IfOk result (λ o. IfSome o (IsDetachedAt (part_in slot self.now.state.parts) self.now.state)) }
@@ -109,7 +104,7 @@ impl MapState {
         Ok(self.tree.first_free_breach(large, paths.as_slice()))
     }
 
-    /// The operations that a built value hasn't done, in order: it is brought up to date by them.
+    /// The operations that a built value hasn't done, in order.
     pub fn log_after(&self, alloc: Global, built: &Built) -> Result<Ops, LogAsk>
         ensures after { IfOk result (IsLogAfter built.now self.now.state) }
         ensures fit { IfOk result (CanBeDoneOn built.now) }
@@ -128,8 +123,7 @@ impl MapState {
         Ok(Ops::from(ops))
     }
 
-    // The part that the value is of. It costs a step for each item, or more where nobody has listed them, and for each operation
-    // that is done.
+    // A step for each operation done and each item, or more where nobody has listed them.
     pub(crate) fn part_built(&self, built: &Built) -> Option<&Part>
         ensures none { IsNone result → IsStale built.now self.now.state.parts }
         ensures some { IfSome result (λ p. IsFoundPart built.now self.now.state.parts p.now) }
@@ -141,7 +135,7 @@ impl MapState {
         self.part_known(built)
     }
 
-    // The same, where the part of the value's ticket is known to have held the value's items.
+    // `part_built` for a value whose items were compared before.
     pub(crate) fn part_known(&self, built: &Built) -> Option<&Part>
         requires known { AreItemsOf built.now.ticket built.now.items self.now.state.parts }
         ensures none { IsNone result → IsStale built.now self.now.state.parts }
@@ -174,7 +168,6 @@ fn put_in_slot(parts: &mut Vec<Part>, part: Part) -> Result<(), NoMemory>
     }
 }
 
-// Where the part in the slot stands, or else where one would come to stand.
 fn place_in(parts: &[Part], slot: u8) -> Result<usize, usize>
     ensures taken_low { IfOk result (λ i. i < length parts.now) }
     ensures taken { IfOk result (λ i. (q : PartAt) → q.slot ≡ slot → with_part q parts.now ≡ slice_set parts.now i q) }

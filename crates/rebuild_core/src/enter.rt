@@ -1,4 +1,3 @@
-//! Planned steps, entered. Nothing here takes memory.
 ghost use Rattle.std.specs.Prelude.{◌≡◌, ◌-◌, ◌<◌, ◌≤◌, true, ◌++◌, length, is_some};
 ghost use Rattle.rebuild_core.specs.Lawful.{IsLawful};
 ghost use Rattle.rebuild_core.specs.StateView.{AreMade, IsNextOf};
@@ -11,7 +10,7 @@ use rebuild_parts::relog_all;
 use std::mem;
 
 impl MapState {
-    /// Puts in what was planned, and answers how many entries the history has then. It takes no memory.
+    /// Stores what was planned, without memory, and returns how many entries the history has then.
     pub fn enter_step(&mut self, planned: Planned) -> u64
         requires lawful { IsLawful (entered planned self.old.state) }
         requires room { is_some planned.entry ≡ true → 1 ≤ self.old.spare }
@@ -30,7 +29,6 @@ impl MapState {
     }
 }
 
-// One more entry, if there is one, and one more of its caller.
 fn list(history: &mut Vec<Entry>, made: &mut [u32; 8], entry: Option<Entry>)
     requires next { IsNextOf history.old.items entry }
     requires made { AreMade made.old history.old.items }

@@ -1,4 +1,4 @@
-//! What the parts of a state held, handed out and put in. Nothing here changes what contracts see of a state.
+//! Nothing here changes what contracts see of a state.
 ghost use Rattle.std.specs.Prelude.{◌≡◌, None, Some, IfOk, IfSome, IsNone};
 ghost use Rattle.kd_update.specs.Detached.{AreItemsOf, PartAt, part_in, part_of};
 
@@ -8,7 +8,7 @@ use rebuild_parts::{Holding, part_in, part_of, place_of};
 use std::mem;
 
 impl MapState {
-    /// What the detached subtree of the ticket held, held once more. It takes the same time for each subtree.
+    /// What the ticket's subtree held, in the same time for each.
     pub fn holding(&self, ticket: u64) -> Result<Option<Holding>, NoMemory>
         ensures none { IfOk result (λ o. IsNone o → part_of ticket self.now.state.parts ≡ None) }
         ensures some { IfOk result (λ o. IfSome o (λ h. (p : PartAt) × (part_of ticket self.now.state.parts ≡ Some p) × (h ≡ p.items))) }
@@ -20,8 +20,7 @@ impl MapState {
         Ok(Some(holding))
     }
 
-    /// What the detached subtree in the slot held, held once more. The state may be the last to hold it, and drops it in the
-    /// step that forgets the subtree: whoever takes that step under a lock can so free it after the lock.
+    /// What the slot's subtree held. A caller that holds it over a locked step frees the subtree after the lock.
     pub fn holding_in(&self, slot: u8) -> Option<Holding>
         ensures { IfSome result (λ h. (p : PartAt) × (part_in slot self.now.state.parts ≡ Some p) × (h ≡ p.items)) }
     {
@@ -29,9 +28,8 @@ impl MapState {
         part.held.again().ok()
     }
 
-    /// Keeps what the detached subtree of the ticket held in this way, a list instead of a tree, and gives back what it kept
-    /// before: it may be the last to hold the nodes. Where there is no such subtree, what was handed in comes back. It takes no
-    /// memory and the same time for each subtree.
+    /// Keeps this list of what the ticket's subtree held, and returns the tree that was kept. Without such a subtree
+    /// the list comes back. It takes no memory, and the same time for each.
     pub fn hold(&mut self, ticket: u64, holding: Holding) -> Holding
         requires known { AreItemsOf ticket holding self.old.state.parts }
         ensures same { self.new ≡ self.old }

@@ -1,4 +1,5 @@
-//! The state of a map: its tree, its history, and the version that queries see. A step is planned first, and then entered.
+//! The state of a map: its tree, its history, and the version that queries see. A step is planned, which may be
+//! refused, and then entered, which may not.
 #![tactic(auto)]
 
 mod desk;

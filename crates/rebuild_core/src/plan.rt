@@ -1,4 +1,3 @@
-//! Steps of a state: worked out by a plan, which may be refused, and then entered, which may not.
 ghost use Rattle.std.specs.Prelude.{◌≡◌, ◌+◌, ◌≤◌, length, IfOk, IfErr, OnOk, OnErr};
 ghost use Rattle.map_items.specs.Fold.{points_in};
 ghost use Rattle.kd_update.specs.Detached.{watches_of};
@@ -17,10 +16,9 @@ use std::alloc::Global;
 use std::marker::Brand;
 use std::sync::ledger::{Blank, Ledger};
 
-/// The most updates of a history: 1,048,576.
+/// The most updates of a history.
 pub const MAX_UPDATES: u64 = 1_048_576;
 
-// A tree after an update, and what becomes of the logs of the parts.
 #[derive(Drop)]
 struct Drafted {
     tree: Tree,
@@ -28,15 +26,14 @@ struct Drafted {
 }
 
 impl MapState {
-    /// Makes one more update of this caller, and answers how many entries the history has then. A refusal drops the
-    /// update. The time is that of the update's operations on the tree, and of a copy of each detached subtree's log, which
-    /// shares all but its newest operations: nothing walks the tree or the history.
+    /// Makes an update of this caller, and returns how many entries the history has then. A refusal drops the update.
+    /// The time is that of its operations on the tree, and of a copy of each detached subtree's log, which shares all
+    /// but its newest operations.
     ///
     /// What crosses a detached subtree is logged for it, and no node above it, at its top or in it is rebuilt. Before a
-    /// point is put into a full tree, the whole tree is rebuilt and all detached subtrees are forgotten; otherwise, before
-    /// each operation, those whose logs have no room for two operations are rebuilt where they stand, and forgotten.
-    /// Points of one update may be put at once: then both rules apply before them all, with their number in place of one where
-    /// room in logs and nodes is asked for, and with the tree's levels as they are before.
+    /// point is put into a full tree, the tree is rebuilt and all detached subtrees are forgotten; otherwise, before
+    /// each operation, those whose logs have no room for two are rebuilt where they are, and forgotten. For points put
+    /// at once both rules apply before them all, with room for their number, and with the levels as before.
     pub fn update<L: Ledger>(
         &mut self,
         alloc: Global,
@@ -54,15 +51,14 @@ impl MapState {
         ensures refused { IfErr result (IsFault update self.old.state) }
         ensures same { OnErr result (self.new.state ≡ self.old.state) }
 
-        // Whatever the call answers.
+        // On errors too.
         ensures nodes { MakesNodes update self.old.state steps.old steps.new }
     {
         let planned = self.plan_update(alloc, caller, update, steps)?;
         Ok(self.enter_step(planned))
     }
 
-    /// Works out one more update of this caller, and takes the memory that it needs. The state stays as it was, but for
-    /// room for an entry.
+    /// Plans `update`, and takes its memory and room for an entry.
     pub fn plan_update<L: Ledger>(
         &mut self,
         alloc: Global,
@@ -90,7 +86,6 @@ impl MapState {
         Ok(planned)
     }
 
-    // The plan of what was drafted of the update, and the memory that it needs.
     fn plan_of<L: Ledger>(
         &mut self,
         alloc: Global,
@@ -132,7 +127,6 @@ impl MapState {
         })
     }
 
-    // How many points are submitted after the update, where there is room for it.
     fn next_after(&self, update: &Update) -> Result<u32, StateFault>
         ensures next { IfOk result (λ n. n ≡ self.now.state.next + points_in update.now) }
         ensures room { OnOk result (HasRoom update.now self.now.state) }
@@ -151,7 +145,7 @@ impl MapState {
         Ok(next + asked as u32)
     }
 
-    // A copy of the tree after the update. Its nodes are made in the memory of the scratch, as far as that goes.
+    // Nodes are made in the memory of the scratch, as far as that goes.
     fn drafted<L: Ledger>(
         &self,
         alloc: Global,
@@ -172,7 +166,6 @@ impl MapState {
         Ok(Drafted { tree, logs })
     }
 
-    // The tree and what is watched of it, copied to be worked on.
     fn copied<L: Ledger>(&self, alloc: Global, steps: &mut Steps<L>) -> Result<Work, NoMemory>
         ensures tree { IfOk result (λ w. w.tree ≡ self.now.state.tree) }
         ensures watches { IfOk result (λ w. w.watches ≡ watches_of self.now.state.parts) }
@@ -183,8 +176,7 @@ impl MapState {
         Ok(Work { tree, watches })
     }
 
-    /// Rebuilds what breaches a criterion, however large, as `settled` does, and forgets all detached subtrees. What the map
-    /// holds stays.
+    /// Rebuilds what breaches a criterion, as `settled` does, and forgets all detached subtrees.
     pub fn settle(&mut self, alloc: Global) -> Result<(), NoMemory>
         ensures settled { OnOk result (IsSettleStep self.old.state self.new.state) }
         ensures same { OnErr result (self.new.state ≡ self.old.state) }
@@ -195,7 +187,7 @@ impl MapState {
         Ok(())
     }
 
-    /// Plans `settle`: builds the tree, and takes the memory for it. The state stays as it was.
+    /// Plans `settle`, and takes its memory.
     pub fn plan_settle(&mut self, alloc: Global) -> Result<Planned, NoMemory>
         ensures same { self.new.state ≡ self.old.state }
         ensures spare { self.new.spare ≡ self.old.spare }
@@ -204,7 +196,6 @@ impl MapState {
         self.settled_by::<Brand>(alloc, Blank::new(1))
     }
 
-    // The same, with a counter that nothing looks at.
     fn settled_by<L: Ledger>(&self, alloc: Global, blank: Blank) -> Result<Planned, NoMemory>
         requires blank { IsBlankOf L.name L.parts blank }
         ensures { IfOk result (IsSettlePlan self.now.state) }

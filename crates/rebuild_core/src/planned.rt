@@ -1,4 +1,3 @@
-//! Steps that are worked out, and not yet taken.
 ghost use Rattle.std.specs.Prelude.{◌≡◌, IfOk};
 ghost use Rattle.rebuild_core.specs.Steps.{plan_with};
 
@@ -11,7 +10,7 @@ use std::marker::Model;
 use std::sync::Arc;
 use std::sync::ledger::Ledger;
 
-/// What a step stores in the state, for which all memory is taken.
+/// What a step stores, for which all memory is taken.
 pub struct Planned {
     pub(crate) tree: Tree,
     pub(crate) next: u32,
@@ -33,7 +32,7 @@ impl Model for Planned {
     ghost view = { λ p. record { tree = p.tree; next = p.next; version = p.version.value; entry = p.entry; logs = p.logs.items } };
 }
 
-// By hand, so that whoever lets a plan go proves one call.
+// Manual, as `Job`'s.
 impl Drop for Planned {
     fn drop(self) {
         let Planned {
@@ -46,7 +45,6 @@ impl Drop for Planned {
     }
 }
 
-// What a plan stores: a tree, the next number, a version, an entry, and logs.
 type Parts = (Tree, u32, Arc<Version>, Option<Entry>, Vec<PartLog>);
 
 impl Planned {
@@ -70,7 +68,7 @@ impl Planned {
         &self.version
     }
 
-    /// The entry that the history is to get, if there is one.
+    /// The history's new entry, if any.
     pub fn entry(&self) -> &Option<Entry>
         ensures { result.now ≡ self.now.entry }
     {
@@ -79,7 +77,7 @@ impl Planned {
 }
 
 impl MapState {
-    // The plan of a step that is no update: it leaves this tree, and makes this of the logs.
+    // For a step that is no update.
     pub(crate) fn plan_with<L: Ledger>(
         &self,
         alloc: Global,

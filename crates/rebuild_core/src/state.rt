@@ -1,4 +1,3 @@
-//! The state of a map.
 ghost use Rattle.std.specs.Prelude.{◌≡◌, IfOk};
 ghost use Rattle.rebuild_core.specs.Lawful.{IsLawful, new_state};
 ghost use Rattle.kd_update.specs.Detached.{part_in};
@@ -12,26 +11,26 @@ use std::marker::Model;
 use std::snapshot::Snapshot;
 use std::sync::Arc;
 
-/// The state of a map. Whatever steps it takes, it holds the fold of its history, and its version shows that.
+/// The state of a map: it holds the fold of its history, and its version shows that.
 pub struct MapState {
     pub(crate) settings: Settings,
     pub(crate) tree: Tree,
     pub(crate) next: u32,
     pub(crate) history: Vec<Entry>,
     pub(crate) version: Arc<Version>,
-    // How many entries each caller has, the first caller's first, so that no step reads the history.
+    // How many entries each caller has, so that no step reads the history.
     pub(crate) made: [u32; 8],
     // In the order of their slots.
     pub(crate) parts: Vec<Part>,
-    // The last ticket that was given, or 0.
+    // The last ticket given, or 0.
     pub(crate) last: u64,
-    // The version before, which the next update drops.
+    // Dropped by the next update.
     pub(crate) former: Option<Arc<Version>>,
-    // What the nodes of the next update are made in.
+    // For the nodes of the next update.
     pub(crate) scratch: Scratch,
 }
 
-// By hand, so that whoever lets a state go proves one call.
+// Manual, as `Job`'s.
 impl Drop for MapState {
     fn drop(self) {
         let MapState {
@@ -101,28 +100,27 @@ impl MapState {
         self.history.as_slice()
     }
 
-    /// The history, as only clauses read it. It takes no bytes.
+    /// The history, for clauses alone. It takes no bytes.
     pub fn told(&self) -> Snapshot<Vec<Entry>>
         ensures { result.value.items ≡ self.now.state.history }
     {
         Snapshot::of(&self.history)
     }
 
-    /// How many points were submitted, which is the number of the next one.
+    /// The number of the next point.
     pub fn next(&self) -> u32
         ensures { result ≡ self.now.state.next }
     {
         self.next
     }
 
-    /// The settings that it was made with.
     pub fn settings(&self) -> &Settings
         ensures { result.now ≡ self.now.state.settings }
     {
         &self.settings
     }
 
-    /// What can be seen of the detached subtree in this slot, from 1 to 4, if there is one.
+    /// What can be seen of the detached subtree in this slot, from 1 to 4.
     pub fn part(&self, slot: u8) -> Option<PartInfo>
         ensures { result ≡ info_of (part_in slot self.now.state.parts) }
     {
@@ -136,7 +134,6 @@ impl MapState {
 
 fn share<T: Send + Sync>(_x: &T) {}
 
-// States and versions may be sent to other threads and read by several at once.
 fn _shares(state: &MapState, version: &Arc<Version>) {
     share(state);
     share(version);

@@ -1,4 +1,3 @@
-//! Built subtrees, swapped in.
 ghost use Rattle.std.specs.Prelude.{◌≡◌, ◌+◌, ◌≤◌, length, IfErr, IfOk, OnErr, OnOk};
 ghost use Rattle.kd_tree.specs.Parts.{replaced_at};
 ghost use Rattle.kd_mark.specs.Update.{IsBalancedBelow};
@@ -25,13 +24,13 @@ pub struct SwapLeft {
 }
 
 impl MapState {
-    /// Puts the built value's tree in the place of its detached subtree, after the operations that the value hasn't done, and
-    /// forgets that subtree. What the map holds stays. The time is that of these operations, of comparing the items, and of the
-    /// nodes above the subtree: it is not rebuilt, unless the value was made with another `large` and is out of balance. Where
-    /// operations are left, or a node above is to be rebuilt, no clause says so: that is what the code does.
+    /// Puts the built value's tree in the place of its detached subtree, after the pending operations, and forgets that
+    /// subtree. The time is that of these operations, of comparing the items, and of the nodes above: the tree is only
+    /// rebuilt if it was made with another `large` and is unbalanced. No clause says so where operations are pending or
+    /// a node above is rebuilt.
     ///
-    /// Without force it is refused where more than `MAX_UNFORCED` operations are left. Where the tree would have more than 512 levels or
-    /// 4,194,304 nodes, the whole tree is rebuilt and all detached subtrees are forgotten.
+    /// Without force more than `MAX_UNFORCED` pending operations are refused. Where there would be more than 512 levels
+    /// or 4,194,304 nodes, the whole tree is rebuilt and all detached subtrees are forgotten.
     pub fn swap<L: Ledger>(
         &mut self,
         alloc: Global,
@@ -47,8 +46,8 @@ impl MapState {
         ensures spare { self.new.spare ≡ self.old.spare }
         ensures left { IfErr result (λ l. l.built ≡ built) }
 
-        // The nodes are as many whatever the call answers.
         ensures unrebuilt { OnOk result (IsLeftUnrebuilt built self.old.state self.new.state.tree) }
+        // On errors too.
         ensures ticks { MakesPath built self.old.state steps.old steps.new }
     {
         match self.plan_swap(alloc, &built, force, steps) {
@@ -60,7 +59,7 @@ impl MapState {
         }
     }
 
-    /// Plans `swap`, and takes the memory for it. The state stays as it was.
+    /// Plans `swap`, and takes its memory.
     pub fn plan_swap<L: Ledger>(
         &mut self,
         alloc: Global,
@@ -93,9 +92,9 @@ impl MapState {
         Ok(planned)
     }
 
-    /// Works out the swap of a value that is at most so many operations behind. They are done in the value's own nodes, so that
-    /// none is copied that nobody else has. A value that is further behind is handed back, with the operations that it hasn't
-    /// done. No items are compared: `Holding::is_of` does that, of what `holding` hands out.
+    /// Plans the swap of a value at most `most` operations behind, done in its own nodes where nobody else has them.
+    /// One further behind is handed back with its pending operations. The caller compares the items, by
+    /// `Holding::is_of` with what `holding` returns.
     pub fn plan_swap_or_log<L: Ledger>(
         &self,
         alloc: Global,
@@ -128,8 +127,6 @@ impl MapState {
         Ok(planned)
     }
 
-    // The plan, where this is the tree of a value of the part, which is balanced for the `large` that it was made with, and these are the
-    // operations that the value hasn't done.
     fn swapped<L: Ledger>(
         &self,
         alloc: Global,

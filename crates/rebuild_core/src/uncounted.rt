@@ -1,4 +1,4 @@
-//! Steps of a state for callers that count no nodes. Each makes a counter of its own, which nothing reads, and calls the step.
+//! Steps for callers that count no nodes. Each makes a counter that nothing reads.
 ghost use Rattle.std.specs.Prelude.{◌≡◌, ◌≤◌, length, IfErr, IfOk, OnErr, OnOk};
 ghost use Rattle.kd_tree.specs.Counter.{IsBlankOf};
 ghost use Rattle.kd_update.specs.Detached.{AreItemsOf};
@@ -14,7 +14,6 @@ use std::marker::Brand;
 use std::sync::ledger::{Blank, Ledger};
 
 impl MapState {
-    /// `update`, where no nodes are counted.
     pub fn update_uncounted(
         &mut self,
         alloc: Global,
@@ -54,7 +53,6 @@ impl MapState {
         self.update(alloc, caller, update, &mut steps)
     }
 
-    /// `plan_update`, where no nodes are counted.
     pub fn plan_update_uncounted(
         &mut self,
         alloc: Global,
@@ -94,7 +92,6 @@ impl MapState {
         self.plan_update(alloc, caller, update, &mut steps)
     }
 
-    /// `swap`, where no nodes are counted.
     pub fn swap_uncounted(
         &mut self,
         alloc: Global,
@@ -130,7 +127,6 @@ impl MapState {
         self.swap(alloc, built, force, &mut steps)
     }
 
-    /// `plan_swap_or_log`, where no nodes are counted.
     pub fn plan_swap_or_log_uncounted(
         &self,
         alloc: Global,

@@ -12,7 +12,7 @@ use Rattle.rebuild_core.proofs.Swapping.{left_is}
 use Rattle.rebuild_core.proofs.state.MapState.plan_swap.Goals as goal
 use Rattle.rebuild_core.proofs.state.MapState.plan_swap.Goals.{else-not-force-via-then-not-force+else-left-gt-MAX_UNFORCED, else-not-force-via-else-not-force}
 
--- where memory runs out, that is the fault
+-- on `NoMemory`, that is the fault
 out_of : (r : Result PlannedAt SwapFault) (P : SwapFault → Type 0) → IsErrAnd r (λ e. e ≡ NoMemory) → P NoMemory → IfErr r P
 out_of (Ok x) P none k = tt
 out_of (Err e) P none k = subst P (sym none) k
