@@ -1,11 +1,10 @@
-//! A bell that wakes a worker.
 use crossbeam_utils::atomic::AtomicCell;
 use crossbeam_utils::sync::{Parker, Unparker};
 use map_items::NoMemory;
 use std::alloc::Global;
 use std::sync::{Arc, Wait};
 
-/// It wakes one worker, from any thread.
+/// Wakes one worker, from any thread.
 #[derive(Drop)]
 pub struct Bell {
     unparker: Unparker,
@@ -19,7 +18,6 @@ pub struct Rest {
     stopped: Arc<AtomicCell<bool>>,
 }
 
-/// A bell and the rest that it ends.
 pub fn pair(alloc: Global) -> Result<(Bell, Rest), NoMemory> {
     let parker = Parker::new(alloc)?;
     let unparker = parker.unparker().clone()?;
@@ -33,7 +31,7 @@ pub fn pair(alloc: Global) -> Result<(Bell, Rest), NoMemory> {
 }
 
 impl Bell {
-    /// Wakes the worker. One that is awake doesn't go to sleep the next time.
+    /// Wakes the worker, or keeps it awake the next time.
     pub fn ring(&self) {
         self.unparker.unpark();
     }

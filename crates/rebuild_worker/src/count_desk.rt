@@ -1,4 +1,3 @@
-//! A map for tests of a worker.
 ghost use Rattle.std.specs.Prelude.{◌≡◌, ◌+◌, ◌<◌, ◌↔◌, true, IfErr, OnErr, OnOk};
 ghost use Rattle.std.specs.List.{Contains};
 ghost use Rattle.rebuild_core.specs.Desk.{IsSwapCause};
@@ -10,14 +9,12 @@ use rebuild_parts::{Built, Job, LogAsk, SwapFault};
 use std::alloc::Global;
 use std::sync::{Mutex, Wait};
 
-/// A map that counts what it is asked, from 1, and refuses some of it, so that a test sees what a worker does then. Threads may
-/// share it.
+/// For tests: counts a worker's calls, from 1, and refuses some. Threads may share it.
 #[derive(Drop)]
 pub struct CountDesk {
     counted: Mutex<Counted>,
 }
 
-// What is behind the lock.
 #[derive(Drop)]
 struct Counted {
     state: MapState,
@@ -26,8 +23,7 @@ struct Counted {
 }
 
 impl CountDesk {
-    /// A map in this state. The calls whose numbers are listed answer that memory runs out, and change nothing; the others are
-    /// those of the state.
+    /// The calls of the numbers in `refused` return `NoMemory` and change nothing.
     pub fn new(state: MapState, refused: Vec<u32>) -> CountDesk {
         CountDesk {
             counted: Mutex::new(Counted {
@@ -70,7 +66,6 @@ impl Desk for CountDesk {
 }
 
 impl Counted {
-    // Counts one more call. Whether it is one of those that are refused.
     fn refuses(&mut self) -> bool
         ensures listed { result ≡ true ↔ Contains self.old.refused.items self.new.calls }
         ensures counted { self.old.calls < 4294967295 → self.new.calls ≡ self.old.calls + 1 }
@@ -81,7 +76,6 @@ impl Counted {
         self.refused.as_slice().contains(&self.calls)
     }
 
-    // Swaps the value in, or refuses that.
     fn swap(&mut self, alloc: Global, built: Built, force: bool) -> Swapped
         ensures swapped { OnOk result (IsSwapStep built self.old.state.state self.new.state.state) }
         ensures left { IfErr result (λ l. l.built ≡ built) }

@@ -1,15 +1,13 @@
-//! Where a test may hold up a thread.
-
-/// It is told of what threads do, and may hold them up for a while. Threads share it. No clause speaks of it.
+/// For tests: it may hold threads up. Threads share it; no clause speaks of it.
 pub trait Gate {
-    /// A worker is about to build the job of this ticket.
+    /// A worker is about to build this ticket's job.
     fn before_build(&self, ticket: u64);
 
-    /// A caller's command was replied to. It stands at this place in the script, from 0.
+    /// The command at this index of the script, from 0, was replied to.
     fn replied(&self, caller: u8, index: u32);
 }
 
-/// It holds up nobody.
+/// Holds up nobody.
 #[derive(Clone, Copy, Debug, Drop)]
 pub struct FreeGate;
 

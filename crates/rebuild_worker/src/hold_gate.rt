@@ -1,9 +1,8 @@
-//! A gate for tests, which holds a build up while callers go on.
 use crate::gate::Gate;
 use crate::signal::Signal;
 
-/// It lets a test see what callers do while a worker builds: the caller of the command at `start` is held up until a build is about
-/// to begin, and each build until the command at `until` was replied to. Commands are named by their places in the script, from 0.
+/// For tests of callers while a worker builds: the caller of the script's command `start` waits until a build is about
+/// to begin, and each build until command `until` was replied to.
 #[derive(Drop)]
 pub struct HoldGate {
     start: u32,
@@ -14,7 +13,7 @@ pub struct HoldGate {
 }
 
 impl HoldGate {
-    /// Each wait ends after so many turns, in each of which other threads may run.
+    /// Each wait ends after `turns` turns, in which other threads may run.
     pub fn new(start: u32, until: u32, turns: u64) -> HoldGate {
         HoldGate {
             start,
@@ -25,7 +24,7 @@ impl HoldGate {
         }
     }
 
-    /// Whether a caller and a worker were held up, and what they waited for came each time. Ask it when the threads have ended.
+    /// Once the threads have ended: whether both were held up, and neither gave up.
     pub fn held(&self) -> bool {
         self.building.is_met() && self.replied.is_met()
     }

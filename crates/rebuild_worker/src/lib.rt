@@ -1,5 +1,5 @@
-//! The worker, which rebuilds detached subtrees beside the callers; the bell that wakes it; where tests hold up threads; and a
-//! map for tests that refuses on demand.
+//! The worker, which rebuilds detached subtrees; its bell; and for tests gates that hold threads up, and a map that
+//! refuses on demand.
 #![tactic(auto)]
 
 mod bell;

@@ -1,9 +1,7 @@
-//! A gate for tests, at which two callers meet.
 use crate::gate::Gate;
 use crate::signal::Signal;
 
-/// It lets a test see that two callers run at once: that of each of two commands is held up until the other command was replied to.
-/// Commands are named by their places in the script, from 0. Builds aren't held up.
+/// For tests of two callers at once: each of two commands holds its caller up until the other was replied to.
 #[derive(Drop)]
 pub struct MeetGate {
     one: u32,
@@ -14,7 +12,7 @@ pub struct MeetGate {
 }
 
 impl MeetGate {
-    /// Each wait ends after so many turns, in each of which other threads may run.
+    /// As `HoldGate::new`.
     pub fn new(one: u32, two: u32, turns: u64) -> MeetGate {
         MeetGate {
             one,
@@ -25,7 +23,7 @@ impl MeetGate {
         }
     }
 
-    /// Whether both callers were held up, and what they waited for came each time. Ask it when the threads have ended.
+    /// As `HoldGate::held`, of both callers.
     pub fn held(&self) -> bool {
         self.one_replied.is_met() && self.two_replied.is_met()
     }

@@ -1,11 +1,10 @@
-//! What may be sent to another thread, and what several may use at once.
+//! What threads may send and share.
 use crate::{Bell, CountDesk, HoldGate, MeetGate, Rest};
 
 fn send<T: Send>(_x: &T) {}
 
 fn share<T: Send + Sync>(_x: &T) {}
 
-// Callers ring a bell. A rest is its worker's alone.
 fn _bells(bell: &Bell, rest: &Rest) {
     share(bell);
     send(rest);

@@ -1,8 +1,7 @@
-//! What one thread gives and others wait for.
 use std::sync::atomic::{AtomicBool, Ordering};
 use std::thread::yield_now;
 
-/// It is given once and for all. Who waits for it lets other threads run in turn, and gives up after so many turns.
+/// Given once and for all. Who waits lets others run, and gives up after a number of turns.
 #[derive(Drop)]
 pub(crate) struct Signal {
     given: AtomicBool,
@@ -36,7 +35,7 @@ impl Signal {
         }
     }
 
-    // Somebody waited for it, and nobody gave up.
+    // Somebody waited, and nobody gave up.
     pub(crate) fn is_met(&self) -> bool {
         self.awaited.load(Ordering::SeqCst) && !self.missed.load(Ordering::SeqCst)
     }

@@ -1,4 +1,3 @@
-//! What a worker does.
 ghost use Rattle.std.specs.Prelude.{◌≡◌, ◌≤◌, ◌↔◌, ◌⊎◌, List, IfOk, IfSome};
 ghost use Rattle.map_items.specs.declared.op.Op.{Op};
 ghost use Rattle.rebuild_parts.specs.Built.{IsReplayOf};
@@ -12,23 +11,21 @@ use rebuild_parts::{Built, Job, Late, MAX_UNFORCED, SwapFault};
 use std::alloc::Global;
 use std::sync::Wait;
 
-// How often a value is brought up to date before its swap is forced.
+// Tries before a swap is forced.
 const TRIES: u32 = 8;
 
-// In how many tries no more operations may be left than a swap takes that isn't forced: such a swap hardly holds the lock.
+// Of these, tries that hardly hold the lock, with `MAX_UNFORCED` operations at most.
 const FIRST: u32 = 2;
 
-// The most that may be left in the later tries: what a scan of 2,000 points and a deletion log for a subtree. While a caller adds one
-// scan after the other no fewer are ever left.
+// What a scan of 2,000 points and a deletion log for a subtree: fewer are never pending while scans come.
 const SCAN_OPS: u32 = 2_560;
 
-/// Works until it is told to end, as worker 1 or 2: it looks for subtrees to be rebuilt in two slots, 1 and 2 or 3 and 4, builds
-/// them, and swaps them in. Where there is none, or memory ran out, it sleeps until its bell rings. It looks whether it was told
-/// to end before each round, so a round that was begun is done whole. `large` is best that of the map's settings.
+/// Works until told to end, as worker 1 or 2: detaches subtrees into slots 1 and 2, or 3 and 4, builds them, and swaps
+/// them in. Without any, or on `NoMemory`, it sleeps until its bell rings. A round that was begun is done whole.
+/// `large` is best the map's.
 ///
-/// A value that is behind is brought up to date outside the map, 8 times at most, and then swapped in by force. From the third time
-/// on, a map that has a call for it swaps it in with as many operations left as a scan logs. A value that is stale is dropped,
-/// and so is one for which memory ran out: its subtree stays detached, and is detached afresh in the next round.
+/// A value that is behind is replayed outside the map, at most 8 times, then swapped in by force. A stale one is
+/// dropped, and one on `NoMemory` too: its subtree is detached again in the next round.
 pub fn work<D: Desk, G: Gate, R: Wait>(
     rt: &R,
     alloc: Global,
@@ -61,12 +58,9 @@ pub fn work<D: Desk, G: Gate, R: Wait>(
     }
 }
 
-// How a round ended, or the half of it that is a slot's.
 #[derive(Drop)]
 enum Round {
-    // There was a job, and memory for all that was done.
     Worked,
-    // There was no job.
     Idle,
     OutOfMemory,
 }
@@ -84,7 +78,6 @@ impl Round {
     }
 }
 
-// What a worker works with.
 #[derive(Drop)]
 struct Worker<'a, D: Desk, G: Gate> {
     alloc: Global,
@@ -94,7 +87,7 @@ struct Worker<'a, D: Desk, G: Gate> {
 }
 
 impl<'a, D: Desk, G: Gate> Worker<'a, D, G> {
-    // Asks for a job in each of two slots, and then does those that it got. Lack of memory for one doesn't keep it from the other.
+    // `NoMemory` for one job doesn't stop the other.
     fn round<R: Wait>(&self, rt: &R, one: u8, two: u8) -> Round
         requires one_from { 1 ≤ one }
         requires one_to { one ≤ 4 }
@@ -108,7 +101,6 @@ impl<'a, D: Desk, G: Gate> Worker<'a, D, G> {
         first.and(second)
     }
 
-    // Does the job that was got, if one was.
     fn answered<R: Wait>(&self, rt: &R, got: Result<Option<Job>, NoMemory>) -> Round {
         match got {
             Err(NoMemory) => Round::OutOfMemory,
@@ -128,7 +120,6 @@ impl<'a, D: Desk, G: Gate> Worker<'a, D, G> {
         }
     }
 
-    // It is forced only where others change the subtree faster than the value can be brought up to date.
     fn swap_in<R: Wait>(&self, rt: &R, built: Built) -> Result<(), NoMemory> {
         let mut built = built;
         for attempt in 0..TRIES {
@@ -145,8 +136,7 @@ impl<'a, D: Desk, G: Gate> Worker<'a, D, G> {
         self.force(rt, built)
     }
 
-    // Swaps the value in, where it is at most so far behind. Else it is the value with the operations that its subtree has met
-    // since. A stale one is dropped.
+    // None once the value is swapped in, or stale.
     fn catch_up<R: Wait>(&self, rt: &R, built: Built, most: u32) -> Result<Option<Built>, NoMemory>
         ensures { IfOk result (λ o. IfSome o (λ b. (ops : List Op) × IsReplayOf built ops b)) }
     {
@@ -160,7 +150,6 @@ impl<'a, D: Desk, G: Gate> Worker<'a, D, G> {
         }
     }
 
-    // Swaps the value in, however far it is behind. A stale one is dropped.
     fn force<R: Wait>(&self, rt: &R, built: Built) -> Result<(), NoMemory> {
         match self.desk.swap(rt, self.alloc, built, true) {
             Ok(()) => Ok(()),
