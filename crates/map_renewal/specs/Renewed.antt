@@ -38,10 +38,11 @@ is_labelled Dropped i = is_dropped i.label
 abbrev pub points_with : Label → List Item → List Place
 points_with l m = points_of (filter (is_labelled l) m)
 
--- the corners of the box that every point is in
+-- the least corner that a box may have: on each axis the least coordinate of a point
 abbrev pub least_corner : Corner
 least_corner = record { x = negsuc 1099511627775; y = negsuc 1099511627775; z = negsuc 1099511627775 }
 
+-- the greatest corner that a box may have: on each axis one past the greatest coordinate of a point
 abbrev pub greatest_corner : Corner
 greatest_corner = record { x = pos 1099511627777; y = pos 1099511627777; z = pos 1099511627777 }
 

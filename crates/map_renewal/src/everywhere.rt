@@ -9,7 +9,6 @@ const LEAST: i64 = -1_099_511_627_776;
 
 const GREATEST: i64 = 1_099_511_627_777;
 
-/// The box of all places.
 pub(crate) fn everywhere() -> Cuboid
     ensures { result ≡ all_places }
 {
@@ -29,7 +28,7 @@ pub(crate) fn everywhere() -> Cuboid
     }
 }
 
-/// Each point is a place.
+/// For proofs alone: each call says that its point is a place.
 pub(crate) fn look_at(points: &[Point])
     ensures { All IsPlace points.now }
 {

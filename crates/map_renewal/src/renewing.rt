@@ -1,4 +1,3 @@
-//! A new map that holds what a version holds.
 ghost use Rattle.std.specs.Prelude.{◌≡◌, ◌+◌, ◌<◌, ◌≤◌, [], ◌∷◌, ◌++◌, length, IfOk, OnOk};
 ghost use Rattle.node_labels.specs.declared.label.Label.TheVariants.{Live, Suspended};
 ghost use Rattle.map_items.specs.Contents.{live_items};
@@ -12,15 +11,15 @@ use point_geom::Point;
 use rebuild_core::{MAX_UPDATES, MapState, StateFault, Version};
 use std::alloc::Global;
 
-/// A new map that holds what the version holds: the suspended points under the numbers from 0 on, and behind them the live
-/// ones, each kind in the order of its numbers. So only a point's number changes. Its history is three updates at most.
+/// A new map of the version's points: first the suspended ones, numbered from 0 on, and then the live ones, each kind
+/// in its old order. So only numbers change. The history has three updates at most.
 pub fn renewed(alloc: Global, version: &Version, settings: Settings) -> Result<MapState, NoMemory>
     ensures held { IfOk result (λ s. contents s.state.tree ≡ renewed_items (contents version.now.tree)) }
     ensures next { IfOk result (λ s. s.state.next ≡ length (contents version.now.tree)) }
     ensures settings { IfOk result (λ s. s.state.settings ≡ settings) }
     ensures short { IfOk result (λ s. length s.state.history ≤ 3) }
 
-    // So the points are the same, with their intensities, live and suspended, in the order of their numbers.
+    // So points and intensities are the same, in the same order.
     ensures live { IfOk result (λ s. points_of (live_items (contents s.state.tree)) ≡ points_of (live_items (contents version.now.tree))) }
     ensures suspended { IfOk result (λ s. points_of (suspended_items (contents s.state.tree)) ≡ points_of (suspended_items (contents version.now.tree))) }
 {
@@ -32,7 +31,6 @@ pub fn renewed(alloc: Global, version: &Version, settings: Settings) -> Result<M
     Ok(state)
 }
 
-// A new map of these suspended points, and behind them these live ones.
 fn of_points(
     alloc: Global,
     suspended: &[Point],
@@ -53,7 +51,7 @@ fn of_points(
     Ok(state)
 }
 
-// Adds them by one update, or by none where there are none.
+// An empty list makes no update.
 fn add(alloc: Global, state: &mut MapState, points: &[Point]) -> Result<(), NoMemory>
     requires few { state.old.state.next + length points.now ≤ MAX_POINTS }
     requires short { length state.old.state.history < MAX_UPDATES }
@@ -66,7 +64,6 @@ fn add(alloc: Global, state: &mut MapState, points: &[Point]) -> Result<(), NoMe
     one_more(alloc, state, Update::Add(points))
 }
 
-// The points of the items of this label, in order.
 fn points_with(alloc: Global, items: &[Item], label: Label) -> Result<Points, NoMemory>
     ensures { IfOk result (λ points. points ≡ points_with label items.now) }
 {
@@ -87,7 +84,7 @@ fn all_of_it(alloc: Global) -> Result<Cuboids, NoMemory>
     Ok(boxes)
 }
 
-// There is room for it, so nothing but lack of memory refuses it.
+// There is room for it, so only `NoMemory` refuses it.
 fn one_more(alloc: Global, state: &mut MapState, update: Update) -> Result<(), NoMemory>
     requires room { HasRoom update state.old.state }
     ensures { OnOk result (IsUpdateStep 1 update state.old.state state.new.state) }
