@@ -167,6 +167,8 @@ void corv_built_free(corv_built *built);
 /* Puts the built subtree in its place, after the operations that it has missed since, and leaves the handle empty. A swap that isn't
  * forced, where force is 0, does at most 64 of those: where there are more it answers BEHIND, and puts them beside the built
  * subtree, to be replayed. Where its place is there no more the subtree is STALE, and stays in its handle, only to be freed.
+ * When to swap: between the queries and the update. Queries leave time to build or to replay, and add no operation. Right after an
+ * update its operations are missing, so a program that tries only there is BEHIND after each scan of more than 64 points.
  * EMPTY (either), STALE, BEHIND, NO_MEMORY. */
 int32_t corv_map_swap(corv_map *map, corv_built *built, uint32_t force);
 
