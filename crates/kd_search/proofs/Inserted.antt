@@ -3,14 +3,10 @@ use Rattle.std.proofs.Common.{◌≡◌, ℕ, zero, suc, ◌+◌, ◌≤◌, ari
 use Rattle.std.specs.Prelude.{nat_lt}
 use Rattle.std.specs.List.{insert}
 use Rattle.std.proofs.lemmas.List.{take_all}
-use Rattle.point_geom.specs.Place.{Bounds}
 use Rattle.map_items.specs.declared.item.Item.{Item}
-use Rattle.map_items.specs.Contents.{kept}
-use Rattle.map_fold.specs.Answers.{inside_all}
 use Rattle.map_fold.proofs.Ranking.{take-take_suc, insert-take, length-insert}
 use Rattle.kd_tree.specs.Contents.{insert_item, by_number}
 use Rattle.kd_search.specs.Inserted.{insert_all}
-use Rattle.kd_search.proofs.Boxed.{inside-top}
 
 -- the first k of the first k
 pub take-take : {X : Type 0} (k : ℕ) (xs : List X) → take k (take k xs) ≡ take k xs
@@ -48,6 +44,7 @@ pub insert_all-nil : (xs : List Item) → insert_all xs [] ≡ by_number xs
 insert_all-nil [] = refl
 insert_all-nil (x ∷ xs) = ap (insert_item x) (insert_all-nil xs)
 
+-- three lists, one after the other, the last first
 pub in_turn : (k : ℕ) (top left right m one two three : List Item) → one ≡ take k (insert_all right m) → two ≡ take k (insert_all left one) → three ≡ take k (insert_all top two)
     → three ≡ take k (insert_all (top ++ (left ++ right)) m)
 in_turn k top left right m one two three e f g =
@@ -56,14 +53,6 @@ in_turn k top left right m one two three e f g =
     ∙ sym (ap (take k) (insert_all-append top left (take k (insert_all right m))))
     ∙ insert_all-take k (top ++ left) (insert_all right m)
     ∙ ap (take k) (insert_all-append top left (insert_all right m) ∙ ap (insert_all top) (sym (insert_all-append left right m)) ∙ sym (insert_all-append top (left ++ right) m))
-
--- both children and then a node's item, one after the other, the last first
-pub insert_in_turn : (k : ℕ) (c : Bounds) (i : Item) (left right whole m one two three : List Item) → whole ≡ kept (i ∷ []) ++ (left ++ right)
-    → one ≡ take k (insert_all (inside_all right c) m) → two ≡ take k (insert_all (inside_all left c) one) → three ≡ take k (insert_all (inside_all (i ∷ []) c) two)
-    → three ≡ take k (insert_all (inside_all whole c) m)
-insert_in_turn k c i left right whole m one two three all e f g =
-    in_turn k (inside_all (i ∷ []) c) (inside_all left c) (inside_all right c) m one two three e f g
-    ∙ ap (λ z. take k (insert_all z m)) (sym (ap (λ w. inside_all w c) all ∙ inside-top c i left right))
 
 -- an item is put among k = j + 1, of which the last has made room
 pub insert_in_full : (k j at : ℕ) (old held new : List Item) (i : Item) → k ≡ suc j → at ≤ j → held ≡ take j old → new ≡ insert held at i

@@ -4,6 +4,7 @@ pub mod Tops
 pub mod Boxed
 pub mod Inserted
 pub mod Others
+pub mod First
 pub mod Offered
 pub mod Shortlist
 pub mod Bounds

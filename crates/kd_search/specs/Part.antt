@@ -4,6 +4,7 @@ use Rattle.map_items.specs.declared.item.Item.{Item}
 use Rattle.map_items.specs.Contents.{kept}
 use Rattle.kd_tree.specs.Shape.{nodes}
 use Rattle.kd_tree.specs.Walk.{walk}
+use Rattle.kd_tree.specs.Contents.{AreDistinct}
 use Rattle.kd_search.specs.Points.{AreBelow, AreAbove}
 use Rattle.kd_search.specs.declared.part.Part.{Part}
 use Rattle.kd_search.specs.declared.part.PartTop.{PartTop}
@@ -23,5 +24,7 @@ pub record IsTopOf (p : Part) (t : PartTop) : Type 0 where
   -- which lie on both sides of the item's plane
   pub below : AreBelow t.axis t.item.point (items_of t.left)
   pub above : AreAbove t.axis t.item.point (items_of t.right)
+  -- and no number stands twice among them all
+  pub distinct : AreDistinct (items_of p)
   pub nodes : nodes_of p ≡ nodes_of t.left + nodes_of t.right + 1
   pub few : nodes_of p ≤ MAX_NODES

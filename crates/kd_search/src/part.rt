@@ -3,6 +3,7 @@ ghost use Rattle.std.specs.Prelude.{◌≡◌, [], length, IfNone, IfSome};
 ghost use Rattle.node_labels.specs.Labels.{keep_tag};
 ghost use Rattle.map_items.specs.Contents.{live_items};
 ghost use Rattle.kd_tree.specs.Walk.{walk};
+ghost use Rattle.kd_search.specs.First.{AreFrom};
 ghost use Rattle.kd_search.specs.Points.{AreIn};
 ghost use Rattle.kd_search.specs.Part.{IsTopOf, items_of};
 
@@ -41,6 +42,16 @@ impl<'a> Part<'a> {
         ensures some { IfSome result (λ e. AreIn e (items_of self.now)) }
     {
         self.tree.extent()
+    }
+
+    /// Of dropped nodes too; the greatest `u32` where there are none.
+    pub(crate) fn least(&self) -> u32
+        ensures { AreFrom result (items_of self.now) }
+    {
+        match self.tree.numbers() {
+            None => u32::MAX,
+            Some(numbers) => numbers.least,
+        }
     }
 
     pub(crate) fn live(&self) -> u32

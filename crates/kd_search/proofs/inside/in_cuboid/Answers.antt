@@ -4,8 +4,12 @@ use Rattle.map_fold.specs.Answers.{inside_all}
 use Rattle.kd_tree.specs.Walk.{walk}
 use Rattle.kd_search.specs.Inserted.{insert_all}
 use Rattle.kd_search.proofs.Boxed.{inside-by_number}
+use Rattle.kd_search.proofs.First.{first_none}
 use Rattle.kd_search.proofs.Inserted.{insert_all-nil}
 use Rattle.kd_search.proofs.inside.in_cuboid.Goals as goal
+
+pub add_under-requires-clause-held : goal.add_under-requires-clause-held
+add_under-requires-clause-held c = first_none c.args.most c.new-items.result.items c.new-items.ensures.items
 
 pub returns : goal.returns
 returns c =

@@ -4,6 +4,7 @@ use Rattle.map_items.specs.Contents.{kept, relabelled}
 use Rattle.kd_tree.specs.Shape.{Head, nodes}
 use Rattle.kd_tree.specs.Walk.{walk}
 use Rattle.kd_search.specs.Points.{AreBelow, AreAbove}
+use Rattle.kd_search.proofs.Others.{walk_distinct}
 use Rattle.kd_search.proofs.Tops.{left_below, right_above}
 use Rattle.kd_search.proofs.part.Part.top.Goals as goal
 
@@ -23,6 +24,7 @@ returns-in-Some-clause-some c =
           ∙ ap (λ a. kept (own ∷ []) ++ (walk a top.left.now ++ walk a top.right.now)) (sym c.then-owed.ensures.value);
       below = subst (λ (a : Tag). AreBelow top.axis p (walk a top.left.now)) (sym c.then-owed.ensures.value) (left_below head owed tree top.left.now top.right.now is sound);
       above = subst (λ (a : Tag). AreAbove top.axis p (walk a top.right.now)) (sym c.then-owed.ensures.value) (right_above head owed tree top.left.now top.right.now is sound);
+      distinct = walk_distinct owed tree sound;
       nodes = ap nodes is;
       few = omega (arith, c.size-size.ensures.value, c.size-size.ensures.few);
     })

@@ -1,8 +1,0 @@
-use Rattle.std.proofs.Common.{sym, ◌∙◌}
-use Rattle.item_lists.specs.declared.sought.Sought.TheVariants.{Held}
-use Rattle.item_lists.proofs.Wanted.{enough}
-use Rattle.item_lists.proofs.lists.items_from.Goals as goal
-
-pub returns-then-len-most : goal.returns-then-len-most
-returns-then-len-most c =
-    enough c.args.from c.in-Some.bound Held c.args.most c.args.tree.now c.in_ok-page.page c.size-size.ensures.sound c.in_ok-page.ensures (sym c.len.ensures ∙ c.if-len-most.true)
