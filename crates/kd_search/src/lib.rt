@@ -14,6 +14,6 @@ pub use best::best_in;
 pub use by_number::insert_by_number;
 pub use count::count_in;
 pub use inside::in_cuboid;
-pub use near::nearest;
+pub use near::{Found, Query, nearest};
 pub use part::live_under;
 pub use rivals::{Rivals, rivals_in};

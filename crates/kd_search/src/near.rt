@@ -91,25 +91,27 @@ fn add_under(tree: &Tree, owed: Tag, query: &Query, found: &mut Found) -> Result
     add_from(sides.far, below, query, found)
 }
 
+/// The k nearest live points are searched for, at most `within` millimetres away, where that is given.
 #[derive(Drop)]
-struct Query {
-    k: usize,
-    point: Point,
-    within: Option<u64>,
+pub struct Query {
+    pub k: usize,
+    pub point: Point,
+    pub within: Option<u64>,
     ghost some: { 1 ≤ k },
 }
 
+/// The nearest so far.
 #[derive(Drop)]
-struct Found {
-    hits: Hits,
-    // A square. What is farther is too far, or comes after k hits; what is as far may come before, by coordinates or
-    // number.
-    bound: u128,
+pub struct Found {
+    pub hits: Hits,
+    /// A square. What is farther is too far, or comes after k hits; what is as far may come before, by coordinates or
+    /// number.
+    pub bound: u128,
 }
 
 impl Query {
-    // The bound before any hit is held.
-    fn reach(&self) -> u128
+    /// The bound before any hit is held.
+    pub fn reach(&self) -> u128
         ensures { IsBound self.now.k self.now.within [] result }
     {
         match self.within {
@@ -139,8 +141,9 @@ impl Query {
         self.put(hit, found)
     }
 
+    /// Puts a hit among those held, and draws the bound in.
     #[inline(never)]
-    fn put(&self, hit: Hit, found: &mut Found) -> Result<(), NoMemory>
+    pub fn put(&self, hit: Hit, found: &mut Found) -> Result<(), NoMemory>
         requires bound { IsBound self.now.k self.now.within found.old.hits found.old.bound }
         requires near { hit.dist2 ≤ found.old.bound }
         ensures bound { OnOk result (IsBound self.now.k self.now.within found.new.hits found.new.bound) }
