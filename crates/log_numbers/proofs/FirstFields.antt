@@ -78,7 +78,7 @@ digits_all bytes i n h none r =
       size = rw is (sym long);
     }
 
--- no byte is left
+-- no byte remains
 pub digits_end : (bytes : List ℕ) (i n : ℕ) → length bytes ≤ i → i ≤ length bytes → DigitsRead bytes i n
     → IsRead all_ascii_digits plain_value (first_field bytes) (pos n) (length bytes)
 digits_end bytes i n past within r =

@@ -10,7 +10,7 @@ use Rattle.std.proofs.lemmas.Bool.Decides.{nat_tests}
 use Rattle.log_numbers.specs.Numerals.{IsRead, capped, first_field, is_numeral, is_positive_numeral, plain_value, without_minus}
 use Rattle.log_numbers.proofs.FirstFields.{first_field-digits}
 
--- a minus stands before them
+-- a minus is before them
 pub minus_first : (bytes : List ℕ) → length (without_minus bytes) < length bytes → first_field bytes ≡ 45 ∷ first_field (without_minus bytes)
 minus_first [] h = absurd (omega arith)
 minus_first (c ∷ cs) h = go (nat_eq c 45) refl
@@ -88,7 +88,7 @@ spaced_bad field h = go (is_numeral field) refl
     go true e = absurd (omega (arith, ap length (first_field-numeral field e)))
     go false e = e
 
--- the number of a minus and digits is told from those farther off
+-- the number of a minus and digits differs from those farther off
 pub minus_value : (n : ℕ) (v : ℤ) → v ≡ pos (min n 1000000000000000000) → to_z w64 (of_z w64 (pos 0 -ℤ to_z w64 (of_z w64 v))) ≡ neg_ℤ v
 minus_value n v e = rw e (go (min n 1000000000000000000) (omega arith))
   where

@@ -30,12 +30,12 @@ is_zero [] = false
 is_zero (c ∷ []) = c == 48
 is_zero (c ∷ d ∷ cs) = false
 
--- a number, or the farthest one that is told from those beyond it
+-- a number, or ±10^18 where it is beyond that
 abbrev pub capped : ℤ → ℤ
 capped (pos n) = pos (min n 1000000000000000000)
 capped (negsuc n) = negsuc (min n 999999999999999999)
 
--- the field passes the test, and spells this number, as far as it counts, by so many bytes
+-- the field passes the test, and spells this number, as far as it counts, by `len` bytes
 pub record IsRead (test : List ℕ → Bool) (spelled : List ℕ → ℤ) (field : List ℕ) (number : ℤ) (len : ℕ) : Type 0 where
   pub passes : test field ≡ true
   pub value : number ≡ capped (spelled field)

@@ -5,8 +5,7 @@ ghost use Rattle.log_numbers.specs.Numerals.{capped, is_numeral};
 
 use crate::front::front_number;
 
-/// The number that the field spells, where one that is farther than 10^18 is read as that: `None` where it isn't a number in its
-/// one spelling. The field may have any length, and costs it.
+/// The number, or ±10^18 where it is beyond that; `None` where the field isn't one in its one spelling. Costs its length.
 pub fn numeral(field: &[u8]) -> Option<i64>
     ensures { MatchOption result (is_numeral field.now ≡ false)
         (λ n. (is_numeral field.now ≡ true) × (n ≡ capped (signed_digits_value 10 field.now))) }

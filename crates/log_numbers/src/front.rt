@@ -4,20 +4,18 @@ ghost use Rattle.std.specs.Str.{all_ascii_digits};
 ghost use Rattle.std.specs.Str.Parse.{signed_digits_value};
 ghost use Rattle.log_numbers.specs.Numerals.{IsRead, first_field, is_numeral, is_positive_numeral, is_zero, plain_value, without_minus};
 
-// Farther than every limit, so that a number of more digits needs no more room.
+// Beyond every limit, so more digits need no more room.
 const FAR: u64 = 1_000_000_000_000_000_000;
 
-/// A number before the first space, or the end.
 #[derive(Clone, Copy)]
 pub struct FrontNumber {
-    /// One that is farther than 10^18 is read as that.
+    /// ±10^18 where it is beyond that.
     pub value: i64,
     /// How many bytes spell it.
     pub len: usize,
 }
 
-/// The number that the bytes before the first space spell, in one pass over them: `None` where they aren't a number in its one
-/// spelling. Without a space these are all bytes. Costs their length.
+/// As `numeral`, of the bytes before the first space, in one pass.
 pub fn front_number(bytes: &[u8]) -> Option<FrontNumber>
     ensures { MatchOption result (is_numeral (first_field bytes.now) ≡ false)
         (λ n. IsRead is_numeral (signed_digits_value 10) (first_field bytes.now) n.value n.len) }
@@ -25,7 +23,7 @@ pub fn front_number(bytes: &[u8]) -> Option<FrontNumber>
     if is_zero(bytes) {
         return Some(FrontNumber { value: 0, len: 1 });
     }
-    // One loop serves both signs, and none is branched on before it, since which it is cannot be foreseen.
+    // One loop for both signs: the sign can't be predicted.
     let digits = without_minus(bytes);
     let number = positive(digits)?;
     if digits.len() < bytes.len() {
@@ -61,7 +59,7 @@ fn positive(bytes: &[u8]) -> Option<FrontNumber>
     }
 }
 
-// Looks at every byte, since also a long number may be a bad one.
+// A long number may be bad too.
 fn digits(bytes: &[u8]) -> Option<FrontNumber>
     ensures { MatchOption result (all_ascii_digits (first_field bytes.now) ≡ false)
         (λ n. IsRead all_ascii_digits plain_value (first_field bytes.now) n.value n.len) }

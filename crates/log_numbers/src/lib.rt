@@ -1,4 +1,4 @@
-//! Which number a field of a log spells, in the one spelling that a number has there.
+//! Numbers of a log's fields, in their one spelling.
 #![tactic(auto)]
 
 mod field;
