@@ -61,7 +61,7 @@ boxes_of-flat_map : (format : Format) (cs : List Bounds) → AllByRecursion (IsC
 boxes_of-flat_map format [] h = refl
 boxes_of-flat_map format (c ∷ cs) h = rw (box_of-signed_decimal format c h.0, boxes_of-flat_map format cs h.1) refl
 
--- arguments that stand in groups, one or more, and few enough
+-- arguments in groups, one or more, and few enough
 groups_of-many : (size most n : ℕ) (args : List (List ℕ)) → length args ≡ n * size → length args % size ≡ 0 → length args / size ≡ n → 0 < length args → n ≤ most
     → groups_of size most args ≡ Ok n
 unfolding groups_of
@@ -107,7 +107,7 @@ scanned_places_of-flat_map One ps h = places_of-flat_map One ps (scanned_plain p
 scanned_places_of-flat_map Two [] h = refl
 scanned_places_of-flat_map Two (p ∷ ps) h = rw (scanned_place_of-decimal p h.0, scanned_places_of-flat_map Two ps h.1) refl
 
--- they stand in groups of as many numbers as each has
+-- they are in groups of as many numbers as each has
 scanned_groups : (format : Format) (most : ℕ) (ps : List Place) → 0 < length ps → length ps ≤ most
     → groups_of (width format) most (flat_map (scanned_fields format) ps) ≡ Ok (length ps)
 scanned_groups One most ps some few =

@@ -1,4 +1,4 @@
--- Numbers beyond the farthest that is told apart.
+-- Numbers beyond ±10^18.
 use Rattle.std.proofs.Common.{◌≡◌, ℕ, Bool, true, false, ◌⊎◌, inl, inr, List, min, refl, ap, sym, ◌∙◌, arith, ℤ, pos, ◌≤ℤ◌, Ok, Err}
 use lib.IntN.{negsuc}
 use Rattle.std.specs.Prelude.{◌&&◌, int_le}

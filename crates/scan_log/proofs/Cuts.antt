@@ -23,7 +23,7 @@ last_part p (x ∷ xs) h =
       | false ↦ λ k. ap (onto_first x) (last_part p xs (omega arith))
     ] (omega arith)
 
--- no line feed is left, so all is one line
+-- no line feed remains, so all is one line
 lines-last : (xs : List ℕ) → 0 < length xs → length xs ≤ position_or_len is_feed xs → lines_of xs ≡ xs ∷ []
 lines-last [] some h = absurd (omega arith)
 lines-last (x ∷ []) some h =
@@ -56,7 +56,7 @@ lines-first (x ∷ xs) h =
       | false ↦ λ k. ap (onto_first x) (lines-first xs (omega arith)) ∙ further x (position_or_len is_feed xs) xs
     ] (omega arith)
 
--- the first element that passes stands at n
+-- the first element that passes is at n
 found_at : (p : ℕ → Bool) (xs : List ℕ) (n : ℕ) → position p xs ≡ Some n → (n ≡ position_or_len p xs) × (n < length xs)
 found_at p xs n e = go _ refl e
   where
@@ -89,7 +89,7 @@ drop_further x n xs =
     let f : suc n + 1 ≡ suc (n + 1) = omega arith in
     rw (e, f) refl
 
--- one line feed less is left
+-- one line feed less remains
 feeds-cons : (x : ℕ) (xs : List ℕ) → line_feeds (x ∷ xs) ≡ cond (is_feed x) 1 0 + line_feeds xs
 feeds-cons x xs = sum_by-cons (λ b. cond (is_feed b) 1 0) x xs
 

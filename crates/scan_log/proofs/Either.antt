@@ -34,7 +34,7 @@ either bytes = go (log_of bytes) refl
     go (Ok s) e = inl (read_once bytes s e)
     go (Err f) e = inr (f, met_fault bytes f e)
 
--- what `parse` says follows from what reading gives
+-- what `parse` promises follows from what reading gives
 pub found : (bytes : List ℕ) (r : Result ScriptAt ParseFault) → LogGives r (log_of bytes) → IfOk r (Spells bytes)
 unfolding read_once
 found bytes (Ok s) gives = (read_once bytes s gives).spelled

@@ -129,7 +129,7 @@ result_err-box_of format a b c d e f =
         → (value d ≡ hi.x) × (value e ≡ hi.y) × (value f ≡ hi.z) → fault_unless (is_upright lo hi) InvertedBox ≡ box_check a b c d e f
     upright a b c d e f lo hi p q = rw (p.0, p.1, p.2, q.0, q.1, q.2) refl
 
--- the same, as the checks stand
+-- `boxes_fault`, in the order of the checks
 box_more : (format : Format) (a b c d e f : List ℕ) (rest : List (List ℕ)) → boxes_fault format (a ∷ b ∷ c ∷ d ∷ e ∷ f ∷ rest)
     ≡ ((corner_fault format a orelse (corner_fault format b orelse corner_fault format c))
     orelse ((corner_fault format d orelse (corner_fault format e orelse corner_fault format f)) orelse box_check a b c d e f))
@@ -160,7 +160,7 @@ result_err-groups_of size most args =
     ∙ ap (λ (d : Option LogCause). fault_unless (are_groups size args) WrongCount orelse d)
     (result_err-given (nat_le (length args / size) most) TooManyPoints (Ok (length args / size)) ∙ orelse-None _)
 
--- the arguments stand in groups
+-- the arguments are in groups
 in_groups : (size most : ℕ) (args : List (List ℕ)) (n : ℕ) → groups_of size most args ≡ Ok n → length args % size ≡ 0
 unfolding groups_of
 in_groups size most args n e =
@@ -192,7 +192,7 @@ result_err-few_scanned_of format most args =
     (λ n is. result_err-scanned_places_of format args (in_groups (width format) most args n is))
     ∙ ap (λ (d : Option LogCause). d orelse scanned_fault format args) (result_err-groups_of (width format) most args)
 
--- so many are submitted before, and for so many there is room
+-- points that were submitted before, and those that there is room for
 room_test : (n before room : ℕ) → before + room ≡ 4194304
     → nat_le n (min 262144 room) ≡ (nat_le n 262144 && nat_le (before + n) 4194304)
 room_test n before room h = grind (arith, nat_tests)

@@ -5,7 +5,7 @@ use Rattle.std.proofs.lemmas.List.{take_rest}
 use Rattle.log_numbers.specs.Numerals.{first_field}
 use Rattle.scan_log.specs.Lines.{fields_of}
 
--- behind a first field that ends before the bytes do, the others stand
+-- after a first field that ends before the bytes do come the others
 fields_first : (xs : List ℕ) → length (first_field xs) < length xs
     → fields_of xs ≡ first_field xs ∷ fields_of (drop (length (first_field xs) + 1) xs)
 fields_first [] h = absurd (omega arith)

@@ -106,7 +106,7 @@ pub boxes_more : (format : Format) (front : List Bounds) (box : Bounds) (fields 
     → with_front front (boxes_of format fields) ≡ with_front (front ++ box ∷ []) (boxes_of format rest)
 boxes_more format front box fields rest is = rw is (with_front-more front box (boxes_of format rest))
 
--- the same of a point that is scanned, and its intensity
+-- a scanned point is read as a place, and then its intensity
 pub first_scanned_is : (fields : List (List ℕ)) → 4 ≤ length fields → first_scanned fields
     ≡ (first_place Two fields >>= λ p. first_intensity (drop 3 fields) >>= λ n. Ok (record p { intensity = n }))
 unfolding scanned_place_of

@@ -50,7 +50,7 @@ record TakesCommands (format : Format) (count room hits : ℕ) (lines : List (Li
   fit : points_of cs ≤ room
   held : hits_of cs ≤ hits
 
--- The command of a line, and what it tells.
+-- The command of a line, and what it shows.
 pub record TakesLine (format : Format) (count room hits : ℕ) (line : List ℕ) (c : Command) : Type 0 where
   pub few : count < 65536
   pub command : TakesCommand format room (fields_of line) c
@@ -108,7 +108,7 @@ commands_again format count room hits ((n, line) ∷ lines) (c ∷ cs) t =
     }) in
     rw (e, here, room_left, later) refl
 
--- so many hits are asked for before, and for so many there is room
+-- hits that were asked for before, and those that there is room for
 hits_test : (n used hits : ℕ) → used + hits ≡ 16777216 → nat_le n hits ≡ nat_le (used + n) 16777216
 hits_test n used hits h = grind (arith, nat_tests)
 

@@ -33,7 +33,7 @@ within_fits Two axis c h =
 pub point_fits : (format : Format) (x y z : ℤ) → IsLogCoordinate format x → IsLogCoordinate format y → IsLogCoordinate format z → point_of x y z ≡ Ok (record { x = x; y = y; z = z; intensity = 0 })
 point_fits format x y z p q r = rw (within_fits format _ x p, within_fits format _ y q, within_fits format _ z r) refl
 
--- each refusal of a point stands for one fault
+-- each refusal of a point is one fault
 abbrev pub far_off : Result Place OutOfRange → Result Place LogCause
 far_off (Ok p) = Ok p
 far_off (Err e) = Err causes.OutOfRange
@@ -57,7 +57,7 @@ corner_fits Two axis c h =
 corners_fit : (format : Format) (p : Corner) → IsBoxCorner format p → corner_check p ≡ Ok tt
 corners_fit format p h = rw (corner_fits format _ p.x h.0, corner_fits format _ p.y h.1, corner_fits format _ p.z h.2) refl
 
--- each refusal of a box stands for one fault
+-- each refusal of a box is one fault
 abbrev pub refused : Result Bounds CuboidError → Result Bounds LogCause
 refused (Ok box) = Ok box
 refused (Err e) = Err InvertedBox

@@ -57,7 +57,7 @@ plain_script_is s h = record {
   room = omega (arith, h.room, points-plain_from no_regions s.commands);
 }
 
--- a pose is answered as the change that it submits
+-- the reply to a pose is that to the change that it submits
 pub reply_plain : (format : Format) (regions : List (Option RegionAt)) (c : Command) (r : Reply) → reply_text format (Some (plain_command regions c)) r ≡ reply_text format (Some c) r
 reply_plain format regions (Change caller u) r = refl
 reply_plain format regions (Near caller k p within) r = refl

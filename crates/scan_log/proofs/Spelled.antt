@@ -88,7 +88,7 @@ number_takes low high f n l h e =
     let fits : FitsSigned w64 v = rw is (grind (arith, ints, from, to)) in
     record { text = spelled f p.0 fits ∙ ap signed_decimal is; value = is; from = from; to = to }
 
--- the same of a number that is not below 0
+-- `Takes`, of a number that is not below 0
 pub record TakesNatural (low high : ℕ) (f : List ℕ) (n : ℕ) : Type 0 where
   pub text : f ≡ decimal n
   pub value : unsigned_abs (signed_digits_value 10 f) ≡ n

@@ -159,7 +159,7 @@ pub length-box_fields : (cs : List Bounds) → length (flat_map box_fields cs) �
 length-box_fields [] = refl
 length-box_fields (c ∷ cs) = omega (arith, length-box_fields cs)
 
--- what the count of the arguments tells
+-- what the count of the arguments shows
 record Grouped (size most : ℕ) (args : List (List ℕ)) : Type 0 where
   some : 0 < length args
   few : length args / size ≤ most
@@ -200,7 +200,7 @@ pub record FewScanned (format : Format) (most : ℕ) (args : List (List ℕ)) (p
   pub each : AllByRecursion (IsScannedPlace format) ps
   pub count : length args / width format ≡ length ps
 
--- of so many numbers each
+-- of `width format` numbers each
 scanned_count : (format : Format) (n m : ℕ) → n ≡ m * width format → (n / width format ≡ m) × (0 < n → 0 < m)
 scanned_count One n m is = (omega (arith, is), λ some. omega (arith, is, some))
 scanned_count Two n m is = (omega (arith, is), λ some. omega (arith, is, some))

@@ -109,7 +109,7 @@ searches_told : text searches (serial_marks (plain_script searches))
 unfolding digits
 searches_told = refl
 
--- a region that moves, as its caller's poses say, and what it leaves behind
+-- a region that moves by its caller's poses, and what leaves it
 abbrev posed_script : ScriptAt
 posed_script = record {
   format = Two;

@@ -7,7 +7,7 @@ use Rattle.map_items.specs.declared.update.Update.{Update}
 use Rattle.scan_log.specs.declared.command.Command.{Command}
 use Rattle.scan_log.specs.declared.command.Command.TheVariants.{Change, Near, Nears, Inside, Ball, Lonely, Clusters, Pose, Sync}
 
--- whose command it is. A barrier is nobody's.
+-- the command's caller; a barrier has none
 abbrev pub command_caller : Command → Option ℕ
 command_caller (Change caller u) = Some caller
 command_caller (Near caller k p within) = Some caller
@@ -19,7 +19,7 @@ command_caller (Clusters caller k r) = Some caller
 command_caller (Pose caller rules p) = Some caller
 command_caller Sync = None
 
--- the update that it makes, if it makes one. A pose stands as the change that it submits before anything is run.
+-- the update that it makes, if it makes one. A pose has become the change that it submits before anything is run.
 abbrev pub command_update : Command → Option Update
 command_update (Change caller u) = Some u
 command_update (Near caller k p within) = None
@@ -54,7 +54,7 @@ is_by x c = is_own x (command_caller c)
 abbrev pub is_for : ℕ → Command → Bool
 is_for x c = is_own_or_none x (command_caller c)
 
--- the same as facts
+-- it is this caller's, as a fact
 abbrev pub IsBy : Command → ℕ → Type 0
 IsBy c x = IsSomeAnd (command_caller c) (λ caller. caller ≡ x)
 

@@ -89,11 +89,11 @@ boxes_fault format (a ∷ b ∷ c ∷ d ∷ e ∷ f ∷ rest) =
     orelse boxes_fault format rest
 boxes_fault format fields = None
 
--- the arguments stand in groups of n, and there is at least one
+-- the arguments are in groups of n, and there is at least one
 abbrev pub are_groups : ℕ → List (List ℕ) → Bool
 are_groups n args = not (length args == 0) && (length args % n == 0)
 
--- the points of add and thin, where so many were submitted before
+-- the points of add and thin, after `before` points
 abbrev pub points_fault : Format → ℕ → List (List ℕ) → Option LogCause
 points_fault format before args =
     fault_unless (are_groups (width format) args) WrongCount
@@ -166,7 +166,7 @@ basic_fault format before word args =
     if bytes_eq word (codes "box") then box_fault format args else (
     if has_expiry format && bytes_eq word (codes "expire") then expire_fault args else Some UnknownCommand)))))
 
--- a command of this word and these arguments, where so many points were submitted before
+-- a command of this word and these arguments, after `before` points
 abbrev pub word_fault : Format → ℕ → List ℕ → List (List ℕ) → Option LogCause
 word_fault One before word args = basic_fault One before word args
 word_fault Two before word args =
@@ -198,7 +198,7 @@ fields_hits (caller ∷ word ∷ args) =
     if bytes_eq word (codes "nears") then length args / 3 * count_room args else 0)
 fields_hits fields = 0
 
--- the fault of a command's fields, where so many commands, points and hits stand before it
+-- the fault of a command's fields, after this many commands, points and hits
 abbrev pub command_fault : Format → ℕ → ℕ → ℕ → List (List ℕ) → Option LogCause
 command_fault format commands points hits (first ∷ fields) =
     fault_unless (nat_lt commands MAX_COMMANDS) TooManyCommands
@@ -228,14 +228,14 @@ abbrev pub at_line : ℕ → Option LogCause → Option FaultAt
 at_line n None = None
 at_line n (Some c) = Some (record { line = n; cause = c })
 
--- the first fault of the commands' lines, where so many commands, points and hits stand before them
+-- the first fault of the commands' lines, after this many commands, points and hits
 abbrev pub commands_fault : Format → ℕ → ℕ → ℕ → List (ℕ × List ℕ) → Option FaultAt
 commands_fault format commands points hits [] = None
 commands_fault format commands points hits ((n, line) ∷ lines) =
     at_line n (command_fault format commands points hits (fields_of line))
     orelse commands_fault format (commands + 1) (points + fields_points format (fields_of line)) (hits + fields_hits (fields_of line)) lines
 
--- the first fault of the kept lines, where the log has so many line feeds
+-- the first fault of the kept lines, where the log has `feeds` line feeds
 abbrev pub lines_fault : ℕ → List (ℕ × List ℕ) → Option FaultAt
 lines_fault feeds [] = Some (record { line = feeds + 1; cause = NoHeader })
 lines_fault feeds ((n, header) ∷ lines) = at_line n (header_fault (fields_of header)) orelse commands_fault (named_format (fields_of header)) 0 0 0 lines

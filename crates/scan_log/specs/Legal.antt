@@ -9,7 +9,7 @@ use Rattle.scan_log.specs.Poses.{plain_script}
 use Rattle.scan_log.specs.Spelling.{Spells}
 use Rattle.scan_log.specs.Transcript.{updates_in, marked_updates, replies, mark_of, lines_text}
 
--- so many numbers from n on
+-- the first k numbers from n on
 abbrev pub numbers_from : ℕ → ℕ → List ℕ
 numbers_from n zero = []
 numbers_from n (suc k) = n ∷ numbers_from (n + 1) k

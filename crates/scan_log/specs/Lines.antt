@@ -2,7 +2,7 @@
 use Rattle.std.specs.Prelude.{ℕ, ◌+◌, Bool, false, not, ◌==◌, List, [], ◌∷◌, filter, if◌then◌else◌}
 use Rattle.std.specs.List.{onto_first, slice_split}
 
--- what stands before each line feed, and after the last one where that isn't empty
+-- what is before each line feed, and after the last one where that isn't empty
 abbrev pub lines_of : List ℕ → List (List ℕ)
 lines_of [] = []
 lines_of (b ∷ bytes) = if b == 10 then [] ∷ lines_of bytes else onto_first b (lines_of bytes)
@@ -21,6 +21,6 @@ kept_from n (line ∷ lines) = if is_kept_line line then (n, line) ∷ kept_from
 abbrev pub kept_lines : List ℕ → List (List ℕ)
 kept_lines bytes = filter is_kept_line (lines_of bytes)
 
--- what stands before, between and after the spaces
+-- what is before, between and after the spaces
 abbrev pub fields_of : List ℕ → List (List ℕ)
 fields_of line = slice_split (λ b. b == 32) line

@@ -28,7 +28,7 @@ natural_range low high n = do
 abbrev pub number_in : ℤ → ℤ → List ℕ → Result ℤ LogCause
 number_in low high field = given (is_numeral field) BadNumber (in_range low high (signed_digits_value 10 field))
 
--- the same, where it isn't below 0
+-- the number that a field spells, from low to high, where it isn't below 0
 abbrev pub natural_in : ℕ → ℕ → List ℕ → Result ℕ LogCause
 natural_in low high field = do
   n ← number_in (pos low) (pos high) field

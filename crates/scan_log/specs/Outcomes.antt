@@ -1,4 +1,4 @@
--- What was returned, beside what reading gives. Cited by private functions alone.
+-- What was returned, next to what reading gives. Cited by private functions alone.
 use Rattle.std.specs.Prelude.{◌≡◌, ℕ}
 use Rattle.std.specs.declared.result.Result.{Result}
 use Rattle.std.specs.declared.result.Result.TheVariants.{Ok, Err}
@@ -19,7 +19,7 @@ abbrev pub Fails : {A : Type 0} → LineFault → Result A LogCause → Type 0
 Fails (Bad cause) read = read ≡ Err cause
 Fails NoMemory read = Unit {0}
 
--- what was returned of a line is what reading gives, unless memory ran out
+-- what was returned of a line is what reading gives, or `NoMemory`
 abbrev pub Gives : {A : Type 0} → Result A LineFault → Result A LogCause → Type 0
 Gives (Ok x) read = read ≡ Ok x
 Gives (Err fault) read = Fails fault read
@@ -29,7 +29,7 @@ abbrev pub LogFails : {A : Type 0} → ParseFault → Result A FaultAt → Type 
 LogFails (parse.Bad n cause) read = read ≡ Err (record { line = n; cause = cause })
 LogFails parse.NoMemory read = Unit {0}
 
--- what was returned of a log is what reading gives, unless memory ran out
+-- what was returned of a log is what reading gives, or `NoMemory`
 abbrev pub LogGives : {A : Type 0} → Result A ParseFault → Result A FaultAt → Type 0
 LogGives (Ok x) read = read ≡ Ok x
 LogGives (Err fault) read = LogFails fault read

@@ -12,7 +12,7 @@ use Rattle.scan_log.specs.declared.command.Command.{Command}
 use Rattle.scan_log.specs.declared.command.Command.TheVariants.{Change, Pose}
 use Rattle.scan_log.specs.Scripts.{ScriptAt}
 
--- the same side, ball and step
+-- side, ball and step are the same
 abbrev pub are_same : Rules → Rules → Bool
 are_same a b = (a.side == b.side) && (a.ball == b.ball) && (a.step == b.step)
 

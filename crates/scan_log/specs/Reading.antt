@@ -127,16 +127,16 @@ with_boxes format read rest = do
   boxes ← boxes_of format rest
   Ok (box ∷ boxes)
 
--- how many groups of so many fields there are: one or more, and no more than allowed
+-- how many groups of `size` fields there are: from one to `most`
 unfoldable pub groups_of : ℕ → ℕ → List (List ℕ) → Result ℕ LogCause
 groups_of size most args =
     given (are_groups size args) WrongCount (given (nat_le (length args / size) most) TooManyPoints (Ok (length args / size)))
 
--- the points of a command, at most so many
+-- the points of a command, at most `most`
 unfoldable pub few_places_of : Format → ℕ → List (List ℕ) → Result (List Place) LogCause
 few_places_of format most args = groups_of 3 most args >>= λ count. places_of format args
 
--- the points of a command that adds or thins them, at most so many
+-- the points of a command that adds or thins them, at most `most`
 unfoldable pub few_scanned_of : Format → ℕ → List (List ℕ) → Result (List Place) LogCause
 few_scanned_of format most args = groups_of (width format) most args >>= λ count. scanned_places_of format args
 
@@ -155,7 +155,7 @@ unfoldable pub expiry_of : List (List ℕ) → Result Update LogCause
 expiry_of (number ∷ []) = natural_in 0 MAX_POINTS number >>= λ n. Ok (Expire n)
 expiry_of args = Err WrongCount
 
--- the update of a word and its arguments, where the log has room for so many points
+-- the update of a word and its arguments, where the log has room for `room` points
 unfoldable pub update_of : Format → ℕ → List ℕ → List (List ℕ) → Result Update LogCause
 update_of format room word args =
     if bytes_eq word (codes "add") then (few_scanned_of format (min 262144 room) args >>= λ ps. Ok (Add ps)) else
@@ -260,7 +260,7 @@ abbrev pub after_caller : Format → ℕ → ℕ → List (List ℕ) → Result 
 after_caller format room caller (word ∷ args) = called_of format room caller word args
 after_caller format room caller [] = Err UnknownCommand
 
--- the command of a line's fields, where the log has room for so many points
+-- the command of a line's fields, where the log has room for `room` points
 unfoldable pub command_of : Format → ℕ → List (List ℕ) → Result Command LogCause
 command_of format room (first ∷ fields) =
     if bytes_eq first (codes "sync") then given (length fields == 0) WrongCount (Ok Sync) else
@@ -289,11 +289,11 @@ on_line n (Err c) = Err (record { line = n; cause = c })
 abbrev pub few_hits : ℕ → Command → Result Command LogCause
 few_hits hits c = given (nat_le (asked c) hits) TooManyHits (Ok c)
 
--- the command of a line, where so many commands stand before it, and the log has room for so many points and hits
+-- the command of a line, after `before` commands, where the log has room for `room` points and `hits` hits
 abbrev pub line_command : Format → ℕ → ℕ → ℕ → List ℕ → Result Command LogCause
 line_command format before room hits line = given (nat_lt before MAX_COMMANDS) TooManyCommands (command_of format room (fields_of line) >>= few_hits hits)
 
--- the commands of the lines, where so many commands stand before them, and the log has room for so many points and hits
+-- the commands of the lines, after `before` commands, where the log has room for `room` points and `hits` hits
 abbrev pub commands_of : Format → ℕ → ℕ → ℕ → List (ℕ × List ℕ) → Result (List Command) FaultAt
 commands_of format before room hits [] = Ok []
 commands_of format before room hits ((n, line) ∷ lines) = do
@@ -307,7 +307,7 @@ body_of format sizes lines = do
   cs ← commands_of format 0 MAX_POINTS 16777216 lines
   Ok (record { format = format; sizes = sizes; commands = cs })
 
--- the script of the kept lines, where the log has so many line feeds
+-- the script of the kept lines, where the log has `feeds` line feeds
 abbrev pub script_of : ℕ → List (ℕ × List ℕ) → Result ScriptAt FaultAt
 script_of feeds [] = Err (record { line = feeds + 1; cause = NoHeader })
 script_of feeds ((n, header) ∷ lines) = do

@@ -18,7 +18,7 @@ use Rattle.scan_log.specs.declared.command.Command.TheVariants.{Change, Near, Ne
 use Rattle.map_items.specs.declared.limits.TheConstants.{MAX_POINTS}
 use Rattle.scan_log.specs.declared.commands.TheConstants.{MAX_COMMANDS}
 
--- what a log says: its version, the settings, and the commands in order
+-- what is in a log: its version, the settings, and the commands in order
 pub record ScriptAt : Type 0 where
   pub format : Format
   pub sizes : Sizes

@@ -96,6 +96,6 @@ abbrev pub SpellsLines : List (List ℕ) → ScriptAt → Type 0
 SpellsLines [] s = ⊥
 SpellsLines (header ∷ lines) s = (fields_of header ≡ header_fields s.format s.sizes) × LinesSpell s.format lines s.commands
 
--- the bytes are a log, and the script is what it says
+-- the bytes are a log, and the script is what is in it
 abbrev pub Spells : List ℕ → ScriptAt → Type 0
 Spells bytes s = SpellsLines (kept_lines bytes) s × IsScript s

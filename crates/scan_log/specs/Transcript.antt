@@ -27,7 +27,7 @@ use Rattle.scan_log.specs.Scripts.{ScriptAt}
 use Rattle.scan_log.specs.Poses.{plain_script}
 use Rattle.scan_log.specs.Spelling.{caller_field, point_fields, scanned_fields}
 
--- These speak of commands among which each pose stands as the deletion that it submits, and say nothing of a pose itself.
+-- These are about commands among which each pose is the deletion that it submits, and not about a pose itself.
 
 -- how many of the commands are updates
 abbrev pub updates_in : List Command → ℕ
@@ -38,7 +38,7 @@ abbrev pub put_update : ℕ → Update → List (ℕ × Update) → List (ℕ ×
 put_update m u [] = (m, u) ∷ []
 put_update m u (h ∷ hs) = if nat_lt h.0 m then h ∷ put_update m u hs else (m, u) ∷ h ∷ hs
 
--- the same of a command that makes an update; nothing is new where it makes none
+-- the list with a command's update, if it makes one
 abbrev pub put_if : ℕ → Option Update → List (ℕ × Update) → List (ℕ × Update)
 put_if m (Some u) hs = put_update m u hs
 put_if m None hs = hs
@@ -61,7 +61,7 @@ held_at voxel h m = (fold voxel (take m h)).items
 abbrev pub totals_on : List Item → ℕ → Reply
 totals_on items m = reply.Totals m (live_count items) (suspended_count items)
 
--- the same of what is held after so many updates as the mark says
+-- the totals of what is held after the first m updates
 abbrev pub totals_reply : ℕ → List Update → ℕ → Reply
 totals_reply voxel h m = totals_on (held_at voxel h m) m
 
@@ -69,7 +69,7 @@ totals_reply voxel h m = totals_on (held_at voxel h m) m
 abbrev pub found_reply : ℕ → List Item → ℕ → BoxReply
 found_reply m items k = record { mark = m; count = length items; items = take k items }
 
--- the same of clusters
+-- how many clusters were found, and the first k of them
 abbrev pub clusters_reply : ℕ → List Group → ℕ → ClusterReply
 clusters_reply m groups k = record { mark = m; count = length groups; groups = take k groups }
 
@@ -85,7 +85,7 @@ reply_on items (Clusters caller k r) m = reply.Clusters (clusters_reply m (clust
 reply_on items (Pose caller rules p) m = reply.Done m
 reply_on items Sync m = totals_on items m
 
--- the reply to a command after so many updates as its mark says
+-- the reply to a command after as many updates as its mark is
 abbrev pub reply_to : ℕ → List Update → Command → ℕ → Reply
 reply_to voxel h c m = reply_on (held_at voxel h m) c m
 
@@ -110,12 +110,12 @@ mark_of (reply.Lonely r) = r.mark
 mark_of (reply.Clusters r) = r.mark
 mark_of (reply.Totals m live suspended) = m
 
--- the mark of a command in the log's order, where n updates stand before it
+-- the mark of a command in the log's order, after n updates
 abbrev pub mark_from : ℕ → Option Update → ℕ
 mark_from n (Some u) = n + 1
 mark_from n None = n
 
--- the marks of a run in the log's order, where n updates stand before
+-- the marks of a run in the log's order, after n updates
 abbrev pub serial_marks_from : ℕ → List Command → List ℕ
 serial_marks_from n [] = n ∷ []
 serial_marks_from n (c ∷ cs) = mark_from n (command_update c) ∷ serial_marks_from (mark_from n (command_update c)) cs
@@ -206,6 +206,6 @@ lines_text format (c ∷ cs) (r ∷ rs) = reply_text format (Some c) r ++ lines_
 lines_text format [] (r ∷ rs) = reply_text format None r
 lines_text format cs [] = []
 
--- the transcript of a script under these marks: each pose is answered as the deletion that it submits
+-- the transcript of a script under these marks: the reply to each pose is that to the deletion that it submits
 abbrev pub text : ScriptAt → List ℕ → List ℕ
 text s marks = lines_text s.format s.commands (replies (plain_script s) marks)

@@ -17,7 +17,7 @@ use std::alloc::Global;
 
 const MAX_BOXES_OF_COMMAND: usize = 262_144;
 
-/// The boxes that the fields spell, one or more, up to the limit of a command.
+/// The boxes that the fields spell, from one to the limit of a command.
 #[tactic(auto, unfolding(crate::specs::Reading::few_boxes_of))]
 pub fn boxes(alloc: Global, format: Format, fields: Fields) -> Result<Cuboids, LineFault>
     ensures { Gives result (few_boxes_of format fields.entry) }
@@ -26,7 +26,7 @@ pub fn boxes(alloc: Global, format: Format, fields: Fields) -> Result<Cuboids, L
     all_boxes(alloc, format, count, fields)
 }
 
-// Takes memory for so many at once.
+// Takes memory for all at once.
 fn all_boxes(
     alloc: Global,
     format: Format,
@@ -44,7 +44,7 @@ fn all_boxes(
     Ok(Cuboids::from(boxes))
 }
 
-// The box whose first field was read, and whose others come next.
+// The box whose first field is `x`.
 fn box_from(format: Format, x: &[u8], fields: &mut Fields) -> Result<Cuboid, LogCause>
     ensures value { boxes_of format (x.now ∷ fields.old) ≡ with_boxes format result fields.new }
     ensures fewer { OnOk result (length fields.new < length fields.old) }
@@ -61,7 +61,7 @@ fn box_from(format: Format, x: &[u8], fields: &mut Fields) -> Result<Cuboid, Log
     cuboid(format, x, y, z, far_x, far_y, far_z)
 }
 
-/// The box of each point that the fields spell, which holds that point alone.
+/// For each point that the fields spell, the box that holds that point alone.
 #[tactic(auto, unfolding(crate::specs::Reading::units_of))]
 pub fn units(alloc: Global, format: Format, fields: Fields) -> Result<Cuboids, LineFault>
     ensures { Gives result (units_of format fields.entry) }
@@ -85,7 +85,6 @@ fn units_around(alloc: Global, points: &[Point]) -> Result<Cuboids, LineFault>
     Ok(Cuboids::from(units))
 }
 
-/// The box of two corners, by their numbers.
 #[tactic(auto, unfolding(crate::specs::Reading::box_of))]
 pub fn cuboid(
     format: Format,

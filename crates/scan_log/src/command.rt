@@ -19,7 +19,7 @@ pub enum Command {
     Near {
         /// From 1 to 8.
         caller: u8,
-        /// How many points are looked for at most, from 1 to 256.
+        /// At most how many points are looked for, from 1 to 256.
         k: u32,
         /// Of intensity 0.
         point: Point,
@@ -30,7 +30,7 @@ pub enum Command {
     Nears {
         /// From 1 to 8.
         caller: u8,
-        /// How many points are looked for at most round each place, from 1 to 256.
+        /// At most how many points are looked for round each place, from 1 to 256.
         k: u32,
         /// The places, each of intensity 0.
         points: Points,
@@ -39,7 +39,7 @@ pub enum Command {
     Inside {
         /// From 1 to 8.
         caller: u8,
-        /// How many points are listed at most, from 1 to 256.
+        /// At most how many points are listed, from 1 to 256.
         k: u32,
         cuboid: Cuboid,
     },
@@ -47,7 +47,7 @@ pub enum Command {
     Ball {
         /// From 1 to 8.
         caller: u8,
-        /// How many points are listed at most, from 1 to 256.
+        /// At most how many points are listed, from 1 to 256.
         k: u32,
         /// The greatest distance, in millimetres, up to 4,398,046,511,104.
         r: u64,
@@ -58,7 +58,7 @@ pub enum Command {
     Lonely {
         /// From 1 to 8.
         caller: u8,
-        /// How many points are listed at most, from 1 to 256.
+        /// At most how many points are listed, from 1 to 256.
         k: u32,
         /// Up to which distance a point is near, in millimetres, at most 4,398,046,511,104.
         r: u64,
@@ -67,12 +67,12 @@ pub enum Command {
     Clusters {
         /// From 1 to 8.
         caller: u8,
-        /// How many clusters are listed at most, from 1 to 256.
+        /// At most how many clusters are listed, from 1 to 256.
         k: u32,
         /// Up to which distance two points are joined, in millimetres, at most 4,398,046,511,104.
         r: u64,
     },
-    /// A place that a robot has come to. What its region of the map leaves behind by it is deleted. In logs of version 2 alone.
+    /// A place that a robot has come to. What leaves its region of the map by this move is deleted. In logs of version 2 alone.
     Pose {
         /// From 1 to 8.
         caller: u8,
@@ -81,11 +81,11 @@ pub enum Command {
         /// Of intensity 0.
         point: Point,
     },
-    /// A barrier: what stands after it comes after what stands before it.
+    /// A barrier: commands after it run after those before it.
     Sync,
 }
 
-// By hand, so that whoever lets a command go proves one call.
+// Manual `Drop`: a derived one is proved at every exit of every owner.
 impl Drop for Command {
     fn drop(self) {
         match self {
@@ -141,7 +141,7 @@ impl Command {
     ghost use Rattle.scan_log.specs.Scripts.{IsCommand, asked, submitted};
     ghost use Rattle.scan_log.specs.Commands.{command_caller};
 
-    /// Whose it is, by the caller's number. A barrier is nobody's.
+    /// The caller's number. A barrier has none.
     pub fn caller(&self) -> Option<u8>
         ensures { result ≡ command_caller self.now }
     {

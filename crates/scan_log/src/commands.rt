@@ -17,13 +17,12 @@ use crate::{Command, Format, LogCause};
 use map_items::{MAX_POINTS, Update};
 use std::alloc::Global;
 
-/// The most commands of a log: 65,536.
 pub const MAX_COMMANDS: usize = 65_536;
 
 const MAX_POINTS_OF_COMMAND: usize = 262_144;
 
-/// The command that the line spells, where so many commands stand before it, and the log has room for so many points and its
-/// replies for so many hits.
+/// The command that the line spells, after `before` commands, where the log has room for `room` points and its replies for `hits`
+/// hits.
 pub fn line_command(
     alloc: Global,
     format: Format,
@@ -95,7 +94,7 @@ fn called(room: Room, caller: u8, word: &[u8], fields: Fields) -> Result<Command
     }
 }
 
-// The command of version 2, whatever the room says of it.
+// The command of version 2, whatever the room.
 #[tactic(auto, unfolding(crate::specs::Reading::called_of))]
 fn wide(room: Room, caller: u8, word: &[u8], fields: Fields) -> Result<Command, LineFault>
     ensures { Gives result (called_of Two room.points caller word.now fields.entry) }

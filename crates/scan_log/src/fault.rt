@@ -8,9 +8,9 @@ use std::fmt::{Display, Error, Formatter, Write};
 /// What is wrong with a line of a log.
 #[derive(Clone, Copy, Debug, PartialEq, Eq)]
 pub enum LogCause {
-    /// The first line that is kept is no header.
+    /// The first kept line is no header.
     NoHeader,
-    /// The line's word is no command of the log's version, or there is none.
+    /// The line's first word is no command of the log's version, or there is none.
     UnknownCommand,
     /// The caller isn't one of 1 to 8.
     BadCaller,
@@ -34,7 +34,7 @@ impl LogCause {
     ghost use Rattle.std.specs.Prelude.{◌≡◌};
     ghost use Rattle.scan_log.specs.Faults.{cause_text, is_limit};
 
-    /// What is told of it.
+    /// Its text in notes.
     pub fn text(self) -> &'static [u8]
         ensures { result.now ≡ cause_text self }
     {
@@ -66,14 +66,12 @@ impl LogCause {
 /// Why bytes were not read as a script.
 #[derive(Clone, Copy, Debug, PartialEq, Eq)]
 pub enum ParseFault {
-    /// They are no log.
     Bad {
         /// The first faulty line, counted from 1.
         line: u32,
         /// The first fault in it.
         cause: LogCause,
     },
-    /// There was no memory.
     NoMemory,
 }
 

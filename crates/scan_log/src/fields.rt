@@ -11,11 +11,11 @@ use crate::{Format, LogCause};
 use log_numbers::front_number;
 use std::marker::Model;
 
-/// The fields that are left.
+/// The remaining fields.
 #[derive(Drop)]
 pub struct Fields<'a> {
     rest: &'a [u8],
-    // A field is left, though it may be empty.
+    // Whether there is a field, though it may be empty.
     more: bool,
 }
 
@@ -93,7 +93,7 @@ impl<'a> Fields<'a> {
         as_intensity(number)
     }
 
-    // The number that the next field spells, in one pass, where `next` would be a pass before it.
+    // One pass, where `next` would be another before it.
     fn number(&mut self) -> Result<i64, LogCause>
         ensures value { result ≡ first_number self.old }
         ensures rest { OnOk result (self.new ≡ drop 1 self.old) }

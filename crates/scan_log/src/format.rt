@@ -14,7 +14,6 @@ impl Format {
     ghost use Rattle.std.specs.Prelude.{◌≡◌, ◌≤ℤ◌, pos, negsuc};
     ghost use Rattle.scan_log.specs.Formats.{box_highest, farthest, has_expiry, highest, lowest};
 
-    /// Whether points expire in it.
     pub(crate) fn has_expiry(self) -> bool
         ensures { result ≡ has_expiry self }
     {
@@ -24,7 +23,6 @@ impl Format {
         }
     }
 
-    /// How far its numbers reach.
     pub(crate) fn limits(self) -> Limits
         ensures lowest { result.lowest ≡ lowest self }
         ensures highest { result.highest ≡ highest self }

@@ -33,7 +33,7 @@ pub fn settings(header: &[u8]) -> Result<(Format, Settings), LogCause>
     Ok((format_of(version), Settings::new(voxel, large)))
 }
 
-// What a header has beside its two numbers.
+// What a header has besides its two numbers.
 fn are_words(program: &[u8], version: &[u8], voxel: &[u8], large: &[u8]) -> bool
     ensures { result ≡ are_header_words program.now version.now voxel.now large.now }
 {

@@ -16,7 +16,7 @@ impl LineFault {
     ghost use Rattle.std.specs.Prelude.{◌≡◌};
     ghost use Rattle.scan_log.specs.Outcomes.{fault_on};
 
-    /// The fault of the log whose line of this number it is.
+    /// This fault, of the line with this number.
     pub fn on_line(self, line: u32) -> ParseFault
         ensures { result ≡ fault_on line self }
     {

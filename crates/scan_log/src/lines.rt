@@ -7,7 +7,7 @@ ghost use Rattle.scan_log.specs.Lines.{is_kept_line, kept_from, lines_of};
 use crate::piece::place_of;
 use std::marker::Model;
 
-/// The kept lines that are left.
+/// The remaining kept lines.
 #[derive(Drop)]
 pub struct Lines<'a> {
     rest: &'a [u8],

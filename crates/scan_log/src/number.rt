@@ -51,8 +51,8 @@ pub fn distance(format: Format, field: &[u8]) -> Result<u64, LogCause>
     Ok(number as u64)
 }
 
-/// The number that the field spells in its one spelling, if it is from low to high: `BadNumber` where it spells none,
-/// `OutOfRange` where it is another. The field may have any length.
+/// The number from `low` to `high` that the field spells in its one spelling: `BadNumber` where it spells none, `OutOfRange` where
+/// it is another. The field may have any length.
 pub fn natural_in(low: u32, high: u32, field: &[u8]) -> Result<u32, LogCause>
     ensures value { result ≡ natural_in low high field.now }
     ensures range { IfOk result (λ n. (low ≤ n) × (n ≤ high)) }
@@ -61,7 +61,7 @@ pub fn natural_in(low: u32, high: u32, field: &[u8]) -> Result<u32, LogCause>
     Ok(number as u32)
 }
 
-/// The same of a number that may be longer.
+/// As `natural_in`, for longer numbers.
 pub fn long_in(low: u64, high: u64, field: &[u8]) -> Result<u64, LogCause>
     requires low { low ≤ high }
     requires high { high ≤ 999999999999999999 }

@@ -18,8 +18,8 @@ use std::alloc::Global;
 // Of all replies together, which are kept in memory.
 const MAX_HITS: usize = 16_777_216;
 
-/// The script that the log spells, or the first fault of the first faulty line. Costs time by the log's length, and memory
-/// by the points and commands read.
+/// The script of the log, or the first fault of the first faulty line. Costs time by the log's length, and memory by the points and
+/// commands read.
 pub fn parse(alloc: Global, log: &[u8]) -> Result<Script, ParseFault>
     requires lines { line_feeds log.now ≤ 4294967294 }
 
@@ -31,7 +31,7 @@ pub fn parse(alloc: Global, log: &[u8]) -> Result<Script, ParseFault>
     // The fault is the first one, and nothing is spelled then.
     ensures fault { IfErr result (IsParseFault log.now) }
 
-    // So it is with all bytes, also where memory runs out.
+    // So it is with all bytes, also on `NoMemory`.
     ensures either { IsSpelledOrFaulty log.now }
 {
     read(alloc, log)

@@ -4,17 +4,16 @@ ghost use Rattle.std.specs.Str.{bytes_eq};
 
 use memchr::memchr;
 
-// A count of so few bytes fits into one, so that many are compared at a time.
+// A count of at most 255 bytes fits into one byte, so that many are compared at a time.
 const BYTES_AT_A_TIME: usize = 255;
 
-/// Whether the field is this word.
 pub fn is_word(field: &[u8], word: &[u8]) -> bool
     ensures { result ≡ bytes_eq field.now word.now }
 {
     field == word
 }
 
-/// Where the byte stands first.
+/// Where the byte is first.
 pub fn place_of(byte: u8, bytes: &[u8]) -> Option<usize>
     ensures value { result ≡ position (λ b. b == byte) bytes.now }
     ensures bound { IfSome result (λ place. place < length bytes.now) }
@@ -22,7 +21,6 @@ pub fn place_of(byte: u8, bytes: &[u8]) -> Option<usize>
     memchr(byte, bytes)
 }
 
-/// How often the byte stands there.
 pub fn count_of(byte: u8, bytes: &[u8]) -> usize
     ensures value { result ≡ count_by (λ b. b == byte) bytes.now }
     ensures bound { result ≤ length bytes.now }

@@ -13,7 +13,7 @@ use point_geom::Point;
 use std::alloc::Global;
 use std::marker::Model;
 
-/// A script in which each pose stands as the change that it submits: the deletion of what its caller's region leaves.
+/// A script in which each pose is the change that it submits: the deletion of what leaves its caller's region.
 #[derive(Drop)]
 pub struct PlainScript {
     format: Format,
@@ -30,8 +30,7 @@ impl Model for PlainScript {
 }
 
 impl PlainScript {
-    /// The script with each pose's change put in its place. Takes memory for these changes alone, and drops the script where that
-    /// runs out.
+    /// Replaces each pose by its change. Takes memory for these changes alone. On `NoMemory` the script is dropped.
     pub fn of(alloc: Global, script: Script) -> Result<PlainScript, NoMemory>
         ensures { IfOk result (λ s. s ≡ plain_script script) }
     {
@@ -45,7 +44,7 @@ impl PlainScript {
         })
     }
 
-    /// The same of a copy, which takes about as much memory as the script.
+    /// As `of`, on a copy, which takes about as much memory as the script.
     pub fn copied(alloc: Global, script: &Script) -> Result<PlainScript, NoMemory>
         ensures { IfOk result (λ s. s ≡ plain_script script.now) }
     {
@@ -75,7 +74,6 @@ impl PlainScript {
     }
 }
 
-// The commands, each pose's change put in its place.
 fn with_changes(alloc: Global, commands: Vec<Command>) -> Result<Vec<Command>, NoMemory>
     requires { AllByRecursion (IsCommand Two) commands.items }
     ensures { IfOk result (λ v. v.items ≡ plain commands.items) }
@@ -85,7 +83,6 @@ fn with_changes(alloc: Global, commands: Vec<Command>) -> Result<Vec<Command>, N
     Ok(commands)
 }
 
-// Puts each pose's change in its place.
 fn put_changes(alloc: Global, commands: &mut [Command]) -> Result<(), NoMemory>
     requires { AllByRecursion (IsCommand Two) commands.old }
     ensures { OnOk result (commands.new ≡ plain commands.old) }
@@ -97,7 +94,7 @@ fn put_changes(alloc: Global, commands: &mut [Command]) -> Result<(), NoMemory>
     Ok(())
 }
 
-// None of the eight callers has a region yet.
+// No caller has a region yet.
 fn no_regions(alloc: Global) -> Result<Vec<Option<Region>>, NoMemory>
     ensures { IfOk result (λ v. v.items ≡ no_regions) }
 {
@@ -106,7 +103,7 @@ fn no_regions(alloc: Global) -> Result<Vec<Option<Region>>, NoMemory>
     Ok(regions)
 }
 
-// Puts the change that a pose submits in its place, where these are the regions of callers 1 to 8, which it moves.
+// Replaces a pose by its change. `regions` are those of callers 1 to 8; it moves its caller's.
 fn put_change(
     alloc: Global,
     regions: &mut [Option<Region>],
@@ -135,7 +132,7 @@ fn put_change(
     Ok(())
 }
 
-// Moves a caller's region, or begins it, and answers what it leaves.
+// Moves a caller's region, or begins it, and returns what leaves it.
 fn left_at(
     alloc: Global,
     region: &mut Option<Region>,

@@ -14,7 +14,7 @@ use map_items::Points;
 use point_geom::Point;
 use std::alloc::Global;
 
-/// How many groups of so many fields are left: one or more, and no more than allowed.
+/// How many groups of `size` fields remain: from one to `most`.
 #[tactic(auto, unfolding(crate::specs::Reading::groups_of))]
 pub fn groups(fields: &Fields, size: usize, most: usize) -> Result<usize, LogCause>
     requires { 0 < size }
@@ -57,7 +57,7 @@ pub fn scanned_points(room: Room, fields: Fields) -> Result<Points, LineFault>
     }
 }
 
-// Takes memory for so many at once.
+// Takes memory for all at once.
 fn all_scanned(alloc: Global, count: usize, fields: Fields) -> Result<Points, LineFault>
     requires { length fields ≡ 4 * count }
     ensures { Gives result (scanned_places_of Two fields.entry) }
@@ -82,8 +82,8 @@ fn next_scanned(fields: &mut Fields) -> Result<Point, LogCause>
     Ok(point.with_intensity(intensity))
 }
 
-/// The points that so many groups of fields spell. Takes memory for so many at once. Part of its callers, so that where the
-/// version is known its limits are constants.
+/// The points that `count` groups of fields spell. Takes memory for all at once. Inlined, so that where the version is known its
+/// limits are constants.
 #[inline(always)]
 pub fn all_points(
     alloc: Global,
@@ -114,7 +114,6 @@ fn next_point(format: Format, fields: &mut Fields) -> Result<Point, LogCause>
     point_at(format, x, y, z)
 }
 
-/// The point of three coordinates.
 #[tactic(auto, unfolding(crate::specs::Reading::place_of))]
 pub fn point(format: Format, x: &[u8], y: &[u8], z: &[u8]) -> Result<Point, LogCause>
     ensures { result ≡ place_of format x.now y.now z.now }
@@ -125,7 +124,7 @@ pub fn point(format: Format, x: &[u8], y: &[u8], z: &[u8]) -> Result<Point, LogC
     point_at(format, x, y, z)
 }
 
-// Nothing that was read is refused.
+// Every coordinate that was read is in range.
 fn point_at(format: Format, x: i64, y: i64, z: i64) -> Result<Point, LogCause>
     requires x { IsLogCoordinate format x }
     requires y { IsLogCoordinate format y }

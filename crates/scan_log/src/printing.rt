@@ -10,9 +10,8 @@ use crate::{Command, Format, Reply};
 use map_fold::{BoxReply, ClusterReply, Group, Hit, Hits, NearReply, NearsReply};
 use map_items::{Item, NoMemory};
 
-/// Puts the line of a reply at the end, as it is for logs of this version. No command stands for the end of the log. A reply
-/// that isn't of the command's kind has no line. Where memory runs out, nothing is put. The line takes memory of its own while
-/// it is made.
+/// Appends the line of a reply, as logs of this version have it. `command` is `None` for the end of the log. A reply that isn't of
+/// the command's kind has no line. On `NoMemory` nothing is appended. The line takes memory of its own while it is made.
 pub fn reply_line(
     out: &mut Vec<u8>,
     format: Format,
@@ -27,7 +26,7 @@ pub fn reply_line(
     put(out, line.as_slice())
 }
 
-// What these put of a line where memory runs out isn't said: it is dropped.
+// On `NoMemory` these may leave a part of the line, which is dropped.
 
 fn put_reply(
     out: &mut Vec<u8>,

@@ -1,5 +1,4 @@
-//! Putting what lines are made of, those of a transcript and those of a log. What these put where memory runs out isn't said:
-//! the line or the log is dropped.
+//! Appending what lines of transcripts and logs are made of. On `NoMemory` a part may be appended: the line or the log is dropped.
 ghost use Rattle.std.specs.Prelude.{◌≡◌, [], ◌∷◌, ◌++◌, List, ℕ, OnOk, OnErr};
 ghost use Rattle.std.specs.Fmt.{signed_decimal};
 ghost use Rattle.std.specs.List.{flat_map};
@@ -12,17 +11,15 @@ use itoa::{Buffer, Integer};
 use map_items::NoMemory;
 use point_geom::Point;
 
-/// What may stand several times in a row.
+/// What may come several times in a row.
 pub(crate) trait Listed {
-    /// Its text, where the log has this version.
+    /// Its text, in a log of this version.
     ghost text: { Format → Self → List ℕ };
 
-    /// Puts its text at the end.
     fn put(&self, out: &mut Vec<u8>, format: Format) -> Result<(), NoMemory>
         ensures { OnOk result (out.new.items ≡ out.old.items ++ text format self.now) };
 }
 
-/// Puts the texts of all, in order.
 pub(crate) fn put_all<T: Listed>(
     out: &mut Vec<u8>,
     format: Format,
@@ -43,7 +40,7 @@ pub(crate) fn put_caller(out: &mut Vec<u8>, caller: u8) -> Result<(), NoMemory>
     put_number(out, caller)
 }
 
-/// The caller, the word and its number that a line begins with.
+/// What a line begins with: the caller, the word and its number.
 pub(crate) fn put_head<I: Integer>(
     out: &mut Vec<u8>,
     caller: u8,

@@ -1,4 +1,4 @@
-//! Reading what is asked.
+//! Reading queries.
 ghost use Rattle.std.specs.Prelude.{◌≡◌};
 ghost use Rattle.std.specs.Option.{option_copied};
 ghost use Rattle.scan_log.specs.Outcomes.{Gives};
@@ -39,7 +39,7 @@ pub fn near(format: Format, caller: u8, fields: Fields) -> Result<Command, LogCa
     nearest(format, caller, k, x, y, z, Some(distance))
 }
 
-// The search for so many points that are nearest to a place, up to a distance if one is given.
+// The distance, if there is one, is a bound.
 #[tactic(auto, unfolding(crate::specs::Reading::near_of))]
 fn nearest(
     format: Format,

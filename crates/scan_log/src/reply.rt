@@ -3,9 +3,9 @@ use map_fold::{BoxReply, ClusterReply, NearReply, NearsReply};
 
 /// The reply to a command, or the one at the end.
 pub enum Reply {
-    /// A change was made.
+    /// An update was made.
     Done {
-        /// Its place among the changes, from 1.
+        /// Its number among the updates, from 1.
         mark: u64,
     },
     /// What a search for the nearest points found.
@@ -22,14 +22,14 @@ pub enum Reply {
     Clusters(ClusterReply),
     /// How many points are held.
     Totals {
-        /// The number of changes of the log that stand before it.
+        /// How many updates were made before it.
         mark: u64,
         live: u32,
         suspended: u32,
     },
 }
 
-// By hand, so that whoever lets a reply go proves one call.
+// Manual `Drop`: a derived one is proved at every exit of every owner.
 impl Drop for Reply {
     fn drop(self) {
         match self {

@@ -1,4 +1,4 @@
-//! Where the points of a command are put.
+//! Where the points of a command go.
 use crate::Format;
 use std::alloc::Global;
 
@@ -6,7 +6,6 @@ use std::alloc::Global;
 #[derive(Clone, Copy)]
 pub struct Room {
     pub alloc: Global,
-    /// The version of the log.
     pub format: Format,
     /// For how many points there is room.
     pub points: usize,

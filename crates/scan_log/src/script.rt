@@ -1,4 +1,4 @@
-//! Scripts: what a log says.
+//! Scripts: what is in a log.
 ghost use Rattle.std.specs.Prelude.{◌≡◌, [], OnOk, OnErr, IfOk};
 ghost use Rattle.std.specs.List.{AllByRecursion};
 ghost use Rattle.scan_log.specs.declared.format.Format.TheVariants.{Two};
@@ -31,7 +31,7 @@ impl Script {
         ensures value { result ≡ record { format = format; sizes = settings; commands = [] } }
         ensures limits { IsScript result }
     {
-        // Says that the settings are in their limits.
+        // A fact: the settings are in their limits.
         let _ = settings.voxel();
         Script {
             format,
@@ -65,8 +65,8 @@ impl Script {
         self.commands.as_slice()
     }
 
-    /// Puts one more command at the end. Points have the intensity 0, but for those that are added or thinned in version 2.
-    /// Where memory runs out, the script stays as it was.
+    /// Appends a command. Points have the intensity 0, except those that are added or thinned in version 2. On `NoMemory` the
+    /// script stays as it was.
     pub fn push(&mut self, command: Command) -> Result<(), NoMemory>
         requires { IsScript (with_command self.old command) }
         ensures ok { OnOk result (self.new ≡ with_command self.old command) }

@@ -18,7 +18,7 @@ use point_geom::{Corner, Cuboid, Point};
 use std::alloc::Global;
 
 /// The log of the script: its header, and a line for each command. A deletion is written with its boxes, whichever way it was
-/// spelled. Costs time and memory by the log's length, which may lie above what a program reads.
+/// spelled. Costs time and memory by the log's length, which may exceed what a program reads.
 pub fn write_script(alloc: Global, script: &Script) -> Result<Vec<u8>, NoMemory>
     ensures text { IfOk result (λ log. log.items ≡ script_text script.now) }
 
@@ -33,14 +33,14 @@ pub fn write_script(alloc: Global, script: &Script) -> Result<Vec<u8>, NoMemory>
     Ok(log)
 }
 
-/// Puts a log's header at the end, with its line feed.
+/// Appends a log's header, with its line feed. On `NoMemory` maybe a part of it.
 pub fn write_header(out: &mut Vec<u8>, format: Format, settings: &Settings) -> Result<(), NoMemory>
     ensures { OnOk result (out.new.items ≡ out.old.items ++ written_line (header_fields format settings.now)) }
 {
     put_header(out, format, settings)
 }
 
-/// Puts the command's line at the end, as a log of this version has it.
+/// Appends the command's line, as a log of this version has it. On `NoMemory` maybe a part of it.
 pub fn write_command(out: &mut Vec<u8>, format: Format, command: &Command) -> Result<(), NoMemory>
     ensures { OnOk result (out.new.items ≡ out.old.items ++ command_text format command.now) }
 {
@@ -56,7 +56,6 @@ fn put_header(out: &mut Vec<u8>, format: Format, settings: &Settings) -> Result<
     put(out, b"\n")
 }
 
-// The program's name and the version.
 fn program_of(format: Format) -> &'static [u8]
     ensures { result.now ≡ codes "ikdmap" ++ spaced (version_field format) }
 {
@@ -183,7 +182,6 @@ fn put_update(out: &mut Vec<u8>, format: Format, update: &Update) -> Result<(), 
     }
 }
 
-// A word, and points or boxes.
 fn put_several<T: Listed>(
     out: &mut Vec<u8>,
     format: Format,
