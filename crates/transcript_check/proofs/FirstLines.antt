@@ -28,7 +28,7 @@ test_true x b e = grind (arith, nat_tests)
 from_test : (x b : ℕ) → nat_eq x b ≡ true → x ≡ b
 from_test x b e = grind (arith, nat_tests)
 
--- what `memchr` answers
+-- what `memchr` returns
 pub first_at : (b : ℕ) (xs : List ℕ) (k : ℕ) → IsFirstByte (is_byte b) xs (Some k) → IsFirstAt b xs k
 first_at b xs k h = record {
   within = h.0.high;
@@ -75,7 +75,7 @@ field_all (x ∷ xs) h =
         by_case true e = absurd (never (from_test x 32 e))
         by_case false e = e
 
--- behind a front comes what comes behind both its parts
+-- what is after `front` and `word` is after `word`, in what is after `front`
 pub behind_both : (front word line middle : List ℕ) (r : Option (Bor (List ℕ))) → line ≡ front ++ middle
     → MatchOption r ((rest : List ℕ) → middle ≡ word ++ rest → ⊥) (λ rest. middle ≡ word ++ rest.now)
     → MatchOption r ((rest : List ℕ) → line ≡ front ++ word ++ rest → ⊥) (λ rest. line ≡ front ++ word ++ rest.now)

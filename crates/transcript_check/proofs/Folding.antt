@@ -24,7 +24,7 @@ points-append : (us vs : List Update) → points_in_all (us ++ vs) ≡ points_in
 points-append [] vs = omega arith
 points-append (u ∷ us) vs = let r = points-append us vs in omega arith
 
--- the points of a front are no more than all
+-- the points of a prefix are at most all
 pub points_of_front : (n : ℕ) (us : List Update) → points_in_all (take n us) ≤ points_in_all us
 points_of_front zero us = omega arith
 points_of_front (suc n) [] = omega arith
@@ -62,7 +62,7 @@ changes_history cs marks us is = all us ∙ ap (λ (hs : List (ℕ × Update)). 
     all [] = refl
     all (u ∷ us) = ap (λ (vs : List Update). u.update.now ∷ vs) (all us)
 
--- a front, and the part behind it up to a later place
+-- a prefix, and the part after it up to a later index
 pub front_parts : (i j : ℕ) (us : List Update) → i ≤ j → take i us ++ take (j - i) (drop i us) ≡ take j us
 front_parts zero j us h = let e : j - 0 ≡ j = omega arith in ap (λ n. take n us) e
 front_parts (suc i) zero us h = absurd (omega arith)

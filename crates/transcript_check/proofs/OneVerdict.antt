@@ -42,7 +42,7 @@ same_cut (x ∷ a) (y ∷ b) r t p q e =
     let s = same_cut a b r t p.1 q.1 tail in
     record { lines = ap (λ z. z ∷ a) first ∙ ap (λ (zs : List ℕ). y ∷ zs) s.lines; rests = s.rests }
 
--- two marked lines at the front are the same, and their marks
+-- two marked first lines are the same, and their marks
 pub record IsSameLine (x y r t : List ℕ) (m n : ℕ) : Type 0 where
   pub lines : x ≡ y
   pub rests : r ≡ t

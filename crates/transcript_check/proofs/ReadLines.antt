@@ -24,7 +24,7 @@ take_suc [] (suc i) h = absurd (omega arith)
 take_suc (c ∷ cs) zero h = refl
 take_suc (c ∷ cs) (suc i) h = ap (λ xs. head (Some c) ∷ xs) (take_suc cs i (omega arith))
 
--- the line at i answers the command at i, or the end
+-- the line at i is the reply to the command at i, or to the end
 pub heads_drop : (cs : List Command) (i : ℕ) → i ≤ length cs → drop i (heads cs) ≡ head (slice_get cs i) ∷ drop (i + 1) (heads cs)
 heads_drop cs i h = let e : i + 1 ≡ suc i = omega arith in rw e (drop_suc cs i h)
 
@@ -73,7 +73,7 @@ unspelled_at cs out k told rest read low never =
       stops = rw (long, heads_drop cs k low) never;
     }
 
--- behind all lines bytes are left
+-- after all lines bytes remain
 pub unspelled_past : (cs : List Command) (out : List ℕ) (k : ℕ) (told : List Told) (rest : List ℕ) → AreRead cs out k told rest → length cs + 1 ≤ k
     → 0 < length rest → IsUnspelled (heads cs) out (k + 1)
 unspelled_past cs out k told rest read high some =

@@ -139,7 +139,7 @@ good_at [] i good x e = absurd (cc)
 good_at (c ∷ cs) zero good x e = let same : c ≡ x = cc in subst IsPlain same good.0
 good_at (c ∷ cs) (suc i) good x e = good_at cs i good.1 x e
 
--- a line is the same as its reply's where the text on the map at its mark is
+-- a line is its reply's where it is the text on the map at its mark
 pub same_as : (s : ScriptAt) (told : List Told) (us : List Marked) (places : List Placed) (new : MapAt) (i m : ℕ) (d : Told) → IsGiven s told us places
     → new ≡ fold s.sizes.voxel (take m (changes_of us)) → i < length told → slice_get (marks_of told) i ≡ Some m
     → (right : List ℕ) × (slice_get (lines_told told) i ≡ Some (get_or told i d).line.now) × (slice_get (lines_under s (marks_of told)) i ≡ Some right)
@@ -158,7 +158,7 @@ same_as s told us places new i m d given is below placed =
 abbrev pub blank_place : Placed
 blank_place = record { mark = 0; place = 0 }
 
--- what is given, of a list that is the same
+-- what is given, of an equal list
 pub given_of : (s : ScriptAt) (told : List Told) (us : List Marked) (places ats : List Placed) → IsPlainScript s → IsLegal s.commands (marks_of told) → length told ≡ length s.commands + 1
     → updates_of us ≡ marked_updates s.commands (marks_of told) → ats ≡ places → IsNonDecreasingBy (λ (p : Placed). p.mark) places → All (IsPlaced (marks_of told)) places
     → ((i m : ℕ) → slice_get (marks_of told) i ≡ Some m → Contains places (record { mark = m; place = i })) → IsGiven s told us ats
@@ -196,7 +196,7 @@ up_to k j P h below here = elim (cases_order j k) [
   | inr other ↦ elim other [ inl before ↦ below before | inr after ↦ absurd (omega arith) ]
 ]
 
--- one place more, whose line is that of its reply if it stands before the line named
+-- one place more, whose line is that of its reply if it is before the line named
 pub so_far_same : (s : ScriptAt) (told : List Told) (us : List Marked) (places : List Placed) (k : ℕ) (held new : MapAt) (level first : ℕ) (p : Placed) → IsGiven s told us places
     → SoFar s told us places k held level first → k < length places → p ≡ get_or places k p → new ≡ fold s.sizes.voxel (take p.mark (changes_of us))
     → (p.place < first → SameAt s told p.place) → SoFar s told us places (k + 1) new p.mark first

@@ -33,7 +33,7 @@ marked head bytes m tail few is cut first rest = record {
   spelled = record { behind = decimal m ++ tail; begun = refl; number = field_decimal m tail cut; few = few };
 }
 
--- the same of a caller's line, behind whose word the mark stands
+-- `marked`, of a caller's line, where the mark is after the word
 called : (caller : ℕ) (word : List ℕ) (m : ℕ) (tail : List ℕ) → m ≤ 65536 → IsCutOff tail → ArePlain word → ArePlain tail
     → IsMarked (caller_field caller ++ word) (caller_field caller ++ word ++ decimal m ++ tail ++ 10 ∷ []) m
 called caller word m tail few cut plain rest =
@@ -131,7 +131,7 @@ joined_replies format [] (r ∷ rs) = append-nil (reply_text format None r)
 joined_replies format (c ∷ cs) [] = refl
 joined_replies format (c ∷ cs) (r ∷ rs) = ap (λ (xs : List ℕ). reply_text format (Some c) r ++ xs) (joined_replies format cs rs)
 
--- a pose is answered as the change that it submits
+-- the reply to a pose is that to the change that it submits
 head_plain : (regions : List (Option RegionAt)) (c : Command) → head (Some (plain_command regions c)) ≡ head (Some c)
 head_plain regions (Change caller u) = refl
 head_plain regions (Near caller k p within) = refl

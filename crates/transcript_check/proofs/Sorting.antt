@@ -34,7 +34,7 @@ has k h = nat_eq h.0 k
 abbrev AllFrom : ℕ → List (ℕ × Update) → Type 0
 AllFrom k hs = AllByRecursion (λ h. k ≤ h.0) hs
 
--- no mark is below one that stands before it
+-- no mark is below one before it
 abbrev Rising : List (ℕ × Update) → Type 0
 Rising [] = Unit {0}
 Rising (h ∷ hs) = AllFrom h.0 hs × Rising hs
@@ -214,7 +214,7 @@ pub update_none : (us all : List Marked) (c : Command) (m : ℕ) (from to : List
     → from ≡ c ∷ to → marks ≡ m ∷ rest → updates_of all ++ plain_updates to rest ≡ updates_of us ++ plain_updates from marks
 update_none us all c m from to marks rest same other e f = rw (same, e, f) (ap (λ (hs : List (ℕ × Update)). updates_of us ++ hs) (sym (skipped c m to rest other)))
 
--- behind all commands no update is left
+-- after all commands no update remains
 pub plain_end : (cs : List Command) (marks : List ℕ) (n : ℕ) → length cs ≤ n → plain_updates (drop n cs) marks ≡ []
 plain_end cs marks n h = rw (drop_all n cs h) (none marks)
   where

@@ -9,7 +9,7 @@ use Rattle.scan_log.specs.declared.command.Command.TheVariants.{Change, Near, Ne
 use Rattle.scan_log.specs.declared.commands.TheConstants.{MAX_COMMANDS}
 use Rattle.scan_log.specs.Spelling.{caller_field}
 
--- how the line that answers a command begins, or the one at the end
+-- how the line of the reply to a command begins, or the one at the end
 abbrev pub head : Option Command → List ℕ
 head (Some (Change caller u)) = caller_field caller ++ codes " ok "
 head (Some (Near caller k p within)) = caller_field caller ++ codes " near "

@@ -30,7 +30,7 @@ lines_told told = map (λ t. t.line.now) told
 abbrev pub updates_of : List Marked → List (ℕ × Update)
 updates_of updates = map (λ u. (u.mark, u.update.now)) updates
 
--- the same without the marks
+-- the updates alone, in their order
 abbrev pub changes_of : List Marked → List Update
 changes_of updates = map (λ u. u.update.now) updates
 

@@ -17,7 +17,7 @@ use Rattle.transcript_check.specs.declared.verdict.Verdict.TheVariants.{Legal, U
 abbrev pub joined_lines : List (List ℕ) → List ℕ
 joined_lines lines = flat_map (λ line. line) lines
 
--- the first line is not there or spells no mark, or no line is asked for and bytes are left
+-- the first line is not there or spells no mark, or no line is asked for and bytes remain
 abbrev pub Stops : List (List ℕ) → List ℕ → Type 0
 Stops [] rest = 0 < length rest
 Stops (head ∷ heads) rest = (line behind : List ℕ) (m : ℕ) → rest ≡ line ++ behind → IsMarked head line m → ⊥
@@ -46,7 +46,7 @@ reply_lines format (c ∷ cs) (r ∷ rs) = reply_text format (Some c) r ∷ repl
 reply_lines format [] (r ∷ rs) = reply_text format None r ∷ []
 reply_lines format cs [] = []
 
--- the lines of a script's replies under these marks: each pose is answered as the deletion that it submits
+-- the lines of a script's replies under these marks: the reply to each pose is that to the deletion that it submits
 abbrev pub script_lines : ScriptAt → List ℕ → List (List ℕ)
 script_lines s marks = reply_lines s.format s.commands (replies (plain_script s) marks)
 

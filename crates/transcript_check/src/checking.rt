@@ -18,9 +18,9 @@ use map_items::NoMemory;
 use scan_log::{PlainScript, Script};
 use std::alloc::Global;
 
-/// What is found of a transcript of the script. The text is read once. Then the updates are made on a tree in the order of their
-/// marks, and each query is answered between them, as in a run. Takes memory for the script's copy, the tree, the marks, and one
-/// reply at a time.
+/// The verdict on a transcript of the script. The text is read once; then the updates are replayed on a tree in the order of their
+/// marks, with each query between them, as in a run. Takes memory for a copy of the script, the tree, the marks, and one reply at a
+/// time.
 pub fn check(alloc: Global, script: &Script, transcript: &[u8]) -> Result<Verdict, NoMemory>
     ensures verdict { IfOk result (IsVerdict script.now transcript.now) }
 
@@ -33,20 +33,17 @@ pub fn check(alloc: Global, script: &Script, transcript: &[u8]) -> Result<Verdic
     check_on::<TreeMap>(alloc, script, transcript)
 }
 
-/// The same by the plain map, whose updates and answers are walks over all items: slow, and plain enough to check `check` by.
+/// As `check`, on the plain map, which scans all items at each update and query: slow, and plain enough to check `check` by.
 pub fn check_plainly(alloc: Global, script: &Script, transcript: &[u8]) -> Result<Verdict, NoMemory>
     ensures verdict { IfOk result (IsVerdict script.now transcript.now) }
 
-    // No other verdict is true of it.
     ensures only { IfOk result (λ v. (w : Verdict) → IsVerdict script.now transcript.now w → w ≡ v) }
 
-    // So it is legal exactly where its lines are those of legal replies.
     ensures legal { IfOk result (λ v. (v ≡ Verdict.Legal) ↔ AreLegalLines script.now transcript.now) }
 {
     check_on::<PlainMap>(alloc, script, transcript)
 }
 
-// The same by such a map.
 fn check_on<M: HeldMap>(
     alloc: Global,
     script: &Script,
@@ -54,10 +51,8 @@ fn check_on<M: HeldMap>(
 ) -> Result<Verdict, NoMemory>
     ensures verdict { IfOk result (IsVerdict script.now transcript.now) }
 
-    // No other verdict is true of it.
     ensures only { IfOk result (λ v. (w : Verdict) → IsVerdict script.now transcript.now w → w ≡ v) }
 
-    // So it is legal exactly where its lines are those of legal replies.
     ensures legal { IfOk result (λ v. (v ≡ Verdict.Legal) ↔ AreLegalLines script.now transcript.now) }
 {
     match told_lines(alloc, script.commands(), transcript) {
@@ -69,7 +64,7 @@ fn check_on<M: HeldMap>(
     }
 }
 
-// What is found of lines that spell marks.
+// Where each line spells a mark.
 fn verdict_on<M: HeldMap>(
     alloc: Global,
     script: &Script,
@@ -92,7 +87,7 @@ fn verdict_on<M: HeldMap>(
     }
 }
 
-// The number of the line at this place.
+// Counted from 1.
 fn number_of(place: usize) -> u32
     requires { place ≤ 65537 }
     ensures { result ≡ place + 1 }

@@ -9,10 +9,9 @@ use itoa::Buffer;
 use memchr::memchr;
 use scan_log::{Command, natural_in};
 
-/// The greatest mark that a line spells.
 const MAX_MARK: u32 = 65_536;
 
-/// The mark that the line spells, which comes without its line feed. No command stands for the end.
+/// The mark of a line, which comes without its line feed. `command` is `None` for the line at the end.
 pub fn mark_in(command: Option<&Command>, line: &[u8]) -> Option<u32>
     ensures { MatchOption result ((m : ℕ) → SpellsMark (head (option_copied command.entry)) line.now m → ⊥)
         (λ m. SpellsMark (head (option_copied command.entry)) line.now m) }
@@ -21,7 +20,7 @@ pub fn mark_in(command: Option<&Command>, line: &[u8]) -> Option<u32>
     natural_in(0, MAX_MARK, field(behind)).ok()
 }
 
-// What stands behind the head of the command's reply.
+// What comes after the head of the command's reply.
 fn after_head<'a>(command: Option<&Command>, line: &'a [u8]) -> Option<&'a [u8]>
     ensures { MatchOption result ((rest : List ℕ) → line.now ≡ head (option_copied command.entry) ++ rest → ⊥)
         (λ rest. line.now ≡ head (option_copied command.entry) ++ rest.now) }
@@ -66,7 +65,7 @@ fn after<'a>(front: &[u8], bytes: &'a [u8]) -> Option<&'a [u8]>
     bytes.strip_prefix(front)
 }
 
-// The bytes before the first space.
+// Up to the first space.
 fn field(bytes: &[u8]) -> &[u8]
     ensures { result.now ≡ first_field bytes.now }
 {

@@ -9,23 +9,22 @@ use map_items::{MAX_POINTS, NoMemory, Settings, Update};
 use scan_log::{Command, Reply};
 use std::alloc::Global;
 
-/// A map on which updates are made and commands are answered. How it keeps what it holds, and so what that costs, is its own.
+/// A map that replays updates and replies to commands. How it stores its items, and so what that costs, is its own.
 pub trait HeldMap: Drop {
     ghost use Rattle.map_items.specs.Fold.{MapAt};
 
     /// What it holds, and how many points were submitted.
     ghost holds: { Self → MapAt };
 
-    /// A map of nothing.
     fn empty(alloc: Global) -> Self
         ensures { holds result ≡ no_points };
 
-    /// The map after one more update. Lack of memory loses the map.
+    /// On `NoMemory` the map is lost.
     fn apply(self, alloc: Global, settings: &Settings, update: &Update) -> Result<Self, NoMemory>
         requires { (holds self).next + points_in update.now ≤ MAX_POINTS }
         ensures { IfOk result (λ m. holds m ≡ step settings.now.voxel update.now (holds self)) };
 
-    /// The reply to a command, or to the end, with this mark.
+    /// The reply with this mark, to the end where there is no command.
     fn reply(&self, alloc: Global, command: Option<&Command>, mark: u64) -> Result<Reply, NoMemory>
         requires good { ForSome (option_copied command) IsPlain }
         requires points { (holds self.now).next ≤ MAX_POINTS }

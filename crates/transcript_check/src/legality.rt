@@ -12,7 +12,7 @@ use crate::lines::Told;
 use crate::order::Marked;
 use scan_log::Command;
 
-/// Whether the marks of the lines are legal for these commands, whose updates come in the order of their marks.
+/// Whether the marks are legal for these commands; `updates` are in the order of their marks.
 pub fn are_legal(commands: &[Command], told: &[Told], updates: &[Marked]) -> bool
     requires good { AllByRecursion IsPlain commands.now }
     requires many { length told.now ≡ length commands.now + 1 }
@@ -87,7 +87,6 @@ fn is_in_order(caller: u8, commands: &[Command], told: &[Told]) -> bool
     true
 }
 
-// Whether the command is this caller's, or a barrier.
 fn is_for(x: u8, command: &Command) -> bool
     ensures { result ≡ is_for x command.now }
 {
@@ -97,7 +96,7 @@ fn is_for(x: u8, command: &Command) -> bool
     }
 }
 
-// Whether the mark may come behind the last one, if there is one.
+// Whether the mark may follow the last one, if there is one.
 fn is_late(floor: Option<u32>, command: &Command, mark: u32) -> bool
     ensures { result ≡ is_late floor command.now mark }
 {

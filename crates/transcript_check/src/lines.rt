@@ -12,7 +12,6 @@ use memchr::memchr;
 use scan_log::Command;
 use std::alloc::{AllocFailed, Global};
 
-/// A line of a transcript, with its mark.
 #[derive(Clone, Copy)]
 pub struct Told<'a> {
     pub mark: u32,
@@ -25,7 +24,7 @@ pub struct Told<'a> {
 pub enum Stop {
     /// A line is missing or spells no mark, or there is one line too many.
     Unspelled {
-        /// How many lines stand before it.
+        /// How many lines are before it.
         before: usize,
     },
     NoMemory,
@@ -39,7 +38,7 @@ impl<T: Drop> From<AllocFailed<T>> for Stop {
     }
 }
 
-/// The lines of a transcript of these commands, each with its mark.
+/// Each line of the commands' replies, with its mark.
 pub fn told_lines<'a>(
     alloc: Global,
     commands: &[Command],
@@ -65,14 +64,14 @@ pub fn told_lines<'a>(
     }
 }
 
-/// The command whose reply stands at this place, or none for the end.
+/// The command of this index, or `None` for the end.
 pub fn command_at(commands: &[Command], place: usize) -> Option<&Command>
     ensures { option_copied result ≡ slice_get commands.now place }
 {
     commands.get(place)
 }
 
-/// The first line, if it is there and spells a mark.
+/// `None` where the first line is missing or spells no mark.
 fn first_told<'a>(command: Option<&Command>, bytes: &'a [u8]) -> Option<Told<'a>>
     ensures told { IfSome result (λ t. IsMarked (head (option_copied command.entry)) t.line.now t.mark) }
     ensures front { IfSome result (λ t. bytes.now ≡ t.line.now ++ drop (length t.line.now) bytes.now) }

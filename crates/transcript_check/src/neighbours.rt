@@ -1,5 +1,5 @@
-//! What queries for neighbours are answered with. A ball is a walk over all items. For lonely points and clusters that would be
-//! one for each item, so the items are put into a tree first.
+//! Replies to queries for neighbours on the plain map. A ball is a scan of all items; lonely points and clusters would take one for
+//! each item, so the items are put into a tree first.
 ghost use Rattle.std.specs.Prelude.{◌≡◌, ◌≤◌, ◌&&◌, filter, length, take, IfOk};
 ghost use Rattle.node_labels.specs.Labels.{is_live};
 ghost use Rattle.map_items.specs.Contents.{AreContents};
@@ -16,7 +16,6 @@ use std::alloc::Global;
 use std::marker::Brand;
 use std::sync::ledger::{Blank, Ledger};
 
-/// The points of a ball.
 pub fn ball_reply(
     alloc: Global,
     map: &PlainMap,
@@ -37,7 +36,6 @@ pub fn ball_reply(
     Ok(BoxReply { mark, count, items })
 }
 
-/// A tree of the items.
 pub fn tree_of(alloc: Global, map: &PlainMap) -> Result<Tree, NoMemory>
     requires { map.now.next ≤ MAX_POINTS }
     ensures { IfOk result (λ t. contents t ≡ map.now.items) }
@@ -45,20 +43,20 @@ pub fn tree_of(alloc: Global, map: &PlainMap) -> Result<Tree, NoMemory>
     tree_by::<Brand>(alloc, map, Blank::new(1))
 }
 
-// Nobody asks how many nodes are made.
+// With a counter of nodes that nobody reads.
 fn tree_by<L: Ledger>(alloc: Global, map: &PlainMap, blank: Blank) -> Result<Tree, NoMemory>
     requires points { map.now.next ≤ MAX_POINTS }
     requires blank { IsBlankOf L.name L.parts blank }
     ensures { IfOk result (λ t. contents t ≡ map.now.items) }
 {
-    // Says that the items are contents.
+    // A fact: the items are contents.
     let _ = map.next();
     let items = map.items(alloc)?;
     let mut steps: Steps<L> = Steps::new(blank);
     Tree::build(alloc, items.as_slice(), &mut steps)
 }
 
-// How many live items are so near.
+// How many live items are within the distance.
 fn near_count(items: &[Item], next: u32, point: &Point, limit: u128) -> u32
     requires { AreContents 0 next items.now }
     ensures { result ≡ length (filter (λ i. is_live i.label && is_near point.now limit i) items.now) }
@@ -66,7 +64,7 @@ fn near_count(items: &[Item], next: u32, point: &Point, limit: u128) -> u32
     items.iter().filter(|i| finds(point, limit, i)).count() as u32
 }
 
-// The first of them, as many as are asked for.
+// The first of them, at most `most`.
 fn first_near(
     alloc: Global,
     items: &[Item],

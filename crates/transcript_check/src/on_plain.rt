@@ -1,4 +1,4 @@
-//! The plain map, replayed on and asked. Tests run it beside the tree.
+//! The plain map, replayed on and asked. Tests run it next to the tree.
 ghost use Rattle.std.specs.Prelude.{◌≡◌, ◌≤◌, IfOk, Some, None};
 ghost use Rattle.map_fold.specs.Answers.{nears};
 ghost use Rattle.kd_search.specs.Query.{IsQuery};

@@ -1,4 +1,4 @@
-//! Replies of one tree, at the mark that is given.
+//! Replies of one tree, at the given mark.
 ghost use Rattle.std.specs.Prelude.{◌≡◌, IfOk, None};
 ghost use Rattle.kd_tree.specs.Contents.{contents};
 ghost use Rattle.map_fold.specs.Answers.{nears};
@@ -83,7 +83,7 @@ fn nearest_in_turn(
     Ok(lists)
 }
 
-/// How many points are held.
+/// How many points are live, and how many suspended.
 pub fn tree_totals(tree: &Tree, mark: u64) -> Reply
     ensures { result ≡ totals_on (contents tree.now) mark }
 {

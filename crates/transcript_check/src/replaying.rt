@@ -16,7 +16,7 @@ use map_items::{MAX_POINTS, NoMemory, Settings};
 use scan_log::{Command, Format, PlainScript, reply_line};
 use std::alloc::Global;
 
-/// The place of the first line that isn't its reply's, from 0.
+/// The index of the first line that isn't its reply's.
 pub fn first_other<M: HeldMap>(
     alloc: Global,
     script: &PlainScript,
@@ -54,7 +54,6 @@ pub fn first_other<M: HeldMap>(
     }
 }
 
-// The map after these updates.
 fn advanced<M: HeldMap>(
     alloc: Global,
     map: M,

@@ -1,4 +1,4 @@
-//! What updates make of a map, in a tree of its own. It is replayed on and asked.
+//! A tree of its own for a replay.
 ghost use Rattle.std.specs.Prelude.{◌≡◌, ◌+◌, ◌≤◌, IfOk};
 ghost use Rattle.map_items.specs.Fold.{points_in, step};
 ghost use Rattle.kd_tree.specs.Counter.{IsBlankOf};
@@ -14,7 +14,7 @@ use std::alloc::Global;
 use std::marker::{Brand, Model};
 use std::sync::ledger::{Blank, Ledger};
 
-/// A map whose items are in a tree that nobody else sees: no version and no history is kept, and nothing of it is rebuilt elsewhere.
+/// A map whose items are in a tree that nobody else has: it keeps no version and no history, and detaches nothing.
 pub struct TreeMap {
     work: Work,
     next: u32,
@@ -34,7 +34,7 @@ impl Model for TreeMap {
     ghost invariant = { λ m. IsWork MAX_LARGE m.next m.work };
 }
 
-// By hand, so that whoever lets a map go proves one call.
+// Manual `Drop`: a derived one is proved at every exit of every owner.
 impl Drop for TreeMap {
     fn drop(self) {
         let TreeMap {
@@ -59,7 +59,7 @@ impl HeldMap for TreeMap {
         }
     }
 
-    // What lost its balance is rebuilt with the update, as far as it is smaller than the greatest size that settings name.
+    // What got unbalanced is rebuilt with the update, where it has fewer than `MAX_LARGE` nodes.
     fn apply(
         self,
         alloc: Global,
@@ -84,7 +84,7 @@ impl HeldMap for TreeMap {
 }
 
 impl TreeMap {
-    // The map after one more update, with a counter that nothing looks at.
+    // With a counter of nodes that nobody reads.
     fn apply_by<L: Ledger>(
         self,
         alloc: Global,
