@@ -31,7 +31,7 @@ all_pieces xs = take_all (piece_count (length xs) * 262144) xs (omega arith)
 le_or : (m n : ℕ) → (m ≤ n) ⊎ (n < m)
 le_or m n = grind arith
 
--- the front of a list as far as it goes
+-- a prefix of a list, as far as the list goes
 pub take_least : {X : Type 0} (n : ℕ) (xs : List X) → take (min (length xs) n) xs ≡ take n xs
 take_least n xs =
     elim (le_or (length xs) n) [

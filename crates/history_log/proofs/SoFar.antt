@@ -49,7 +49,7 @@ part_more s from (suc at) e above below is =
     ap (λ x. opening_of s.settings from (suc (suc at)) ++ x) (ap lines_text (between_more from (suc at) s.history e above below is) ∙ text_push (entries_between from (suc at) s.history) e)
     ∙ opening_none s.settings from (suc at) (lines_text (entries_between from (suc at) s.history)) (flat_map (command_text Two) (line_of e)) above (omega arith)
 
--- The part has the lines of the entries from the first on and below this one, and so many lines were counted.
+-- The part has the lines of the entries from the first on and below this one, and `lines` lines were counted.
 pub record IsSoFar (s : StateAt) (from at room : ℕ) (bytes : List ℕ) (lines : ℕ) : Type 0 where
   pub text : bytes ≡ log_part s from at
   pub fits : length bytes ≤ room
@@ -161,7 +161,7 @@ whole s some = rw (opening_first s.settings (length s.history) some, all_between
 pub stay : StayWritten
 stay s t more a b sizes longer there = rw (sizes, longer, take-append-le b s.history more there) refl
 
--- no header stands before other updates than the first
+-- no header is before other updates than the first
 pub opening_later : (sizes : Sizes) (at : ℕ) → 0 < at → opening sizes at ≡ []
 opening_later sizes zero some = absurd (omega arith)
 opening_later sizes (suc at) some = refl

@@ -1,4 +1,4 @@
--- The lines that say an update.
+-- The lines that spell an update.
 use Rattle.std.specs.Prelude.{ℕ, zero, suc, ◌+◌, ◌*◌, ◌/◌, min, List, [], ◌∷◌, ◌++◌, length, map, take, drop}
 use Rattle.std.specs.List.{AllByRecursion, flat_map}
 use Rattle.map_items.specs.Fold.{points_in}
@@ -19,7 +19,7 @@ piece_count n = (n + 262143) / 262144
 abbrev pub piece : {X : Type 0} → ℕ → List X → List X
 piece number xs = take 262144 (drop (number * 262144) xs)
 
--- how many lines say the update: one for each piece of its points or boxes, none where it has none, and one for a number
+-- how many lines spell the update: one for each piece of its points or boxes, none where it has none, and one for a number
 abbrev pub line_count : Update → ℕ
 line_count (Add ps) = piece_count (length ps)
 line_count (Thin ps) = piece_count (length ps)
@@ -28,7 +28,7 @@ line_count (Suspend cs) = piece_count (length cs)
 line_count (Restore cs) = piece_count (length cs)
 line_count (Expire n) = 1
 
--- what the line with this number says. A number above those that points may have drops what the greatest of them drops.
+-- what the line with this number spells. A number above those that points may have drops what the greatest of them drops.
 abbrev pub part_of : Update → ℕ → Update
 part_of (Add ps) number = Add (piece number ps)
 part_of (Thin ps) number = Thin (piece number ps)
@@ -37,7 +37,7 @@ part_of (Suspend cs) number = Suspend (piece number cs)
 part_of (Restore cs) number = Restore (piece number cs)
 part_of (Expire n) number = Expire (min n MAX_POINTS)
 
--- the first so many parts, in order
+-- the parts before this number, in order
 abbrev pub first_parts : ℕ → Update → List Update
 first_parts zero u = []
 first_parts (suc number) u = first_parts number u ++ part_of u number ∷ []

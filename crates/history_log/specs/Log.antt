@@ -15,7 +15,7 @@ use Rattle.history_log.specs.declared.part.Stop.{Stop}
 use Rattle.history_log.specs.declared.part.Stop.TheVariants as stop
 use Rattle.history_log.specs.Lines.{HasLines, line_count, line_of, lines_of}
 
--- what the history says, as a script of version 2
+-- the history, as a script of version 2
 abbrev pub script_of : StateAt → ScriptAt
 script_of s = record { format = Two; sizes = s.settings; commands = lines_of s.history }
 
@@ -27,12 +27,12 @@ header_text sizes = written_line (header_fields Two sizes)
 abbrev pub lines_text : List Entry → List ℕ
 lines_text h = flat_map (command_text Two) (lines_of h)
 
--- what stands before the lines of the update with this number: the header, where it is the first
+-- what is before the lines of the update with this number: the header, where it is the first
 abbrev pub opening : Sizes → ℕ → List ℕ
 opening sizes zero = header_text sizes
 opening sizes (suc at) = []
 
--- what stands before the lines of the updates from the first number on and below the second one
+-- what is before the lines of the updates from the first number on and below the second one
 abbrev pub opening_of : Sizes → ℕ → ℕ → List ℕ
 opening_of sizes zero zero = []
 opening_of sizes zero (suc to) = header_text sizes
@@ -42,20 +42,20 @@ opening_of sizes (suc from) to = []
 abbrev pub entries_between : ℕ → ℕ → List Entry → List Entry
 entries_between from to h = drop from (take to h)
 
--- the part of the log that says these updates
+-- the part of the log of these updates
 abbrev pub log_part : StateAt → ℕ → ℕ → List ℕ
 log_part s from to = opening_of s.settings from to ++ lines_text (entries_between from to s.history)
 
--- The part is lines of a log, and all lines up to it are as many as a log may have.
+-- The part is lines of a log, and all lines up to its end are at most as many as a log may have.
 pub record AreLines (s : StateAt) (from next : ℕ) : Type 0 where
   pub each : AllByRecursion (IsCommand Two) (lines_of (entries_between from next s.history))
   pub few : length (lines_of (take next s.history)) ≤ MAX_COMMANDS
 
--- no line of a log says the entry
+-- no line of a log spells the entry
 abbrev pub HasNoLine : Entry → Type 0
 HasNoLine e = HasLines e.update → ⊥
 
--- the update with this number is there, and no line of a log says it
+-- the update with this number is there, and no line of a log spells it
 abbrev pub IsUnsaid : List Entry → ℕ → Type 0
 IsUnsaid h number = (e : Entry) × (number < length h) × (e ≡ get_or h number e) × HasNoLine e
 
@@ -69,7 +69,7 @@ IsStop s from next room stop.NoLine = IsUnsaid s.history next
 IsStop s from next room stop.TooManyUpdates = HasTooManyLines s.history next
 IsStop s from next room stop.NoRoom = (next < length s.history) × (room < length (log_part s from (next + 1)))
 
--- all updates are said, or something stops it
+-- all updates are in it, or something stops it
 abbrev pub EndsThere : StateAt → ℕ → ℕ → ℕ → Option Stop → Type 0
 EndsThere s from next room None = next ≡ length s.history
 EndsThere s from next room (Some why) = IsStop s from next room why
@@ -98,7 +98,7 @@ AreWhole = (s : StateAt) → 0 < length s.history → log_part s 0 (length s.his
 abbrev pub StayWritten : Type 0
 StayWritten = (s t : StateAt) (more : List Entry) (a b : ℕ) → t.settings ≡ s.settings → t.history ≡ s.history ++ more → b ≤ length s.history → log_part t a b ≡ log_part s a b
 
--- why an entry's lines aren't put behind these bytes, and so many lines. Cited by private functions alone.
+-- why an entry's lines aren't appended to these bytes, after `lines` lines. Cited by private functions alone.
 abbrev pub IsEntryStop : List ℕ → Sizes → Entry → ℕ → ℕ → ℕ → Stop → Type 0
 IsEntryStop bytes sizes e at lines room stop.NoLine = HasNoLine e
 IsEntryStop bytes sizes e at lines room stop.TooManyUpdates = MAX_COMMANDS < lines + line_count e.update

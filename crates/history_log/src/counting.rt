@@ -6,7 +6,7 @@ use crate::parts::line_count;
 use map_items::Entry;
 use scan_log::MAX_COMMANDS;
 
-/// How many lines the entries have, up to one more than a log has commands.
+/// At most one more than a log has commands.
 pub(crate) fn lines_in(history: &[Entry]) -> usize
     ensures { result ≡ min 65537 (length (lines_of history.now)) }
 {

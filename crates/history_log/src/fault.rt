@@ -5,9 +5,9 @@ use map_items::NoMemory;
 #[derive(Clone, Copy, Debug, PartialEq, Eq)]
 pub enum LogFault {
     NoMemory,
-    /// More lines than a log has commands.
+    /// More lines than a log may have.
     TooManyUpdates,
-    /// No line of a log says the update with this number, from 0: it has a box with a number beyond those of places.
+    /// The update with this number, from 0, has a box beyond the coordinates of a log.
     NoLine { update: usize },
 }
 

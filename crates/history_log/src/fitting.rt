@@ -1,4 +1,4 @@
-//! Which updates the lines of a log can say.
+//! Which updates a log can spell.
 ghost use Rattle.std.specs.Prelude.{◌≡◌, All, true, false};
 ghost use Rattle.std.specs.List.{AllByRecursion};
 ghost use Rattle.point_geom.specs.Place.{IsPlace};
@@ -13,7 +13,7 @@ const LEAST: i64 = -1_099_511_627_776;
 
 const GREATEST: i64 = 1_099_511_627_777;
 
-/// Whether lines say it: whether no box lies beyond where places are.
+/// Whether no box is beyond the coordinates of a log.
 pub(crate) fn has_lines(update: &Update) -> bool
     ensures yes { result ≡ true → HasLines update.now }
     ensures no { result ≡ false → HasLines update.now → ⊥ }
@@ -27,7 +27,7 @@ pub(crate) fn has_lines(update: &Update) -> bool
     }
 }
 
-// Always so.
+// Always true.
 fn are_scanned(points: &[Point]) -> bool
     ensures yes { result ≡ true → AllByRecursion (IsScannedPlace Two) points.now }
     ensures no { result ≡ false → AllByRecursion (IsScannedPlace Two) points.now → ⊥ }
@@ -36,7 +36,7 @@ fn are_scanned(points: &[Point]) -> bool
     true
 }
 
-// Each point is a place. Nothing of it is left in the program.
+// That each point is a place is a fact: the loop compiles to nothing.
 fn look_at(points: &[Point])
     ensures { All IsPlace points.now }
 {

@@ -16,9 +16,8 @@ use rebuild_core::MapState;
 use scan_log::{Format, write_header};
 use std::alloc::Global;
 
-/// The lines of the log of version 2 that say the updates from this number on: before the first update's the header, and then the
-/// lines of whole updates, as many as there is room for in bytes. Costs time by what is written and what one more update takes,
-/// and counts the lines of all updates before.
+/// The log of version 2 from this update on: the header before the first update, then the lines of as many whole updates as fit
+/// into `room` bytes. Costs time by what is written and by the next update's lines, and counts the lines of all updates before.
 pub fn history_lines(
     alloc: Global,
     state: &MapState,
@@ -50,8 +49,8 @@ pub fn history_lines(
     Ok(LogPart { bytes, next, stop })
 }
 
-/// The log of version 2 that says the state's history: read again it is the same script, and leads to the same map. An update
-/// of no point or box has no line, and changes nothing; one of more than 262,144 has several.
+/// The history as a log of version 2, which leads to the same map. An update of no point or box has no line; one of more than
+/// 262,144 has several.
 pub fn history_log(alloc: Global, state: &MapState) -> Result<Vec<u8>, LogFault>
     ensures text { IfOk result (λ log. log.items ≡ script_text (script_of state.now.state)) }
     ensures spells { IfOk result (λ log. Spells log.items (script_of state.now.state)) }
@@ -88,7 +87,7 @@ fn header(alloc: Global, settings: &Settings) -> Result<Vec<u8>, NoMemory>
     Ok(bytes)
 }
 
-/// Parts in turn are the whole log, and what was written of it stays as the map goes on.
+/// Parts in turn are the whole log, and stay as written while the map goes on.
 pub fn parts_in_turn()
     ensures joined { JoinInTurn }
     ensures whole { AreWhole }

@@ -3,21 +3,21 @@
 /// Why a part of a log ends before an update.
 #[derive(Clone, Copy, Debug, PartialEq, Eq)]
 pub enum Stop {
-    /// No line of a log says the update: it has a box with a number beyond those of places.
+    /// It has a box beyond the coordinates of a log.
     NoLine,
-    /// With its lines there would be more than a log has commands.
+    /// With its lines there would be more than a log may have.
     TooManyUpdates,
-    /// Its lines take more room than is left.
+    /// Its lines take more than the remaining room.
     NoRoom,
 }
 
-/// The lines of updates that follow one another.
+/// The lines of consecutive updates.
 #[derive(Drop)]
 pub struct LogPart {
     /// Whole lines.
     pub bytes: Vec<u8>,
-    /// The number of the first update behind them.
+    /// The number of the first update after them.
     pub next: usize,
-    /// Why its lines aren't here, if there is such an update.
+    /// Why that update's lines aren't here, if there is one.
     pub stop: Option<Stop>,
 }

@@ -1,4 +1,4 @@
-//! An update in the parts that a line each says.
+//! An update in parts of one line each.
 ghost use Rattle.std.specs.Prelude.{◌≡◌, ◌<◌, ◌≤◌, ◌*◌, IfOk, length};
 ghost use Rattle.history_log.specs.Lines.{line_count, part_of, piece, piece_count};
 
@@ -8,7 +8,6 @@ use std::alloc::Global;
 // The most points or boxes of a command.
 const MOST: usize = 262_144;
 
-/// How many lines say the update.
 pub(crate) fn line_count(update: &Update) -> usize
     ensures count { result ≡ line_count update.now }
     ensures few { result ≤ 70368744177664 }
@@ -32,7 +31,6 @@ fn piece_count(len: usize) -> usize
     (len - 1) / MOST + 1
 }
 
-/// What the line with this number says.
 pub(crate) fn part_of(alloc: Global, update: &Update, number: usize) -> Result<Update, NoMemory>
     requires { number < line_count update.now }
     ensures { IfOk result (λ part. part ≡ part_of update.now number) }

@@ -1,4 +1,4 @@
-//! Putting the lines of an update.
+//! Appending the lines of an update.
 ghost use Rattle.std.specs.Prelude.{◌≡◌, ◌<◌, ◌≤◌, ◌+◌, ◌++◌, IfNone, IfOk, IfSome, OnOk, length};
 ghost use Rattle.std.specs.List.{flat_map};
 ghost use Rattle.scan_log.specs.declared.command.Command.TheVariants.{Change};
@@ -15,7 +15,7 @@ use map_items::{Entry, NoMemory, Settings};
 use scan_log::{Command, Format, MAX_COMMANDS, write_command, write_header};
 use std::alloc::Global;
 
-/// Puts the lines of the entry with this number at the end, or says what stops it, and then the bytes are what they were.
+/// What stops it leaves the bytes as they were.
 pub(crate) fn put_entry(
     alloc: Global,
     bytes: &mut Vec<u8>,
@@ -49,7 +49,7 @@ pub(crate) fn put_entry(
     Ok(None)
 }
 
-// Before the first lines the header.
+// The header, before the first update's lines.
 fn put_opening(bytes: &mut Vec<u8>, settings: &Settings, at: usize) -> Result<(), NoMemory>
     ensures { OnOk result (bytes.new.items ≡ bytes.old.items ++ opening settings.now at) }
 {
