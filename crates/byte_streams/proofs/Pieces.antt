@@ -1,4 +1,4 @@
--- Parts of a list of bytes, and fronts that were written.
+-- Parts of a list of bytes, and prefixes that were written.
 use Rattle.std.proofs.Common.{◌≡◌, ℕ, ◌+◌, ◌-◌, ◌≤◌, List, ◌++◌, length, take, drop, sym, ap, ◌∙◌, arith, length-drop, take-append-drop, Option}
 use Rattle.std.specs.Prelude.{Result, Ok, Err, OnOk, OnErr}
 use Rattle.std.specs.Io.KnownBytes.{Appends}
@@ -18,11 +18,11 @@ copied_front bytes copied buf at n room e =
     let front : take n (copied ++ drop n buf) ≡ copied = ap (λ k. take k (copied ++ drop n buf)) (sym long) ∙ take-append_seam copied (drop n buf) in
     rw (front, e, ← drop-drop n at bytes) (sym (take-append-drop n (drop at bytes)))
 
--- all of it is a front
+-- all of it is a prefix
 pub whole_front : (old new : Option (List ℕ)) (bytes : List ℕ) → Appends old new bytes → AppendsFront old new bytes
 whole_front old new bytes h = (length bytes, rw take-length h)
 
--- whether all was written or not, a front was
+-- whether all was written or not, a prefix was
 pub front_either : {E : Type 0} (r : Result (Unit {0}) E) (old new : Option (List ℕ)) (bytes : List ℕ) → OnOk r (Appends old new bytes) → OnErr r (AppendsFront old new bytes) → AppendsFront old new bytes
 front_either (Ok u) old new bytes h k = whole_front old new bytes h
 front_either (Err e) old new bytes h k = k

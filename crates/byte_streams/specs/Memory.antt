@@ -6,7 +6,7 @@ use Rattle.byte_streams.specs.declared.outside.SinkFault.{SinkFault}
 use Rattle.byte_streams.specs.declared.outside.SinkFault.TheVariants as fault
 use Rattle.byte_streams.specs.Outside.{one_higher, is_end}
 
--- a source that never fails: what is left, and whether its last read answered the end of input
+-- a source that never fails: the remaining bytes, and whether its last read returned the end of input
 pub record Feed : Type 0 where
   pub left : List ℕ
   pub ended : Bool
@@ -28,16 +28,16 @@ pub record PiecedSink : Type 0 where
   pub calls : ℕ
   pub faults : ℕ
 
--- the call after so many is listed
+-- the call after `calls` calls is listed
 abbrev pub is_next_listed : ℕ → List ℕ → Bool
 is_next_listed calls failing = list_any (λ n. n == one_higher calls) failing
 
--- the source after a read into so much room
+-- the source after a read into `room` bytes
 abbrev pub after_read : PiecedFeed → ℕ → Result ℕ Failed → PiecedFeed
 after_read s room (Ok n) = record s { left = drop n s.left; calls = one_higher s.calls; ended = is_end {E = Failed} (Ok n) room }
 after_read s room (Err e) = record s { calls = one_higher s.calls; faults = one_higher s.faults; ended = false }
 
--- a write failed, and not for lack of memory
+-- a write failed, and not by `NoMemory`
 abbrev pub has_failed : Result ℕ SinkFault → Bool
 has_failed (Ok n) = false
 has_failed (Err fault.Failed) = true

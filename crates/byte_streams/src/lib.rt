@@ -1,4 +1,4 @@
-//! Where bytes are read from and written to: sources and sinks, which may fail, and some in memory.
+//! Sources and sinks of bytes, which may fail, and some in memory.
 #![tactic(auto)]
 
 mod mem;

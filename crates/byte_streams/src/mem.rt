@@ -1,4 +1,4 @@
-//! A source and a sink in memory that give and take pieces, and fail at the calls that are listed.
+//! A source and a sink in memory, for tests, that fail at listed calls.
 ghost use Rattle.std.specs.Prelude.{◌≡◌, ◌≤◌, ◌<◌, ◌==◌, ◌↔◌, [], ℕ, List, Some, false, take, min, length, is_err, IsTrue, IsErrOf, IfOk};
 ghost use Rattle.std.specs.List.{list_any};
 ghost use Rattle.std.specs.declared.option.Option.{Option};
@@ -12,7 +12,7 @@ use crate::sure::copy_front;
 use std::alloc::Global;
 use std::marker::Model;
 
-/// A source of bytes in memory, for tests: it gives them in pieces, and fails at the calls that are listed.
+/// A source in memory that returns pieces, and fails at the listed calls.
 #[derive(Drop)]
 pub struct MemSource {
     bytes: Vec<u8>,
@@ -36,7 +36,7 @@ impl Model for MemSource {
 }
 
 impl MemSource {
-    /// A source of pieces of at most so many bytes that fails at the calls with these numbers, counted from 1.
+    /// Pieces are of at most `piece` bytes; calls are counted from 1.
     pub fn new(bytes: Vec<u8>, piece: usize, failing: Vec<u32>) -> MemSource
         requires { 1 ≤ piece }
         ensures { result ≡ record { left = bytes.items; piece = piece; failing = failing.items; calls = 0; faults = 0; ended = false } }
@@ -60,7 +60,7 @@ impl Source for MemSource {
 
     ghost ended = { λ s. s.ended };
 
-    /// Gives a whole piece, or all that there is room for, or all that is left.
+    /// Returns a whole piece, or all that there is room for, or all the remaining bytes.
     fn read(&mut self, buf: &mut [u8]) -> Result<usize, Failed>
         ensures bound { ReadsAtMost result buf.new }
         ensures bytes { ReadConsumes (Some self.old.left) (Some self.new.left) result buf.new }
@@ -89,7 +89,7 @@ fn is_listed(call: u64, calls: &[u32]) -> bool
     calls.iter().any(|n| *n as u64 == call)
 }
 
-/// A sink in memory, for tests: it takes pieces, and fails at the calls that are listed.
+/// A sink in memory that takes pieces, and fails at the listed calls.
 #[derive(Drop)]
 pub struct MemSink {
     bytes: Vec<u8>,
@@ -111,8 +111,7 @@ impl Model for MemSink {
 }
 
 impl MemSink {
-    /// A sink of nothing that takes pieces of at most so many bytes, and fails at the calls with these numbers, counted
-    /// from 1.
+    /// Pieces are of at most `piece` bytes; calls are counted from 1.
     pub fn new(alloc: Global, piece: usize, failing: Vec<u32>) -> MemSink
         requires { 1 ≤ piece }
         ensures { result ≡ record { held = []; piece = piece; failing = failing.items; calls = 0; faults = 0 } }
@@ -126,7 +125,6 @@ impl MemSink {
         }
     }
 
-    /// The bytes that it holds.
     pub fn bytes(&self) -> &[u8]
         ensures { result.now ≡ self.now.held }
     {
@@ -139,7 +137,7 @@ impl Sink for MemSink {
 
     ghost faults = { λ s. s.faults };
 
-    /// Takes a whole piece, or all of the bytes.
+    /// Takes a whole piece, or all the bytes.
     fn write(&mut self, bytes: &[u8]) -> Result<usize, SinkFault>
         requires { 0 < length bytes.now }
         ensures some { IfOk result (λ n. 1 ≤ n) }

@@ -16,9 +16,7 @@ pub struct Failed;
 /// Why a write took nothing.
 #[derive(Clone, Copy, Debug, PartialEq, Eq)]
 pub enum SinkFault {
-    /// The sink failed.
     Failed,
-    /// The sink had no memory.
     NoMemory,
 }
 
@@ -45,18 +43,18 @@ impl Display for SinkFault {
     }
 }
 
-/// Where bytes are read from. A new source has not answered the end of input.
+/// Where bytes are read from. A new source has not returned the end of input.
 pub trait Source {
-    /// The bytes that are left, where it tells them.
+    /// The remaining bytes, where it shows them.
     ghost left: { Self → Option (List ℕ) };
 
-    /// How often it has failed. At 2^64 - 1 the count stands still.
+    /// How many reads failed; stays at 2^64 - 1 once there.
     ghost faults: { Self → ℕ };
 
-    /// Whether its last read answered the end of input.
+    /// Whether its last read returned the end of input.
     ghost ended: { Self → Bool };
 
-    /// Puts the next bytes at the front of the buffer, and answers how many. None into some room is the end of input.
+    /// Puts the next bytes at the front of the buffer, and returns how many. None into some room is the end of input.
     fn read(&mut self, buf: &mut [u8]) -> Result<usize, Failed>
         ensures bound { ReadsAtMost result buf.new }
         ensures bytes { ReadConsumes (left self.old) (left self.new) result buf.new }
@@ -66,13 +64,13 @@ pub trait Source {
 
 /// Where bytes are written to.
 pub trait Sink {
-    /// The bytes that it holds, where it tells them.
+    /// The bytes that it holds, where it shows them.
     ghost held: { Self → Option (List ℕ) };
 
-    /// How often it has failed. At 2^64 - 1 the count stands still.
+    /// How many writes failed; stays at 2^64 - 1 once there.
     ghost faults: { Self → ℕ };
 
-    /// Takes bytes from the front, and answers how many. A refusal takes nothing.
+    /// Takes a prefix of the bytes, and returns its length. A refusal takes nothing.
     fn write(&mut self, bytes: &[u8]) -> Result<usize, SinkFault>
         requires { 0 < length bytes.now }
         ensures some { IfOk result (λ n. 1 ≤ n) }

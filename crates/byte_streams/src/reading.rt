@@ -7,10 +7,9 @@ ghost use Rattle.byte_streams.specs.declared.reading.ReadStop.TheVariants as sto
 use crate::outside::{Failed, Source};
 use std::alloc::{AllocError, Global};
 
-/// The bytes that are asked for at a time.
+/// Bytes asked for at a time.
 const PIECE: usize = 65_536;
 
-/// Why a log was not read to its end.
 #[derive(Clone, Copy)]
 pub enum ReadStop {
     Failed,
@@ -34,7 +33,7 @@ impl From<AllocError> for ReadStop {
     }
 }
 
-/// All the bytes of the input. Reading stops at the first byte past so many.
+/// All the bytes of the input, at most `most`. Reading stops at the first byte past them.
 pub fn read_all<R: Source>(alloc: Global, most: u32, input: &mut R) -> Result<Vec<u8>, ReadStop>
     ensures all { IfOk result (λ v. Consumes (R.left input.old) (R.left input.new) v.items) }
     ensures end { OnOk result (IsAtEnd (R.left input.new)) }

@@ -9,7 +9,7 @@ use crate::outside::{Failed, Sink, SinkFault, Source};
 use std::alloc::Global;
 use std::marker::Model;
 
-/// A source of bytes in memory that never fails.
+/// A source in memory that never fails.
 #[derive(Drop)]
 pub struct SureSource {
     bytes: Vec<u8>,
@@ -27,7 +27,6 @@ impl Model for SureSource {
 }
 
 impl SureSource {
-    /// A source that gives these bytes, and then their end.
     pub fn new(bytes: Vec<u8>) -> SureSource
         ensures { result ≡ record { left = bytes.items; ended = false } }
     {
@@ -46,7 +45,7 @@ impl Source for SureSource {
 
     ghost ended = { λ s. s.ended };
 
-    /// Gives all that there is room for.
+    /// Returns all that there is room for.
     fn read(&mut self, buf: &mut [u8]) -> Result<usize, Failed>
         ensures bound { ReadsAtMost result buf.new }
         ensures bytes { ReadConsumes (Some self.old.left) (Some self.new.left) result buf.new }
@@ -61,7 +60,7 @@ impl Source for SureSource {
     }
 }
 
-/// Copies to the front of the buffer what stands from the place on, at most so many bytes, and answers how many.
+/// Copies at most `most` bytes from the index on to the front of the buffer, and returns how many.
 pub fn copy_front(bytes: &[u8], at: usize, most: usize, buf: &mut [u8]) -> usize
     requires { 1 ≤ most }
     ensures value { result ≡ min most (min (length buf.old) (length (drop at bytes.now))) }
@@ -91,7 +90,7 @@ impl Model for SureSink {
 }
 
 impl SureSink {
-    /// A sink that nothing was written to yet. It takes no memory.
+    /// Takes no memory.
     pub fn new(alloc: Global) -> SureSink
         ensures { result ≡ [] }
     {
@@ -100,7 +99,6 @@ impl SureSink {
         }
     }
 
-    /// The bytes that it holds.
     pub fn bytes(&self) -> &[u8]
         ensures { result.now ≡ self.now }
     {
@@ -113,7 +111,6 @@ impl Sink for SureSink {
 
     ghost faults = { λ _. 0 };
 
-    /// Takes all the bytes.
     fn write(&mut self, bytes: &[u8]) -> Result<usize, SinkFault>
         requires { 0 < length bytes.now }
         ensures some { IfOk result (λ n. 1 ≤ n) }

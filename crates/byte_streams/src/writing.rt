@@ -5,7 +5,7 @@ ghost use Rattle.byte_streams.specs.Outside.{HasCause, AppendsFront};
 
 use crate::outside::{Sink, SinkFault};
 
-/// Writes all the bytes, each time all of those that are left.
+/// Writes all the bytes; on a fault maybe a prefix.
 pub fn write_all<W: Sink>(out: &mut W, bytes: &[u8]) -> Result<(), SinkFault>
     ensures all { OnOk result (Appends (W.held out.old) (W.held out.new) bytes.now) }
     ensures front { OnErr result (AppendsFront (W.held out.old) (W.held out.new) bytes.now) }
