@@ -10,7 +10,7 @@ use Rattle.shown_versions.specs.Book.{Page, IsBookOf, Adds}
 abbrev Log : Type 0
 Log = List Page
 
--- a beginning as long as the whole is the whole
+-- a prefix as long as the whole is the whole
 prefix_whole : {A : Type 0} (xs ys : List A) → IsPrefix xs ys → length ys ≤ length xs → xs ≡ ys
 prefix_whole [] [] p le = refl
 prefix_whole [] (y ∷ ys) p le = absurd (omega arith)
@@ -18,7 +18,7 @@ prefix_whole (x ∷ xs) [] p le = absurd (cc (p.1))
 prefix_whole (x ∷ xs) (y ∷ ys) p le =
     let rest : xs ≡ ys = prefix_whole xs ys (p.0, cc (p.1)) (omega arith) in cc (p.1, rest)
 
--- two beginnings of one list that are as long as one another are the same
+-- two prefixes of one list, of one length, are the same
 pub prefix_same : {A : Type 0} (xs ys zs : List A) → IsPrefix xs zs → IsPrefix ys zs → length xs ≡ length ys → xs ≡ ys
 prefix_same [] [] zs p q le = refl
 prefix_same [] (y ∷ ys) zs p q le = absurd (omega arith)

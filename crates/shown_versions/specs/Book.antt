@@ -1,4 +1,4 @@
--- The book of marks: its pages, and, cited by private functions alone, its rule and what its step tells.
+-- The book of marks: its pages, and, cited by private functions alone, its rule and what its step shows.
 use Rattle.std.specs.Prelude.{ℕ, ◌≡◌, ◌==◌, true, List, [], ◌∷◌, ◌++◌, length, fold, MatchBool, Option, Some, None}
 use Rattle.logbook.specs.Pages.{Cell, Step, View, Book, Named}
 use Rattle.map_items.specs.declared.entry.Entry.{Entry}
@@ -9,7 +9,7 @@ pub record Page : Type 0 where
   pub history : List Entry
   pub items : List Item
 
--- what is told of a value, if there is one
+-- the list of a value, if there is one
 abbrev pub told : {A B : Type 0} → (A → List B) → Option A → List B
 told f None = []
 told f (Some x) = f x
@@ -26,7 +26,7 @@ book_name b = record { tracked = true; key = 0; book = b }
 abbrev pub Adds : Step Page → View Page ℕ → ℕ → View Page ℕ → Type 0
 Adds s v found w = MatchBool (found == s.old) (w.0 ≡ v.0 ++ s.ask ∷ []) (length w.0 ≡ found)
 
--- a page of no entries and no items; it stands for the last page where there is none
+-- a page of no entries and no items; the last page where there is none
 abbrev pub blank : Page
 blank = record { history = []; items = [] }
 

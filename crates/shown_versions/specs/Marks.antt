@@ -10,17 +10,17 @@ abbrev pub update_in : Option Entry → List Update
 update_in (Some e) = e.update ∷ []
 update_in None = []
 
--- the updates that stand at these places, the first of which is 0
+-- the updates at these indices, from 0
 abbrev pub at_places : List Entry → List ℕ → List Update
 at_places h [] = []
 at_places h (k ∷ ks) = update_in (slice_get h k) ++ at_places h ks
 
--- the places rise from low on, and at each stands an entry of the caller
+-- the indices rise from low on, and at each is an entry of the caller
 abbrev pub AreOwnPlaces : ℕ → List Entry → ℕ → List ℕ → Type 0
 AreOwnPlaces c h low [] = Unit {0}
 AreOwnPlaces c h low (k ∷ ks) = (low ≤ k) × ((e : Entry) × (slice_get h k ≡ Some e) × (e.caller ≡ c)) × AreOwnPlaces c h (k + 1) ks
 
--- what contracts see of a pass: its caller, a beginning of the one history, and the updates that its caller has made by it
+-- what contracts see of a pass: its caller, a prefix of the one history, and the updates that its caller has made by it
 pub record Seen : Type 0 where
   pub caller : ℕ
   pub seen : List Entry
@@ -55,7 +55,7 @@ abbrev pub one_if : Bool → ℕ
 one_if true = 1
 one_if false = 0
 
--- how often x stands in the list
+-- how often x is in the list
 abbrev pub times_listed : ℕ → List ℕ → ℕ
 times_listed x [] = 0
 times_listed x (c ∷ cs) = one_if (x == c) + times_listed x cs
@@ -120,6 +120,6 @@ abbrev pub AllOwn : List Entry → List Seen → Type 0
 AllOwn h [] = Unit {0}
 AllOwn h (p ∷ ps) = (p.mine ≡ own_updates p.caller h) × AllOwn h ps
 
--- each pass had seen a beginning of the history, in which it made exactly its caller's updates, and there are no others
+-- each pass had seen a prefix of the history, in which it made exactly its caller's updates, and there are no others
 abbrev pub AllEnded : List Entry → List Seen → Type 0
 AllEnded h ps = AllBegin h ps × AllOwn h ps × AllOf (callers_of ps) h

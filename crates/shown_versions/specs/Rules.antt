@@ -1,11 +1,11 @@
--- The rule, and what its steps tell. A seat's view is the list that it knows. Cited by private functions alone.
+-- The rule, and what its steps show. A place's view is the list that it knows. Cited by private functions alone.
 use Rattle.std.specs.Prelude.{◌≡◌, ℕ, List}
 use mathlib.Core.List.{IsPrefix}
 use mathlib.Core.Option.{some}
 use lib.ListN.{get_elem?}
 use Rattle.map_items.specs.declared.entry.Entry.{Entry}
 
--- what is published begins with what each seat knows
+-- what is published begins with what each place knows
 abbrev pub Keeps : List Entry → List (List Entry) → Type 0
 Keeps x views = (seat : ℕ) (v : List Entry) → get_elem? views seat ≡ some v → IsPrefix v x
 

@@ -11,7 +11,7 @@ use Rattle.kd_tree.specs.Maps.{map_of}
 abbrev pub held : ℕ → List Entry → List Item
 held voxel h = (fold voxel (updates h)).items
 
--- the version holds what the history leaves, and tells how many points and entries it had
+-- the version holds what the history leaves, and shows how many points and entries it had
 pub record IsVersionOf (voxel : ℕ) (h : List Entry) (v : VersionAt) : Type 0 where
   pub folded : map_of v.tree v.next ≡ fold voxel (updates h)
   pub len : v.len ≡ length h

@@ -1,4 +1,4 @@
-//! The kinds of step on the published version.
+//! The steps on the published version.
 ghost use Rattle.std.specs.Prelude.{◌≡◌, ◌^◌, ◌<◌, [], fold, drop, IfOk, IfSome, MatchResult};
 ghost use mathlib.Core.List.{IsPrefix};
 ghost use Rattle.left_right.specs.Sides.{view};
@@ -14,13 +14,13 @@ use std::alloc::{AllocError, Global};
 use std::collections::LinkedList;
 use std::sync::Wait;
 
-/// A reader place. It knows the history of the version that it got last.
+/// A reader's place, which knows the history of the version that it got last.
 pub type MapReader<L> = Reader<Shown<L>, LinkedList<Entry>, Follows>;
 
 /// The writer's place, which has both sides.
 pub type MapWriter<L> = Writer<Shown<L>, Shown<L>, LinkedList<Entry>, Follows>;
 
-/// The pair of sides is made, for so many readers.
+/// Makes both sides, for at most `readers` readers.
 pub fn make_pair<L: MapName>(
     alloc: Global,
     first: Shown<L>,
@@ -34,14 +34,12 @@ pub fn make_pair<L: MapName>(
     Writer::new(alloc, first, second, readers)
 }
 
-/// A reader place is made.
 pub fn place_reader<L: MapName>(writer: &MapWriter<L>) -> Result<MapReader<L>, AllocError>
     ensures { IfOk result (λ r. view r.place ≡ []) }
 {
     writer.factory().reader()
 }
 
-// Publishes what is pending. The last pending version counts, whose history begins with that of the published one.
 fn publish<L: MapName, R: Wait>(
     writer: MapWriter<L>,
     rt: &R,
@@ -54,7 +52,6 @@ fn publish<L: MapName, R: Wait>(
     writer.publish_as::<Publishes, R>(rt)
 }
 
-// Enters the published version, and clones it.
 fn enter<L: MapName>(reader: MapReader<L>) -> (MapReader<L>, Option<Shown<L>>)
     ensures keeps { IsPrefix (view reader.place) (view result.0.place) }
     ensures seen { IfSome result.1 (λ s. view result.0.place ≡ s) }
@@ -68,7 +65,7 @@ fn enter<L: MapName>(reader: MapReader<L>) -> (MapReader<L>, Option<Shown<L>>)
     }
 }
 
-/// Publishes what is pending. The last pending version counts, whose history begins with that of the published one.
+/// Publishes the last pending version.
 pub fn show<L: MapName, R: Wait>(writer: &mut MapWriter<L>, rt: &R) -> Result<(), AllocError>
     requires knows { view writer.old.desk.place ≡ writer.old.desk.shown.value }
     requires grows { IsPrefix writer.old.desk.shown.value (fold (λ _ s. s) writer.old.desk.shown.value (drop writer.old.behind writer.old.log.items)) }
@@ -78,7 +75,7 @@ pub fn show<L: MapName, R: Wait>(writer: &mut MapWriter<L>, rt: &R) -> Result<()
     replace_with(writer, rt, |writer, rt| publish(writer, rt))
 }
 
-/// Enters the published version, and clones it. It begins with what the reader knew.
+/// The published version. `None` where none is handed out, or none can be shared.
 pub fn look<L: MapName>(reader: &mut MapReader<L>) -> Option<Shown<L>>
     ensures keeps { IsPrefix (view reader.old.place) (view reader.new.place) }
     ensures seen { IfSome result (λ s. view reader.new.place ≡ s) }

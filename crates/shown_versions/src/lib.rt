@@ -1,8 +1,5 @@
-//! What a shared map shows: versions, each with a mark of the history that it was shown in, published under a rule. Nothing here
-//! knows the lock, its turns, or who holds what was shown.
-//!
-//! `Shown` is a version with its `Mark`, `show` publishes the last one that is pending, and by `look` a reader gets the published one.
-//! `MapName` is the name of one shared map.
+//! What a shared map shows: versions, each with a mark of its history, published under a rule. Nothing here knows the lock, its
+//! turns, or who holds a version.
 #![tactic(auto)]
 
 mod kinds;

@@ -6,10 +6,9 @@ use crate::story::ShownHistory;
 use logbook::{Gain, Offer, Plain, Play, Rule, Seen, Start, Word};
 use std::marker::{Model, PhantomData};
 
-/// The most versions that a map publishes: 2^62.
 const MOST_MARKS: u64 = 1 << 62;
 
-/// The word of a book is the number of its entries. An entry is a page: what a mark is of.
+/// The first word of a book is the number of its pages. A page is what a mark is of.
 pub struct MarkRule;
 
 impl Rule<ShownHistory, u64> for MarkRule {
@@ -30,7 +29,6 @@ impl Rule<ShownHistory, u64> for MarkRule {
     ghost moves = { λ ask before after answer. Unit {0} };
 }
 
-/// Callers trade nothing.
 pub struct NoTrade;
 
 impl Gain<ShownHistory, u64> for NoTrade {
@@ -39,7 +37,6 @@ impl Gain<ShownHistory, u64> for NoTrade {
     ghost after = { λ names about answer. ftrue };
 }
 
-/// A step that adds an entry.
 pub struct Append;
 
 impl Play<ShownHistory, u64> for Append {
@@ -56,7 +53,7 @@ impl Plain<ShownHistory, ShownHistory, u64> for Append {
     ghost state = { λ story. None };
 }
 
-/// All marks of one map. Contracts see the book that they stand in.
+/// All marks of one map. Contracts see their book.
 #[derive(Drop)]
 pub struct MarkList {
     word: Word<ShownHistory, u64, MarkRule>,
@@ -77,7 +74,6 @@ impl Model for MarkList {
 }
 
 impl MarkList {
-    /// No marks yet, in a book of their own.
     pub fn new() -> MarkList {
         let (seen, mut first, _second) = Seen::open(Start::alone(), 0, 0);
         MarkList {
@@ -88,8 +84,7 @@ impl MarkList {
     }
 }
 
-/// The number of a version, or of a detached subtree, among all. Contracts see its page: the history of that version, or what the
-/// subtree held.
+/// The number of a version or a detached subtree. Contracts see its page: that version's history, or what the subtree held.
 #[derive(Drop)]
 pub struct Mark<L: MapName> {
     number: u64,
@@ -109,7 +104,7 @@ impl<L: MapName> Model for Mark<L> {
 }
 
 impl<L: MapName> Mark<L> {
-    /// A new number, for this page. `None` where another step came between, which the lock excludes, but no clause says so.
+    /// `None` past 2^62 numbers, or where another step came between, which the lock excludes though no clause says so.
     pub fn of(marks: &mut MarkList, story: &ShownHistory) -> Option<Mark<L>>
         requires { marks.old ≡ L.marks }
         ensures same { marks.new ≡ marks.old }
@@ -144,7 +139,6 @@ impl<L: MapName> Mark<L> {
         })
     }
 
-    /// The same number, with the same page.
     pub fn again(&self) -> Mark<L>
         ensures { result ≡ self.now }
     {
@@ -155,7 +149,7 @@ impl<L: MapName> Mark<L> {
         }
     }
 
-    /// True where both have one number, so that they have one page.
+    /// Whether both have one number, so one page.
     pub fn is_same(&self, other: &Mark<L>) -> bool
         ensures { result ≡ true → self.now ≡ other.now }
     {

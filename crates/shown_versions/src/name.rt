@@ -2,20 +2,17 @@
 use std::marker::Brand;
 use std::sync::ledger::Ledger;
 
-/// The name of one shared map, for contracts alone: `Shared` and `Pass` have it in their types, so that passes of one map aren't
-/// handed to another. As a ledger it counts the updates of all callers. A program takes `Brand` for it, and each call of a generic
-/// function picks a name of its own.
+/// The name of one shared map, for contracts alone: in their types, it keeps passes of one map from another. As a ledger it counts
+/// all updates. A program takes `Brand`, and each call of a generic function picks a name of its own.
 pub trait MapName: Ledger {
     ghost use Rattle.std.specs.Prelude.{ℕ};
     ghost use Rattle.logbook.specs.Pages.{Book};
 
-    /// The book that the map's versions are marked in.
     ghost marks: { Book };
 
-    /// How many callers the map has.
     ghost callers: { ℕ };
 
-    /// The edge of the map's voxels.
+    /// The edge of the map's voxels, in millimetres.
     ghost voxel: { ℕ };
 }
 

@@ -1,11 +1,11 @@
-//! The rule of the published version, and what each kind of step tells.
+//! The rule of the published version.
 use crate::name::MapName;
 use crate::shown::Shown;
 use crossbeam_utils::rule::{Outcome, Protocol};
 use map_items::Entry;
 use std::collections::LinkedList;
 
-/// The history of the published version begins with each list that a seat knows.
+/// The published history begins with each list that a place knows.
 pub struct Follows;
 
 impl<L: MapName> Protocol<Shown<L>, LinkedList<Entry>> for Follows {

@@ -11,7 +11,7 @@ use std::alloc::AllocError;
 use std::marker::Model;
 use std::sync::Arc;
 
-/// A version with its mark. Contracts see the history that the version shows.
+/// A version with its mark. Contracts see its history.
 pub struct Shown<L: MapName> {
     version: Arc<Version>,
     mark: Mark<L>,
@@ -29,7 +29,7 @@ impl<L: MapName> Model for Shown<L> {
     ghost invariant = { λ s. IsVersionOf L.voxel s.mark.history s.version.value };
 }
 
-// By hand, so that whoever lets a version go proves one call.
+// Manual `Drop`: a derived one is proved at every exit of every owner.
 impl<L: MapName> Drop for Shown<L> {
     fn drop(self) {
         let Shown {
@@ -40,7 +40,6 @@ impl<L: MapName> Drop for Shown<L> {
 }
 
 impl<L: MapName> Shown<L> {
-    /// The version, under the mark of the history that it shows.
     pub fn new(version: Arc<Version>, mark: Mark<L>) -> Shown<L>
         requires { IsVersionOf L.voxel mark.history version.value }
         ensures { result ≡ mark.history }
@@ -48,7 +47,7 @@ impl<L: MapName> Shown<L> {
         Shown { version, mark }
     }
 
-    /// The same version with the same mark.
+    /// Shares the version.
     pub fn again(&self) -> Result<Shown<L>, AllocError>
         ensures { IfOk result (λ s. s ≡ self.now) }
     {
@@ -59,14 +58,12 @@ impl<L: MapName> Shown<L> {
         })
     }
 
-    /// The mark of its history.
     pub fn mark(&self) -> &Mark<L>
         ensures { result.now.history ≡ self.now }
     {
         &self.mark
     }
 
-    /// The version, which holds what that history leaves.
     pub fn version(&self) -> &Version
         ensures { IsVersionOf L.voxel self.now result.now }
     {
@@ -74,7 +71,7 @@ impl<L: MapName> Shown<L> {
     }
 }
 
-/// The one operation is to become another version, so of several that are pending the last counts.
+/// The one operation is to become another version, so the last pending one counts.
 impl<L: MapName> Absorb<Shown<L>> for Shown<L> {
     // A clause reads an array as a list, of any length.
     type State = [Entry; 0];

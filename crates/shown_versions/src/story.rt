@@ -7,8 +7,7 @@ use rebuild_parts::Snapshot;
 use std::marker::Model;
 use std::snapshot;
 
-/// A page of the book of marks, which takes next to no bytes: the entries of a history, and maybe one more; or what a detached subtree
-/// held. It stays in the turn that makes it.
+/// A page of the book of marks, of next to no bytes. It stays in the turn that makes it.
 #[derive(Drop)]
 pub struct ShownHistory {
     history: Option<snapshot::Snapshot<Vec<Entry>>>,
@@ -27,7 +26,7 @@ impl Model for ShownHistory {
 }
 
 impl ShownHistory {
-    /// That of a version: the history, after a step that adds this entry, if there is one.
+    /// After a step that adds this entry, if there is one.
     pub fn of(history: snapshot::Snapshot<Vec<Entry>>, more: &Option<Entry>) -> ShownHistory
         ensures { result ≡ record { history = history.value.items ++ listed more.now; items = [] } }
     {
@@ -38,7 +37,6 @@ impl ShownHistory {
         }
     }
 
-    /// That of a detached subtree.
     pub fn of_subtree(subtree: &Snapshot) -> ShownHistory
         ensures { result ≡ record { history = []; items = subtree.now.items } }
     {
