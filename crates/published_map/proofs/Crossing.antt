@@ -77,5 +77,5 @@ shared_send L m l s y = search (locked_send, all) depth 40 fits 20000
 pub pass_send : (L : RattleType) (m : name.Ghosts L.Denot) (l : ledger.Ghosts L.Denot) → IsSend L → IsSync L → IsSend (pass.the_row L m l)
 pass_send L m l s y = search (shown_send, shown_sync, all) depth 40 fits 20000
 
--- what `search` lists, beside `sendable`, where a shared map or a pass crosses
+-- what `search` lists, as well as `sendable`, where a shared map or a pass crosses
 pub ruleset crosses = (shared_sync, shared_send, pass_send)

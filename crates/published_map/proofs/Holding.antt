@@ -61,7 +61,7 @@ true_with s k hs ks new a is = subst (AreTrueOf s) (sym is) (with_true s k hs ne
 some_hold : (a b : HoldAt) → ◌≡◌ {A = Option HoldAt} (Some a) (Some b) → a ≡ b
 some_hold a b e = cc
 
--- the hold of the ticket tells what the part of it held
+-- the hold of the ticket has what the part of it held
 pub true_found : (s : StateAt) (ticket : ℕ) (hs : List HoldAt) (h : HoldAt) → hold_of ticket hs ≡ Some h → AreTrueOf s hs → AreItemsOf ticket h.items s.parts
 true_found s ticket [] h e a = absurd cc
 true_found s ticket (k ∷ hs) h e a =

@@ -5,7 +5,7 @@ use Rattle.map_items.specs.declared.entry.Entry.{Entry}
 use Rattle.shown_versions.specs.Marks.{at_places, AreOwnPlaces}
 use Rattle.published_map.specs.Held.{IsPass}
 
--- what stands in a beginning stands in the whole, at the same place
+-- what is in a prefix is in the whole, at the same index
 pub get_prefix : {A : Type 0} (xs ys : List A) (k : ℕ) (x : A) → IsPrefix xs ys → slice_get xs k ≡ Some x → slice_get ys k ≡ Some x
 get_prefix [] ys k x p h = absurd cc
 get_prefix (y ∷ xs) [] k x p h = absurd (cc (p.1))

@@ -1,4 +1,4 @@
--- What a call with a pass answers, and leaves of what the pass has seen.
+-- What a call with a pass returns, and leaves of what the pass has seen.
 use Rattle.std.specs.Prelude.{◌≡◌, ℕ, ◌+◌, ◌<◌, List, length, Option, Result, Ok, Err}
 use Rattle.point_geom.specs.Place.{Place, Bounds}
 use Rattle.map_items.specs.declared.entry.Entry.{Entry}
@@ -15,7 +15,7 @@ use Rattle.shown_versions.specs.Versions.{held}
 use Rattle.map_items.specs.declared.limits.TheConstants.{MAX_POINTS}
 use Rattle.rebuild_core.specs.declared.plan.TheConstants.{MAX_UPDATES}
 
--- An update ends what its pass has seen. A refusal by a limit shows the history that is full; lack of memory leaves all.
+-- An update ends what its pass has seen. A refusal by a limit shows the history that is full; on `NoMemory` all stays.
 abbrev pub Updated : ℕ → Result ℕ StateFault → Seen → Seen → Update → Type 0
 Updated voxel (Ok n) p q u = Added p q u n
 Updated voxel (Err (TooManyUpdates len)) p q u = Grown p q × (len ≡ length q.seen) × (len ≡ MAX_UPDATES)

@@ -1,4 +1,4 @@
--- What is said of a caller at the end.
+-- What is returned of a caller at the end.
 use Rattle.std.specs.Prelude.{length}
 use Rattle.shown_versions.specs.Marks.{Seen}
 use Rattle.published_map.specs.declared.ended.Ended.{Ended}

@@ -1,4 +1,4 @@
--- What a pass, a map that isn't shared yet, and what lies under the lock keep true of themselves.
+-- What a pass, a map that isn't shared yet, and what the lock guards keep true of themselves.
 use Rattle.std.specs.Prelude.{◌≡◌, ℕ, ◌≤◌, List, [], length}
 use mathlib.Core.List.{IsPrefix}
 use Rattle.std.specs.declared.sync.ledger.Blank.{Blank}
@@ -8,8 +8,8 @@ use Rattle.map_items.specs.declared.item.Item.{Item}
 use Rattle.shown_versions.specs.Marks.{AreOwnPlaces}
 use Rattle.rebuild_core.specs.declared.plan.TheConstants.{MAX_UPDATES}
 
--- A pass keeps the history of one version, and its reader knows that or more. The marks are the places of its caller's entries.
--- It has one part of the share, whose amount is how many these are.
+-- A pass keeps the history of one version, and its reader knows that or more. The marks are the indices of its caller's entries. It
+-- has one part of the share, whose amount is how many these are.
 pub record IsPass (caller : ℕ) (kept known : List Entry) (marks : List ℕ) (parts amount : ℕ) : Type 0 where
   pub caller_from : 1 ≤ caller
   pub caller_to : caller ≤ 8
@@ -34,7 +34,7 @@ pub record IsOpened (callers : ℕ) (history : List Entry) : Type 0 where
   pub callers_to : callers ≤ 8
   pub none : history ≡ []
 
--- The blank is that of the ledger of this name and these parts, one for each caller of the map, and the map is the one of so many
+-- The blank is that of the ledger of this name and these parts, one for each caller of the map, and the map is the one of these
 -- callers, these marks and this edge of voxels.
 pub record IsOpenedAs (n m c : ℕ) (b : Book) (v : ℕ) (blank : Blank) (o : OpenedAt) : Type 0 where
   pub name : blank.name ≡ n

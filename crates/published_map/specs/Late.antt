@@ -8,13 +8,13 @@ use Rattle.rebuild_parts.specs.declared.fault.Late.TheVariants.{Stale, Behind, N
 use Rattle.op_logger.specs.declared.log.TheConstants.{MAX_LOGGED}
 use Rattle.rebuild_parts.specs.declared.fault.TheConstants.{MAX_UNFORCED}
 
--- Where at most so many operations are done: but for lack of memory the value is handed back, and one that is further behind with the
--- operations that it lacks. They can be done on its tree, and are no more than a log has.
+-- Where at most `most` operations are done: except on `NoMemory` the value is returned, and one that is further behind with the
+-- operations that it lacks. They can be done on its tree, and are at most as many as a log has.
 abbrev pub IsLateCause : BuiltAt → ℕ → Late → Type 0
 IsLateCause b most (Stale built) = built ≡ b
 IsLateCause b most (Behind built ops) = (built ≡ b) × Fit (contents b.tree) ops × (most < length ops) × (length ops ≤ MAX_LOGGED)
 IsLateCause b most NoMemory = ⊤
 
--- so many operations are done in a swap: where it is forced, as many as a log has
+-- at most how many operations are done in a swap: where it is forced, as many as a log has
 abbrev pub most_done : Bool → ℕ
 most_done force = if force then MAX_LOGGED else MAX_UNFORCED

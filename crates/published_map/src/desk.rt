@@ -1,5 +1,5 @@
-//! A shared map, as workers see it. A worker's call takes the lock in turns, and does between them what takes long: it lists what a
-//! subtree held, and compares that with a built value.
+//! A shared map, as workers see it. A worker's call takes the lock in turns, and lists and compares what a subtree held between
+//! them.
 ghost use Rattle.std.specs.Prelude.{◌≡◌, IfErr};
 ghost use Rattle.rebuild_core.specs.Desk.{IsSwapCause};
 ghost use Rattle.published_map.specs.Late.{IsLateCause, most_done};
@@ -14,9 +14,7 @@ use std::alloc::Global;
 use std::sync::{MutexGuard, Wait};
 
 impl<L: MapName> Desk for Shared<L> {
-    /// The subtree is detached as a tree in one turn of the lock, listed after it, and in a second turn the map gets the list.
-    /// Where memory runs out for the list, the subtree stays detached, without a job: the next call for its slot detaches it
-    /// afresh.
+    /// On `NoMemory` the subtree may stay detached, without a job: the next call for its slot detaches it anew.
     fn detach<R: Wait>(&self, rt: &R, alloc: Global, slot: u8) -> Result<Option<Job>, NoMemory> {
         let mut locked = self.lock.lock(rt);
         let (left, holdings) = (locked.retired.for_worker(), locked.holdings());
@@ -40,7 +38,7 @@ impl<L: MapName> Desk for Shared<L> {
         ops
     }
 
-    /// The operations are done on a copy of the value, which shares its nodes: so each node that they touch is copied.
+    /// Replays on a copy that shares the value's nodes, so each node that an operation touches is copied.
     fn swap<R: Wait>(&self, rt: &R, alloc: Global, built: Built, force: bool) -> Swapped {
         let most = if force { MAX_LOGGED } else { MAX_UNFORCED };
         match self.swap_copy(rt, alloc, &built, most) {
@@ -58,8 +56,7 @@ impl<L: MapName> Desk for Shared<L> {
 }
 
 impl<L: MapName> Shared<L> {
-    // The second turn of detaching: the map gets the list of what the job's subtree held. Without memory for one pointer more it
-    // keeps the tree.
+    // Without memory for one more pointer the map keeps the tree.
     fn list<R: Wait>(&self, rt: &R, job: &Job, mark: &Mark<L>)
         requires { job.now.items ≡ mark.now.items }
     {
@@ -72,7 +69,6 @@ impl<L: MapName> Shared<L> {
         drop(spent);
     }
 
-    // Swaps a copy of the value in, where it is at most so many operations behind.
     fn swap_copy<R: Wait>(&self, rt: &R, alloc: Global, built: &Built, most: u32) -> SwapOrLate
         ensures { IfErr result (IsLateCause built.now most) }
     {
@@ -80,8 +76,6 @@ impl<L: MapName> Shared<L> {
         self.swap_within(rt, alloc, twin, most)
     }
 
-    // Swaps the value in, where it is at most so many operations behind. The first turn takes hold of what the subtree of its
-    // ticket held, which is compared after it.
     fn swap_within<R: Wait>(&self, rt: &R, alloc: Global, built: Built, most: u32) -> SwapOrLate
         ensures { IfErr result (IsLateCause built most) }
     {
@@ -97,7 +91,6 @@ impl<L: MapName> Shared<L> {
         self.swap_known(rt, alloc, built, &mark, most)
     }
 
-    // The second turn: the value was built of what the mark is of.
     fn swap_known<R: Wait>(
         &self,
         rt: &R,
@@ -120,7 +113,6 @@ impl<L: MapName> Shared<L> {
     }
 }
 
-// The same cause, with the number of the operations that are left.
 fn counted(built: &Built, force: bool, late: Late) -> SwapFault
     requires { IsLateCause built.now (most_done force) late }
     ensures { IsSwapCause built.now force result }

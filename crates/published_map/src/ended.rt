@@ -1,4 +1,4 @@
-//! What is told of callers at the end.
+//! What callers did, returned at the end.
 ghost use Rattle.std.specs.Prelude.{◌≡◌, IfOk, map};
 ghost use Rattle.published_map.specs.Ends.{ended_of};
 
@@ -7,18 +7,15 @@ use map_items::NoMemory;
 use shown_versions::MapName;
 use std::alloc::Global;
 
-/// What a caller did.
 #[derive(Clone, Copy, Debug, PartialEq, Eq)]
 pub struct Ended {
     /// From 1 to 8.
     pub caller: u8,
-    /// How many updates it made.
     pub updates: u32,
     /// The length of the history that its pass has seen.
     pub mark: u64,
 }
 
-// That of all passes, in their order.
 pub(crate) fn ended_all<L: MapName>(
     alloc: Global,
     passes: &[Pass<L>],

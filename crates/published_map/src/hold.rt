@@ -1,5 +1,4 @@
-//! What detached subtrees held, told by marks. A turn of the lock learns by them what an earlier one saw, though the state was out
-//! of sight between the two.
+//! What detached subtrees held, by marks: so a turn of the lock knows what an earlier one saw.
 ghost use Rattle.std.specs.Prelude.{◌≡◌, ◌<◌, ◌++◌, [], ◌∷◌, length, slice_set, vec_len, vec_capacity, IfSome, IsNone};
 ghost use Rattle.std.specs.Option.{option_map};
 ghost use Rattle.published_map.specs.Holds.{HoldAt, hold_of, with_hold};
@@ -7,7 +6,7 @@ ghost use Rattle.published_map.specs.Holds.{HoldAt, hold_of, with_hold};
 use shown_versions::{MapName, Mark};
 use std::marker::Model;
 
-/// What the subtree held that was detached with this ticket. Contracts see the slot, the ticket and the items.
+/// What a detached subtree held. Contracts see the slot, the ticket and the items.
 #[derive(Drop)]
 pub struct Hold<L: MapName> {
     slot: u8,
@@ -37,14 +36,13 @@ impl<L: MapName> Hold<L> {
     }
 }
 
-/// The hold of the ticket.
 pub fn hold_of<L: MapName>(holds: &[Hold<L>], ticket: u64) -> Option<&Hold<L>>
     ensures { option_map (λ h. h.now) result ≡ hold_of ticket holds.now }
 {
     holds.iter().find(|hold| ticket == hold.ticket)
 }
 
-/// Keeps the hold in the place of the one of its slot, so that no more are kept than there are slots. There is room for one more.
+/// Replaces the hold of this slot, so that there are no more holds than slots.
 pub fn keep_hold<L: MapName>(holds: &mut Vec<Hold<L>>, hold: Hold<L>)
     requires { vec_len holds.old < vec_capacity holds.old }
     ensures { holds.new.items ≡ with_hold hold holds.old.items }
@@ -55,7 +53,7 @@ pub fn keep_hold<L: MapName>(holds: &mut Vec<Hold<L>>, hold: Hold<L>)
     }
 }
 
-// Where the hold of the slot stands.
+// The index of the slot's hold.
 fn place_of<L: MapName>(holds: &[Hold<L>], slot: u8) -> Option<usize>
     ensures low { IfSome result (λ i. i < length holds.now) }
     ensures taken { IfSome result (λ i. (h : HoldAt) → h.slot ≡ slot → with_hold h holds.now ≡ slice_set holds.now i h) }

@@ -1,11 +1,7 @@
-//! The map that several callers share: updates take turns at a lock, and queries read published versions without waiting.
+//! The map that several callers share: updates take turns at a lock, and publish versions that queries read without waiting. What a
+//! caller's `Pass` has seen is a prefix of one history, and never gets shorter.
 //!
-//! `Shared` has the state under its lock, and publishes a version at the end of each turn that makes one. A caller's `Pass` reads
-//! published versions. What a pass has seen is always a beginning of one history, and never gets shorter. What a version is
-//! published as, and by which steps, `shown_versions` tells.
-//!
-//! A query can't take the lock: `Pass::nearest` and `Pass::in_cuboid` are handed nothing by which they could wait, and no call
-//! waits without it.
+//! A query can't take the lock: no call waits without an `rt`, and `Pass::nearest` and `Pass::in_cuboid` get none.
 #![tactic(auto)]
 
 mod desk;

@@ -1,4 +1,4 @@
-//! What lies under the lock.
+//! What the lock guards. What a turn returns to be dropped is dropped once the lock is given back.
 ghost use Rattle.std.specs.Prelude.{◌≡◌, ◌≤◌, None, IfErr, IfOk, OnErr, OnOk};
 ghost use mathlib.Core.List.{IsPrefix};
 ghost use Rattle.rebuild_core.specs.Lawful.{IsLawful};
@@ -20,7 +20,7 @@ use std::marker::Model;
 use std::sync::ledger::{Book, Share};
 use std::sync::{Arc, Wait};
 
-/// The state, beside the writer's seat, the marks of the versions and the book of all updates. Contracts see the state.
+/// The state, the writer's place, the marks and the book of all updates. Contracts see the state.
 pub struct Locked<L: MapName>
 where
     Shown<L>: Absorb<Shown<L>, State = [Entry; 0]>,
@@ -29,10 +29,10 @@ where
     pub(crate) writer: MapWriter<L>,
     pub(crate) marks: MarkList,
     pub(crate) book: Book<L>,
-    // It has no part, and lends itself to an audit.
+    // It has no part, and is lent to audits.
     pub(crate) audit_share: Share<L>,
     pub(crate) retired: Retired<L>,
-    // What subtrees held that were detached, the last of each slot.
+    // The last of each slot.
     pub(crate) holds: Vec<Hold<L>>,
 }
 
@@ -59,20 +59,18 @@ where
 }
 
 impl<L: MapName> Locked<L> {
-    /// The version of the whole history, or none where it can't be shared once more.
+    /// `None` where it can't be shared once more.
     pub fn version(&self) -> Option<Arc<Version>> {
         Arc::try_clone(self.state.version()).ok()
     }
 
-    // Retires the version that was published before an update.
     fn retire(&mut self, former: Option<Arc<Version>>) -> Option<Arc<Version>>
         ensures same { self.new ≡ self.old }
     {
         self.retired.after_update(&mut self.state, former)
     }
 
-    /// Retires the version that was published before a swap or settling, where that was published. After a refusal the other side still
-    /// shows what is kept already. What it returns is to be dropped after the lock was given back.
+    /// After a refusal the other side still shows what is kept already.
     pub fn retire_swapped(
         &mut self,
         former: Option<Arc<Version>>,
@@ -87,12 +85,11 @@ impl<L: MapName> Locked<L> {
         }
     }
 
-    /// Whether this is the version that was published last.
     pub fn is_newest(&self, kept: &Shown<L>) -> bool {
         self.writer.published().mark().is_same(kept.mark())
     }
 
-    /// What the detached subtrees held, held once more: a turn that may forget some drops it after the lock was given back.
+    /// Shares what the detached subtrees held: a turn that may free some drops it later.
     pub fn holdings(&self) -> [Option<Holding>; 4] {
         [
             self.state.holding_in(1),
@@ -102,7 +99,6 @@ impl<L: MapName> Locked<L> {
         ]
     }
 
-    /// Lets the pass's reader get the version of the whole history, which shows that it begins with what the pass has seen.
     fn agree<R: Wait>(&mut self, rt: &R, pass: &mut Pass<L>)
         ensures same { self.new ≡ self.old }
         ensures pass { pass.new ≡ pass.old }
@@ -111,7 +107,6 @@ impl<L: MapName> Locked<L> {
         let _whole = catch_up(rt, self.writer.published(), &mut pass.reader);
     }
 
-    /// Lets the pass keep the version of the whole history.
     pub fn give<R: Wait>(&mut self, rt: &R, pass: &mut Pass<L>)
         ensures same { self.new ≡ self.old }
         ensures grown { Grown pass.old pass.new }
@@ -121,8 +116,7 @@ impl<L: MapName> Locked<L> {
         pass.kept = catch_up(rt, self.writer.published(), &mut pass.reader);
     }
 
-    /// One turn of the lock for an update. All memory is taken before the version is published. It returns as well
-    /// what is to be dropped after the lock was given back.
+    /// All memory is taken before the version is published.
     pub fn update<R: Wait>(
         &mut self,
         rt: &R,
@@ -145,7 +139,6 @@ impl<L: MapName> Locked<L> {
         (Err(fault), former)
     }
 
-    // Makes the update, where the pass has seen no more than there is.
     fn make<R: Wait>(
         &mut self,
         rt: &R,
@@ -174,8 +167,6 @@ impl<L: MapName> Locked<L> {
         Ok(mark)
     }
 
-    /// One turn of the lock for a settled version of the same history. It returns as well what is to be dropped after
-    /// the lock was given back.
     pub fn settle<R: Wait>(
         &mut self,
         rt: &R,
@@ -192,7 +183,7 @@ impl<L: MapName> Locked<L> {
         (done, spent)
     }
 
-    // Publishes a planned step that is no update, and enters it.
+    // For a step that is no update.
     pub(crate) fn step<R: Wait>(&mut self, rt: &R, planned: Planned) -> Result<(), NoMemory>
         requires lawful { IsLawful (entered planned self.old.state) }
         requires none { planned.entry ≡ None }
@@ -203,7 +194,6 @@ impl<L: MapName> Locked<L> {
         Ok(())
     }
 
-    /// Ends the map: its state is what is left of it.
     pub fn end<R: Wait>(self, rt: &R) -> MapState
         ensures same { result ≡ self }
         ensures lawful { IsLawful result.state }

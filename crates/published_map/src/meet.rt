@@ -8,8 +8,7 @@ use shown_versions::MapName;
 use std::sync::Wait;
 use std::sync::ledger::{Book, Share};
 
-/// Lets all passes see the whole history, in which each has made exactly its caller's updates: together they have made as many as
-/// there are.
+/// All passes see the whole history. Their updates are as many as the book counts, so each has made exactly its caller's.
 pub fn meet<L: MapName, R: Wait>(rt: &R, locked: &mut Locked<L>, passes: &mut [Pass<L>])
     requires all { length passes.old ≡ L.callers }
     requires parts { L.callers ≡ L.parts }
@@ -23,7 +22,7 @@ pub fn meet<L: MapName, R: Wait>(rt: &R, locked: &mut Locked<L>, passes: &mut [P
     audit_from(&mut locked.book, passes, &mut locked.audit_share);
 }
 
-/// The same for passes that are not used any more.
+/// For passes that aren't used any more.
 pub fn meet_last<L: MapName, R: Wait>(rt: &R, locked: &mut Locked<L>, passes: &mut [Pass<L>])
     requires all { length passes.old ≡ L.callers }
     requires parts { L.callers ≡ L.parts }
@@ -34,7 +33,6 @@ pub fn meet_last<L: MapName, R: Wait>(rt: &R, locked: &mut Locked<L>, passes: &m
     meet(rt, locked, passes);
 }
 
-// Lets all keep the version of the whole history.
 fn give_all<L: MapName, R: Wait>(rt: &R, locked: &mut Locked<L>, passes: &mut [Pass<L>])
     ensures same { locked.new ≡ locked.old }
     ensures seen { AllSeen locked.old.state.history passes.new }
@@ -47,7 +45,7 @@ fn give_all<L: MapName, R: Wait>(rt: &R, locked: &mut Locked<L>, passes: &mut [P
     }
 }
 
-// The updates of all passes are as many as the book has: each pass lends its part of the share, and gets it back.
+// Each pass lends its part of the share, and gets it back.
 fn audit_from<L: MapName>(book: &mut Book<L>, passes: &mut [Pass<L>], all: &mut Share<L>)
     requires all { all.old.parts + length passes.old ≡ L.callers }
     requires parts { L.callers ≡ L.parts }

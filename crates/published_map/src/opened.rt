@@ -7,8 +7,7 @@ use shown_versions::MarkList;
 use std::alloc::Global;
 use std::marker::Model;
 
-/// A map that holds nothing, before it gets its name: `Shared::start` shares it. Contracts see the book of its marks, how many
-/// callers it is for, its settings and what it holds.
+/// An empty map before it gets its name. Contracts see the book of its marks, its callers, settings and items.
 #[derive(Drop)]
 pub struct Opened {
     pub(crate) state: MapState,
@@ -28,7 +27,6 @@ impl Model for Opened {
 }
 
 impl Opened {
-    /// A map of these settings that holds nothing, for 1 to 8 callers.
     pub fn new(alloc: Global, settings: Settings, callers: u8) -> Result<Opened, NoMemory>
         requires callers_from { 1 ≤ callers }
         requires callers_to { callers ≤ 8 }

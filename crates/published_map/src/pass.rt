@@ -15,15 +15,13 @@ use std::alloc::Global;
 use std::marker::Model;
 use std::sync::ledger::Share;
 
-/// A caller's way to the map: `Shared::update` asks for it, and queries go by it alone. Contracts see its caller, a beginning of
-/// the one history that it has seen, and the updates that its caller has made by it.
-///
-/// It keeps the version of what it has seen. No call with it waits.
+/// A caller's way to the map. Contracts see its caller, the prefix of the one history that it has seen, and the updates that its
+/// caller has made. It keeps the version of what it has seen.
 pub struct Pass<L: MapName> {
     pub(crate) caller: u8,
     pub(crate) reader: MapReader<L>,
     pub(crate) kept: Shown<L>,
-    // Where its updates stand in the history.
+    // The indices of its updates in the history.
     pub(crate) marks: Vec<u64>,
     pub(crate) share: Share<L>,
 }
@@ -40,7 +38,7 @@ impl<L: MapName> Model for Pass<L> {
     ghost invariant = { λ p. IsPass p.caller p.kept (seat_view p.reader.place) p.marks.items p.share.parts p.share.amount };
 }
 
-// By hand, so that whoever lets a pass go proves one call.
+// Manual `Drop`: a derived one is proved at every exit of every owner.
 impl<L: MapName> Drop for Pass<L> {
     fn drop(self) {
         let Pass {
@@ -77,34 +75,30 @@ impl<L: MapName> Pass<L> {
         }
     }
 
-    /// Whose it is, from 1 to 8.
     pub fn caller(&self) -> u8
         ensures value { result ≡ self.now.caller }
         ensures from { 1 ≤ result }
         ensures to { result ≤ 8 }
 
-        // What it has made stands at rising places of what it has seen, each under its caller.
+        // Its updates are at rising indices of what it has seen.
         ensures own { IsMade self.now.seen self.now }
     {
         self.caller
     }
 
-    // How many updates its caller has made.
     pub(crate) fn updates(&self) -> u32
         ensures { result ≡ length self.now.mine }
     {
         self.marks.len() as u32
     }
 
-    // How many entries it has seen.
     pub(crate) fn mark(&self) -> u64
         ensures { result ≡ length self.now.seen }
     {
         self.kept.version().len()
     }
 
-    /// Takes the published version and keeps it. Where no version is handed out, or memory runs out, it keeps the one that it
-    /// has.
+    /// Takes the published version, if one is handed out and can be shared.
     pub fn renew(&mut self)
         ensures { Grown self.old self.new }
     {
@@ -113,15 +107,14 @@ impl<L: MapName> Pass<L> {
         }
     }
 
-    /// The version that it keeps.
+    /// The version of what it has seen.
     pub fn version(&self) -> &Version
         ensures { IsVersionOf L.voxel self.now.seen result.now }
     {
         self.kept.version()
     }
 
-    /// Renews the version, and searches it as `kd_search::nearest` does, with the same cost. Where memory runs out, more may
-    /// have been seen.
+    /// Renews the version and searches it as `kd_search::nearest` does, at the same cost. On `NoMemory` more may have been seen.
     pub fn nearest(
         &mut self,
         alloc: Global,
@@ -143,8 +136,8 @@ impl<L: MapName> Pass<L> {
         })
     }
 
-    /// Renews the version, counts the live points of the box, and lists the first `most` of them by number, as
-    /// `kd_search::count_in` and `kd_search::in_cuboid` do. Where memory runs out, more may have been seen.
+    /// Renews the version, counts the live points in the box, and lists the first `most` by number, as `kd_search::count_in` and
+    /// `kd_search::in_cuboid` do. On `NoMemory` more may have been seen.
     pub fn in_cuboid(&mut self, alloc: Global, c: &Cuboid, most: u32) -> Result<BoxReply, NoMemory>
         requires most_from { 1 ≤ most }
         requires most_to { most ≤ MAX_FOUND }

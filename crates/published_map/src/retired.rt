@@ -1,5 +1,5 @@
-//! Versions that nobody is shown any more: who frees each, and when. To free the last copy of a version takes time that grows with what
-//! was taken out of its tree, so none is freed under the lock.
+//! Who frees versions that aren't published any more. Freeing the last copy takes time by what was taken out of its tree, so none
+//! is freed under the lock.
 ghost use Rattle.std.specs.Prelude.{◌≡◌};
 
 use core::mem::replace;
@@ -10,27 +10,26 @@ use rebuild_parts::Version;
 use shown_versions::{MapName, Shown};
 use std::sync::Arc;
 
-/// Versions that wait to be freed. What a call returns is to be dropped after the lock was given back.
+/// Versions that wait to be freed. What a call returns is to be dropped once the lock is given back.
 #[derive(Drop)]
 pub struct Retired<L: MapName>
 where
     Shown<L>: Absorb<Shown<L>, State = [Entry; 0]>,
 {
-    // The version before the published one. The next step writes over the last other copy of it, on the side that readers don't take, and
-    // would free it under the lock.
+    // The version before the published one: the next step writes over its other copy, on the writer's side, and would free it under
+    // the lock.
     former: Option<Arc<Version>>,
     // Whether an update, which makes few nodes, came after the former version.
     by_update: bool,
-    // The version that the last swap or settling replaced, once an update came after it. It may be the last to hold what was taken out of
-    // the tree, so a worker frees it, and not the caller that updates.
+    // What the last swap or settling replaced, once an update came after it. It may be the last to hold what was taken out of the
+    // tree, so a worker frees it.
     replaced: Option<Arc<Version>>,
-    // What the pass of an update kept before it, where that wasn't the version that was published last. After several swaps it may hold
-    // what the first of them took out, so a worker frees it as well.
+    // What a pass kept before its update, unless that was the newest version. After several swaps it may hold what the first took
+    // out.
     kept: Option<Shown<L>>,
 }
 
 impl<L: MapName> Retired<L> {
-    /// None.
     pub fn new() -> Self {
         Retired {
             former: None,
@@ -40,8 +39,8 @@ impl<L: MapName> Retired<L> {
         }
     }
 
-    /// Retires the version before an update that was published. The one before that, where an update replaced it too, becomes memory of
-    /// the state's next update; where a swap or settling did, a worker frees it.
+    /// Retires `former`. The version before it becomes memory of the state's next update where an update replaced it; else a worker
+    /// frees it.
     pub fn after_update(
         &mut self,
         state: &mut MapState,
@@ -61,8 +60,7 @@ impl<L: MapName> Retired<L> {
         }
     }
 
-    /// Retires the version before a swap or settling that was published. The one before that becomes memory of the state's next update
-    /// where an update replaced it, and is returned where it was another swap.
+    /// As `after_update`, but a version before it that a swap or settling replaced is returned.
     pub fn after_swap(
         &mut self,
         state: &mut MapState,
@@ -81,12 +79,10 @@ impl<L: MapName> Retired<L> {
         }
     }
 
-    /// Takes what the pass of an update kept before it, and returns what an earlier pass did.
     pub fn after_pass(&mut self, kept: Option<Shown<L>>) -> Option<Shown<L>> {
         replace(&mut self.kept, kept)
     }
 
-    /// What a worker frees.
     pub fn for_worker(&mut self) -> (Option<Arc<Version>>, Option<Shown<L>>) {
         (self.replaced.take(), self.kept.take())
     }

@@ -21,17 +21,16 @@ use std::alloc::Global;
 use std::sync::ledger::Blank;
 use std::sync::{Mutex, MutexGuard, Wait};
 
-/// A map that several callers share, each with a pass of its own. A call that is handed `rt` takes the lock, and waits for those
-/// that have it. What a turn drops is freed after the lock was given back, and what a swap took out of the tree by the next
-/// turn of a worker rather than by the caller that updates, though no clause says so.
-/// End it by `finish` or `close`.
+/// A map that several callers share, each with a pass. A call with `rt` takes the lock, and waits for those before it. What a turn
+/// drops is freed after it, and by a worker what a swap took out of the tree, though no clause says so. End it by `finish` or
+/// `close`.
 pub struct Shared<L: MapName> {
     pub(crate) lock: Mutex<Locked<L>>,
 }
 
 impl<L: MapName> Shared<L> {
-    /// Shares an opened map, and makes the passes of all callers, the first caller's first. The name is that of the map's marks,
-    /// callers and voxels, and the blank is the ledger of this name, with a part for each caller.
+    /// Shares an opened map, and makes a pass for each caller, from caller 1 on. The blank is the ledger of the map's name, with a
+    /// part for each caller.
     pub fn start<R: Wait>(
         rt: &R,
         alloc: Global,
@@ -70,8 +69,8 @@ impl<L: MapName> Shared<L> {
         }
     }
 
-    /// Makes an update of the pass's caller, as `MapState::update` does, and publishes a version with it, which the pass then
-    /// keeps. It answers how many entries the history has then. A refusal drops the update.
+    /// Makes an update of the pass's caller as `MapState::update` does, and publishes its version, which the pass keeps. Returns
+    /// the length of the history. A refusal drops the update.
     pub fn update<R: Wait>(
         &self,
         rt: &R,
@@ -107,8 +106,7 @@ impl<L: MapName> Shared<L> {
         done
     }
 
-    /// Lets all passes see the whole history at one moment. Each caller's updates there are exactly those that it has made by its
-    /// pass.
+    /// All passes see the whole history at one moment. Each caller's updates in it are those made by its pass.
     pub fn meet<R: Wait>(&self, rt: &R, passes: &mut [Pass<L>])
         requires all { length passes.old ≡ L.callers }
         requires parts { L.callers ≡ L.parts }
@@ -120,8 +118,7 @@ impl<L: MapName> Shared<L> {
         MutexGuard::unlock(locked);
     }
 
-    /// Ends the map, and gives its state and what each caller did, in the order of the passes. Where memory runs out, the state
-    /// is dropped.
+    /// Ends the map. Returns its state and what each caller did, in the order of the passes. On `NoMemory` the state is dropped.
     pub fn finish<R: Wait>(
         self,
         rt: &R,

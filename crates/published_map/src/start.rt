@@ -13,7 +13,7 @@ use std::alloc::Global;
 use std::sync::Arc;
 use std::sync::ledger::Share;
 
-/// The pair, whose opening version is the state's.
+/// Both sides show the state's version.
 pub fn opened_pair<L: MapName>(
     alloc: Global,
     state: &MapState,
@@ -33,7 +33,6 @@ pub fn opened_pair<L: MapName>(
     Ok(make_pair(alloc, first, second, callers as usize)?)
 }
 
-// The state's version, under the mark of a history without an entry.
 fn opening<L: MapName>(state: &MapState, marks: &mut MarkList) -> Result<Shown<L>, NoMemory>
     requires marks { marks.old ≡ L.marks }
     requires empty { state.now.state.history ≡ [] }
@@ -67,7 +66,6 @@ fn made_pass<L: MapName>(
     Ok(Pass::new(alloc, caller, reader, kept, share))
 }
 
-/// The passes of the callers from 1 on.
 pub fn made_passes<L: MapName>(
     alloc: Global,
     writer: &MapWriter<L>,

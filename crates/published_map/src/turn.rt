@@ -1,4 +1,4 @@
-//! What a turn of the lock does with the state, the writer's seat and a reader's.
+//! What a turn of the lock does with the state, the writer's place and a reader's.
 ghost use Rattle.std.specs.Prelude.{◌≡◌, ◌≤◌, true, is_some, length, IfOk, OnErr, OnOk};
 ghost use mathlib.Core.List.{IsPrefix};
 ghost use Rattle.left_right.specs.Sides.{view};
@@ -14,7 +14,6 @@ use shown_versions::{
 };
 use std::sync::{Arc, Wait};
 
-// The planned version with a new mark.
 fn shown_by<L: MapName>(
     marks: &mut MarkList,
     state: &MapState,
@@ -33,7 +32,6 @@ fn shown_by<L: MapName>(
     Ok(Shown::new(version, mark))
 }
 
-// Publishes a planned step and enters it, after which the history is so long. Where memory runs out, it does neither.
 fn show_step<L: MapName, R: Wait>(
     rt: &R,
     state: &mut MapState,
@@ -55,7 +53,6 @@ fn show_step<L: MapName, R: Wait>(
     Ok(state.enter_step(planned))
 }
 
-// Publishes what goes on from what is published. Where memory runs out, that stays.
 fn publish<L: MapName, R: Wait>(
     rt: &R,
     writer: &mut MapWriter<L>,
@@ -77,7 +74,7 @@ fn publish<L: MapName, R: Wait>(
     Ok(())
 }
 
-/// Publishes a planned step and enters it, after which the history is so long. Where memory runs out, it does neither.
+/// Publishes a planned step and enters it. Returns the length of the history.
 pub fn take_step<L: MapName, R: Wait>(
     rt: &R,
     marks: &mut MarkList,
@@ -101,8 +98,7 @@ pub fn take_step<L: MapName, R: Wait>(
     show_step(rt, state, writer, planned, shown)
 }
 
-/// Lets the reader enter until it gets what is shown, and gives that. Under the lock the first time finds it, but no clause says
-/// so.
+/// Under the lock the reader's first try gets what is published, but no clause says so.
 pub fn catch_up<L: MapName, R: Wait>(
     rt: &R,
     shown: &Shown<L>,

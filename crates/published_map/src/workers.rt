@@ -1,5 +1,4 @@
-//! The turns of the lock that workers take. Between two of them the lists of detached subtrees are made and compared: nothing here
-//! takes time that depends on how many points such a subtree holds.
+//! The turns of the lock that workers take. None takes time by the number of points in a detached subtree.
 ghost use Rattle.std.specs.Prelude.{◌≡◌, ◌≤◌, true, IfErr, IfOk, IfSome};
 ghost use Rattle.rebuild_parts.specs.Built.{CanBeDoneOn};
 ghost use Rattle.rebuild_core.specs.Desk.{IsAskCause};
@@ -16,7 +15,7 @@ use std::alloc::Global;
 use std::sync::Wait;
 
 impl<L: MapName> Locked<L> {
-    /// One turn of the lock that detaches a subtree, and marks what it held. Nothing that queries see changes.
+    /// Detaches a subtree, and marks what it held. Nothing that queries see changes.
     pub fn detach(
         &mut self,
         alloc: Global,
@@ -41,7 +40,7 @@ impl<L: MapName> Locked<L> {
         Ok(Some((snapshot, mark)))
     }
 
-    // Whether the mark is of what the subtree of this ticket held. Then a part of the ticket, if there is one still, held the same.
+    // Whether this is the mark of the ticket's subtree, which, if it is still detached, held the mark's items.
     fn is_known(&self, ticket: u64, mark: &Mark<L>) -> bool
         ensures { result ≡ true → AreItemsOf ticket mark.now.items self.now.state.parts }
     {
@@ -51,8 +50,8 @@ impl<L: MapName> Locked<L> {
         }
     }
 
-    /// One turn of the lock in which the part of the ticket gets the list of what it held, by this mark. What it answers is to be
-    /// dropped after the lock was given back: what the part had before, or the list where nobody waits for it any more.
+    /// Gives the ticket's subtree the list of what it held. Returns what is to be dropped: what it had before, or the list where
+    /// nobody waits for it.
     pub fn hold(&mut self, ticket: u64, list: Holding, mark: &Mark<L>) -> Holding
         requires { list ≡ mark.now.items }
         ensures { self.new ≡ self.old }
@@ -63,7 +62,7 @@ impl<L: MapName> Locked<L> {
         self.state.hold(ticket, list)
     }
 
-    /// What the subtree of the ticket held, with its mark, if it is still detached.
+    /// `None` once the subtree isn't detached any more.
     pub fn held(&self, ticket: u64) -> Result<Option<(Holding, Mark<L>)>, NoMemory>
         ensures { IfOk result (λ o. IfSome o (λ r. r.1.items ≡ r.0)) }
     {
@@ -76,8 +75,7 @@ impl<L: MapName> Locked<L> {
         Ok(Some((holding, hold.mark().again())))
     }
 
-    /// One turn of the lock that swaps the value in, where it is at most so many operations behind. It was built of what the mark
-    /// is of. What comes back is to be dropped after the lock was given back.
+    /// Swaps in a value at most `most` operations behind that was built of what the mark is of.
     pub fn swap<R: Wait>(
         &mut self,
         rt: &R,
@@ -103,7 +101,6 @@ impl<L: MapName> Locked<L> {
         Ok(())
     }
 
-    /// The operations that the built value hasn't done.
     pub fn log_after(&self, alloc: Global, built: &Built) -> Result<Ops, LogAsk>
         ensures fit { IfOk result (CanBeDoneOn built.now) }
 
