@@ -22,7 +22,7 @@ Finds t = option_and_then (λ (p : Text × List Row). first_of (codes "n") p.1) 
 abbrev IsNamed : Text → Type 0
 IsNamed t = option_map (λ (p : Text × List Row). p.0) (subcommand_of mapper (check_of t)) ≡ Some (codes "check")
 
--- it holds of so many numbers from one on
+-- it holds of the first k numbers from `from` on
 abbrev HoldFrom : (ℕ → Type 0) → ℕ → ℕ → Type 0
 HoldFrom P from zero = Unit {0}
 HoldFrom P from (suc k) = P from × HoldFrom P (from + 1) k

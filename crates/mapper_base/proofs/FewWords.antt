@@ -21,7 +21,7 @@ tells_at : (b : Bool) (xs ys : List ℕ) → Decides b (xs ≡ ys) → (b ≡ tr
 tells_at true xs ys d = (λ _. ap (λ (x : List ℕ). x ∷ []) (d.0 refl), λ _. refl)
 tells_at false xs ys d = (λ t. absurd (cc t), λ e. let same : xs ≡ ys = cc in let k : false ≡ true = d.1 same in cc)
 
--- a test of one word tells whether it is the list
+-- a test of one word shows whether it is the list
 pub tells_one : (b : Bool) (xs ys : List ℕ) → b ≡ bytes_eq xs ys → (b ≡ true) ↔ (xs ∷ [] ≡ ys ∷ [])
 tells_one b xs ys e = rw e (tells_at (bytes_eq xs ys) xs ys (bytes_eq-Decides xs ys))
 

@@ -21,7 +21,7 @@ made_first : (made : Option Update) (us : List Update) → option_to_list made +
 made_first (Some u) us = refl
 made_first None us = refl
 
--- the first command's update stands before the others
+-- the first command's update is before the others
 updates_cons : (c : Command) (cs : List Command) → updates_made (c ∷ cs) ≡ updates_made (c ∷ []) ++ updates_made cs
 updates_cons c cs = made_first (command_update c) (updates_made cs)
 
@@ -48,8 +48,8 @@ reply_early voxel n us vs c long =
     let early : take n (us ++ vs) ≡ take n us = take-append-le n us vs le in
     reply_take voxel n (us ++ vs) us c early
 
--- How far a run has come: the updates that were made and those of the commands that are left are the script's, and the
--- replies so far and those to the commands that are left are all.
+-- How far a run has come: the updates that were made and those of the remaining commands are the script's, and the replies so far
+-- and those to the remaining commands are all.
 pub record Ran (s : ScriptAt) (left : List Command) (t : StateAt) (rs : List Reply) : Type 0 where
   pub settings : t.settings ≡ s.sizes
   pub made : updates t.history ++ updates_made left ≡ updates_made s.commands

@@ -10,7 +10,7 @@ use Rattle.scan_log.specs.Commands.{command_update, updates_made}
 use Rattle.scan_log.specs.declared.command.Command.{Command}
 use Rattle.scan_log.specs.Transcript.{reply_on, reply_to}
 
--- a reply at a mark is told by the updates before it
+-- a reply at a mark follows from the updates before it
 pub reply_take : (voxel m : ℕ) (us vs : List Update) (c : Command) → take m us ≡ take m vs → reply_to voxel us c m ≡ reply_to voxel vs c m
 reply_take voxel m us vs c e = ap (λ ts. reply_on (fold voxel ts).items c m) e
 

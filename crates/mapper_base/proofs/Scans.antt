@@ -25,7 +25,7 @@ unfolding next_draws
 length-draws zero s = refl
 length-draws (suc k) s = ap suc (length-draws k (next s))
 
--- the first of so many points
+-- the first of n points
 points_next : (i k s : ℕ) → points_of_draws i (next_draws (3 * suc k) s)
     ≡ point i (drawn (next s)) (drawn (next (next s))) (drawn (next (next (next s)))) ∷ points_of_draws i (next_draws (3 * k) (next (next (next s))))
 unfolding next_draws points_of_draws
@@ -43,7 +43,7 @@ no_draws : (s : ℕ) → after (3 * 0) s ≡ s
 unfolding after
 no_draws s = refl
 
--- How far a scan has come: the points so far and those of the draws that are left are the scan's.
+-- How far a scan has come: the points so far and those of the remaining draws are the scan's.
 pub record HasSeen (i s left t : ℕ) (ps : List Place) : Type 0 where
   pub rest : ps ++ points_of_draws i (next_draws (3 * left) t) ≡ points_of_draws i (next_draws 6000 s)
   pub moved : after (3 * left) t ≡ after 6000 s
@@ -87,7 +87,7 @@ seen_all i s left t ps seen none =
     let on : after (3 * 0) t ≡ after 6000 s = rw none at seen.moved in
     (sym (append-nil ps) ∙ ap (λ qs. ps ++ qs) (sym (no_points i t)) ∙ all, sym (no_draws t) ∙ on)
 
--- the first of so many scans
+-- the first of n scans
 scans_next : (i k s : ℕ) → commands_from i (suc k) (next_draws (6000 * suc k) s) ≡ scan_commands i (points_of_draws i (next_draws 6000 s)) ++ commands_from (i + 1) k (next_draws (6000 * k) (after 6000 s))
 unfolding commands_from
 scans_next i k s =
@@ -100,7 +100,7 @@ no_scans : (i : ℕ) (ds : List ℕ) → commands_from i 0 ds ≡ []
 unfolding commands_from
 no_scans i ds = refl
 
--- How many scans are made: the commands so far and those of the scans that are left are the script's.
+-- How many scans are made: the commands so far and those of the remaining scans are the script's.
 pub record HasMade (n left i t : ℕ) (z : ScriptAt) : Type 0 where
   pub format : z.format ≡ One
   pub sizes : z.sizes ≡ (generated n).sizes

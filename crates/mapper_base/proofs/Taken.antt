@@ -1,4 +1,4 @@
--- Which words are taken, and what is heard in them.
+-- Which words are taken, and what is read in them.
 use Rattle.std.proofs.Common.{◌≡◌, ◌≤◌, ◌==◌, ℕ, zero, suc, ◌&&◌, Bool, true, false, List, ◌∷◌, codes, decimal, bytes_eq, Option, Some, None, option_map, refl, sym, ap, ◌∙◌, subst, arith}
 use Rattle.std.specs.Bool.{Decides}
 use Rattle.std.proofs.lemmas.Bool.Decides.{nat_tests}
@@ -140,7 +140,7 @@ met_is word t read (Some p) name rows h a b =
       ap read (sym two) ∙ text_is t (read p.1) (second_of_two (bytes_eq p.0 word) (is_text t (read p.1)) h),
     )
 
--- what is heard in the words that ask for something
+-- what is read in the words that ask for something
 pub heard : (a : Ask) (t : Text) (f : Found) → CanBeDone a → option_map (λ p. p.0) (subcommand_of mapper (argv a)) ≡ Some t
     → option_map (λ p. p.1) (subcommand_of mapper (argv a)) ≡ Some (rows_of f) → IsSaid a t f
 heard Run t f ask a b =
@@ -167,7 +167,7 @@ met_some : (word t : Text) (read : List Row → Option Text) (q : Option (Text �
 met_some word t read None h a = absurd (cc h)
 met_some word t read (Some p) h a = absurd (cc a)
 
--- something is heard in the words that ask for something
+-- something is read in the words that ask for something
 pub met : (a : Ask) → CanBeDone a → option_map (λ p. p.1) (subcommand_of mapper (argv a)) ≡ None → ⊥
 met Run ask e = met_some (codes "run") (codes "false") (one_of (codes "serial")) _ (second_of_two _ _ (good Run ask)) e
 met Serial ask e = met_some (codes "run") (codes "true") (one_of (codes "serial")) _ (second_of_two _ _ (good Serial ask)) e

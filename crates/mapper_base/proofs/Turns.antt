@@ -37,7 +37,7 @@ query_follows c s none = record {
   next = omega (arith, none_submitted c none);
 }
 
--- what a state's version holds tells the reply after all its updates
+-- what a state's version holds gives the reply after all its updates
 pub lawful_reply : (s : StateAt) (c : Command) → IsLawful s → reply_on (contents s.version.tree) c (length s.history) ≡ reply_of s c
 lawful_reply s c h =
     ap (λ is. reply_on is c (length s.history))

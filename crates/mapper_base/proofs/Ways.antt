@@ -57,7 +57,7 @@ asked_text s so_far a p asked = subst (λ b. IsTextOf b s.log p.lines) (same_ask
 asked_cause : (s : RunSeen) (e : Ending) (a : Ask) → HasRefused s e → Asks a s.words → NotRead a s.log e
 asked_cause s e a h asked = subst (λ b. NotRead b s.log e) (same_ask h.ask a s.words h.asked.0 asked) h.unread
 
--- what is done of a log is done on what the log says
+-- what is done of a log is done on the log's script
 said_of : (a : Ask) (log : LogSeen) (x : ScriptAt) → IsOfLog a → IsDoneOn a log x → Says a log x
 said_of Run log x of h = h
 said_of Serial log x of h = h
@@ -112,7 +112,7 @@ done_checked s e n h done asked =
     (λ bytes q v. record { script = t.script; spelled = q.1.0; verdict = v }) t.said.1 t.printed.found in
     (t.said.0, (t.printed.verdict, found, subst (Appends s.out.held s.out.held_after) t.printed.told p.written))
 
--- a log that has a fault says no script
+-- a log that has a fault spells no script
 unsaid : (a : Ask) (log : LogSeen) (x : ScriptAt) (bytes : List ℕ) (f : FaultAt) → Says a log x → log.left ≡ Some bytes → first_fault (log_of a bytes) ≡ Some f → ⊥
 unsaid a log x bytes f said told fault =
     let h = subst (λ o. IfSome o (λ b. (length b ≤ most_of a) × (Spells (log_of a b) x × (first_fault (log_of a b) ≡ None)))) told said.1 in
@@ -152,7 +152,7 @@ bad_way s (Bad line cause) a bytes f h asked told few fault small sure =
 bad_way s WriteFault a bytes f h asked told few fault small sure = absurd (unprinted s (AppendsFront s.out.held s.out.held_after) a bytes f h.0 asked told fault)
 bad_way s NoMemory a bytes f h asked told few fault small sure = inr refl
 
--- words that ask for nothing are told so
+-- words that ask for nothing end in `Usage`
 pub nothing_way : (s : RunSeen) (e : Ending) → Ended s e → AskNothing s.words → IsOrNoMemory (status_of e) status.Usage
 nothing_way s Done h nothing = absurd (nothing h.ask h.asked)
 nothing_way s Usage h nothing = inl refl
@@ -196,7 +196,7 @@ scans_way s (Bad line cause) h asked out = absurd (not_both s.words h.ask asked 
 scans_way s WriteFault h asked out = absurd (out h.1)
 scans_way s NoMemory h asked out = inr refl
 
--- such a log says no script
+-- such a log spells no script
 over_unsaid : (a : Ask) (log : LogSeen) (x : ScriptAt) (bytes : List ℕ) → Says a log x → log.left ≡ Some bytes → IsOverLimit a bytes → ⊥
 over_unsaid a log x bytes said told (inl long) =
     let h = subst (λ o. IfSome o (λ b. (length b ≤ most_of a) × (Spells (log_of a b) x × (first_fault (log_of a b) ≡ None)))) told said.1 in
@@ -215,7 +215,7 @@ over_unprinted s so_far a bytes p asked told over =
     let t = asked_text s so_far a p asked.0 in
     over_unsaid a s.log t.script bytes (said_of a s.log t.script asked.1 t.said) told over
 
--- a log that is over a limit is told so
+-- a log that is over a limit ends in `OverLimit`
 pub over_way : (s : RunSeen) (e : Ending) (a : Ask) (bytes : List ℕ) → Ended s e → AskOfLog a s.words → s.log.left ≡ Some bytes → IsOverLimit a bytes
     → NoFault s.log.faults s.log.faults_after → IsOrNoMemory (status_of e) status.OverLimit
 over_way s Done a bytes h asked told over sure = absurd (over_unprinted s (Appends s.out.held s.out.held_after) a bytes h asked told over)

@@ -20,11 +20,11 @@ spelled (Check n) = codes "check" ∷ decimal n ∷ []
 abbrev pub IsScanCount : ℕ → Type 0
 IsScanCount n = (1 ≤ n) × (n ≤ 200)
 
--- a log may have so many bytes
+-- a log may have n bytes
 abbrev pub IsLogLength : ℕ → Type 0
 IsLogLength n = n ≤ 268435456
 
--- so many scans can be generated, or the log's bytes be told from those behind them
+-- n scans can be generated, or n bytes can be a log
 abbrev pub CanBeDone : Ask → Type 0
 CanBeDone Run = Unit {0}
 CanBeDone Serial = Unit {0}

@@ -26,7 +26,7 @@ IsTooLong a log = HasRead log.left log.left_after (λ n. n ≡ most_of a + 1)
 abbrev pub ReadsInLimit : Ask → LogSeen → Type 0
 ReadsInLimit a log = HasRead log.left log.left_after (λ n. n ≤ most_of a + 1)
 
--- the input was read to its end and isn't too long, and this holds of the log in it, where its bytes are told
+-- the input was read to its end and isn't too long, and this holds of the log in it, where its bytes are shown
 abbrev pub WasRead : Ask → LogSeen → (List ℕ → Type 0) → Type 0
 WasRead a log P = (log.ended ≡ true) × IfSome log.left (λ bytes. (length bytes ≤ most_of a) × P (log_of a bytes))
 
@@ -62,7 +62,7 @@ pub record IsTextOf (a : Ask) (log : LogSeen) (lines : List ℕ) : Type 0 where
   pub said : IsDoneOn a log script
   pub printed : Prints a log.left script lines
 
--- why there is no such text: the log's cause, or lack of memory
+-- why there is no such text: the log's cause, or `NoMemory`
 abbrev pub HasNoText : Ask → LogSeen → Ending → Type 0
 HasNoText ask.Run log e = NotRead ask.Run log e
 HasNoText ask.Serial log e = NotRead ask.Serial log e
@@ -95,7 +95,7 @@ Ended s (Bad line cause) = HasRefused s (Bad line cause)
 Ended s WriteFault = HasPrinted s (AppendsFront s.out.held s.out.held_after) × Rose s.out.faults s.out.faults_after
 Ended s NoMemory = Keeps s.out.held s.out.held_after ⊎ HasPrinted s (AppendsFront s.out.held s.out.held_after)
 
--- The run ended in one of these ways, and answers its status; notes got its line or a front of it.
+-- The run ended in one of these ways, and returns its status; notes got its line or a prefix of it.
 pub record Ends (s : RunSeen) (notes notes_after : Option (List ℕ)) (status : Status) : Type 0 where
   pub way : Ending
   pub answered : status ≡ status_of way

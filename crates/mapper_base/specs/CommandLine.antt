@@ -1,4 +1,4 @@
--- The command line, as `clap` is told of it, and what is heard in its words. Cited by private functions alone.
+-- The command line, as `clap` gets it, and what is read in its words. Cited by private functions alone.
 use Rattle.std.specs.Prelude.{◌≡◌, List, codes, decimal, Option, Some, None}
 use Rattle.clap.specs.Words.{App, Rule, Text, first_value, one_text, new_app, new_rule, with_rule, with_subcommand}
 use Rattle.clap.specs.declared.parser.matches.Found.{Found}
@@ -36,7 +36,7 @@ IsSaid (Make n) t f = (t ≡ codes "make") × (first_value f (codes "n") ≡ Som
 IsSaid (Drive n) t f = (t ≡ codes "drive") × (first_value f (codes "n") ≡ Some (decimal n))
 IsSaid (Check n) t f = (t ≡ codes "check") × (first_value f (codes "n") ≡ Some (decimal n))
 
--- something was heard that is spelled so
+-- something was read that is spelled so
 abbrev pub IsHeard : Option Ask → List Text → Type 0
 IsHeard None words = ⊥
 IsHeard (Some a) words = spelled a ≡ words

@@ -21,7 +21,7 @@ IsTranscribed log out = (log.ended ≡ true) × ((lines : List ℕ) × IfSome lo
 abbrev pub IsTranscribedInOrder : LogSeen → OutSeen → Type 0
 IsTranscribedInOrder log out = (s : ScriptAt) × IfSome log.left (λ bytes. Spells bytes s) × Appends out.held out.held_after (text s (serial_marks (plain_script s)))
 
--- the input was read to its end, and the line of the verdict was written on what stands in it behind a log of n bytes
+-- the input was read to its end, and the line of the verdict was written on what is in it after a log of n bytes
 abbrev pub IsChecked : ℕ → LogSeen → OutSeen → Type 0
 IsChecked n log out = (log.ended ≡ true) × ((v : Verdict) × IfSome log.left (λ bytes. IsFound n bytes v) × Appends out.held out.held_after (verdict_line v))
 

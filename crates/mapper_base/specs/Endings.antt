@@ -1,4 +1,4 @@
--- What is answered and told of each way to end.
+-- The status and the line of notes of each way to end.
 use Rattle.std.specs.Prelude.{◌≡◌, ◌⊎◌, ℕ, List, [], ◌∷◌, ◌++◌, codes, if◌then◌else◌}
 use Rattle.scan_log.specs.Faults.{fault_text, is_limit}
 use Rattle.mapper_base.specs.declared.ending.Ending.{Ending}
@@ -16,7 +16,7 @@ status_of (Bad line cause) = if is_limit cause then status.OverLimit else status
 status_of WriteFault = status.WriteFault
 status_of NoMemory = status.NoMemory
 
--- it is the status that is wanted, or memory ran out
+-- it is the status that is wanted, or `NoMemory`
 abbrev pub IsOrNoMemory : Status → Status → Type 0
 IsOrNoMemory it wanted = (it ≡ wanted) ⊎ (it ≡ status.NoMemory)
 

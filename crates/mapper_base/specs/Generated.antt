@@ -15,12 +15,12 @@ next s = (s * 1664525 + 1013904223) % 2 ^ 32
 abbrev pub drawn : ℕ → ℕ
 drawn s = s / 65536
 
--- the next so many draws, after the number s
+-- the next k draws, after the number s
 unfoldable pub next_draws : ℕ → ℕ → List ℕ
 next_draws zero s = []
 next_draws (suc k) s = drawn (next s) ∷ next_draws k (next s)
 
--- the number after so many draws
+-- the number after k draws
 unfoldable pub after : ℕ → ℕ → ℕ
 after zero s = s
 after (suc k) s = after k (next s)
@@ -38,14 +38,14 @@ points_of_draws i ds = []
 abbrev pub robot : ℕ → Place
 robot i = record { x = pos (1000 * i); y = pos 0; z = pos 0; intensity = 0 }
 
--- what lies 30 to 60 metres box_behind it
+-- what is 30 to 60 metres behind it
 abbrev pub box_behind : ℕ → Bounds
 box_behind i = record {
   lo = record { x = pos (1000 * i) -ℤ pos 60000; y = neg_ℤ (pos 30000); z = neg_ℤ (pos 3000) };
   hi = record { x = pos (1000 * i) -ℤ pos 30000; y = pos 30001; z = pos 3001 };
 }
 
--- each tenth scan drops what lies box_behind
+-- each tenth scan drops what is far behind
 abbrev pub deletions : ℕ → List Command
 deletions i = if i % 10 == 9 then Change 1 (Delete (box_behind i ∷ [])) ∷ [] else []
 
@@ -53,11 +53,11 @@ deletions i = if i % 10 == 9 then Change 1 (Delete (box_behind i ∷ [])) ∷ []
 abbrev pub scan_commands : ℕ → List Place → List Command
 scan_commands i seen = Change 1 (Thin seen) ∷ Near 1 5 (robot i) None ∷ Near 2 5 (robot i) (Some 2000) ∷ deletions i ++ Sync ∷ []
 
--- so many scans from scan i on, each of the next 2000 points, which are 6000 draws
+-- n scans from scan i on, each of the next 2000 points, which are 6000 draws
 unfoldable pub commands_from : ℕ → ℕ → List ℕ → List Command
 commands_from i zero ds = []
 commands_from i (suc n) ds = scan_commands i (points_of_draws i (take 6000 ds)) ++ commands_from (i + 1) n (drop 6000 ds)
 
--- the script of so many scans, of version 1, whose draws begin after the number 1
+-- the script of n scans, of version 1, whose draws begin after the number 1
 abbrev pub generated : ℕ → ScriptAt
 generated n = record { format = One; sizes = record { voxel = 500; large = 1500 }; commands = commands_from 0 n (next_draws (6000 * n) 1) }

@@ -1,4 +1,4 @@
--- What the input may be, where the words have a log read from it and the source tells its bytes.
+-- What the input may be, where the words have a log read from it and the source shows its bytes.
 use Rattle.std.specs.Prelude.{◌≡◌, ◌≤◌, ◌<◌, ◌⊎◌, ℕ, List, length, true, false, Some}
 use Rattle.std.specs.declared.option.Option.{Option}
 use Rattle.scan_log.specs.Scripts.{ScriptAt}
@@ -7,7 +7,7 @@ use Rattle.scan_log.specs.Faults.{FaultAt, first_fault, is_limit}
 use Rattle.mapper_base.specs.declared.command_line.words.Ask.{Ask}
 use Rattle.mapper_base.specs.Asks.{AskOfLog, log_of, most_of}
 
--- P holds, if the log in the input is spelled, whatever stands behind it
+-- P holds, if the log in the input is spelled, whatever comes after it
 abbrev pub IfSpelled : List (List ℕ) → Option (List ℕ) → Type 0 → Type 0
 IfSpelled words input P = (a : Ask) (bytes : List ℕ) (s : ScriptAt) → AskOfLog a words → input ≡ Some bytes → length bytes ≤ most_of a → Spells (log_of a bytes) s → P
 

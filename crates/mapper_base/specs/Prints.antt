@@ -17,14 +17,14 @@ use Rattle.mapper_base.specs.Verdicts.{verdict_line}
 abbrev pub AreSerialLines : ScriptAt → List ℕ → Type 0
 AreSerialLines s lines = AreLegalLines s lines × (lines ≡ text s (serial_marks (plain_script s)))
 
--- The line is that of a verdict, which is the one on what stands in the input behind so many bytes, where the input is told.
+-- The line is that of a verdict, which is the one on what is in the input after n bytes, where the input is shown.
 pub record IsVerdictLine (s : ScriptAt) (n : ℕ) (input : Option (List ℕ)) (line : List ℕ) : Type 0 where
   pub verdict : Verdict
   pub found : IfSome input (λ bytes. IsVerdict s (drop n bytes) verdict)
   pub told : line ≡ verdict_line verdict
 
--- A run prints the lines of legal replies, a serial one those of the replies in the log's order. Of a generated script the log
--- is printed, or the line of its sums. A check prints the line of the verdict on what stands in the input behind the log.
+-- A run prints the lines of legal replies, a serial one those of the replies in the log's order. Of a generated script the log is
+-- printed, or the line of its sums. A check prints the line of the verdict on what is in the input after the log.
 abbrev pub Prints : Ask → Option (List ℕ) → ScriptAt → List ℕ → Type 0
 Prints Run input s lines = AreLegalLines s lines
 Prints Serial input s lines = AreSerialLines s lines

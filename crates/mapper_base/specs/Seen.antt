@@ -4,7 +4,7 @@ use Rattle.std.specs.declared.option.Option.{Option}
 use Rattle.byte_streams.specs.declared.outside.Source.{Ghosts as SourceOf}
 use Rattle.byte_streams.specs.declared.outside.Sink.{Ghosts as SinkOf}
 
--- what is seen of the log: the bytes left before and after, whether the last read was the end, and the counts of faults
+-- what is seen of the log: the bytes remaining before and after, whether the last read was the end, and the counts of faults
 pub record LogSeen : Type 0 where
   pub left : Option (List ℕ)
   pub left_after : Option (List ℕ)
@@ -25,11 +25,11 @@ pub record RunSeen : Type 0 where
   pub log : LogSeen
   pub out : OutSeen
 
--- what a source tells of the log, of before and after
+-- what a source shows of the log, of before and after
 abbrev pub log_seen : {R : Type 0} → SourceOf R → R → R → LogSeen
 log_seen source old new = record { left = source.left old; left_after = source.left new; ended = source.ended new; faults = source.faults old; faults_after = source.faults new }
 
--- what a sink tells of out
+-- what a sink shows of out
 abbrev pub out_seen : {W : Type 0} → SinkOf W → W → W → OutSeen
 out_seen sink old new = record { held = sink.held old; held_after = sink.held new; faults = sink.faults old; faults_after = sink.faults new }
 

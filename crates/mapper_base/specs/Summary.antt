@@ -1,4 +1,4 @@
--- The line of sums that is told of a run.
+-- The line of a run's sums.
 use Rattle.std.specs.Prelude.{ℕ, ◌+◌, ◌-◌, List, [], ◌∷◌, ◌++◌, length, slice_get, codes, decimal, None, Some}
 use Rattle.std.specs.declared.option.Option.{Option}
 use Rattle.scan_log.specs.declared.reply.Reply.{Reply}
@@ -29,7 +29,7 @@ pub record Held : Type 0 where
   pub live : ℕ
   pub suspended : ℕ
 
--- as the reply at the end tells it
+-- as the reply at the end has it
 abbrev pub told_by : Option Reply → Held
 told_by (Some (Totals mark live suspended)) = record { live = live; suspended = suspended }
 told_by (Some (Done mark)) = record { live = 0; suspended = 0 }
@@ -41,7 +41,7 @@ told_by (Some (Lonely r)) = record { live = 0; suspended = 0 }
 told_by (Some (Clusters r)) = record { live = 0; suspended = 0 }
 told_by None = record { live = 0; suspended = 0 }
 
--- how many points are held when all commands are done: the last reply tells it
+-- how many points are held when all commands are done: the last reply has it
 abbrev pub held_at_end : List Reply → Held
 held_at_end rs = told_by (slice_get rs (length rs - 1))
 

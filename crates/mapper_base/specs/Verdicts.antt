@@ -13,7 +13,7 @@ verdict_line (Unspelled line) = codes "illegal line " ++ decimal line ++ 10 ∷ 
 verdict_line Marks = codes "illegal marks\n"
 verdict_line (Differs line) = codes "illegal reply " ++ decimal line ++ 10 ∷ []
 
--- The verdict on an input: its first n bytes are the log, and the bytes behind are found to be this of its script.
+-- The verdict on an input: its first n bytes are the log, and the bytes after it are found to be this of its script.
 pub record IsFound (n : ℕ) (input : List ℕ) (v : Verdict) : Type 0 where
   pub script : ScriptAt
   pub spelled : Spells (take n input) script

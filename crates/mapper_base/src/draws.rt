@@ -1,4 +1,4 @@
-//! Draws: numbers that look as if by chance, and are the same at each run.
+//! Draws: pseudorandom numbers, the same at each run.
 ghost use Rattle.std.specs.Prelude.{◌≡◌, ◌<◌};
 ghost use Rattle.scan_log.specs.declared.format.Format.TheVariants.{One};
 ghost use Rattle.scan_log.specs.Scripts.{IsLogPlace};
@@ -6,7 +6,7 @@ ghost use Rattle.scan_log.specs.Scripts.{IsLogPlace};
 use point_geom::Point;
 use std::marker::Model;
 
-/// A generator of draws, seen as the number that it has reached.
+/// Contracts see the number that the generator has reached.
 #[derive(Drop)]
 pub struct Draws {
     number: u32,
@@ -25,7 +25,6 @@ impl Draws {
     ghost use Rattle.scan_log.specs.Scripts.{IsScannedPlace};
     ghost use Rattle.mapper_base.specs.Generated.{drawn, next, point};
 
-    /// The generator before its first draw.
     pub fn new() -> Draws
         ensures { result ≡ 1 }
     {
@@ -43,7 +42,7 @@ impl Draws {
         self.number / 65_536
     }
 
-    /// A point that is seen from the robot's place at this scan, by a draw for each axis in turn.
+    /// A point within 30 metres of the robot along x and y, and 3 along z, by a draw for each axis.
     pub fn point(&mut self, scan: u32) -> Point
         requires { scan < 200 }
         ensures point { result ≡ point scan (drawn (next self.old)) (drawn (next (next self.old))) (drawn (next (next (next self.old)))) }
@@ -57,7 +56,6 @@ impl Draws {
     }
 }
 
-/// The point of these coordinates, which are in their limits.
 pub fn point_at(x: i64, y: i64, z: i64) -> Point
     requires { IsLogPlace One (record { x = x; y = y; z = z; intensity = 0 }) }
     ensures value { result ≡ record { x = x; y = y; z = z; intensity = 0 } }

@@ -7,32 +7,28 @@ use crate::status::Status;
 use map_items::NoMemory;
 use scan_log::LogCause;
 
-/// How a run ended, with what is told of it.
+/// How a run ended, with what notes say of it.
 #[derive(Clone, Copy)]
 pub enum Ending {
-    /// All was written.
     Done,
     /// The words ask for nothing that can be done.
     Usage,
-    /// The log failed while it was read.
+    /// Reading the log failed.
     ReadFault,
-    /// The log, or what stands behind it, has more bytes than it may have.
+    /// The input has more bytes than it may have.
     TooLong,
-    /// The log has a fault.
     Bad {
         /// The first faulty line, counted from 1.
         line: u32,
         /// The first fault in it.
         cause: LogCause,
     },
-    /// Out failed while it was written to.
+    /// Writing to out failed.
     WriteFault,
-    /// There was no memory.
     NoMemory,
 }
 
 impl Ending {
-    /// The status that it is answered by.
     pub fn status(self) -> Status
         ensures { result ≡ status_of self }
     {

@@ -12,24 +12,21 @@ use point_geom::{Corner, Cuboid};
 use scan_log::{Command, Format, MAX_COMMANDS, Script};
 use std::alloc::Global;
 
-/// The edge of the grid's voxels, in millimetres.
+/// In millimetres.
 const VOXEL: u32 = 500;
 
-/// How many nodes a large subtree has.
+/// In nodes.
 const LARGE: u32 = 1_500;
 
-/// The points of a scan.
 const POINTS: u32 = 2_000;
 
-/// How many hits are asked for.
 const K: u32 = 5;
 
-/// The greatest distance that the second caller asks for, in millimetres.
+/// The greatest distance that caller 2 asks for, in millimetres.
 const WITHIN: u64 = 2_000;
 
-/// The script of so many scans, the same at each run. In each scan caller 1 thins 2,000 points into the map and asks for the
-/// points nearest to the robot, as caller 2 does within 2 metres; each tenth scan what lies far behind is deleted. Takes 24 bytes
-/// a point, and little else.
+/// The script of `scans` scans. In each, caller 1 thins 2,000 points into the map and asks for those nearest to the robot, as
+/// caller 2 does within 2 metres; each tenth scan deletes what is far behind. Takes 24 bytes a point, and little else.
 pub fn made(alloc: Global, scans: u32) -> Result<Script, NoMemory>
     requires scans_from { 1 ≤ scans }
     requires scans_to { scans ≤ 200 }
@@ -84,7 +81,6 @@ fn scan_points(alloc: Global, draws: &mut Draws, scan: u32) -> Result<Points, No
     Ok(points)
 }
 
-// Asks for the points nearest to the robot.
 fn question(caller: u8, scan: u32, within: Option<u64>) -> Command
     requires caller { IsCaller caller }
     requires scan { scan < 200 }
@@ -123,7 +119,7 @@ fn push_deletions(alloc: Global, script: &mut Script, scan: u32) -> Result<(), N
     push(script, Command::Change { caller: 1, update })
 }
 
-// What lies 30 to 60 metres behind the robot.
+// 30 to 60 metres behind the robot.
 fn behind(scan: u32) -> Cuboid
     requires { scan < 200 }
     ensures value { result ≡ box_behind scan }
@@ -146,7 +142,6 @@ fn behind(scan: u32) -> Cuboid
     }
 }
 
-// One more command, for which there is room.
 fn push(script: &mut Script, command: Command) -> Result<(), NoMemory>
     requires format { script.old.format ≡ One }
     requires good { IsCommand One command }
@@ -160,7 +155,7 @@ fn push(script: &mut Script, command: Command) -> Result<(), NoMemory>
     ensures points { OnOk result (points_of script.new.commands ≡ points_of script.old.commands + submitted command) }
     ensures hits { OnOk result (hits_of script.new.commands ≤ 256 * length script.new.commands) }
 {
-    // Says that the script is in its limits.
+    // A fact: the script is in its limits.
     let _ = script.commands();
     script.push(command)
 }

@@ -10,15 +10,14 @@ use byte_streams::{ReadStop, Source, read_all};
 use scan_log::{ParseFault, Script, parse};
 use std::alloc::Global;
 
-/// An input that was read to its end, and the script that the log in it spells.
+/// An input that was read to its end, and the script of its log.
 #[derive(Drop)]
 pub struct Input {
     pub bytes: Vec<u8>,
     pub script: Script,
 }
 
-/// The script that the log spells, or the way to end that tells why there is none. Lets the log's bytes go, so that the map
-/// doesn't stand beside them.
+/// The script of the log, or why there is none. Frees the log's bytes, so that they aren't there while the map is.
 pub fn read_script<R: Source>(alloc: Global, ask: Ask, log: &mut R) -> Result<Script, Ending>
     requires can_be_done { CanBeDone ask }
     requires of_log { IsOfLog ask }
@@ -52,7 +51,6 @@ pub fn read_input<R: Source>(alloc: Global, ask: Ask, log: &mut R) -> Result<Inp
     }
 }
 
-// The most bytes that the input may have.
 fn most_of(ask: Ask) -> u32
     requires { CanBeDone ask }
     ensures { result ≡ most_of ask }
@@ -63,7 +61,6 @@ fn most_of(ask: Ask) -> u32
     }
 }
 
-// The part of the input that is the log.
 fn log_of(ask: Ask, input: &[u8]) -> &[u8]
     ensures { result.now ≡ log_of ask input.now }
 {
@@ -73,7 +70,7 @@ fn log_of(ask: Ask, input: &[u8]) -> &[u8]
     }
 }
 
-/// What stands in the input behind so many bytes, if there are more.
+/// The input after the first `length` bytes.
 pub fn behind(input: &[u8], length: u32) -> &[u8]
     ensures { result.now ≡ drop length input.now }
 {

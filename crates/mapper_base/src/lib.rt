@@ -1,5 +1,5 @@
-//! The program but for its threads: what the words ask for, the log that is read, a script in its order, generated scripts, sums, verdicts,
-//! and how a run ends.
+//! The program without its threads: what the words ask for, the log that is read, a script in its order, generated scripts, sums,
+//! verdicts, and how a run ends.
 #![tactic(auto)]
 
 mod command_line;

@@ -1,4 +1,4 @@
-//! The line that tells how a run ended.
+//! The line that says how a run ended.
 ghost use Rattle.std.specs.Prelude.{◌≡◌, ◌++◌, ◌∷◌, [], IfOk};
 ghost use Rattle.scan_log.specs.Faults.{fault_text};
 ghost use Rattle.mapper_base.specs.Endings.{note_of};
@@ -10,8 +10,8 @@ use itoa::Buffer;
 use scan_log::LogCause;
 use std::alloc::{AllocError, Global};
 
-/// Writes the line of the way to end, of which there is none where all was done. How the writing ends is told to nobody. Only
-/// the line of a faulty log takes memory.
+/// Writes the line of the ending, which is empty for `Done`. Ignores how the writing ends. Only the line of a faulty log takes
+/// memory.
 pub fn tell<E: Sink>(alloc: Global, notes: &mut E, ending: Ending)
     ensures { AppendsFront (E.held notes.old) (E.held notes.new) (note_of ending) }
 {
@@ -43,7 +43,6 @@ fn tell_fault<E: Sink>(alloc: Global, notes: &mut E, line: u32, cause: LogCause)
     }
 }
 
-// The line, with its line feed.
 fn fault_line(alloc: Global, line: u32, cause: LogCause) -> Result<Vec<u8>, AllocError>
     ensures { IfOk result (λ text. text.items ≡ fault_text (record { line = line; cause = cause }) ++ 10 ∷ []) }
 {

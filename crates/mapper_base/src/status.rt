@@ -9,11 +9,10 @@ pub enum Status {
     BadLog,
     /// The words ask for nothing that can be done.
     Usage,
-    /// The log failed while it was read.
+    /// Reading the log failed.
     ReadFault,
-    /// Out failed while it was written to.
+    /// Writing to out failed.
     WriteFault,
-    /// There was no memory.
     NoMemory,
     /// The log has more bytes, commands or points than a log may have.
     OverLimit,

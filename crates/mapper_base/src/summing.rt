@@ -1,4 +1,4 @@
-//! The line of sums that is told of a run.
+//! The line of a run's sums.
 ghost use Rattle.std.specs.Prelude.{◌≡◌, ◌++◌, decimal, IfOk, OnOk};
 ghost use Rattle.scan_log.specs.Scripts.{points_of};
 ghost use Rattle.mapper_base.specs.Summary.{held_at_end, hits_in, hits_in_reply, sum_text, summary_text};
@@ -8,8 +8,8 @@ use map_items::NoMemory;
 use scan_log::{PlainScript, Reply};
 use std::alloc::Global;
 
-/// The line of a run of so many scans: its commands, the points that it submitted, those that are live and suspended at its end,
-/// and the hits of all its single searches.
+/// The line of a run of `scans` scans: its commands, the points submitted, the live and the suspended ones at the end, and the hits
+/// of all single searches.
 pub fn summary(
     alloc: Global,
     scans: u32,
@@ -49,14 +49,14 @@ fn points_in(script: &PlainScript) -> usize
     points
 }
 
-// How many points are live, and how many suspended.
+// Live and suspended points.
 #[derive(Clone, Copy)]
 struct Counted {
     live: u32,
     suspended: u32,
 }
 
-// The last reply of a run tells it.
+// The last reply has them.
 fn held_at_end(replies: &[Reply]) -> Counted
     ensures live { result.live ≡ (held_at_end replies.now).live }
     ensures suspended { result.suspended ≡ (held_at_end replies.now).suspended }
@@ -79,7 +79,7 @@ fn held_at_end(replies: &[Reply]) -> Counted
     }
 }
 
-// No sum of lengths reaches the end of 128 bits.
+// No sum of lengths reaches 2^128.
 fn hits_in(replies: &[Reply]) -> u128
     ensures { result ≡ hits_in replies.now }
 {

@@ -7,7 +7,6 @@ use map_items::NoMemory;
 use std::alloc::Global;
 use transcript_check::Verdict;
 
-/// What is printed of the verdict.
 pub fn verdict_line(alloc: Global, verdict: Verdict) -> Result<Vec<u8>, NoMemory>
     ensures { IfOk result (λ v. v.items ≡ verdict_line verdict) }
 {

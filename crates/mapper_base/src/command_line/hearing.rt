@@ -13,8 +13,7 @@ use clap::error::ErrorKind;
 use clap::{Arg, ArgAction, ArgMatches, Command};
 use std::alloc::{AllocError, Global};
 
-/// What `clap` reads from the words, of which the first is the program's name. Whatever it refuses is heard as nothing, its
-/// texts are dropped, and words that ask for something are heard as that.
+/// `clap`'s reading of the words, of which the first is the program's name. `None` where it refuses them; its texts are dropped.
 pub fn heard(alloc: Global, argv: &[&str]) -> Result<Option<Ask>, AllocError>
     ensures can_be_done { IfOk result (λ r. IfSome r CanBeDone) }
     ensures heard { (a : Ask) → CanBeDone a → map (λ w. w.now) argv.now ≡ codes "mapper" ∷ spelled a → IfOk result (λ r. IsHeard r (spelled a)) }
@@ -32,7 +31,6 @@ pub fn heard(alloc: Global, argv: &[&str]) -> Result<Option<Ask>, AllocError>
     }
 }
 
-// What the subcommand that was met asks for.
 fn said_in(matches: &ArgMatches<'_>) -> Option<Ask>
     ensures can_be_done { IfSome result CanBeDone }
     ensures heard { (a : Ask) → CanBeDone a → subcommand_rows_of matches.now ≡ subcommand_of mapper (codes "mapper" ∷ spelled a) → IsHeard result (spelled a) }
@@ -64,7 +62,6 @@ fn run_command<'a>(alloc: Global) -> Result<Command<'a>, AllocError>
     Command::new(alloc, "run").arg(serial)
 }
 
-// The command with a subcommand of this name that takes a number.
 fn with_numbered<'a>(
     alloc: Global,
     command: Command<'a>,
@@ -76,7 +73,6 @@ fn with_numbered<'a>(
     command.subcommand(number)
 }
 
-// The command of this name that takes a number.
 fn numbered<'a>(alloc: Global, name: &'a str) -> Result<Command<'a>, AllocError>
     ensures app { IfOk result (λ c. app_of c ≡ numbered name.now) }
     ensures local { IfOk result (λ c. (fields_of c).has_globals ≡ false) }
@@ -85,7 +81,6 @@ fn numbered<'a>(alloc: Global, name: &'a str) -> Result<Command<'a>, AllocError>
     Command::new(alloc, name).arg(number)
 }
 
-// What the subcommand of this name asks for.
 fn said(name: &str, inner: &ArgMatches<'_>) -> Option<Ask>
     ensures can_be_done { IfSome result CanBeDone }
     ensures heard { (a : Ask) → CanBeDone a → IsSaid a name.now (found_of inner.now) → IsHeard result (spelled a) }

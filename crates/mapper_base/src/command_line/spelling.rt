@@ -6,13 +6,11 @@ use crate::command_line::words::Ask;
 use itoa::Buffer;
 use scan_log::natural_in;
 
-/// The most scans that may be asked for.
 const MAX_SCANS: u32 = 200;
 
-/// The most bytes that a log may have.
+/// In bytes.
 pub const MAX_LOG: u32 = 268_435_456;
 
-/// Whether the words are the one spelling of it.
 pub fn is_spelled(words: &[String], ask: Ask) -> bool
     ensures { (result ≡ true) ↔ (texts words.now ≡ spelled ask) }
 {
@@ -26,7 +24,7 @@ pub fn is_spelled(words: &[String], ask: Ask) -> bool
     }
 }
 
-/// The number of scans whose one spelling this is, from 1 to 200.
+/// The number of scans, from 1 to 200, whose one spelling this is.
 pub fn scans_of(text: &str) -> Option<u32>
     ensures some { IfSome result (λ n. (1 ≤ n) × (n ≤ MAX_SCANS) × (decimal n ≡ text.now)) }
     ensures none { IfNone result ((n : ℕ) → 1 ≤ n → n ≤ MAX_SCANS → decimal n ≢ text.now) }
@@ -34,7 +32,7 @@ pub fn scans_of(text: &str) -> Option<u32>
     natural_in(1, MAX_SCANS, text.as_bytes()).ok()
 }
 
-/// The number of bytes whose one spelling this is, if a log may have so many.
+/// The number of bytes whose one spelling this is, at most a log's.
 pub fn length_of(text: &str) -> Option<u32>
     ensures some { IfSome result (λ n. (n ≤ MAX_LOG) × (decimal n ≡ text.now)) }
     ensures none { IfNone result ((n : ℕ) → n ≤ MAX_LOG → decimal n ≢ text.now) }

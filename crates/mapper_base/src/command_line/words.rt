@@ -6,23 +6,21 @@ use crate::command_line::hearing::heard;
 use crate::command_line::spelling::is_spelled;
 use std::alloc::{AllocError, Global};
 
-/// What the words ask for.
 #[derive(Clone, Copy)]
 pub enum Ask {
-    /// A run of a log.
+    /// A run of a log by its callers.
     Run,
     /// A run of a log in its order.
     Serial,
-    /// The log of a generated script of so many scans.
+    /// The log of a generated script of this many scans.
     Make(u32),
-    /// A run of a generated script in its order, and one line of sums.
+    /// The sums of a run of a generated script, in its order.
     Drive(u32),
-    /// The verdict on what stands behind so many bytes, which are a log, as a transcript of it.
+    /// The verdict on the input after this many bytes, as a transcript of the log that they are.
     Check(u32),
 }
 
-/// What the words ask for, if it is something that can be done. `clap`'s reading counts only where the words are the one
-/// spelling of what it read.
+/// `None` where the words ask for nothing that can be done. `clap`'s reading counts only where they are its one spelling.
 pub fn asked(alloc: Global, words: &[String]) -> Result<Option<Ask>, AllocError>
     ensures found { IfOk result (λ r. IfSome r (λ a. Asks a (texts words.now))) }
     ensures nothing { IfOk result (λ r. IfNone r (AskNothing (texts words.now))) }
@@ -38,7 +36,7 @@ pub fn asked(alloc: Global, words: &[String]) -> Result<Option<Ask>, AllocError>
     }
 }
 
-// The words after the program's name, which `clap` passes over.
+// `clap` passes over the first word.
 fn with_program<'a>(alloc: Global, words: &'a [String]) -> Result<Vec<&'a str>, AllocError>
     ensures { IfOk result (λ v. map (λ w. w.now) v.items ≡ codes "mapper" ∷ texts words.now) }
 {

@@ -12,7 +12,7 @@ use rebuild_parts::{Built, StateFault, SwapFault};
 use scan_log::{Command, Reply};
 use std::alloc::Global;
 
-/// Does what the command asks for, and answers the reply. At a barrier the map is settled.
+/// Runs the command. A barrier settles the map.
 pub fn answer(alloc: Global, state: &mut MapState, command: &Command) -> Result<Reply, NoMemory>
     requires good { IsPlain command.now }
     requires updates { length state.old.state.history < MAX_UPDATES }
@@ -49,7 +49,7 @@ fn change(
     Ok(Reply::Done { mark })
 }
 
-// One more update of the caller. There is room for it, so nothing but lack of memory refuses it.
+// There is room, so only `NoMemory` refuses it.
 fn updated(alloc: Global, state: &mut MapState, caller: u8, update: Update) -> Result<u64, NoMemory>
     requires caller_from { 1 ≤ caller }
     requires caller_to { caller ≤ 8 }
@@ -64,7 +64,7 @@ fn updated(alloc: Global, state: &mut MapState, caller: u8, update: Update) -> R
     }
 }
 
-// Looks after the tree when a change was made: a large subtree that breaches a criterion is taken out, rebuilt and put back.
+// After a change, one large subtree that breaches a criterion is detached, rebuilt and swapped in.
 fn tended(alloc: Global, state: &mut MapState) -> Result<(), NoMemory>
     ensures { OnOk result (IsTended state.old.state state.new.state) }
 {
@@ -78,7 +78,7 @@ fn tended(alloc: Global, state: &mut MapState) -> Result<(), NoMemory>
     put_back(alloc, state, built)
 }
 
-// A value that is refused changes nothing.
+// A refused value changes nothing.
 fn put_back(alloc: Global, state: &mut MapState, built: Built) -> Result<(), NoMemory>
     ensures { OnOk result (IsTended state.old.state state.new.state) }
 {
@@ -91,7 +91,6 @@ fn put_back(alloc: Global, state: &mut MapState, built: Built) -> Result<(), NoM
     }
 }
 
-// The reply to a command that changes nothing.
 #[tactic(auto, using(crate::proofs::Turns::lawful_reply))]
 fn query(alloc: Global, state: &MapState, command: &Command) -> Result<Reply, NoMemory>
     requires { IsPlain command.now }
@@ -101,7 +100,6 @@ fn query(alloc: Global, state: &MapState, command: &Command) -> Result<Reply, No
     tree_reply(alloc, state.version().tree(), mark, command)
 }
 
-/// How many points are held.
 #[tactic(auto, using(crate::proofs::Turns::lawful_reply))]
 pub fn totals(state: &MapState) -> Reply
     ensures { result ≡ reply_of state.now.state Command.Sync }

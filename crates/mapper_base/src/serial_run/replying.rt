@@ -10,11 +10,9 @@ use rebuild_core::MapState;
 use scan_log::{PlainScript, Reply, Script, reply_line};
 use std::alloc::Global;
 
-/// A list of replies.
 pub type Replies = Sequence<Reply>;
 
-/// The replies to the commands, each run when those before it are done, and to the end. The state of the map keeps its updates,
-/// so each is copied, and the script too.
+/// The replies to the commands in their order, and to the end. The map keeps its updates, so each is copied, and the script too.
 pub fn serial(alloc: Global, script: &Script) -> Result<Replies, NoMemory>
     ensures { IfOk result (λ rs. rs ≡ replies (plain_script script.now) (serial_marks (plain_script script.now))) }
 {
@@ -22,7 +20,7 @@ pub fn serial(alloc: Global, script: &Script) -> Result<Replies, NoMemory>
     in_order(alloc, &plain)
 }
 
-/// The same of a script without poses, of which only the updates are copied.
+/// As `serial`, of a script without poses: only the updates are copied.
 pub fn in_order(alloc: Global, script: &PlainScript) -> Result<Replies, NoMemory>
     ensures { IfOk result (λ rs. rs ≡ replies script.now (serial_marks script.now)) }
 {
@@ -30,7 +28,7 @@ pub fn in_order(alloc: Global, script: &PlainScript) -> Result<Replies, NoMemory
     in_order_on(alloc, &mut state, script)
 }
 
-// The same on the state of an empty map.
+// On an empty map.
 fn in_order_on(
     alloc: Global,
     state: &mut MapState,
@@ -48,7 +46,6 @@ fn in_order_on(
     Ok(replies)
 }
 
-/// The lines of the replies.
 pub fn transcript(
     alloc: Global,
     script: &PlainScript,

@@ -18,7 +18,7 @@ use scan_log::{PlainScript, Script, write_script};
 use std::alloc::Global;
 use transcript_check::check;
 
-/// The transcript of the log that is read, in its order.
+/// The transcript of the log, in its order.
 pub fn in_order_text<R: Source>(alloc: Global, log: &mut R) -> Result<Vec<u8>, Ending>
     ensures text { IfOk result (λ v. IsTextOf Ask.Serial (log_seen R.Source log.old log.new) v.items) }
     ensures cause { IfErr result (HasNoText Ask.Serial (log_seen R.Source log.old log.new)) }
@@ -28,7 +28,7 @@ pub fn in_order_text<R: Source>(alloc: Global, log: &mut R) -> Result<Vec<u8>, E
     Ok(serial_text(alloc, script)?)
 }
 
-/// The log of a generated script of so many scans.
+/// The log of a generated script.
 pub fn made_text(alloc: Global, scans: u32) -> Result<Vec<u8>, NoMemory>
     requires { CanBeDone (Ask.Make scans) }
     ensures { IfOk result (λ v. v.items ≡ script_text (generated scans)) }
@@ -37,7 +37,7 @@ pub fn made_text(alloc: Global, scans: u32) -> Result<Vec<u8>, NoMemory>
     write_script(alloc, &script)
 }
 
-/// The line of the sums of a generated script's replies.
+/// The line of sums of a generated script's replies.
 pub fn driven_text(alloc: Global, scans: u32) -> Result<Vec<u8>, NoMemory>
     requires { CanBeDone (Ask.Drive scans) }
     ensures { IfOk result (λ v. v.items ≡ summary_of scans (generated scans)) }
@@ -46,7 +46,7 @@ pub fn driven_text(alloc: Global, scans: u32) -> Result<Vec<u8>, NoMemory>
     drive_text(alloc, scans, script)
 }
 
-/// The line of the verdict on what stands in the input behind so many bytes of a log.
+/// The line of the verdict on what is in the input after a log of `length` bytes.
 pub fn checked_text<R: Source>(alloc: Global, length: u32, log: &mut R) -> Result<Vec<u8>, Ending>
     requires { CanBeDone (Ask.Check length) }
     ensures text { IfOk result (λ v. IsTextOf (Ask.Check length) (log_seen R.Source log.old log.new) v.items) }
@@ -57,7 +57,6 @@ pub fn checked_text<R: Source>(alloc: Global, length: u32, log: &mut R) -> Resul
     Ok(check_text(alloc, &input, length)?)
 }
 
-// The lines of the replies in the log's order.
 fn serial_text(alloc: Global, script: Script) -> Result<Vec<u8>, NoMemory>
     ensures { IfOk result (λ v. AreSerialLines script v.items) }
 {
@@ -66,7 +65,6 @@ fn serial_text(alloc: Global, script: Script) -> Result<Vec<u8>, NoMemory>
     transcript(alloc, &plain, &replies)
 }
 
-// The line of the sums of these replies.
 fn drive_text(alloc: Global, scans: u32, script: Script) -> Result<Vec<u8>, NoMemory>
     ensures { IfOk result (λ v. v.items ≡ summary_of scans script) }
 {
@@ -75,7 +73,6 @@ fn drive_text(alloc: Global, scans: u32, script: Script) -> Result<Vec<u8>, NoMe
     summary(alloc, scans, &plain, replies.as_slice())
 }
 
-// The line of the verdict on what stands behind so many bytes.
 fn check_text(alloc: Global, input: &Input, length: u32) -> Result<Vec<u8>, NoMemory>
     ensures { IfOk result (λ v. IsVerdictLine input.now.script length (Some input.now.bytes.items) v.items) }
 {
