@@ -163,7 +163,7 @@ only_at cs (g ∷ h) (suc k) e o at = only_at cs h k e o.1 at
 told_own : (voxel : ℕ) (cs : List ℕ) (h : List Entry) (low x : ℕ) (u : Update) (r : Reply) → AllOf cs h → Answers voxel h low (Change x u) r → times_listed x cs ≡ 1
 told_own voxel cs h low x u r o a = let at = a.reply.placed in subst (λ z. times_listed z cs ≡ 1) at.2.2 (only_at cs h at.0 at.2.0 o at.2.1)
 
--- each update that was told is of one of the callers
+-- each update that has a reply is of one of the callers
 changes_told : (voxel : ℕ) (cs : List ℕ) (h : List Entry) (lows : ℕ → ℕ) (ds : List Command) (rs : List Reply) (highs : ℕ → ℕ) → AllOf cs h → Told voxel h lows ds rs highs → AllChangesOf cs ds
 unfolding AllChangesOf
 changes_told voxel cs h lows [] rs highs o t = tt
@@ -173,7 +173,7 @@ changes_told voxel cs h lows (d ∷ ds) (r ∷ rs) highs o t = (
   changes_told voxel cs h (raised lows d (mark_of r)) ds rs highs o t.1,
 )
 
--- Callers who have met after all commands were told the transcript
+-- Callers who have met after all commands got the transcript
 standing_end : (s : ScriptAt) (ps : List Seen) (rs : List Reply) (ending : Reply) (standing : Standing s.sizes.voxel s.commands ps rs)
     → ending ≡ totals_reply s.sizes.voxel (updates standing.history) (length standing.history) → AreLegalReplies s (rs ++ ending ∷ [])
 standing_end s ps rs ending standing total =

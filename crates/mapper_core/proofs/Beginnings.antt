@@ -13,7 +13,7 @@ prefix_trans xs ys zs p q = (p.0 ++ q.0, sym (append_assoc xs p.0 q.0) ∙ (ap (
 pub prefix_length : {A : Type 0} (xs ys : List A) → IsPrefix xs ys → length xs ≤ length ys
 prefix_length xs ys p = let e = ap length p.1 in omega (arith, length-append xs p.0)
 
--- the first elements of a beginning are those of the whole
+-- the first elements of a prefix are those of the whole
 pub take_early : {A : Type 0} (xs ys : List A) (m : ℕ) → IsPrefix xs ys → m ≤ length xs → take m ys ≡ take m xs
 take_early xs ys m p le = ap (take m) (sym p.1) ∙ take-append-le m xs p.0 le
 

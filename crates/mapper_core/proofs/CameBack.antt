@@ -83,7 +83,7 @@ turned_back voxel cs ps qs ts lists t a =
       each = λ k p q rs at there here. t.1 k p (Ok (q, rs)) at (parted_get ts qs lists k q rs a there here);
     }
 
--- what follows from an answer's clause
+-- what follows from a result's clause
 pub answer_gives : {A E : Type 0} (P Q : A → Type 0) → ((a : A) → P a → Q a) → (r : Result A E) → IfOk r P → IfOk r Q
 answer_gives P Q f (Ok a) e = f a e
 answer_gives P Q f (Err x) e = e

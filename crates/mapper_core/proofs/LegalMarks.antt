@@ -1,4 +1,4 @@
--- Where callers were told so, and the history has the script's updates alone, the marks are legal, and the replies those under them.
+-- Where callers got such replies, and the history has the script's updates alone, the marks are legal, and the replies those under them.
 use Rattle.std.proofs.Common.{◌≡◌, ℕ, ◌+◌, ◌<◌, ◌≤◌, ◌≢◌, Bool, true, false, List, [], ◌∷◌, ◌++◌, length, drop, drop_of_length-le, map, Option, Some, None, inl, inr, slice_get, refl, ap, sym, ◌∙◌, subst, arith, nat_lt, add-one}
 use Rattle.std.proofs.lemmas.Bool.Decides.{nat_tests}
 use Rattle.std.specs.Prelude.{MatchOption}
@@ -81,11 +81,11 @@ put_length : (m : ℕ) (u : Update) (hs : List (ℕ × Update)) → length (put_
 put_length m u [] = omega arith
 put_length m u (g ∷ hs) = put_length_by m u g hs (put_length m u hs) (nat_lt g.0 m) refl
 
--- the update stands in the history at the place of its mark
+-- the update is in the history at the index of its mark
 abbrev StandsAt : List Entry → ℕ × Update → Type 0
 StandsAt h g = (k : ℕ) × (g.0 ≡ k + 1) × ((e : Entry) × (slice_get h k ≡ Some e) × (e.update ≡ g.1))
 
--- at one place stands one caller's entry
+-- at one index is one caller's entry
 same_caller : (h : List Entry) (m x y : ℕ) (u v : Update) → StandsInHistory h (Change x u) m → StandsInHistory h (Change y v) m → y ≡ x
 same_caller h m x y u v a b =
     let k : a.0 ≡ b.0 = (let p = a.1 in let q = b.1 in omega arith) in
@@ -97,7 +97,7 @@ put_if_all : (P : ℕ × Update → Type 0) (m : ℕ) (made : Option Update) (hs
 put_if_all P m (Some u) hs p r = put_all P m u hs (p u refl) r
 put_if_all P m None hs p r = r
 
--- an update that is told later has another mark
+-- an update with a later reply has another mark
 other_change : (voxel : ℕ) (h : List Entry) (lows : ℕ → ℕ) (r : Reply) (x m : ℕ) (u : Update) (y : ℕ) (v : Update)
     → ((z : ℕ) → Concerns z (Change y v) → Answers voxel h (lows z) (Change y v) r) → m ≤ lows x → StandsInHistory h (Change x u) m → mark_of r ≢ m
 other_change voxel h lows r x m u y v t le at =
@@ -125,7 +125,7 @@ no_other voxel h lows (d ∷ cs) (r ∷ rs) highs ends x m u t le at =
     (λ v made. other_mark voxel h lows d r x m u v made t.0 le at)
     (no_other voxel h (raised lows d (mark_of r)) cs rs highs ends x m u t.1 (omega arith) at)
 
--- the marks of the updates rise, each update stands at its place, and there are as many as updates
+-- the marks of the updates rise, each update is at its place, and there are as many as updates
 record Placed (h : List Entry) (n : ℕ) (hs : List (ℕ × Update)) : Type 0 where
   pub rising : Rising 0 hs
   pub stands : AllByRecursion (StandsAt h) hs
@@ -164,7 +164,7 @@ placed voxel h lows (d ∷ cs) (r ∷ rs) highs ends t =
 stands_below : (h : List Entry) (g : ℕ × Update) → StandsAt h g → g.0 ≤ length h
 stands_below h g p = let k = get_length h p.0 p.2.0 p.2.1 in let e = p.1 in omega arith
 
--- so many marks that rise from above m on reach so far
+-- rising marks above m are at most as many as the entries after m
 rising_most : (h : List Entry) (m : ℕ) (hs : List (ℕ × Update)) → Rising m hs → AllByRecursion (StandsAt h) hs → m ≤ length h → m + length hs ≤ length h
 rising_most h m [] r p le = omega arith
 rising_most h m (g ∷ hs) r p le = let a : m < g.0 = r.0 in let b = rising_most h g.0 hs r.1 p.1 (stands_below h g p.0) in omega arith
@@ -222,7 +222,7 @@ map_last : {A B : Type 0} (f : A → B) (xs : List A) (x : A) → map f (xs ++ x
 map_last f [] x = refl
 map_last f (y ∷ xs) x = ap (λ ys. f y ∷ ys) (map_last f xs x)
 
--- What callers were told is the transcript under the marks that the replies carry, which are legal
+-- What callers got is the transcript under the marks that the replies carry, which are legal
 pub told_is_legal : (s : ScriptAt) (h : List Entry) (lows : ℕ → ℕ) (rs : List Reply) (highs : ℕ → ℕ) (ending : Reply)
     → Told s.sizes.voxel h lows s.commands rs highs → updates_in s.commands ≡ length h → ending ≡ totals_reply s.sizes.voxel (updates h) (length h)
     → AreLegalReplies s (rs ++ ending ∷ [])

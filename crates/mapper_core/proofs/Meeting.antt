@@ -1,4 +1,4 @@
--- All callers meet, and what they were told stands in one history.
+-- All callers meet, and their replies are in one history.
 use Rattle.std.proofs.Common.{◌≡◌, ℕ, zero, suc, ◌+◌, ◌<◌, ◌≤◌, ◌==◌, Bool, true, false, List, [], ◌∷◌, ◌++◌, length, take, drop, drop_of_length-le, Option, Some, None, slice_get, refl, ap, sym, ◌∙◌, subst, arith, append-nil}
 use Rattle.std.proofs.Math.Seq.{take-length}
 use Rattle.std.proofs.lemmas.Bool.Decides.{nat_tests}
@@ -38,7 +38,7 @@ pub distinct_counted : (n k : ℕ) → IsDistinct (numbers_from n k)
 distinct_counted n zero = tt
 distinct_counted n (suc k) = (none_below n (n + 1) k (omega arith), distinct_counted (n + 1) k)
 
--- callers who have met are told apart
+-- the callers who have met are distinct
 pub standing_distinct : (voxel : ℕ) (cs : List Command) (ps : List Seen) (rs : List Reply) → Standing voxel cs ps rs → IsDistinct (callers_of ps)
 standing_distinct voxel cs ps rs s = subst IsDistinct (sym s.order) (distinct_counted 1 (length ps))
 
@@ -50,7 +50,7 @@ longer_by h g None owner m p a = let l = prefix_length h g p in let le : m ≤ l
 placed_longer : (h g : List Entry) (c : Command) (m : ℕ) → IsPrefix h g → StandsInHistory h c m → StandsInHistory g c m
 placed_longer h g c m p a = longer_by h g (command_update c) (command_caller c) m p a
 
--- a reply stands in a longer history too
+-- a reply is in a longer history too
 reply_longer : (voxel : ℕ) (h g : List Entry) (c : Command) (r : Reply) → IsPrefix h g → IsReply voxel h c r → IsReply voxel g c r
 reply_longer voxel h g c r p a =
     let m : ℕ = mark_of r in
@@ -106,7 +106,7 @@ mine_higher voxel h x [] low rs high top le m = (m.0, (let k = m.1 in omega arit
 mine_higher voxel h x (c ∷ cs) low rs high top le m =
     mine_higher_by voxel h x c cs low rs high top (λ l ss n. mine_higher voxel h x cs l ss high top le n) (is_by x c) refl m
 
--- where all have met, each caller's replies stand in the history
+-- where all have met, each caller's replies are in the history
 all_mine : (voxel : ℕ) (h g : List Entry) (cs : List Command) (n : ℕ) (ps qs ss : List Seen) (lists : List (List Reply)) → callers_of ps ≡ numbers_from n (length ps)
     → AllMet h ps → AllBack (Ran voxel cs) ps qs lists → AllGrown qs ss → AllMet g ss
     → (k x : ℕ) (rs : List Reply) → x ≡ n + k → slice_get lists k ≡ Some rs → Mine voxel g x cs (length h) rs (length g)
@@ -166,7 +166,7 @@ grown_length [] (q ∷ qs) g = absurd g
 grown_length (p ∷ ps) [] g = absurd g
 grown_length (p ∷ ps) (q ∷ qs) g = let r = grown_length ps qs g.1 in omega arith
 
--- the replies that were told are there for each caller, in the history of the meeting
+-- the replies are there for each caller, in the history of the meeting
 pub told_mine : (voxel : ℕ) (cs ds : List Command) (ps qs ss : List Seen) (lists : List (List Reply)) (old : List Reply) (s : Standing voxel cs ps old) → AllBack (Ran voxel ds) ps qs lists
     → (met : AllMetNow qs ss) → AllMine voxel met.1.0 ds (λ x. length s.history) lists (length met.1.0) × (length s.history ≤ length met.1.0)
 told_mine voxel cs ds ps qs ss lists old s ran met = (

@@ -139,7 +139,7 @@ set_length [] k x = refl
 set_length (y ∷ xs) zero x = refl
 set_length (y ∷ xs) (suc k) x = let e = set_length xs k x in omega arith
 
--- the lists have the replies to the commands that are left
+-- the lists have the replies to the remaining commands
 pub replies_next : (voxel : ℕ) (c : Command) (left : List Command) (lists next : List (List Reply)) (x : ℕ) (r : Reply)
     → AreReplies voxel (c ∷ left) lists → IsBy c x → Takes lists next x r → AreReplies voxel left next
 replies_next voxel c left lists next x r a is t =

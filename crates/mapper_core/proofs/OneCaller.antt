@@ -53,7 +53,7 @@ change_answered voxel p q u n a =
 pub change_tried : (voxel : ℕ) (p q : Seen) (u : Update) (n : ℕ) → Added p q u n → Tried voxel (Change p.caller u) p q (Some (reply.Done n))
 change_tried voxel p q u n a = change_answered voxel p q u n a
 
--- what was seen tells a reply at its length, however the history goes on
+-- what was seen gives a reply at its length, however the history goes on
 seen_tells : (voxel : ℕ) (s h : List Entry) (c : Command) → IsPrefix s h → reply_to voxel (updates s) c (length s) ≡ reply_to voxel (updates h) c (length s)
 seen_tells voxel s h c pre =
     let early : take (length s) (updates h) ≡ updates s = take-map (λ (e : Entry). e.update) (length s) h ∙ ap updates (take_prefix s h pre) in
@@ -85,7 +85,7 @@ seen_answered voxel p q c none g =
       };
     }
 
--- the same of a version of what was seen
+-- a reply of a version of what was seen, at its length
 pub query_answered : (voxel : ℕ) (p q : Seen) (c : Command) (v : VersionAt) → Grown p q → IsVersionOf voxel q.seen v → command_update c ≡ None
     → Answered voxel c p q (reply_on (contents v.tree) c v.len)
 query_answered voxel p q c v g shows none =

@@ -97,7 +97,7 @@ all_none P zero [] is = tt
 all_none P zero (x ∷ xs) is = tt
 all_none P (suc n) xs is = absurd (omega arith)
 
--- whoever has a script's commands has them without poses
+-- the callers of a script's commands are those of its commands without poses
 command_has : (n : ℕ) (regions : List (Option RegionAt)) (c : Command) → HasCaller n c → HasCaller n (plain_command regions c)
 command_has n regions (Change caller u) has = has
 command_has n regions (Near caller k p within) has = has

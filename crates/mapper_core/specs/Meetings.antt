@@ -1,4 +1,4 @@
--- What all callers did and were told, from one meeting to the next. Cited by private functions alone.
+-- What all callers did and got, from one meeting to the next. Cited by private functions alone.
 use Rattle.std.specs.Prelude.{◌≡◌, Bool, ℕ, ◌+◌, ◌<◌, ◌≤◌, List, [], ◌∷◌, ◌++◌, length, slice_get, set, Some, Result, Ok, IfOk, is_none, IfSome}
 use Rattle.std.specs.List.{AllByRecursion}
 use Rattle.map_items.specs.declared.entry.Entry.{Entry}
@@ -13,7 +13,7 @@ use Rattle.scan_log.specs.Transcript.{totals_reply}
 use Rattle.mapper_core.specs.Told.{Told}
 use Rattle.mapper_core.specs.Mine.{updates_by, Mine, Turned}
 
--- the command is nobody's: all callers meet there
+-- the command has no caller: all callers meet there
 abbrev pub is_barrier : Command → Bool
 is_barrier c = is_none (command_caller c)
 
@@ -25,7 +25,7 @@ IsOfCallers n c = (k : ℕ) × IsBy c (k + 1) × (k < n)
 abbrev pub HasCaller : ℕ → Command → Type 0
 HasCaller n c = IfSome (command_caller c) (λ caller. (1 ≤ caller) × (caller ≤ n))
 
--- what is left to be told to each caller, the first of whom is 1
+-- the remaining replies of each caller, the first of whom is 1
 abbrev pub AllMine : ℕ → List Entry → List Command → (ℕ → ℕ) → List (List Reply) → ℕ → Type 0
 AllMine voxel h cs lows lists high = (k : ℕ) (rs : List Reply) → slice_get lists k ≡ Some rs → Mine voxel h (k + 1) cs (lows (k + 1)) rs high
 
@@ -42,7 +42,7 @@ pub record AreReplies (voxel : ℕ) (cs : List Command) (lists : List (List Repl
   pub below : AllBelow lasts most
   pub owned : AllByRecursion (IsOfCallers (length lists)) cs
 
--- a reply is left for the caller
+-- a reply remains for the caller
 pub record HasReply (lists : List (List Reply)) (caller : ℕ) : Type 0 where
   pub place : ℕ
   pub caller_is : caller ≡ place + 1
@@ -58,7 +58,7 @@ pub record Takes (old new : List (List Reply)) (caller : ℕ) (r : Reply) : Type
   pub first : slice_get old place ≡ Some (r ∷ rest)
   pub left : new ≡ set old place rest
 
--- replies have been put in the log's order up to the commands that are left
+-- replies have been put in the log's order up to the remaining commands
 pub record MergedFrom (voxel : ℕ) (h : List Entry) (cs left : List Command) (lows : ℕ → ℕ) (lists : List (List Reply)) (old new : List Reply) (high : ℕ) : Type 0 where
   pub now : ℕ → ℕ
   pub below : AllBelow now high
@@ -67,12 +67,12 @@ pub record MergedFrom (voxel : ℕ) (h : List Entry) (cs left : List Command) (l
   pub added : new ≡ old ++ replies
   pub told : (rest : List Reply) (highs : ℕ → ℕ) → Told voxel h now left rest highs → Told voxel h lows cs (replies ++ rest) highs
 
--- the same, in every history in which the callers were told what the lists had
+-- `MergedFrom` in every history in which the lists have the callers' replies
 abbrev pub MergedTo : ℕ → List Command → List Command → List (List Reply) → List (List Reply) → List Reply → List Reply → Type 0
 MergedTo voxel cs left all lists old new =
     (h : List Entry) (lows : ℕ → ℕ) (high : ℕ) → AllMine voxel h cs lows all high → AllBelow lows high → MergedFrom voxel h cs left lows lists old new high
 
--- a thread's answer for each pass
+-- a thread's result for each pass
 abbrev pub AllTurned : ℕ → List Command → List Seen → List (Result (Seen × List Reply) NoMemory) → Type 0
 AllTurned voxel cs ps ts =
     (length ts ≡ length ps)
@@ -87,7 +87,7 @@ AllParted [] [] (rs ∷ lists) = ⊥
 AllParted (t ∷ ts) [] lists = ⊥
 AllParted (t ∷ ts) (q ∷ qs) [] = ⊥
 
--- a turn's pass and replies were put behind the others
+-- a turn's pass and replies were put after the others
 pub record IsPutBehind (t : Result (Seen × List Reply) NoMemory) (ps ps_after : List Seen) (lists lists_after : List (List Reply)) : Type 0 where
   pub pass : Seen
   pub replies : List Reply
@@ -100,7 +100,7 @@ abbrev pub AllDone : List Command → List Seen → Type 0
 AllDone cs [] = Unit {0}
 AllDone cs (p ∷ ps) = (p.mine ≡ updates_by p.caller cs) × AllDone cs ps
 
--- so many passes that have seen nothing, of the callers from 1 on
+-- n passes that have seen nothing, of the callers from 1 on
 abbrev pub AreNewcomers : ℕ → List Seen → Type 0
 AreNewcomers n ps = (length ps ≡ n) × ((k : ℕ) → k < length ps → slice_get ps k ≡ Some (seen_by_new (k + 1)))
 
@@ -119,7 +119,7 @@ pub record Standing (voxel : ℕ) (cs : List Command) (ps : List Seen) (rs : Lis
 abbrev pub IsTotal : ℕ → List Seen → Reply → Type 0
 IsTotal voxel ps r = (0 < length ps) × ((h : List Entry) → AllMet h ps → r ≡ totals_reply voxel (updates h) (length h))
 
--- all callers have met after all commands, and the last reply tells what is held
+-- all callers have met after all commands, and the last reply has the totals of what is held
 pub record StandingAtEnd (voxel n : ℕ) (cs : List Command) (ps : List Seen) (rs : List Reply) : Type 0 where
   pub front : List Reply
   pub ending : Reply

@@ -1,4 +1,4 @@
--- What one caller did and was told, seen from one history. Cited by private functions alone.
+-- What one caller did and got, seen from one history. Cited by private functions alone.
 use Rattle.std.specs.Prelude.{◌≡◌, ℕ, ◌+◌, ◌<◌, ◌≤◌, ◌⊎◌, Bool, true, List, [], ◌∷◌, ◌++◌, length, Option, Some, None, MatchBool}
 use mathlib.Core.List.{IsPrefix}
 use Rattle.map_items.specs.declared.entry.Entry.{Entry}
@@ -56,7 +56,7 @@ pub record Ran (voxel : ℕ) (cs : List Command) (p q : Seen) (rs : List Reply) 
   pub mine : q.mine ≡ p.mine ++ updates_by p.caller cs
   pub told : (h : List Entry) → IsPrefix q.seen h → Mine voxel h p.caller cs (length p.seen) rs (length q.seen)
 
--- a caller has come so far: these of its commands are left
+-- a caller has come so far: these of its commands remain
 pub record RanTo (voxel : ℕ) (cs left : List Command) (p q : Seen) (rs : List Reply) : Type 0 where
   pub caller : q.caller ≡ p.caller
   pub seen : IsPrefix p.seen q.seen

@@ -1,4 +1,4 @@
--- What callers were told, seen from one history.
+-- The replies that callers got, seen from one history.
 use Rattle.std.specs.Prelude.{◌≡◌, ℕ, ◌+◌, ◌≤◌, List, [], ◌∷◌, length, slice_get, Option, Some, if◌then◌else◌, IfSome, MatchOption}
 use Rattle.map_items.specs.declared.entry.Entry.{Entry}
 use Rattle.map_items.specs.declared.update.Update.{Update}
@@ -9,7 +9,7 @@ use Rattle.scan_log.specs.declared.reply.Reply.{Reply}
 use Rattle.scan_log.specs.Legal.{IsLater}
 use Rattle.scan_log.specs.Transcript.{reply_to, mark_of}
 
--- the mark is the place, from 1 on, of the caller's entry with the update
+-- the mark is the number, from 1 on, of the caller's entry with the update
 abbrev pub HasPlace : List Entry → Option ℕ → ℕ → Update → Type 0
 HasPlace h owner m u = (k : ℕ) × (m ≡ k + 1) × ((e : Entry) × (slice_get h k ≡ Some e) × IfSome owner (λ caller. e.caller ≡ caller) × (e.update ≡ u))
 
@@ -17,7 +17,7 @@ HasPlace h owner m u = (k : ℕ) × (m ≡ k + 1) × ((e : Entry) × (slice_get 
 abbrev pub StandsInHistory : List Entry → Command → ℕ → Type 0
 StandsInHistory h c m = MatchOption (command_update c) (m ≤ length h) (HasPlace h (command_caller c) m)
 
--- the reply to the command after so many entries of the history as its mark says
+-- the reply to the command after as many entries of the history as its mark is
 pub record IsReply (voxel : ℕ) (h : List Entry) (c : Command) (r : Reply) : Type 0 where
   pub placed : StandsInHistory h c (mark_of r)
   pub told : r ≡ reply_to voxel (updates h) c (mark_of r)

@@ -1,4 +1,4 @@
-//! Callers that run a script in threads of their own, beside two workers.
+//! Callers that run a script in threads of their own, while two workers rebuild.
 
 mod alarm;
 mod caller;

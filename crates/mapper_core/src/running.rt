@@ -22,13 +22,12 @@ use std::alloc::{AllocError, Global};
 use std::sync::Wait;
 use std::thread::Threads;
 
-/// Reads a log to its end, runs it, and writes its transcript to out, or to notes a line of why not; or does the same of a
-/// generated script, for which no log is read. Nothing is written to out before the whole text stands, and a fault of notes
-/// doesn't change the answer. Takes memory of a small multiple of the log's length and of the hits that it asks for. The words
-/// `run` have each caller's commands run on a thread of its own; the gate is told of each build and each reply, and may hold
-/// them up. The words `check` have so many bytes taken for the log as they say, or all where fewer come, and those behind for a
-/// transcript of it: what is written is the line of the verdict. That costs the log's updates on the plain map, and for each
-/// query a scan of it.
+/// Reads a log to its end, runs it, and writes its transcript to out, or to notes a line of why not; or does so for a generated
+/// script, without a log. Nothing is written to out before the whole text is there, and a fault of notes doesn't change the status.
+/// Takes memory of a small multiple of the log's length and of the hits that it asks for. The words `run` give each caller a thread
+/// of its own, and the gate, called at each build and reply, may hold them up. For `check n` the first `n` bytes, or all if they
+/// are fewer, are the log, and those after them its transcript: the line of the verdict is written. That costs the log's updates on
+/// a tree, and each query there.
 pub fn run<H: Threads + Wait + Sync, R: Source, W: Sink, E: Sink, G: Gate + Sync>(
     rt: &H,
     alloc: Global,
@@ -38,29 +37,29 @@ pub fn run<H: Threads + Wait + Sync, R: Source, W: Sink, E: Sink, G: Gate + Sync
     notes: &mut E,
     gate: &G,
 ) -> Status
-    // After Done the log was read to its end, and a legal transcript of it was written: for a serial run that of the log's order.
+    // After `Done` the log was read to its end, and a legal transcript was written: for a serial run that of the log's order.
     ensures done { result ≡ Status.Done → AskForRun (texts words.now) → IsTranscribed (log_seen R.Source log.old log.new) (out_seen W.Sink out.old out.new) }
     ensures serial { result ≡ Status.Done → Asks Ask.Serial (texts words.now) → IsTranscribedInOrder (log_seen R.Source log.old log.new) (out_seen W.Sink out.old out.new) }
 
-    // A check has the line of its verdict written, and of a generated script its log is, or the line of its sums.
     ensures checked { (n : ℕ) → result ≡ Status.Done → Asks (Ask.Check n) (texts words.now) → IsChecked n (log_seen R.Source log.old log.new) (out_seen W.Sink out.old out.new) }
     ensures made { (n : ℕ) → result ≡ Status.Done → Asks (Ask.Make n) (texts words.now) → IsScriptMade n (out_seen W.Sink out.old out.new) }
     ensures driven { (n : ℕ) → result ≡ Status.Done → Asks (Ask.Drive n) (texts words.now) → IsDriven n (out_seen W.Sink out.old out.new) }
 
-    // Each status has its cause, and notes get its line or a front of it. Only the words decide on Usage, where memory did not run out.
+    // Notes get the status's line or a prefix of it. Except on `NoMemory`, only the words decide on `Usage`.
     ensures cause { Ends (run_seen (texts words.now) (log_seen R.Source log.old log.new) (out_seen W.Sink out.old out.new)) (E.held notes.old) (E.held notes.new) result }
     ensures usage { result ≡ Status.Usage → AskNothing (texts words.now) }
     ensures wrong_words { AskNothing (texts words.now) → IsOrNoMemory result Status.Usage }
 
-    // Where no stream failed and memory did not run out, a log that is spelled is done, whatever stands behind it, and so is what is
-    // generated. One whose first fault is no limit is bad, and else it is over a limit, as is an input that is too long.
+    // Where no stream fails, each run ends so or with `NoMemory`: a spelled log is done, whatever comes after it, and so is what is
+    // generated. A log whose first fault is no limit is bad; one whose first fault is a limit is over it, as is an input that is
+    // too long.
     ensures complete { IfSpelled (texts words.now) (R.left log.old) (NoFault (R.faults log.old) (R.faults log.new)
         → NoFault (W.faults out.old) (W.faults out.new) → IsOrNoMemory result Status.Done) }
     ensures complete_scans { AskForScans (texts words.now) → NoFault (W.faults out.old) (W.faults out.new) → IsOrNoMemory result Status.Done }
     ensures bad_log { IfBad (texts words.now) (R.left log.old) (NoFault (R.faults log.old) (R.faults log.new) → IsOrNoMemory result Status.BadLog) }
     ensures over_limit { IfOverLimit (texts words.now) (R.left log.old) (NoFault (R.faults log.old) (R.faults log.new) → IsOrNoMemory result Status.OverLimit) }
 
-    // The input is read no farther than a byte past its limit, and not at all where the words don't ask for a log.
+    // The input is read at most one byte past its limit, and not at all where no log is asked for.
     ensures reads { (a : Ask) → Asks a (texts words.now) → ReadsInLimit a (log_seen R.Source log.old log.new) }
     ensures unread { (AskForLog (texts words.now) → ⊥) → log.new ≡ log.old }
 {
@@ -97,7 +96,6 @@ fn run_quietly<H: Threads + Wait + Sync, R: Source, W: Sink, G: Gate + Sync>(
     }
 }
 
-// The whole text that is asked for, or the way to end that tells why there is none.
 fn text_of<H: Threads + Wait + Sync, R: Source, G: Gate + Sync>(
     rt: &H,
     alloc: Global,
@@ -134,8 +132,7 @@ fn run_text<H: Threads + Wait + Sync, R: Source, G: Gate + Sync>(
     Ok(callers_text(rt, alloc, script, gate)?)
 }
 
-// The lines of the replies where each caller runs on a thread of its own. The script is run as it is but for its poses, so that
-// its points stand only once beside the map.
+// The script isn't copied, so that its points aren't there twice.
 fn callers_text<H: Threads + Wait + Sync, G: Gate + Sync>(
     rt: &H,
     alloc: Global,

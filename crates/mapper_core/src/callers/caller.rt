@@ -22,7 +22,6 @@ use std::alloc::Global;
 use std::sync::Wait;
 use std::thread::Threads;
 
-// Makes the update, and wakes the workers. There is no reply where a limit of the map refuses it.
 #[tactic(auto, using(crate::proofs::OneCaller::change_tried))]
 fn change<L: MapName, R: Wait>(
     rt: &R,
@@ -46,7 +45,7 @@ fn change<L: MapName, R: Wait>(
     }
 }
 
-// Answers a command that makes no update, at the newest version.
+// For a command that makes no update, at the newest version.
 fn query<L: MapName, R: Threads + Sync>(
     rt: &R,
     alloc: Global,
@@ -63,8 +62,7 @@ fn query<L: MapName, R: Threads + Sync>(
     Ok(Some(reply))
 }
 
-// The reply to a command at this version, which is all that it is handed: a later one can't come between a search and its mark. A
-// list of places is searched by threads of their own.
+// It gets the version alone, so no later one comes between a search and its mark.
 fn version_reply<R: Threads + Sync>(
     rt: &R,
     alloc: Global,
@@ -84,7 +82,6 @@ fn version_reply<R: Threads + Sync>(
     }
 }
 
-// Runs one command of the pass's caller.
 #[tactic(auto, using(crate::proofs::OneCaller::change_by))]
 fn answer<L: MapName, R: Threads + Wait + Sync>(
     rt: &R,
@@ -104,8 +101,8 @@ fn answer<L: MapName, R: Threads + Wait + Sync>(
     }
 }
 
-/// Runs the commands of the pass's caller among these, in order, and tells the gate of each reply. Where a limit of the map
-/// refuses an update, the caller ends before it: that no limit is passed shows only when all callers have met.
+/// Runs the commands of the pass's caller in order. Where a limit of the map refuses an update, the caller ends before it: that
+/// this never happens shows only when all callers meet.
 pub fn run_own<L: MapName, G: Gate, R: Threads + Wait + Sync>(
     rt: &R,
     alloc: Global,
@@ -123,7 +120,6 @@ pub fn run_own<L: MapName, G: Gate, R: Threads + Wait + Sync>(
     Ok((pass, replies))
 }
 
-// What the caller of a pass is told.
 fn told_own<L: MapName, G: Gate, R: Threads + Wait + Sync>(
     rt: &R,
     alloc: Global,
@@ -151,7 +147,6 @@ fn told_own<L: MapName, G: Gate, R: Threads + Wait + Sync>(
     Ok(replies)
 }
 
-// Whether it is this caller's command.
 fn is_own(command: &Command, caller: u8) -> bool
     ensures { result ≡ is_by caller command.now }
 {

@@ -8,7 +8,7 @@ use map_items::NoMemory;
 use mapper_base::Replies;
 use scan_log::{Command, Reply};
 
-// The next reply of a caller, the first of whom is 1.
+// Callers are counted from 1.
 fn take_for(queues: &mut [Queue], caller: u8) -> Reply
     requires { HasReply queues.old caller }
     ensures { Takes queues.old queues.new caller result }
@@ -20,7 +20,7 @@ fn take_for(queues: &mut [Queue], caller: u8) -> Reply
     }
 }
 
-/// Puts the replies of all callers behind those that are there, in the order of the commands.
+/// Appends the callers' replies, in the order of the commands.
 pub fn merge(
     commands: &[Command],
     queues: &mut [Queue],
@@ -36,7 +36,7 @@ pub fn merge(
     Ok(())
 }
 
-// Whose command it is. A barrier is nobody's, so it isn't asked for.
+// There is no barrier here, so each command has a caller.
 fn caller_of(command: &Command) -> u8
     requires { (x : ℕ) × IsBy command.now x }
     ensures { IsBy command.now result }

@@ -6,7 +6,7 @@ ghost use Rattle.mapper_core.specs.Meetings.{HasCaller};
 
 use scan_log::Command;
 
-// The caller that it names, or the first one where it names none.
+// Caller 1 for a barrier.
 fn named(command: &Command) -> u8
     requires { IsPlain command.now }
     ensures from { 1 ≤ result }
@@ -16,7 +16,7 @@ fn named(command: &Command) -> u8
     command.caller().unwrap_or(1)
 }
 
-/// How many callers there are: up to the greatest that is named, and at least one.
+/// The greatest caller that is named, and at least 1.
 pub fn callers_in(commands: &[Command]) -> u8
     requires { AllByRecursion IsPlain commands.now }
     ensures from { 1 ≤ result }

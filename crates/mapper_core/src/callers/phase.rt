@@ -23,10 +23,9 @@ use std::alloc::Global;
 use std::sync::Wait;
 use std::thread::{Threads, join};
 
-/// A pass that comes back, and what its caller was told.
 type Turn<L> = Result<(Pass<L>, Queue), NoMemory>;
 
-// Each caller runs its commands in a thread of its own. Those for whom no thread can be made run here, in their order.
+// Without a thread for it, a caller's commands run here, in the callers' order.
 #[tactic(auto, using(crate::proofs::CameBack::turned_none, crate::proofs::CameBack::turned_more))]
 fn run_each<L: MapName + Send + Sync, G: Gate + Sync, R: Threads + Wait + Sync>(
     rt: &R,
@@ -62,7 +61,6 @@ fn run_each<L: MapName + Send + Sync, G: Gate + Sync, R: Threads + Wait + Sync>(
     Ok(turns)
 }
 
-// The passes, and the replies of each.
 fn part<L: MapName>(
     alloc: Global,
     turns: Vec<Turn<L>>,
@@ -77,7 +75,6 @@ fn part<L: MapName>(
     Ok((passes, queues))
 }
 
-// One more pass, and its replies.
 fn part_one<L: MapName>(
     turn: Turn<L>,
     passes: &mut Vec<Pass<L>>,
@@ -95,7 +92,6 @@ fn part_one<L: MapName>(
     Ok(())
 }
 
-// The callers meet.
 fn all_meet<L: MapName, R: Wait>(rt: &R, shared: &Shared<L>, passes: Vec<Pass<L>>) -> Vec<Pass<L>>
     requires all { length passes.items ≡ L.callers }
     requires parts { L.callers ≡ L.parts }
@@ -107,8 +103,7 @@ fn all_meet<L: MapName, R: Wait>(rt: &R, shared: &Shared<L>, passes: Vec<Pass<L>
     passes
 }
 
-/// Runs the commands between two barriers, and lets the callers meet. No caller is stopped by a limit of the map: the history in
-/// which they meet has no more than the script's updates.
+/// No limit of the map stops a caller: the history in which they meet has at most the script's updates.
 pub fn phase<L: MapName + Send + Sync, G: Gate + Sync, R: Threads + Wait + Sync>(
     rt: &R,
     stage: &Stage<'_, L, G>,
@@ -143,7 +138,7 @@ pub fn phase<L: MapName + Send + Sync, G: Gate + Sync, R: Threads + Wait + Sync>
     Ok(passes)
 }
 
-/// What is held where the callers have met.
+/// The totals where the callers have met.
 pub fn held<L: MapName>(passes: &[Pass<L>]) -> Reply
     requires { 0 < length passes.now }
     ensures { IsTotal L.voxel passes.now result }
@@ -157,7 +152,7 @@ pub fn held<L: MapName>(passes: &[Pass<L>]) -> Reply
     }
 }
 
-/// The callers have met at a barrier, where the map is settled, and meet again.
+/// The map is settled, and the callers meet again.
 pub fn barrier<L: MapName, G: Gate, R: Wait>(
     rt: &R,
     stage: &Stage<'_, L, G>,

@@ -7,7 +7,7 @@ use std::alloc::Global;
 use std::collections::VecDeque;
 use std::marker::Model;
 
-/// Replies in the order in which they were given.
+/// First in, first out.
 #[derive(Drop)]
 pub struct Queue {
     items: VecDeque<Reply>,
@@ -23,7 +23,6 @@ impl Model for Queue {
 }
 
 impl Queue {
-    /// No replies, which take no memory.
     pub fn new(alloc: Global) -> Queue
         ensures { result ≡ [] }
     {
@@ -32,7 +31,7 @@ impl Queue {
         }
     }
 
-    /// Puts a reply at the end. Where memory runs out, the queue stays as it was.
+    /// On `NoMemory` the queue stays as it was.
     pub fn put(&mut self, reply: Reply) -> Result<(), NoMemory>
         ensures ok { OnOk result (self.new ≡ self.old ++ reply ∷ []) }
         ensures err { OnErr result (self.new ≡ self.old) }
@@ -43,7 +42,6 @@ impl Queue {
         }
     }
 
-    /// Takes the first reply, if there is one.
     pub fn take(&mut self) -> Option<Reply>
         ensures first { self.old ≡ option_to_list result ++ self.new }
         ensures none { IfNone result (self.old ≡ []) }

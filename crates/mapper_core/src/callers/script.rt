@@ -15,7 +15,7 @@ use scan_log::{Command, MAX_COMMANDS};
 use std::sync::Wait;
 use std::thread::Threads;
 
-/// Runs the commands up to each barrier, and passes it. At the end all have met, and the last reply tells what is held.
+/// The callers meet at each barrier and at the end.
 pub fn run_commands<L: MapName + Send + Sync, G: Gate + Sync, R: Threads + Wait + Sync>(
     rt: &R,
     stage: &Stage<'_, L, G>,
@@ -48,7 +48,6 @@ pub fn run_commands<L: MapName + Send + Sync, G: Gate + Sync, R: Threads + Wait 
     Ok((passes, replies))
 }
 
-// Whether it is a barrier.
 fn is_barrier(command: &Command) -> bool
     ensures { result ≡ is_sync command.now }
 {

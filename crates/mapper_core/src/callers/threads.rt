@@ -23,10 +23,9 @@ use std::sync::Wait;
 use std::sync::ledger::Blank;
 use std::thread::{Threads, join};
 
-/// The passes, and the replies.
 type Run<L> = Result<(Vec<Pass<L>>, Replies), NoMemory>;
 
-// The callers run beside the second worker, which is stopped with the first one when they have ended.
+// Stops both workers when the callers have ended.
 fn beside_second<L: MapName + Send + Sync, G: Gate + Sync, R: Threads + Wait + Sync>(
     rt: &R,
     stage: &Stage<'_, L, G>,
@@ -63,12 +62,11 @@ fn beside_second<L: MapName + Send + Sync, G: Gate + Sync, R: Threads + Wait + S
     all
 }
 
-/// Each caller runs its commands of the script on a thread of its own, in order, beside two workers. At each barrier all meet, and
-/// so they do at the end. The passes are all of this map's, and the map was started with the script's settings. Each caller rings
-/// the workers' bells after each of its changes, of which a pose is one, and tells the gate of each reply. A query of many places
-/// is split among threads of its own. What no thread can be made for is done by the thread that calls: the commands of a caller, in
-/// the callers' order, while the others run, and a worker once it is stopped. Takes about as much memory as the script for a copy
-/// of it.
+/// Each caller runs its commands on a thread of its own, in order, while two workers rebuild; all meet at each barrier and at the
+/// end. The passes are all of this map's, and the map was started with the script's settings. Each caller rings the workers' bells
+/// after each change, of which a pose is one, and calls the gate after each reply. A query of many places is split among threads.
+/// Without a thread, the calling one does the work: a caller's commands, in the callers' order, while the others run, or a worker
+/// once it is stopped. Copies the script, at about its memory.
 pub fn run_callers<L: MapName + Send + Sync, G: Gate + Sync, R: Threads + Wait + Sync>(
     rt: &R,
     alloc: Global,
@@ -78,17 +76,14 @@ pub fn run_callers<L: MapName + Send + Sync, G: Gate + Sync, R: Threads + Wait +
     gate: &G,
 ) -> Result<(Vec<Pass<L>>, Replies), NoMemory>
     requires ready { CanRun L.callers L.parts L.voxel script.now passes.items }
-    // All passes come back and have seen one history, each caller's updates are those that the script has of it, and each reply is
-    // that after as many entries as its mark says.
+    // All passes come back with one history, which has the script's updates of each caller, and each reply is that at its mark.
     ensures ended { IfOk result (λ r. HaveEnded L.callers (plain_script script.now) r.0.items r.1) }
-    // The marks are legal, and the replies those of the script under them.
     ensures legal { IfOk result (λ r. AreLegalReplies (plain_script script.now) r.1) }
 {
     let plain = PlainScript::copied(alloc, script)?;
     run_plain(rt, alloc, shared, passes, &plain, gate)
 }
 
-// The same of a script without poses.
 fn run_plain<L: MapName + Send + Sync, G: Gate + Sync, R: Threads + Wait + Sync>(
     rt: &R,
     alloc: Global,
@@ -152,8 +147,7 @@ fn run_map<L: MapName + Send + Sync, G: Gate + Sync, R: Threads + Wait + Sync>(
     Ok(replies)
 }
 
-/// The replies of all callers to a script that each runs its commands of on a thread of its own, and the reply at the end. They are
-/// those of the marks that they carry, which are legal. Takes about as much memory as the script for a copy of it.
+/// The replies of all callers and the one at the end, by `run_callers` on a new map. Copies the script, at about its memory.
 pub fn threaded<G: Gate + Sync, R: Threads + Wait + Sync>(
     rt: &R,
     alloc: Global,
@@ -166,7 +160,7 @@ pub fn threaded<G: Gate + Sync, R: Threads + Wait + Sync>(
     threaded_plain(rt, alloc, &plain, gate)
 }
 
-/// The same of a script without poses, of which no copy is made.
+/// As `threaded`, of a script without poses, which isn't copied.
 pub fn threaded_plain<G: Gate + Sync, R: Threads + Wait + Sync>(
     rt: &R,
     alloc: Global,
