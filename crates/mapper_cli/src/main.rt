@@ -43,7 +43,7 @@ fn words_of(rt: &HostRuntime) -> Result<Vec<String>, AllocError> {
     match env::args(rt) {
         Ok(args) => Vec::from_iter(rt.alloc(), args.skip(1)),
         Err(error) if error.kind() == ErrorKind::OutOfMemory => Err(AllocError),
-        // Words that are no text ask for nothing, as no words do.
+        // Words that aren't text ask for nothing, as no words do.
         Err(_) => Ok(Vec::new(rt.alloc())),
     }
 }

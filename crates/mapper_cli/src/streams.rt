@@ -1,4 +1,4 @@
-//! Streams as sources and sinks. They tell of their bytes what the stream tells, which is nothing for those of the process.
+//! Streams as sources and sinks. They show of their bytes what the stream shows: of the process's streams, nothing.
 ghost use Rattle.std.specs.Prelude.{◌≡◌, false};
 
 use byte_streams::{Failed, Sink, SinkFault, Source};
@@ -10,7 +10,7 @@ pub struct Input<R: Read> {
     inner: R,
     /// How often a read has failed.
     faults: u64,
-    /// Whether the last read answered the end of input.
+    /// Whether the last read returned the end of input.
     ended: bool,
 }
 
