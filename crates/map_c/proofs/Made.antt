@@ -1,4 +1,4 @@
--- What is made of numbers is what they say.
+-- What is made of numbers is what they spell.
 use Rattle.std.proofs.Common.{◌≡◌, ℤ, Result, Ok, Err, IfOk, refl, subst, sym, ◌∙◌}
 use Rattle.point_geom.specs.Place.{Place, Bounds}
 use Rattle.point_geom.specs.Refusals.{next_of, corner_check, cuboid_of, point_of, upright_check, within}

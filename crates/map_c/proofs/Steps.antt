@@ -16,7 +16,7 @@ pub swapped_in : (force : Bool) (c v : Content) (s t : StateAt) (d : DoneAt) →
 swapped_in force c v s t d e f may step =
     record { before = s; after = t; held = ap (λ x. map_in (Some x)) e; holds = refl; value = d; given = ap (λ x. built_in (Some x)) f; may = may; step = step }
 
--- what a value has missed, beside it
+-- what a value has missed, next to it
 pub left_in : (c v : Content) (s : StateAt) (d e : DoneAt) → c ≡ content.Map s → v ≡ content.Built d → IsLogAfter d.built s e.left → e.built ≡ d.built → e.large ≡ d.large
     → IsLeft (Some c) (Some v) (Some (content.Built e))
 left_in c v s d e p q h built large =

@@ -1,4 +1,4 @@
--- What is told of a question that is refused.
+-- What a refused question returns.
 use Rattle.std.proofs.Common.{◌≡◌, ℤ, Option, to_z, of_z, w32, rules}
 use Rattle.map_c.specs.declared.handles.content.Content.{Content}
 use Rattle.map_c.specs.declared.handles.refusal.Refusal.{Refusal}

@@ -22,7 +22,7 @@ use Rattle.map_c.specs.declared.handles.forms.Totals.{Totals}
 use Rattle.map_c.specs.Forms.{IsRightBox, IsRightPlace, bounds_at, place_at}
 use Rattle.map_c.specs.Status.{bad_box, bad_number, done, empty, full, no_memory, no_room, out_of_range}
 
--- What a question answers: what was found, or a status that says why it is refused, and then nothing is counted. The handle holds
+-- What a question returns: what was found, or a status that says why it is refused, and then nothing is counted. The handle holds
 -- what it held, whichever it is.
 pub record IsTold (Found : Type 0) (Refused : ℤ → Type 0) (old new : Option Content) (count : ℕ) (status : ℤ) : Type 0 where
   pub found : status ≡ done → Found
@@ -62,7 +62,7 @@ abbrev pub within_at : ℤ → Option ℕ
 within_at (pos r) = Some r
 within_at (negsuc n) = None
 
--- a search may ask for so many, within so many millimetres
+-- a search may ask for k hits, within this many millimetres
 pub record IsSearch (k : ℕ) (within : ℤ) : Type 0 where
   pub k_from : 1 ≤ k
   pub k_to : k ≤ MAX_FOUND
@@ -127,7 +127,7 @@ abbrev pub IsNearestEachRefusal : Option Content → List Place → ℕ → ℤ 
 IsNearestEachRefusal c ps k within room counts_room status =
     ((status ≡ empty) × (shown_in c ≡ None)) ⊎ AreSearchesRefusal ps k within room counts_room status
 
--- so many live points of what the handle shows are in the box
+-- the handle shows `live` live points in the box
 pub record IsCount (c : Option Content) (b : Bounds) (live : ℕ) : Type 0 where
   pub version : VersionAt
   pub shown : shown_in c ≡ Some version
@@ -138,7 +138,7 @@ pub record IsCount (c : Option Content) (b : Bounds) (live : ℕ) : Type 0 where
 abbrev pub IsCountRefusal : Option Content → Bounds → ℤ → Type 0
 IsCountRefusal c b status = ((status ≡ empty) × (shown_in c ≡ None)) ⊎ ((status ≡ bad_box) × (IsRightBox b → ⊥))
 
--- a list may have so many items
+-- a list may have `most` items
 pub record IsMost (most : ℕ) : Type 0 where
   pub from : 1 ≤ most
   pub to : most ≤ MAX_FOUND
@@ -147,7 +147,7 @@ pub record IsMost (most : ℕ) : Type 0 where
 abbrev pub c_items : VersionAt → Bounds → ℕ → List Item
 c_items v b most = map c_item (inside (contents v.tree) (bounds_at b) most)
 
--- The front of the items, as long as the count, is the live points in the box of what the handle shows.
+-- The first `count` items are the live points in the box of what the handle shows.
 pub record IsInside (c : Option Content) (b : Bounds) (most : ℕ) (items : List Item) (count : ℕ) : Type 0 where
   pub version : VersionAt
   pub shown : shown_in c ≡ Some version
@@ -165,7 +165,7 @@ IsListRefusal b most room status =
     ⊎ ((status ≡ bad_box) × (IsRightBox b → ⊥))
     ⊎ (status ≡ no_memory)
 
--- why the points in a box aren't told: the handle shows nothing, or the list is refused
+-- why the points in a box aren't listed: the handle shows nothing, or the list is refused
 abbrev pub IsInsideRefusal : Option Content → Bounds → ℕ → ℕ → ℤ → Type 0
 IsInsideRefusal c b most room status = ((status ≡ empty) × (shown_in c ≡ None)) ⊎ IsListRefusal b most room status
 
@@ -177,11 +177,11 @@ totals_of v = record { updates = v.len; points = v.next; live = live_count (cont
 abbrev pub AreTotals : Option Content → Totals → Type 0
 AreTotals c t = (v : VersionAt) × (shown_in c ≡ Some v) × (t ≡ totals_of v)
 
--- why they aren't told
+-- why they aren't returned
 abbrev pub IsTotalsRefusal : Option Content → ℤ → Type 0
 IsTotalsRefusal c status = (status ≡ empty) × (shown_in c ≡ None)
 
--- The totals of what the handle shows are told, or it shows nothing. It holds what it held.
+-- The totals of what the handle shows are returned, or it shows nothing. It holds what it held.
 pub record AreTold (old new : Option Content) (t : Totals) (status : ℤ) : Type 0 where
   pub told : status ≡ done → AreTotals old t
   pub refused : status ≢ done → IsTotalsRefusal old status

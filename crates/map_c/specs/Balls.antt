@@ -11,7 +11,7 @@ use Rattle.map_c.specs.declared.handles.content.Content.{Content}
 use Rattle.map_c.specs.declared.handles.forms.Item.{Item}
 use Rattle.map_c.specs.declared.handles.forms.Place.{Place}
 
--- a ball may be asked for so far, and so many of it
+-- a ball may be asked for to r millimetres, and `most` points of it
 pub record IsBallAsked (r most : ℕ) : Type 0 where
   pub from : 1 ≤ most
   pub to : most ≤ MAX_FOUND
@@ -21,7 +21,7 @@ pub record IsBallAsked (r most : ℕ) : Type 0 where
 abbrev pub ball_items : VersionAt → Place → ℕ → ℕ → List Item
 ball_items v p r most = map c_item (take most (ball (contents v.tree) (place_at p) r))
 
--- The front of the items, as long as the count, is the live points in the ball of what the handle shows.
+-- The first `count` items are the live points in the ball of what the handle shows.
 pub record IsBall (c : Option Content) (p : Place) (r most : ℕ) (items : List Item) (count : ℕ) : Type 0 where
   pub version : VersionAt
   pub shown : shown_in c ≡ Some version

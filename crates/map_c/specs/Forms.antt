@@ -1,4 +1,4 @@
--- What the structs of C say.
+-- What the structs of C mean.
 use Rattle.std.specs.Prelude.{List, map, Any, IsOk}
 use Rattle.point_geom.specs.Place as geom
 use Rattle.point_geom.specs.Refusals.{cuboid_of, point_of}
@@ -35,7 +35,7 @@ boxes_at bs = map bounds_at bs
 abbrev pub IsRightPlace : Place → Type 0
 IsRightPlace p = IsOk (point_of p.x p.y p.z)
 
--- the same of a point, whatever its intensity
+-- the point's numbers are all in range, whatever its intensity
 abbrev pub IsRightPoint : Point → Type 0
 IsRightPoint p = IsOk (point_of p.x p.y p.z)
 

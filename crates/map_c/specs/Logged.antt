@@ -8,7 +8,7 @@ use Rattle.map_c.specs.Status.{bad_number, empty, no_memory, no_room, too_many_u
 use Rattle.map_c.specs.declared.handles.content.Content.{Content}
 use Rattle.map_c.specs.Maps.{map_in}
 
--- no line of a log says an update
+-- no line of a log spells an update
 abbrev pub no_line : ℤ
 no_line = pos 13
 
@@ -18,8 +18,8 @@ stop_code stop.NoLine = no_line
 stop_code stop.TooManyUpdates = too_many_updates
 stop_code stop.NoRoom = no_room
 
--- These bytes are the part of the map's log that says the updates from this number on and below next: as far as there is room, and
--- of one update at least where there is one.
+-- These bytes are the part of the map's log of the updates from number `from` on and below `next`: as far as there is room, and of
+-- at least one update where there is one.
 pub record IsPart (c : Option Content) (from room : ℕ) (part : List ℕ) (next : ℕ) : Type 0 where
   pub state : StateAt
   pub held : map_in c ≡ Some state
@@ -31,7 +31,7 @@ pub record IsPart (c : Option Content) (from room : ℕ) (part : List ℕ) (next
   pub some : from < length state.history → from < next
   pub ends : (why : Option Stop) × EndsThere state from next room why
 
--- the front of the bytes, as long as the count, is such a part
+-- the first `count` bytes are such a part
 abbrev pub IsLogged : Option Content → ℕ → ℕ → List ℕ → ℕ → ℕ → Type 0
 IsLogged c from room bytes count next = IsPart c from room (take count bytes) next × (count ≤ length bytes)
 

@@ -73,14 +73,14 @@ pub record IsAnswer (u : Update) (old new : Option Content) (status : ℤ) : Typ
   pub refused : status ≢ done → IsUpdateRefusal u old status
   pub same : status ≢ done → new ≡ old
 
--- the same of an update by these points
+-- `IsAnswer`, of an update by these points
 pub record IsPointsAnswer (u : Update) (ps : List Point) (old new : Option Content) (status : ℤ) : Type 0 where
   pub made : status ≡ done → IsUpdated u old new
   pub range : status ≡ done → All IsRightPoint ps
   pub refused : status ≢ done → IsPointsRefusal u ps old status
   pub same : status ≢ done → new ≡ old
 
--- and by these boxes
+-- `IsAnswer`, of an update by these boxes
 pub record IsBoxesAnswer (u : Update) (bs : List Bounds) (old new : Option Content) (status : ℤ) : Type 0 where
   pub made : status ≡ done → IsUpdated u old new
   pub range : status ≡ done → All IsRightBox bs

@@ -16,7 +16,7 @@ use Rattle.map_c.specs.declared.handles.forms.Item.{Item}
 abbrev pub lonely_items : VersionAt → ℕ → ℕ → List Item
 lonely_items v r most = map c_item (take most (lonely (contents v.tree) r))
 
--- So many there are, and the front of the items, as long as the count, is the first of them.
+-- There are `found` such points, and the first `count` items are the first of them.
 pub record AreLonely (c : Option Content) (r most found : ℕ) (items : List Item) (count : ℕ) : Type 0 where
   pub version : VersionAt
   pub shown : shown_in c ≡ Some version
@@ -26,7 +26,7 @@ pub record AreLonely (c : Option Content) (r most found : ℕ) (items : List Ite
   pub list : take count items ≡ lonely_items version r most
   pub number : count ≡ length (lonely_items version r most)
 
--- why they aren't told
+-- why they aren't counted
 abbrev pub AreLonelyRefusal : Option Content → ℕ → ℕ → ℕ → ℤ → Type 0
 AreLonelyRefusal c r most room status =
     ((status ≡ empty) × (shown_in c ≡ None))
@@ -42,7 +42,7 @@ c_cluster g = record { number = g.least; points = g.size }
 abbrev pub first_clusters : VersionAt → ℕ → ℕ → List Cluster
 first_clusters v r most = map c_cluster (take most (clusters (contents v.tree) r))
 
--- So many clusters there are, and the front of the list, as long as the count, is the first of them.
+-- There are `found` clusters, and the first `count` of the list are the first of them.
 pub record AreClusters (c : Option Content) (r most found : ℕ) (groups : List Cluster) (count : ℕ) : Type 0 where
   pub version : VersionAt
   pub shown : shown_in c ≡ Some version
@@ -52,6 +52,6 @@ pub record AreClusters (c : Option Content) (r most found : ℕ) (groups : List 
   pub list : take count groups ≡ first_clusters version r most
   pub number : count ≡ length (first_clusters version r most)
 
--- why they aren't told, which is as for lonely points
+-- why they aren't counted, as for lonely points
 abbrev pub AreClustersRefusal : Option Content → ℕ → ℕ → ℕ → ℤ → Type 0
 AreClustersRefusal = AreLonelyRefusal

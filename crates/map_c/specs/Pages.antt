@@ -19,7 +19,7 @@ use Rattle.map_c.specs.declared.handles.forms.Place.{Place}
 abbrev pub page : ℕ → ℕ → List held.Item → List Item
 page from room m = map c_item (take room (numbered_from from m))
 
--- The front of the items, as long as the count, is a page of what the handle shows, live and suspended.
+-- The first `count` items are a page of what the handle shows, live and suspended.
 pub record IsPage (c : Option Content) (from : ℕ) (items : List Item) (count : ℕ) : Type 0 where
   pub version : VersionAt
   pub shown : shown_in c ≡ Some version
@@ -30,7 +30,7 @@ pub record IsPage (c : Option Content) (from : ℕ) (items : List Item) (count :
 abbrev pub IsPageRefusal : Option Content → ℤ → Type 0
 IsPageRefusal c status = ((status ≡ empty) × (shown_in c ≡ None)) ⊎ (status ≡ no_memory)
 
--- The front of the items, as long as the count, is a page of the live points in the box.
+-- The first `count` items are a page of the live points in the box.
 pub record IsBoxPage (c : Option Content) (b : Bounds) (from : ℕ) (items : List Item) (count : ℕ) : Type 0 where
   pub version : VersionAt
   pub shown : shown_in c ≡ Some version
@@ -45,7 +45,7 @@ IsBoxPageRefusal c b status =
     ⊎ ((status ≡ bad_box) × (IsRightBox b → ⊥))
     ⊎ (status ≡ no_memory)
 
--- The front of the items, as long as the count, is a page of the live points in the ball.
+-- The first `count` items are a page of the live points in the ball.
 pub record IsBallPage (c : Option Content) (p : Place) (r from : ℕ) (items : List Item) (count : ℕ) : Type 0 where
   pub version : VersionAt
   pub shown : shown_in c ≡ Some version

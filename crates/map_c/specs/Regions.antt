@@ -12,21 +12,23 @@ use Rattle.map_c.specs.declared.handles.forms.Bounds.{Bounds}
 use Rattle.map_c.specs.declared.handles.forms.Place.{Place}
 use Rattle.map_c.specs.declared.handles.forms.Region.{Region}
 
--- a corner of a box, and a box, as C has them
+-- a corner of a box, as C has it
 abbrev pub c_place : Corner → Place
 c_place p = record { x = p.x; y = p.y; z = p.z }
 
+-- a box, as C has it
 abbrev pub c_box : geom.Bounds → Bounds
 c_box b = record { lo = c_place b.lo; hi = c_place b.hi }
 
--- the rules of these numbers, and that they are right
+-- the rules of these numbers
 abbrev pub rules_at : ℕ → ℕ → ℕ → Rules
 rules_at side ball step = record { side = side; ball = ball; step = step }
 
+-- a region may have these rules
 abbrev pub AreRightRules : ℕ → ℕ → ℕ → Type 0
 AreRightRules side ball step = IsOk (rules_of side ball step)
 
--- the region that the numbers say
+-- the region of C's numbers
 abbrev pub region_at : Region → RegionAt
 region_at g = record { rules = rules_at g.side g.ball g.step; lo = corner_at g.lo }
 
@@ -34,7 +36,7 @@ region_at g = record { rules = rules_at g.side g.ball g.step; lo = corner_at g.l
 abbrev pub c_region : RegionAt → Region
 c_region r = record { lo = c_place r.lo; side = r.rules.side; ball = r.rules.ball; step = r.rules.step }
 
--- they say one: its rules are right, and it starts no farther out than a region does
+-- C's numbers are a region's: its rules are right, and it starts no farther out than a region does
 abbrev pub IsRightRegion : Region → Type 0
 IsRightRegion g = AreRightRules g.side g.ball g.step × IsStartCorner (corner_at g.lo)
 
@@ -50,7 +52,7 @@ IsBeginRefusal side ball step p status =
     ((status ≡ bad_number) × (AreRightRules side ball step → ⊥))
     ⊎ ((status ≡ out_of_range) × (IsRightPlace p → ⊥))
 
--- The region has moved to the place, and the front of the boxes, as long as the count, is what it left behind.
+-- The region has moved to the place, and the first `count` boxes are what left it.
 pub record IsMove (old new : Region) (p : Place) (boxes : List Bounds) (count : ℕ) : Type 0 where
   pub was : IsRightRegion old
   pub room : 3 ≤ length boxes

@@ -1,11 +1,11 @@
--- What a call answers.
+-- What a call returns.
 use Rattle.std.specs.Prelude.{◌≡◌, ◌⊎◌, ℤ, pos, Result, Ok, Err}
 use Rattle.map_c.specs.declared.handles.refusal.Refusal.{Refusal}
 use Rattle.map_c.specs.declared.handles.refusal.Refusal.TheVariants as refusal
 use Rattle.rebuild_parts.specs.declared.fault.StateFault.{StateFault}
 use Rattle.rebuild_parts.specs.declared.fault.StateFault.TheVariants as fault
 
--- the call did what it says
+-- the call did what it promises
 abbrev pub done : ℤ
 done = pos 0
 
@@ -53,7 +53,7 @@ nothing_to_detach = pos 10
 abbrev pub stale : ℤ
 stale = pos 11
 
--- more than 64 operations are left to be done on the built subtree
+-- more than 64 operations are pending on the built subtree
 abbrev pub behind : ℤ
 behind = pos 12
 
@@ -72,7 +72,7 @@ code refusal.NothingToDetach = nothing_to_detach
 code refusal.Stale = stale
 code refusal.Behind = behind
 
--- the status of a call that did what it says, or was refused
+-- the status of a call that did what it promises, or was refused
 abbrev pub c_status : Result (Unit {0}) Refusal → ℤ
 c_status (Ok ended) = done
 c_status (Err r) = code r

@@ -55,7 +55,7 @@ pub record IsSwapped (force : Bool) (old new built : Option Content) : Type 0 wh
 abbrev pub IsStaleIn : Option Content → Option Content → Type 0
 IsStaleIn c built = (s : StateAt) × (map_in c ≡ Some s) × (d : DoneAt) × (built_in built ≡ Some d) × IsStale d.built s.parts
 
--- The swap wasn't forced, and more than 64 operations are left to be done on the built subtree.
+-- The swap wasn't forced, and more than 64 operations are pending on the built subtree.
 pub record IsBehindIn (force : Bool) (c built : Option Content) : Type 0 where
   pub state : StateAt
   pub held : map_in c ≡ Some state
@@ -66,7 +66,7 @@ pub record IsBehindIn (force : Bool) (c built : Option Content) : Type 0 where
   pub of : IsPartOf value.built state.parts part
   pub many : MAX_UNFORCED < length (undone value.built part)
 
--- The operations that are left stand beside the built subtree, to be done on it next.
+-- The handle keeps the built subtree, with the remaining operations pending.
 pub record IsLeft (c old new : Option Content) : Type 0 where
   pub state : StateAt
   pub held : map_in c ≡ Some state

@@ -1,4 +1,4 @@
-//! Questions to a map. What is asked of a handle that holds a view is answered of that.
+//! Questions to a map or a view: the handle may hold either.
 ghost use Rattle.std.specs.Prelude.{length};
 ghost use Rattle.map_c.specs.Answers.{AreTold, IsCount, IsCountRefusal, IsInside, IsInsideRefusal, IsNearest, IsNearestEach, IsNearestEachRefusal, IsNearestRefusal, IsTold};
 
@@ -38,7 +38,7 @@ pub extern "C" fn corv_map_nearest(
     }
 }
 
-/// The same for each place: the first place's hits, and right behind them the next one's, with how many each place has.
+/// `corv_map_nearest` for each place: the first place's hits, and right after them the next one's, with how many each place has.
 #[unsafe(no_mangle)]
 pub extern "C" fn corv_map_nearest_each(
     alloc: Global,

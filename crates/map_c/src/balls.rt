@@ -41,7 +41,7 @@ pub extern "C" fn corv_map_ball(
     }
 }
 
-/// As of a map, of what the view shows.
+/// `corv_map_ball`, on a view.
 #[unsafe(no_mangle)]
 pub extern "C" fn corv_view_ball(
     alloc: Global,
@@ -85,7 +85,7 @@ fn list_ball(
     Ok(found.len())
 }
 
-/// Whether a ball may have this radius, and so many be asked for.
+/// Whether a ball may have this radius, and `most` may be asked for.
 pub(crate) fn is_asked(r: u64, most: u32) -> bool
     ensures yes { result ≡ true → IsBallAsked r most }
     ensures no { result ≡ false → IsBallAsked r most → ⊥ }

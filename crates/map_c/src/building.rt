@@ -35,7 +35,7 @@ pub extern "C" fn corv_job_build(alloc: Global, job: &mut Handle, built: &mut Ha
     }
 }
 
-/// Does on the built subtree what is to be done on it next.
+/// Replays the pending operations on the built subtree.
 #[unsafe(no_mangle)]
 pub extern "C" fn corv_built_replay(alloc: Global, built: &mut Handle) -> i32
     ensures replayed { result ≡ done → IsReplayed built.old.held.content built.new.held.content }
@@ -50,7 +50,7 @@ pub extern "C" fn corv_built_replay(alloc: Global, built: &mut Handle) -> i32
     status
 }
 
-/// Lets go of what the handle holds.
+/// Frees what the handle holds.
 #[unsafe(no_mangle)]
 pub extern "C" fn corv_built_free(alloc: Global, built: &mut Handle)
     ensures { built.new.held.content ≡ None }

@@ -1,4 +1,4 @@
-//! Subtrees, detached and given out as jobs.
+//! Subtrees, detached as jobs.
 ghost use Rattle.std.specs.Prelude.{◌≡◌, ◌≢◌, ◌≤◌, IfErr, IfOk, None, OnErr, Some};
 ghost use Rattle.rebuild_core.specs.Detach.{IsSlot};
 ghost use Rattle.map_c.specs.Swapping.{IsDetachRefusal, IsDetached};
@@ -8,7 +8,7 @@ ghost use Rattle.map_c.specs.declared.handles.content.Content.TheVariants as is;
 use crate::{Content, DONE, Handle, Kept, Refusal, Work, boxed};
 use std::alloc::Global;
 
-/// Gives out the subtree of the slot, from 1 to 4: the one that was given out under it before, or else the first large one that
+/// Returns the job of the slot, from 1 to 4: of the subtree that was detached into it before, or else of the first large one that
 /// is to be rebuilt.
 #[unsafe(no_mangle)]
 pub extern "C" fn corv_map_detach(
@@ -47,7 +47,7 @@ pub extern "C" fn corv_map_detach(
     }
 }
 
-// The memory for the job's handle is taken first, so that nothing is detached where there is none.
+// The memory for the job's handle is taken first, so that on `NoMemory` nothing is detached.
 fn detached(alloc: Global, content: &mut Content, slot: u8) -> Result<Box<Content>, Refusal>
     requires slot_from { 1 ≤ slot }
     requires slot_to { slot ≤ 4 }
@@ -78,7 +78,7 @@ fn work_of(alloc: Global, kept: &mut Kept, slot: u8) -> Result<Work, Refusal>
     }
 }
 
-/// Lets go of what the handle holds.
+/// Frees what the handle holds.
 #[unsafe(no_mangle)]
 pub extern "C" fn corv_job_free(alloc: Global, job: &mut Handle)
     ensures { job.new.held.content ≡ None }

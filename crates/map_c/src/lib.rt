@@ -1,4 +1,4 @@
-//! The map, for callers in C: each export takes handles, checks what it was given, does one call of the library, and answers a status.
+//! The map, for callers in C: each export takes handles, checks its arguments, does one call of the library, and returns a status.
 #![tactic(auto)]
 
 mod asking;

@@ -1,4 +1,4 @@
-//! What happened to a map, as a log.
+//! The history of a map, as a log.
 ghost use Rattle.std.specs.Prelude.{◌≡◌, ◌≢◌, ◌<◌, ◌≤◌, IfErr, IfOk, None, Some, length, take};
 ghost use Rattle.rebuild_core.specs.Lawful.{StateAt};
 ghost use Rattle.history_log.specs.Log.{IsStop};
@@ -10,7 +10,7 @@ use crate::{Content, DONE, Handle, Refusal};
 use history_log::{LogPart, Stop, history_lines};
 use std::alloc::Global;
 
-/// Writes the lines of the log of version 2 that say the map's updates from this one on, as far as there is room, how many bytes
+/// Writes the lines of the log of version 2 of the map's updates from number `from` on, as far as there is room, how many bytes
 /// they are, and the number of the first update that isn't written.
 #[unsafe(no_mangle)]
 pub extern "C" fn corv_map_log(
@@ -57,7 +57,7 @@ fn write_log(
     Ok((n, part.next))
 }
 
-// The part from this update on, if it has any or there is none.
+// Refuses where the part would end before its first update.
 fn part_from(alloc: Global, content: &Content, from: usize, room: usize) -> Result<LogPart, i32>
     ensures part { IfOk result (λ part. IsPart (Some content.now) from room part.bytes.items part.next) }
     ensures refused { IfErr result (IsLogRefusal (Some content.now) from room) }
@@ -78,7 +78,7 @@ fn part_from(alloc: Global, content: &Content, from: usize, room: usize) -> Resu
     }
 }
 
-// Writes them to the front, and answers how many they are.
+// Writes them at the front, and returns how many they are.
 fn write_all(part: &[u8], bytes: &mut [u8]) -> usize
     requires { length part.now ≤ length bytes.old }
     ensures count { result ≡ length part.now }

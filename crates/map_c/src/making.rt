@@ -11,8 +11,7 @@ use map_fold::{NoMemory, Settings};
 use rebuild_core::MapState;
 use std::alloc::Global;
 
-/// Makes a map that holds nothing, with voxels of 1 to 1,000,000 millimetres, of which a subtree of 16 to 1,000,000 nodes is
-/// large.
+/// Makes an empty map, with voxels of 1 to 1,000,000 millimetres. A subtree of `large` nodes, from 16 to 1,000,000, is large.
 #[unsafe(no_mangle)]
 pub extern "C" fn corv_map_new(alloc: Global, voxel: u32, large: u32, map: &mut Handle) -> i32
     ensures made { result ≡ done → IsNew voxel large map.new.held.content }
@@ -43,7 +42,7 @@ fn made(alloc: Global, settings: Settings) -> Result<Box<Content>, NoMemory>
     boxed(alloc, Content::Map(Kept { state }))
 }
 
-/// Lets go of what the handle holds.
+/// Frees what the handle holds.
 #[unsafe(no_mangle)]
 pub extern "C" fn corv_map_free(alloc: Global, map: &mut Handle)
     ensures { map.new.held.content ≡ None }

@@ -18,7 +18,7 @@ struct Listed {
     count: usize,
 }
 
-/// Tells how many live points have no other live one within `r` millimetres, and writes the first `most` of them by number, and
+/// Counts the live points that have no other live one within `r` millimetres, and writes the first `most` of them by number, and
 /// how many those are.
 #[unsafe(no_mangle)]
 pub extern "C" fn corv_map_lonely(
@@ -79,7 +79,7 @@ fn list_lonely(
     })
 }
 
-/// As of a map, of what the view shows.
+/// `corv_map_lonely`, on a view.
 #[unsafe(no_mangle)]
 pub extern "C" fn corv_view_lonely(
     alloc: Global,
@@ -98,8 +98,8 @@ pub extern "C" fn corv_view_lonely(
     corv_map_lonely(alloc, view, r, most, found, items, count)
 }
 
-/// Tells how many clusters there are of live points, by steps of at most `r` millimetres, and writes the first `most` of them by
-/// their least numbers, and how many those are.
+/// Counts the clusters of live points, by steps of at most `r` millimetres, and writes the first `most` of them by their least
+/// numbers, and how many those are.
 #[unsafe(no_mangle)]
 pub extern "C" fn corv_map_clusters(
     alloc: Global,
@@ -159,7 +159,7 @@ fn list_clusters(
     })
 }
 
-/// As of a map, of what the view shows.
+/// `corv_map_clusters`, on a view.
 #[unsafe(no_mangle)]
 pub extern "C" fn corv_view_clusters(
     alloc: Global,

@@ -11,8 +11,7 @@ use item_lists::{ball_items, box_items, items_from};
 use map_fold::MAX_WITHIN;
 use std::alloc::Global;
 
-/// Writes what is live or suspended under the numbers from this one on, by number, as far as there is room, and how many it
-/// wrote.
+/// Writes the live and suspended points of number `from` and up, by number, as far as there is room, and how many it wrote.
 #[unsafe(no_mangle)]
 pub extern "C" fn corv_map_items(
     alloc: Global,
@@ -57,7 +56,7 @@ fn list_items(
     Ok(found.len())
 }
 
-/// As of a map, of what the view shows.
+/// `corv_map_items`, on a view.
 #[unsafe(no_mangle)]
 pub extern "C" fn corv_view_items(
     alloc: Global,
@@ -73,8 +72,7 @@ pub extern "C" fn corv_view_items(
     corv_map_items(alloc, view, from, items, count)
 }
 
-/// Writes the live points in the box under the numbers from this one on, by number, as far as there is room, and how many it
-/// wrote.
+/// Writes the live points in the box, of number `from` and up, by number, as far as there is room, and how many it wrote.
 #[unsafe(no_mangle)]
 pub extern "C" fn corv_map_box_items(
     alloc: Global,
@@ -122,7 +120,7 @@ fn list_box(
     Ok(found.len())
 }
 
-/// As of a map.
+/// `corv_map_box_items`, on a view.
 #[unsafe(no_mangle)]
 pub extern "C" fn corv_view_box_items(
     alloc: Global,
@@ -139,8 +137,8 @@ pub extern "C" fn corv_view_box_items(
     corv_map_box_items(alloc, view, bounds, from, items, count)
 }
 
-/// Writes the live points at most `r` millimetres from a place under the numbers from this one on, by number, as far as there is
-/// room, and how many it wrote.
+/// Writes the live points at most `r` millimetres from a place, of number `from` and up, by number, as far as there is room, and
+/// how many it wrote.
 #[unsafe(no_mangle)]
 pub extern "C" fn corv_map_ball_items(
     alloc: Global,
@@ -193,7 +191,7 @@ fn list_ball(
     Ok(found.len())
 }
 
-/// As of a map.
+/// `corv_map_ball_items`, on a view.
 #[unsafe(no_mangle)]
 pub extern "C" fn corv_view_ball_items(
     alloc: Global,

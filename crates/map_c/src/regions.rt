@@ -1,4 +1,4 @@
-//! Regions, which are the caller's own numbers: they are looked at anew at each move.
+//! Regions, which are the caller's own numbers: they are checked at each move.
 ghost use Rattle.std.specs.Prelude.{◌≡◌, ◌≢◌, ◌<◌, ◌≤◌, IfErr, IfOk, length, map, take};
 ghost use Rattle.map_c.specs.Regions.{AreRightRules, IsBegun, IsBeginRefusal, IsMove, IsMoveRefusal, IsRightRegion, c_box, c_region, region_at, rules_at};
 ghost use Rattle.map_c.specs.Status.{code, done};
@@ -9,8 +9,8 @@ use local_region::RegionRules;
 use point_geom::{Corner, Cuboid};
 use std::alloc::Global;
 
-/// Makes the region that begins with the place in its middle: a cube of this side, a ball round the robot that is to stay clear
-/// of its faces, and how far it moves at a time.
+/// Makes a region, a cube with the place in its middle: its side, a ball round the robot that has to stay clear of its faces, and
+/// how far it moves at a time.
 #[unsafe(no_mangle)]
 pub extern "C" fn corv_region_begin(
     side: u64,
@@ -42,7 +42,7 @@ fn begun(side: u64, ball: u64, step: u64, place: &Place) -> Result<Region, Refus
     Ok(region_of(&region))
 }
 
-/// Moves the region to the place, and writes the boxes of what it left behind, three at most, and how many they are.
+/// Moves the region to the place, and writes the boxes that leave it, at most three, and how many they are.
 #[unsafe(no_mangle)]
 pub extern "C" fn corv_region_move(
     alloc: Global,
@@ -67,7 +67,7 @@ pub extern "C" fn corv_region_move(
     }
 }
 
-/// Where a region is after a move, and how many boxes it left behind.
+/// Where a region is after a move, and how many boxes left it.
 #[derive(Drop)]
 struct To {
     region: Region,

@@ -10,8 +10,8 @@ use map_renewal::renewed;
 use rebuild_core::Version;
 use std::alloc::Global;
 
-/// Makes a map that holds what the view shows, or the map holds: the suspended points under the numbers from 0 on, and behind
-/// them the live ones, each kind in the order of its numbers. Its history begins anew.
+/// Makes a map of what the view or the map holds: the suspended points under the numbers from 0 on, and after them the live ones,
+/// each kind in the order of its numbers. Its history is empty at first.
 #[unsafe(no_mangle)]
 pub extern "C" fn corv_view_renew(
     alloc: Global,

@@ -14,8 +14,8 @@ use rebuild_core::{Built, LogAsk, MapState, SwapFault, SwapLeft};
 use std::alloc::Global;
 use std::mem;
 
-/// Puts the built subtree in its place, after the operations that it has missed since, and leaves its handle empty. Where it is
-/// behind, what it has missed stands beside it then.
+/// Replays on the built subtree the operations logged since, swaps it in, and leaves its handle empty. On `behind` the handle keeps
+/// it, with those operations pending.
 #[unsafe(no_mangle)]
 pub extern "C" fn corv_map_swap(
     alloc: Global,
@@ -86,7 +86,7 @@ fn swap(
     }
 }
 
-// What the value has missed, where it is refused for being behind; else why it is refused.
+// The operations pending, where the value is behind; else why it is refused.
 fn missed(alloc: Global, state: &MapState, built: &Built, fault: SwapFault) -> Result<Ops, Refusal>
     ensures missed { IfOk result (IsLogAfter built.now state.now.state) }
     ensures fit { IfOk result (Fit (contents built.now.tree)) }

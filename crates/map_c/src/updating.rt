@@ -23,7 +23,7 @@ pub extern "C" fn corv_map_add(alloc: Global, map: &mut Handle, all: &[Point]) -
     }
 }
 
-/// Adds points, and of each one's voxel the one nearest to its centre stays.
+/// Adds points, and keeps of each one's voxel the one nearest to its centre.
 #[unsafe(no_mangle)]
 pub extern "C" fn corv_map_thin(alloc: Global, map: &mut Handle, all: &[Point]) -> i32
     ensures { IsPointsAnswer (Thin (points_at all.now)) all.now map.old.held.content map.new.held.content result }
@@ -37,7 +37,7 @@ pub extern "C" fn corv_map_thin(alloc: Global, map: &mut Handle, all: &[Point]) 
     }
 }
 
-/// Drops for good what lies in each box.
+/// Drops for good what is in each box.
 #[unsafe(no_mangle)]
 pub extern "C" fn corv_map_delete(alloc: Global, map: &mut Handle, boxes: &[Bounds]) -> i32
     ensures { IsBoxesAnswer (Delete (boxes_at boxes.now)) boxes.now map.old.held.content map.new.held.content result }

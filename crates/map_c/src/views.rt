@@ -1,4 +1,4 @@
-//! Views, made and freed. What is asked of a view is asked as of a map.
+//! Views, made and freed. A question to a view is the one to a map.
 ghost use Rattle.std.specs.Prelude.{◌≡◌, IfErr, IfOk, None, Some, length};
 ghost use Rattle.map_c.specs.Answers.{AreTold, IsCount, IsCountRefusal, IsInside, IsInsideRefusal, IsNearest, IsNearestEach, IsNearestEachRefusal, IsNearestRefusal, IsTold, IsViewOf, IsViewRefusal, IsViewed};
 ghost use Rattle.map_c.specs.Status.{code};
@@ -52,7 +52,7 @@ fn seen(alloc: Global, version: &Arc<Version>) -> Result<Box<Content>, NoMemory>
     boxed(alloc, Content::View(Seen { version }))
 }
 
-/// Makes another view of the same.
+/// Shares the view.
 #[unsafe(no_mangle)]
 pub extern "C" fn corv_view_copy(alloc: Global, view: &mut Handle, copy: &mut Handle) -> i32
     ensures { IsViewed view.old.held.content view.new.held.content copy.old.held.content copy.new.held.content result }
@@ -60,7 +60,7 @@ pub extern "C" fn corv_view_copy(alloc: Global, view: &mut Handle, copy: &mut Ha
     corv_map_view(alloc, view, copy)
 }
 
-/// Lets go of what the handle holds.
+/// Frees what the handle holds.
 #[unsafe(no_mangle)]
 pub extern "C" fn corv_view_free(alloc: Global, view: &mut Handle)
     ensures { view.new.held.content ≡ None }
@@ -68,7 +68,7 @@ pub extern "C" fn corv_view_free(alloc: Global, view: &mut Handle)
     let _content = view.take(alloc);
 }
 
-/// As of a map, of what the view shows.
+/// `corv_map_nearest`, on a view.
 #[unsafe(no_mangle)]
 pub extern "C" fn corv_view_nearest(
     alloc: Global,
@@ -86,7 +86,7 @@ pub extern "C" fn corv_view_nearest(
     corv_map_nearest(alloc, view, place, k, within, hits, count)
 }
 
-/// As of a map.
+/// `corv_map_nearest_each`, on a view.
 #[unsafe(no_mangle)]
 pub extern "C" fn corv_view_nearest_each(
     alloc: Global,
@@ -105,7 +105,7 @@ pub extern "C" fn corv_view_nearest_each(
     corv_map_nearest_each(alloc, view, places, k, within, hits, counts, count)
 }
 
-/// As of a map.
+/// `corv_map_count`, on a view.
 #[unsafe(no_mangle)]
 pub extern "C" fn corv_view_count(
     alloc: Global,
@@ -119,7 +119,7 @@ pub extern "C" fn corv_view_count(
     corv_map_count(alloc, view, bounds, live)
 }
 
-/// As of a map.
+/// `corv_map_inside`, on a view.
 #[unsafe(no_mangle)]
 pub extern "C" fn corv_view_inside(
     alloc: Global,
@@ -136,7 +136,7 @@ pub extern "C" fn corv_view_inside(
     corv_map_inside(alloc, view, bounds, most, items, count)
 }
 
-/// As of a map.
+/// `corv_map_totals`, on a view.
 #[unsafe(no_mangle)]
 pub extern "C" fn corv_view_totals(alloc: Global, view: &mut Handle, totals: &mut Totals) -> i32
     ensures { AreTold view.old.held.content view.new.held.content totals.new result }

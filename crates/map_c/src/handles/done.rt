@@ -6,7 +6,7 @@ use rebuild_core::Built;
 use std::alloc::Global;
 use std::marker::Model;
 
-/// A subtree that was rebuilt, for a map with this `large`, and the operations that are to be done on it next, which fit it.
+/// A rebuilt subtree, for a map with this `large`, and its pending operations, which fit it.
 #[derive(Drop)]
 pub struct Done {
     pub built: Built,
@@ -31,7 +31,7 @@ impl Model for Done {
 }
 
 impl Done {
-    /// One on which nothing is to be done next.
+    /// Nothing is pending.
     pub fn new(alloc: Global, built: Built, large: u32) -> Done
         ensures { result ≡ record { built = built; left = []; large = large } }
     {

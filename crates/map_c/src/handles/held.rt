@@ -1,4 +1,4 @@
-//! What crosses to C: a content behind a pointer that says nothing of its type.
+//! What crosses to C: a content behind a pointer that doesn't show its type.
 ghost use Rattle.std.specs.Prelude.{◌≡◌, true, Option, Some, None, is_some};
 ghost use Rattle.map_c.specs.Held.{Contents, held_owns, held_coded};
 

@@ -25,7 +25,7 @@ pub fn count_in_box(content: &Content, bounds: &Bounds) -> Result<u32, Refusal>
     Ok(count_in(version.tree(), &cuboid))
 }
 
-/// Writes them by number, the first `most` where there are more, and answers how many they are.
+/// Writes them by number, the first `most` where there are more, and returns how many they are.
 pub fn list(
     alloc: Global,
     content: &Content,

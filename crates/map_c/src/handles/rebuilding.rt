@@ -35,7 +35,7 @@ pub fn build(alloc: Global, content: &mut Content) -> Result<(), Refusal>
     }
 }
 
-/// Does on the built subtree what is to be done on it next.
+/// Replays the pending operations on the built subtree.
 pub fn replay(alloc: Global, content: &mut Content) -> Result<(), Refusal>
     ensures replayed { OnOk result (IsReplayed (Some content.old) (Some content.new)) }
     ensures refused { IfErr result (λ r. IsReplayRefusal (Some content.old) (code r)) }

@@ -1,4 +1,4 @@
-//! Why a call is refused, and what it answers then.
+//! Why a call is refused, and what it returns then.
 ghost use Rattle.std.specs.Prelude.{◌≡◌};
 ghost use Rattle.map_c.specs.Status.{code, refusal_of, c_status};
 ghost use Rattle.map_c.specs.declared.handles.refusal.Refusal.TheVariants.{NoMemory};
@@ -6,7 +6,7 @@ ghost use Rattle.map_c.specs.declared.handles.refusal.Refusal.TheVariants.{NoMem
 use map_fold::NoMemory;
 use rebuild_core::StateFault;
 
-/// The call did what it says.
+/// The call did what it promises.
 pub const DONE: i32 = 0;
 
 /// Why a call is refused.
@@ -29,14 +29,13 @@ pub enum Refusal {
     TooManyPoints,
     /// No subtree is to be rebuilt.
     NothingToDetach,
-    /// The built subtree's place is there no more.
+    /// The built subtree's place is gone.
     Stale,
-    /// Too many operations are left to be done on the built subtree.
+    /// Too many operations are pending on the built subtree.
     Behind,
 }
 
 impl Refusal {
-    /// The status that says it.
     pub fn status(self) -> i32
         ensures { result ≡ code self }
     {
@@ -57,7 +56,6 @@ impl Refusal {
     }
 }
 
-/// The status of a call that ended so.
 pub fn status_of(ended: Result<(), Refusal>) -> i32
     ensures { result ≡ c_status ended }
 {
