@@ -124,7 +124,7 @@ left_trans [] qs rs k l = subst (λ (xs : List PartAt). AreLeft xs rs) k l
 left_trans (p ∷ ps) qs rs (inl k) l = inl (left_trans ps qs rs k l)
 left_trans (p ∷ ps) qs rs (inr k) l = left_on p k.0 ps k.1 rs k.3 (λ us m. left_trans ps k.1 us k.4 m) (subst (λ (xs : List PartAt). AreLeft xs rs) k.2 l)
 
-left_clear : (path : List Side) (ps qs : List PartAt) → AreLeft ps qs → IsClear path (paths ps) → IsClear path (paths qs)
+pub left_clear : (path : List Side) (ps qs : List PartAt) → AreLeft ps qs → IsClear path (paths ps) → IsClear path (paths qs)
 left_clear path [] qs k clear = subst (λ (xs : List PartAt). IsClear path (paths xs)) (sym k) tt
 left_clear path (p ∷ ps) qs (inl k) clear = left_clear path ps qs k clear.1
 left_clear path (p ∷ ps) qs (inr k) clear = subst (λ (xs : List PartAt). IsClear path (paths xs)) (sym k.2) (clear.0, left_clear path ps k.1 k.4 clear.1)

@@ -15,11 +15,12 @@ use Rattle.kd_update.specs.Scan.{live_from, numbers_in}
 use Rattle.kd_mark.specs.Several.{AreWatched, IsBalancedClear}
 use Rattle.kd_mark.specs.Watch.{IsWatched}
 use Rattle.kd_update.proofs.Crossing.{logged_scan_few, scan_puts}
-use Rattle.map_update.specs.Draft.{AreStill, IsDraft, IsDraftLeft, IsWorked}
+use Rattle.map_update.specs.Draft.{IsDraft, IsDraftLeft, IsWorked}
 use Rattle.kd_update.specs.Detached.{PartAt, watch_of, watches_of}
 use Rattle.map_update.specs.declared.work.Work.{Work}
 use Rattle.map_update.proofs.Detached.{HaveLogRoomOf, logged}
 use Rattle.map_update.proofs.Drafts.{among_below}
+use Rattle.map_update.proofs.Worked.{still_of}
 use Rattle.map_update.proofs.Working.{draft_logged, paths-watched}
 
 -- parts as they are watched
@@ -57,15 +58,10 @@ draft_scan large next last is w u vs ps less d room same among balanced watched 
     (among_below next (numbers u) (numbers_in is ++ numbers w.tree) among below) balanced watched
     (λ q. logged_scan_few q is w.tree) (λ q. scan_puts (λ m. m < next) q is w.tree less)
 
-still_scan : (n : ℕ) (vs ws : List Watch) → 1 ≤ n → AreExtended vs ws → AreMore (n + 1) vs ws → AreStill n vs ws
-still_scan n [] ws some k l = k
-still_scan n (v ∷ vs) [] some k l = absurd k
-still_scan n (v ∷ vs) (w ∷ ws) some k l = (k.0, omega (arith, l.0, some), still_scan n vs ws some k.2 l.1)
-
 pub worked_scan : (n : ℕ) (w : Work) (u : Shape) (vs : List Watch) → 22 ≤ n → levels u ≤ levels w.tree + 22 → nodes u ≤ nodes w.tree + n → AreExtended w.watches vs → AreMore (n + 1) w.watches vs
     → IsWorked n n w (record { tree = u; watches = vs })
 worked_scan n w u vs many low few more most = record {
   low = omega (arith, low, many);
   few = few;
-  still = λ r. still_scan n w.watches vs (omega (arith, many)) more most;
+  still = λ room x m own. still_of (n + 1) n x w.watches vs (omega (arith, many)) more most m;
 }

@@ -1,9 +1,10 @@
--- Work after some operations: what is watched stays while there is room.
-use Rattle.std.proofs.Common.{◌≡◌, ℕ, ◌+◌, ◌<◌, ◌≤◌, List, [], ◌∷◌, refl, ap, sym, ◌∙◌, arith, subst}
+-- Work after some operations: what is watched stays while the tree and its own log have room.
+use Rattle.std.proofs.Common.{◌≡◌, ℕ, ◌+◌, ◌*◌, ◌<◌, ◌≤◌, List, [], ◌∷◌, length, refl, ap, sym, ◌∙◌, arith, subst, inl, inr}
 use Rattle.point_geom.specs.Place.{Place}
 use Rattle.point_geom.specs.declared.axis.Axis.TheVariants.{X}
 use Rattle.node_labels.specs.Labels.{keep_tag}
 use Rattle.node_labels.specs.declared.tag.Tag.{Tag}
+use Rattle.map_items.specs.Contents.{Member}
 use Rattle.map_items.specs.declared.choice.Choice.{Choice}
 use Rattle.map_items.specs.declared.op.Op.{Op}
 use Rattle.map_items.specs.declared.op.Op.TheVariants.{Mark, Put}
@@ -13,107 +14,97 @@ use Rattle.kd_mark.specs.declared.watch.Watch.{Watch}
 use Rattle.kd_mark.specs.Mark.{RebuildsNoneEntered, marked_shape}
 use Rattle.kd_update.specs.Put.{RebuildsNoneOnRoute, put_shape}
 use Rattle.kd_mark.specs.Refresh.{IsRefresh}
-use Rattle.kd_mark.specs.Watches.{AreExtended, AreFewMore, HaveRoom, paths_in, with_marks}
+use Rattle.kd_mark.specs.Watches.{AreExtended, AreFewMore, AreMore, paths_in, with_marks}
 use Rattle.kd_update.specs.Watches.{with_puts}
 use Rattle.kd_mark.proofs.InBox.{levels-marked, nodes-marked}
 use Rattle.kd_update.proofs.Route.{levels-put, nodes-put}
-use Rattle.map_update.specs.Draft.{AreStill, HasRoomFor, HaveRoomFor, IsWorked, plain_work}
+use Rattle.map_update.specs.Draft.{AreSpared, HasLogRoomFor, HasRoomFor, IsStill, IsWorked, plain_work}
 use Rattle.map_update.specs.Single.{RebuildsNothing}
 use Rattle.map_update.specs.declared.work.Work.{Work}
 
--- what is watched
+-- a watch that stays
 
-still_of : (vs ws : List Watch) → AreExtended vs ws → AreFewMore vs ws → AreStill 1 vs ws
-still_of [] ws k l = k
-still_of (v ∷ vs) [] k l = absurd k
-still_of (v ∷ vs) (w ∷ ws) k l = (k.0, omega (arith, l.0), still_of vs ws k.2 l.1)
+-- the logs of the same watches have grown
+pub still_of : (n ops : ℕ) (x : Watch) (vs ws : List Watch) → n ≤ 2 * ops → AreExtended vs ws → AreMore n vs ws → Member x vs → IsStill ops x ws
+still_of n ops x [] ws le k l m = absurd m
+still_of n ops x (v ∷ vs) [] le k l m = absurd k
+still_of n ops x (v ∷ vs) (w ∷ ws) le k l (inl is) = record {
+  watch = w;
+  there = inl refl;
+  path = k.0 ∙ ap (λ (y : Watch). y.path) (sym is);
+  few = omega (arith, l.0, le, ap (λ (y : Watch). length y.log) is);
+}
+still_of n ops x (v ∷ vs) (w ∷ ws) le k l (inr m) =
+    let rest = still_of n ops x vs ws le k.2 l.1 m in
+    record { watch = rest.watch; there = inr rest.there; path = rest.path; few = rest.few }
 
-still_itself : (vs : List Watch) → AreStill 0 vs vs
-still_itself [] = refl
-still_itself (v ∷ vs) = (refl, omega arith, still_itself vs)
+still_itself : (ops : ℕ) (x : Watch) (ws : List Watch) → Member x ws → IsStill ops x ws
+still_itself ops x ws m = record { watch = x; there = m; path = refl; few = omega arith }
 
-still_more : (n m : ℕ) (vs ws : List Watch) → n ≤ m → AreStill n vs ws → AreStill m vs ws
-still_more n m [] ws le a = a
-still_more n m (v ∷ vs) [] le a = absurd a
-still_more n m (v ∷ vs) (w ∷ ws) le a = (a.0, omega (arith, a.1, le), still_more n m vs ws le a.2)
+still_more : (n m : ℕ) (x : Watch) (ws : List Watch) → n ≤ m → IsStill n x ws → IsStill m x ws
+still_more n m x ws le k = record { watch = k.watch; there = k.there; path = k.path; few = omega (arith, k.few, le) }
 
-still_then : (n m k : ℕ) (us vs ws : List Watch) → n + m ≤ k → AreStill n us vs → AreStill m vs ws → AreStill k us ws
-still_then n m k [] vs ws le a b = subst (λ (xs : List Watch). AreStill m xs ws) a b
-still_then n m k (u ∷ us) [] ws le a b = absurd a
-still_then n m k (u ∷ us) (v ∷ vs) [] le a b = absurd b
-still_then n m k (u ∷ us) (v ∷ vs) (w ∷ ws) le a b = (b.0 ∙ a.0, omega (arith, a.1, b.1, le), still_then n m k us vs ws le a.2 b.2)
+path_among : (x : Watch) (ws : List Watch) → Member x ws → Member x.path (paths_in ws)
+path_among x [] m = absurd m
+path_among x (w ∷ ws) (inl is) = inl (ap (λ (y : Watch). y.path) is)
+path_among x (w ∷ ws) (inr m) = inr (path_among x ws m)
 
-pub still_paths : (n : ℕ) (vs ws : List Watch) → AreStill n vs ws → paths_in ws ≡ paths_in vs
-still_paths n [] ws a = ap paths_in a
-still_paths n (v ∷ vs) [] a = absurd a
-still_paths n (v ∷ vs) (w ∷ ws) a = ap (λ (q : List Side). q ∷ paths_in ws) a.0 ∙ ap (λ (qs : List (List Side)). v.path ∷ qs) (still_paths n vs ws a.2)
-
--- room in the logs
-
-room_less : (m k : ℕ) (vs : List Watch) → m ≤ k → HaveRoomFor k vs → HaveRoomFor m vs
-room_less m k [] le r = tt
-room_less m k (v ∷ vs) le r = (omega (arith, r.0, le), room_less m k vs le r.1)
-
-room_then : (n m k : ℕ) (vs ws : List Watch) → n + m ≤ k → HaveRoomFor k vs → AreStill n vs ws → HaveRoomFor m ws
-room_then n m k [] ws le r a = subst (HaveRoomFor m) (sym a) tt
-room_then n m k (v ∷ vs) [] le r a = absurd a
-room_then n m k (v ∷ vs) (w ∷ ws) le r a = (omega (arith, r.0, a.1, le), room_then n m k vs ws le r.1 a.2)
-
-room_one : (vs : List Watch) → HaveRoomFor 1 vs → HaveRoom vs
-room_one [] r = tt
-room_one (v ∷ vs) r = (omega (arith, r.0), room_one vs r.1)
-
-room_some : (a b e f : ℕ) (w : Work) → a ≤ e → b ≤ f → HasRoomFor e f w → HasRoomFor a b w
-room_some a b e f w le le' r = record { low = omega (arith, r.low, le); few = omega (arith, r.few, le); logs = room_less b f w.watches le' r.logs }
+pub still_path : (n : ℕ) (x : Watch) (ws : List Watch) → IsStill n x ws → Member x.path (paths_in ws)
+still_path n x ws k = subst (λ (q : List Side). Member q (paths_in ws)) k.path (path_among k.watch ws k.there)
 
 -- several operations
 
 pub worked_itself : (a b : ℕ) (w : Work) → IsWorked a b w w
-worked_itself a b w = record { low = omega arith; few = omega arith; still = λ r. still_more 0 b w.watches w.watches (omega arith) (still_itself w.watches) }
+worked_itself a b w = record { low = omega arith; few = omega arith; still = λ room x m own. still_itself b x w.watches m }
+
+room_some : (a e : ℕ) (w : Work) → a ≤ e → HasRoomFor e w → HasRoomFor a w
+room_some a e w le r = record { low = omega (arith, r.low, le); few = omega (arith, r.few, le) }
 
 pub worked_more : (a b e f : ℕ) (v w : Work) → a ≤ e → b ≤ f → IsWorked a b v w → IsWorked e f v w
 worked_more a b e f v w le le' k = record {
   low = omega (arith, k.low, le);
   few = omega (arith, k.few, le);
-  still = λ r. still_more b f v.watches w.watches le' (k.still (room_some a b e f v le le' r));
+  still = λ room x m own. still_more b f x w.watches le' (k.still (room_some a e v le room) x m (omega (arith, own, le')));
 }
+
+-- the room that is left after them
+pub room_left : (a b c e : ℕ) (v w : Work) → a + c ≤ e → IsWorked a b v w → HasRoomFor e v → HasRoomFor c w
+room_left a b c e v w le k r = record { low = omega (arith, r.low, k.low, le); few = omega (arith, r.few, k.few, le) }
+
+-- a watch that stays after them, with the room that is left in its log
+pub still_left : (a b e f : ℕ) (v w : Work) → a ≤ e → b ≤ f → IsWorked a b v w → HasRoomFor e v → (x : Watch) → Member x v.watches → HasLogRoomFor f x → IsStill b x w.watches
+still_left a b e f v w le le' k room x m own = k.still (room_some a e v le room) x m (omega (arith, own, le'))
 
 pub worked_then : (a b c d e f : ℕ) (u v w : Work) → a + c ≤ e → b + d ≤ f → IsWorked a b u v → IsWorked c d v w → IsWorked e f u w
 worked_then a b c d e f u v w le le' k l = record {
   low = omega (arith, k.low, l.low, le);
   few = omega (arith, k.few, l.few, le);
-  still = λ r.
-      let first = k.still (room_some a b e f u (omega (arith, le)) (omega (arith, le')) r) in
-      let then : HasRoomFor c d v = record { low = omega (arith, r.low, k.low, le); few = omega (arith, r.few, k.few, le); logs = room_then b d f u.watches v.watches le' r.logs first } in
-      still_then b d f u.watches v.watches w.watches le' first (l.still then);
+  still = λ room x m own.
+      let first = still_left a b e f u v (omega (arith, le)) (omega (arith, le')) k room x m own in
+      let last = l.still (room_left a b c e u v le k room) first.watch first.there (omega (arith, own, first.few, le')) in
+      record { watch = last.watch; there = last.there; path = last.path ∙ first.path; few = omega (arith, first.few, last.few, le') };
 }
 
--- the room that remains after them
-pub room_left : (a b c d e f : ℕ) (v w : Work) → a + c ≤ e → b + d ≤ f → IsWorked a b v w → HasRoomFor e f v → HasRoomFor c d w
-room_left a b c d e f v w le le' k r =
-    let first = k.still (room_some a b e f v (omega (arith, le)) (omega (arith, le')) r) in
-    record { low = omega (arith, r.low, k.low, le); few = omega (arith, r.few, k.few, le); logs = room_then b d f v.watches w.watches le' r.logs first }
-
--- nothing was forgotten
-pub worked_kept : (a b e f : ℕ) (v w : Work) → a ≤ e → b ≤ f → IsWorked a b v w → HasRoomFor e f v → paths_in w.watches ≡ paths_in v.watches
-worked_kept a b e f v w le le' k r = still_paths b v.watches w.watches (k.still (room_some a b e f v le le' r))
+-- it was not forgotten
+pub worked_kept : (a b e f : ℕ) (v w : Work) → a ≤ e → b ≤ f → IsWorked a b v w → HasRoomFor e v → (x : Watch) → Member x v.watches → HasLogRoomFor f x → Member x.path (paths_in w.watches)
+worked_kept a b e f v w le le' k room x m own = still_path b x w.watches (still_left a b e f v w le le' k room x m own)
 
 -- one operation
 
-pub worked_mark : (c : Choice) (a : Tag) (v w : Work) (u : Shape) (vs : List Watch) → (HaveRoom v.watches → w ≡ v) → levels w.tree ≤ levels v.tree → nodes w.tree ≤ nodes v.tree
+pub worked_mark : (c : Choice) (a : Tag) (v w : Work) (u : Shape) (vs : List Watch) → AreSpared v.watches w.watches → levels w.tree ≤ levels v.tree → nodes w.tree ≤ nodes v.tree
     → IsRefresh (marked_shape c a w.tree) u → AreExtended w.watches vs → AreFewMore w.watches vs → IsWorked 0 1 v (record { tree = u; watches = vs })
-worked_mark c a v w u vs same low few made more most = record {
+worked_mark c a v w u vs spared low few made more most = record {
   low = omega (arith, made.low, levels-marked c a keep_tag w.tree, low);
   few = omega (arith, made.few, nodes-marked c a keep_tag w.tree, few);
-  still = λ r. subst (λ (x : Work). AreStill 1 x.watches vs) (same (room_one v.watches r.logs)) (still_of w.watches vs more most);
+  still = λ room x m own. still_of 2 1 x w.watches vs (omega arith) more most (spared x m own);
 }
 
-pub worked_put : (n : ℕ) (p : Place) (v w : Work) (u : Shape) (vs : List Watch) → (levels v.tree < 512 → nodes v.tree < 4194304 → HaveRoom v.watches → w ≡ v) → levels w.tree ≤ levels v.tree → nodes w.tree ≤ nodes v.tree
+pub worked_put : (n : ℕ) (p : Place) (v w : Work) (u : Shape) (vs : List Watch) → (levels v.tree < 512 → nodes v.tree < 4194304 → AreSpared v.watches w.watches) → levels w.tree ≤ levels v.tree → nodes w.tree ≤ nodes v.tree
     → IsRefresh (put_shape n p w.tree) u → AreExtended w.watches vs → AreFewMore w.watches vs → IsWorked 1 1 v (record { tree = u; watches = vs })
-worked_put n p v w u vs same low few made more most = record {
+worked_put n p v w u vs spared low few made more most = record {
   low = omega (arith, made.low, levels-put n p X keep_tag w.tree, low);
   few = omega (arith, made.few, nodes-put n p X keep_tag w.tree, few);
-  still = λ r. subst (λ (x : Work). AreStill 1 x.watches vs) (same (omega (arith, r.low)) (omega (arith, r.few)) (room_one v.watches r.logs)) (still_of w.watches vs more most);
+  still = λ room x m own. still_of 2 1 x w.watches vs (omega arith) more most (spared (omega (arith, room.low)) (omega (arith, room.few)) x m own);
 }
 
 -- one that rebuilds nothing

@@ -11,7 +11,7 @@ use Rattle.node_labels.specs.Labels.{keep_tag}
 use Rattle.node_labels.specs.declared.tag.Tag.{Tag}
 use Rattle.map_items.specs.declared.op.Op.{Op}
 use Rattle.map_items.specs.Ops.{numbers_put}
-use Rattle.kd_tree.specs.Shape.{Shape, leaf, fork, levels, numbers}
+use Rattle.kd_tree.specs.Shape.{Shape, leaf, fork, levels, nodes, numbers}
 use Rattle.kd_tree.specs.Walk.{times}
 use Rattle.kd_tree.specs.Sound.{IsSound}
 use Rattle.kd_tree.specs.Contents.{contents}
@@ -24,12 +24,14 @@ use Rattle.kd_mark.specs.declared.watch.Watch.{Watch}
 use Rattle.kd_mark.specs.Refresh.{AreAmong}
 use Rattle.kd_mark.specs.Several.{AreLargeAt, AreSameAt, AreWatched, IsBalancedClear}
 use Rattle.kd_mark.specs.Watch.{IsLargeAt, IsWatched, logged_mark}
+use Rattle.kd_update.specs.Replace.{HasRoomAt}
 use Rattle.kd_update.specs.Watch.{logged_put}
 use Rattle.kd_mark.specs.Watches.{HaveRoom, paths_in, with_marks}
 use Rattle.kd_update.specs.Watches.{with_puts}
 use Rattle.kd_mark.proofs.Logged.{logged_mark_few}
 use Rattle.kd_update.proofs.Logged.{logged_put_few, mark_puts, put_puts}
 use Rattle.kd_update.proofs.Numbers.{left_few, unheld}
+use Rattle.kd_update.proofs.StandsFor.{replaced_nodes}
 use Rattle.kd_mark.proofs.Several.{balanced_clear}
 use Rattle.kd_mark.proofs.Update.{criteria_balanced}
 use Rattle.map_update.specs.Draft.{IsDraft, IsDraftLeft}
@@ -244,3 +246,10 @@ levels_kept [] other t s e k = omega (arith, k, ap levels (same_Some t s e))
 levels_kept (side ∷ path) other leaf s e k = omega arith
 levels_kept (Left ∷ path) other (fork h l r) s e k = omega (arith, levels_kept path other l s e k)
 levels_kept (Right ∷ path) other (fork h l r) s e k = omega (arith, levels_kept path other r s e k)
+
+-- there is room for a subtree that is no larger than the one in whose place it is put
+pub no_larger : (path : List Side) (other t s : Shape) → at path t ≡ Some s → levels other ≤ levels s → nodes other ≤ nodes s → levels t ≤ 512 → nodes t ≤ 4194304 → HasRoomAt path other t
+no_larger path other t s there lower fewer low few = record {
+  low = omega (arith, levels_kept path other t s there lower, low);
+  few = omega (arith, replaced_nodes path other t s there, fewer, few);
+}

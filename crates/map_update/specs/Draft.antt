@@ -1,5 +1,6 @@
 -- Trees on which an update is at work, beside watched subtrees.
-use Rattle.std.specs.Prelude.{◌≡◌, ℕ, ◌+◌, ◌*◌, ◌<◌, ◌≤◌, List, [], ◌∷◌, length, All, Result, IfOk}
+use Rattle.std.specs.Prelude.{◌≡◌, ℕ, ◌+◌, ◌*◌, ◌<◌, ◌≤◌, List, length, All, Result, IfOk}
+use Rattle.map_items.specs.Contents.{Member}
 use Rattle.map_items.specs.declared.memory.NoMemory.{NoMemory}
 use Rattle.map_items.specs.declared.op.Op.{Op}
 use Rattle.map_items.specs.declared.op.Op.TheVariants.{Mark, Put}
@@ -29,29 +30,32 @@ IsWork large next w = (last : ℕ) × (ps : List PartAt) × IsDraft large next l
 abbrev pub IsDraftLeft : ℕ → ℕ → ℕ → List PartAt → Work → Type 0
 IsDraftLeft large next last ps w = (qs : List PartAt) × AreLeft ps qs × IsDraft large next last qs w
 
--- each log has room for two operations for each of so many
-abbrev pub HaveRoomFor : ℕ → List Watch → Type 0
-HaveRoomFor n [] = Unit {0}
-HaveRoomFor n (w ∷ ws) = (length w.log + 2 * n ≤ MAX_LOGGED) × HaveRoomFor n ws
-
--- so many points may be put before the tree is full, and so many operations done before a log has no room for two
-pub record HasRoomFor (puts ops : ℕ) (w : Work) : Type 0 where
+-- so many points may be put before the tree is full, and is rebuilt for its bounds
+pub record HasRoomFor (puts : ℕ) (w : Work) : Type 0 where
   pub low : levels w.tree + puts ≤ MAX_LEVELS
   pub few : nodes w.tree + puts ≤ MAX_NODES
-  pub logs : HaveRoomFor ops w.watches
 
--- the same is watched, and no log has more than two operations more for each of so many
-abbrev pub AreStill : ℕ → List Watch → List Watch → Type 0
-AreStill n [] ws = ws ≡ []
-AreStill n (v ∷ vs) [] = ⊥
-AreStill n (v ∷ vs) (w ∷ ws) = (w.path ≡ v.path) × (length w.log ≤ length v.log + 2 * n) × AreStill n vs ws
+-- the watch's own log has room for two operations for each of so many
+abbrev pub HasLogRoomFor : ℕ → Watch → Type 0
+HasLogRoomFor ops x = length x.log + 2 * ops ≤ MAX_LOGGED
+
+-- each of the first watches whose own log has room for two operations is one of the second, as it was
+abbrev pub AreSpared : List Watch → List Watch → Type 0
+AreSpared vs ws = (x : Watch) → Member x vs → HasLogRoomFor 1 x → Member x ws
+
+-- One of the watches is at the path of x, with no more than two operations more for each of so many.
+pub record IsStill (ops : ℕ) (x : Watch) (ws : List Watch) : Type 0 where
+  pub watch : Watch
+  pub there : Member watch ws
+  pub path : watch.path ≡ x.path
+  pub few : length watch.log ≤ length x.log + 2 * ops
 
 -- The second work is the first after at most so many operations, of which so many put a point.
 pub record IsWorked (puts ops : ℕ) (v w : Work) : Type 0 where
   pub low : levels w.tree ≤ levels v.tree + puts
   pub few : nodes w.tree ≤ nodes v.tree + puts
-  -- nothing that is watched is forgotten where there is room
-  pub still : HasRoomFor puts ops v → AreStill ops v.watches w.watches
+  -- where the tree has room, nothing is forgotten whose own log has
+  pub still : HasRoomFor puts v → (x : Watch) → Member x v.watches → HasLogRoomFor ops x → IsStill ops x w.watches
 
 -- the watches, each log with what the operation is to its subtree
 abbrev pub with_op : Op → Shape → List Watch → List Watch
@@ -66,9 +70,10 @@ plain_work op w = record { tree = unrebuilt op w.tree; watches = with_op op w.tr
 abbrev pub KeepsDraft : ℕ → ℕ → ℕ → Work → Result Work NoMemory → Type 0
 KeepsDraft large next more v done = (last : ℕ) (ps : List PartAt) → IsDraft large next last ps v → IfOk done (IsDraftLeft large more last ps)
 
--- The same is watched after, where there is room for so many points and operations.
+-- Where the tree has room for so many points, what is watched stays so as long as its own log has room for so many operations,
+-- whatever room the others have.
 abbrev pub KeepsWatched : ℕ → ℕ → Work → Result Work NoMemory → Type 0
-KeepsWatched puts ops v done = HasRoomFor puts ops v → IfOk done (λ w. paths_in w.watches ≡ paths_in v.watches)
+KeepsWatched puts ops v done = HasRoomFor puts v → (x : Watch) → Member x v.watches → HasLogRoomFor ops x → IfOk done (λ w. Member x.path (paths_in w.watches))
 
 -- The operation is done, and nothing else, where it rebuilds nothing and each log has room.
 abbrev pub DoesPlainly : ℕ → Op → Work → Result Work NoMemory → Type 0

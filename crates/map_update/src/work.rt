@@ -1,5 +1,6 @@
 //! Work on a tree beside watched subtrees. Each operation either crosses them, and is logged, or they are forgotten before.
 ghost use Rattle.std.specs.Prelude.{◌≡◌, ℕ, ◌<◌, ◌≤◌, List, Some, length, IfOk, IfSome, IsNone, ◌↔◌};
+ghost use Rattle.std.specs.List.{remove};
 ghost use Rattle.node_labels.specs.Labels.{keep_tag};
 ghost use Rattle.map_items.specs.Contents.{chosen_by, mark, put};
 ghost use Rattle.map_items.specs.declared.op.Op.TheVariants.{Mark, Put};
@@ -9,7 +10,7 @@ ghost use Rattle.kd_mark.specs.Refresh.{AreAmong};
 ghost use Rattle.kd_tree.specs.Walk.{times};
 ghost use Rattle.kd_tree.specs.Contents.{contents};
 ghost use Rattle.kd_mark.specs.Watches.{HaveRoom, paths_in};
-ghost use Rattle.map_update.specs.Draft.{DoesPlainly, IsDraft, IsDraftLeft, IsWork, IsWorked, KeepsDraft, MakesFew};
+ghost use Rattle.map_update.specs.Draft.{AreSpared, DoesPlainly, IsDraft, IsDraftLeft, IsWork, IsWorked, KeepsDraft, MakesFew};
 ghost use Rattle.kd_update.specs.Detached.{PartAt};
 
 use kd_mark::{Watch, rebuilt};
@@ -90,6 +91,7 @@ impl Work {
         ensures lower { IfOk result (λ w. levels w.tree ≤ levels self.tree) }
         ensures fewer { IfOk result (λ w. nodes w.tree ≤ nodes self.tree) }
         ensures room { IfOk result (λ w. HaveRoom w.watches) }
+        ensures spared { levels self.tree < MAX_LEVELS → nodes self.tree < MAX_NODES → IfOk result (λ w. AreSpared self.watches w.watches) }
         ensures same { levels self.tree < MAX_LEVELS → nodes self.tree < MAX_NODES → HaveRoom self.watches
             → IfOk result (λ w. w ≡ self) }
         ensures still { levels self.tree < MAX_LEVELS → nodes self.tree < MAX_NODES → HaveRoom self.watches
@@ -114,6 +116,7 @@ impl Work {
         ensures low { IfOk result (λ w. levels w.tree ≤ levels self.tree) }
         ensures few { IfOk result (λ w. nodes w.tree ≤ nodes self.tree) }
         ensures room { IfOk result (λ w. HaveRoom w.watches) }
+        ensures spared { IfOk result (λ w. AreSpared self.watches w.watches) }
         ensures same { HaveRoom self.watches → IfOk result (λ w. w ≡ self) }
         ensures still { HaveRoom self.watches → steps.new ≡ steps.old }
     {
@@ -124,8 +127,8 @@ impl Work {
         work.without_full(alloc, large, steps)
     }
 
-    // The work without the subtree that is watched at this place of the list: it is rebuilt where it stands. Where there
-    // is no room for that, the whole tree is rebuilt and nothing more is watched.
+    // The work without the subtree that is watched at this place of the list: it is rebuilt where it stands. A rebuilt copy is no
+    // larger, so the tree has room for it, and all others stay watched.
     fn without<L: Ledger>(
         self,
         alloc: Global,
@@ -139,9 +142,11 @@ impl Work {
         ensures draft { (next : ℕ) → KeepsDraft large next next self result }
         ensures low { IfOk result (λ w. levels w.tree ≤ levels self.tree) }
         ensures few { IfOk result (λ w. nodes w.tree ≤ nodes self.tree) }
-        ensures fewer { IfOk result (λ w. length w.watches < length self.watches) }
+        ensures others { IfOk result (λ w. w.watches ≡ remove self.watches place) }
     {
         let Work { tree, mut watches } = self;
+        let _levels = tree.levels();
+        let _size = tree.size();
         let Watch { path, .. } = watches.remove(place);
         let others = paths_of(alloc, watches.as_slice())?;
         let Some(node) = tree.subtree_at(&path) else {
@@ -149,13 +154,7 @@ impl Work {
         };
         let with = rebuilt_copy(alloc, node, steps)?;
         let (path, others) = (&path, others.as_slice());
-        let Replaced { tree, anew } = replaced(alloc, tree, large, path, with, others, steps)?;
-        if anew {
-            return Ok(Work {
-                tree,
-                watches: Watches::new(alloc),
-            });
-        }
+        let Replaced { tree, .. } = replaced(alloc, tree, large, path, with, others, steps)?;
         Ok(Work { tree, watches })
     }
 }
@@ -180,6 +179,7 @@ fn rebuilt_copy<L: Ledger>(
 fn first_full(watches: &[Watch]) -> Option<usize>
     ensures none { IsNone result ↔ HaveRoom watches.now }
     ensures some { IfSome result (λ i. i < length watches.now) }
+    ensures others { IfSome result (λ i. AreSpared watches.now (remove watches.now i)) }
 {
     let (first, rest) = watches.split_first()?;
     if first.log.room() < 2 {

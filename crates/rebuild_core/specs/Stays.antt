@@ -1,6 +1,8 @@
 -- Parts that an update leaves where they are, and what it logs for them.
-use Rattle.std.specs.Prelude.{ℕ, ◌+◌, ◌*◌, ◌≤◌, List, [], ◌∷◌, ◌++◌, length, map}
+use Rattle.std.specs.Prelude.{◌+◌, ◌*◌, ◌≤◌, List, ◌++◌, length, map}
+use Rattle.map_items.specs.Contents.{Member}
 use Rattle.map_items.specs.Fold.{points_in}
+use Rattle.map_items.specs.Ops.{Extends}
 use Rattle.map_items.specs.declared.op.Op.{Op}
 use Rattle.map_items.specs.declared.op.Op.TheVariants.{Mark, Put}
 use Rattle.map_items.specs.declared.update.Update.{Update}
@@ -13,16 +15,20 @@ use Rattle.kd_update.specs.Detached.{PartAt}
 use Rattle.kd_tree.specs.declared.limits.TheConstants.{MAX_LEVELS, MAX_NODES}
 use Rattle.op_logger.specs.declared.log.TheConstants.{MAX_LOGGED}
 
--- each log has room for two operations for each of so many
-abbrev pub HaveLogRoomFor : ℕ → List PartAt → Type 0
-HaveLogRoomFor n [] = Unit {0}
-HaveLogRoomFor n (p ∷ ps) = (length p.log + 2 * n ≤ MAX_LOGGED) × HaveLogRoomFor n ps
-
--- The update finds no full tree before a point that it puts, and before no operation a log without room for two.
-pub record HasRoomBeside (u : Update) (s : StateAt) : Type 0 where
+-- The update finds no full tree before a point that it puts, so that the tree isn't rebuilt for its bounds.
+pub record HasTreeRoom (u : Update) (s : StateAt) : Type 0 where
   pub low : levels s.tree + points_in u ≤ MAX_LEVELS
   pub few : nodes s.tree + points_in u ≤ MAX_NODES
-  pub logs : HaveLogRoomFor (most_ops u) s.parts
+
+-- the part's own log has room for two operations for each of the update
+abbrev pub HasOwnRoom : Update → PartAt → Type 0
+HasOwnRoom u p = length p.log + 2 * most_ops u ≤ MAX_LOGGED
+
+-- The part is one of these, with a log that begins with what it was.
+pub record StaysAmong (p : PartAt) (ps : List PartAt) : Type 0 where
+  pub log : List Op
+  pub there : Member (record p { log = log }) ps
+  pub begins : Extends p.log log
 
 -- the parts, each with what the operation is to it at the end of its log
 abbrev pub logged_by : Op → Shape → List PartAt → List PartAt

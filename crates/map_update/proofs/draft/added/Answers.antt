@@ -12,7 +12,7 @@ use Rattle.kd_update.specs.Scan.{MayJoin, live_from, put_each}
 use Rattle.kd_mark.specs.Watches.{HaveRoom}
 use Rattle.kd_update.proofs.Joins.{add_points-put_each, join_next, live_from-length}
 use Rattle.kd_update.proofs.Numbers.{held_below}
-use Rattle.map_update.specs.Draft.{HasRoomFor}
+use Rattle.map_update.specs.Draft.{KeepsWatched}
 use Rattle.kd_tree.specs.Maps.{map_of}
 use Rattle.map_update.specs.declared.work.Work.{Work}
 use Rattle.map_update.proofs.Detached.{left_itself, left_trans}
@@ -95,11 +95,11 @@ returns-clause-ticks g c = λ op only room unrebuilt.
     (c.loop-point.invariant.second (omega (arith, one, all, most)) op only room unrebuilt).1
 
 pub returns-clause-kept : goal.returns-clause-kept
-returns-clause-kept g c = λ room.
+returns-clause-kept g c =
     let i = c.loop-point.point-index in
     let n = length c.args.points.now in
     let most = rw c.as_slice-point-items.ensures at c.loop-point.auto.point-index-end in
-    worked_kept i i n n c.args.work c.loop-point.work (omega (arith, most)) (omega (arith, most)) c.loop-point.invariant.worked room
+    worked_kept i i n n c.args.work c.loop-point.work (omega (arith, most)) (omega (arith, most)) c.loop-point.invariant.worked
 
 pub put_items-requires-clause-fit : goal.put_items-requires-clause-fit
 put_items-requires-clause-fit g c =
@@ -136,8 +136,7 @@ returns-then-len-ge-PASS_FROM-clause-draft g c = λ last ps d.
     c.put_items.ensures.draft high last ps (subst (All (λ i. i.number < high)) same (live_from_under high next c.args.points.now (omega arith))) (draft_more c.args.large next high last ps c.args.work (omega arith) d)
 
 pub returns-then-len-ge-PASS_FROM-clause-kept : goal.returns-then-len-ge-PASS_FROM-clause-kept
-returns-then-len-ge-PASS_FROM-clause-kept g c = λ room.
-    let n = length c.args.points.now in
+returns-then-len-ge-PASS_FROM-clause-kept g c =
     let same = c.as_slice-then-len-ge-PASS_FROM.ensures.value ∙ c.in_ok-items.ensures.items ∙ ap (live_from c.args.next) c.as_slice.ensures in
     let many = ap length same ∙ live_from-length c.args.next c.args.points.now in
-    c.put_items.ensures.kept (subst (λ k. HasRoomFor k k c.args.work) (sym many) room)
+    subst (λ n. KeepsWatched n n c.args.work c.put_items.result) many c.put_items.ensures.kept

@@ -2,7 +2,7 @@ use Rattle.std.proofs.Common.{[], ◌∷◌, add-zero, arith, subst, sym}
 use Rattle.std.proofs.lemmas.Result.{IfOk-weaker}
 use Rattle.map_items.specs.Fold.{points_in}
 use Rattle.map_items.specs.declared.update.Update.{Update}
-use Rattle.map_update.specs.Draft.{HasRoomFor, IsWork}
+use Rattle.map_update.specs.Draft.{IsWork, KeepsWatched}
 use Rattle.map_update.specs.Single.{most_ops}
 use Rattle.map_update.proofs.OnePoint.{add_not_thin, delete_not_thin, points_one, restore_not_thin, suspend_not_thin}
 use Rattle.map_update.proofs.Worked.{worked_kept}
@@ -70,6 +70,7 @@ pub returns-in-Thin-clause-still : goal.returns-in-Thin-clause-still
 returns-in-Thin-clause-still g c = λ p one turned. c.thinned.ensures.still p (points_one c.in-Thin.points c.args.update.now p c.in-Thin.is one) turned
 
 pub returns-in-Expire-clause-kept : goal.returns-in-Expire-clause-kept
-returns-in-Expire-clause-kept g c = λ room.
-    let one : HasRoomFor 0 1 c.args.work = subst (λ (u : Update). HasRoomFor (points_in u) (most_ops u) c.args.work) c.in-Expire.is room in
-    IfOk-weaker c.marked.result _ _ (λ w k. worked_kept 0 1 0 1 c.args.work w (omega arith) (omega arith) k one) c.marked.ensures.worked
+returns-in-Expire-clause-kept g c =
+    let one : KeepsWatched 0 1 c.args.work c.marked.result = λ room x there own.
+    IfOk-weaker c.marked.result _ _ (λ w k. worked_kept 0 1 0 1 c.args.work w (omega arith) (omega arith) k room x there own) c.marked.ensures.worked in
+    subst (λ (u : Update). KeepsWatched (points_in u) (most_ops u) c.args.work c.marked.result) (sym c.in-Expire.is) one

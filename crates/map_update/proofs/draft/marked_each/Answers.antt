@@ -71,7 +71,7 @@ returns-clause-ticks g c = λ op only room unrebuilt.
     (c.loop-cuboid.invariant.second (omega (arith, one, all, most)) op only room unrebuilt).1
 
 pub returns-clause-kept : goal.returns-clause-kept
-returns-clause-kept g c = λ room.
+returns-clause-kept g c =
     let i = c.loop-cuboid.cuboid-index in
     let most = rw c.as_slice-cuboid-items.ensures at c.loop-cuboid.auto.cuboid-index-end in
-    worked_kept 0 i 0 (length c.args.boxes.now) c.args.work c.loop-cuboid.work (omega arith) (omega (arith, most)) c.loop-cuboid.invariant.worked room
+    worked_kept 0 i 0 (length c.args.boxes.now) c.args.work c.loop-cuboid.work (omega arith) (omega (arith, most)) c.loop-cuboid.invariant.worked

@@ -66,8 +66,8 @@ pub returns-clause-still : goal.returns-clause-still
 returns-clause-still g c = λ p one turned. (c.loop-point.invariant.same p one turned).1
 
 pub returns-clause-kept : goal.returns-clause-kept
-returns-clause-kept g c = λ room.
+returns-clause-kept g c =
     let i = c.loop-point.point-index in
     let n = length c.args.points.now in
     let most = rw c.as_slice-point-items.ensures at c.loop-point.auto.point-index-end in
-    worked_kept i (2 * i) n (2 * n) c.args.work c.loop-point.work (omega (arith, most)) (omega (arith, most)) c.loop-point.invariant.worked room
+    worked_kept i (2 * i) n (2 * n) c.args.work c.loop-point.work (omega (arith, most)) (omega (arith, most)) c.loop-point.invariant.worked

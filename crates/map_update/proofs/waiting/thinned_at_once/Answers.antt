@@ -6,11 +6,13 @@ use Rattle.std.proofs.lemmas.Result.{IfOk-weaker}
 use Rattle.point_geom.specs.Place.{Bounds}
 use Rattle.point_geom.specs.Boxes.{voxel}
 use Rattle.map_items.specs.declared.item.Item.{Item}
+use Rattle.map_items.specs.Contents.{Member}
 use Rattle.map_items.specs.Fold.{MapAt, thin_points}
 use Rattle.map_items.proofs.Folds.{thin_next}
 use Rattle.map_items.proofs.Numbered.{drop-at}
 use Rattle.kd_tree.specs.Contents.{contents}
 use Rattle.kd_tree.proofs.Held.{are_contents}
+use Rattle.kd_tree.specs.declared.path.Side.{Side}
 use Rattle.kd_mark.specs.Watches.{paths_in}
 use Rattle.map_update.specs.declared.entrants.Entrant.{Entrant}
 use Rattle.map_update.specs.declared.waiting.Waiting.{Waiting}
@@ -25,7 +27,7 @@ use Rattle.map_update.proofs.Entering.{entrants_after}
 use Rattle.map_update.proofs.Entrances.{none_clear, still_clear}
 use Rattle.map_update.proofs.Firsts.{firsts_enter}
 use Rattle.map_update.proofs.Detached.{left_itself}
-use Rattle.map_update.proofs.Worked.{room_left, worked_itself, worked_kept, worked_then}
+use Rattle.map_update.proofs.Worked.{room_left, still_left, worked_itself, worked_then}
 use Rattle.map_update.proofs.Working.{draft_more, draft_on}
 use Rattle.map_update.proofs.waiting.thinned_at_once.Goals as goal
 
@@ -119,7 +121,7 @@ returns-clause-draft g c = λ last ps d.
     IfOk-weaker c.put.result _ (IsDraftLeft large high last ps) (λ u l. draft_on large high last ps j.0 u j.1 l) (subst (λ (l : ℕ). IsDraft l high last j.0 w.work → IfOk c.put.result (IsDraftLeft l high last j.0)) c.large-large.ensures.value (c.put.ensures.draft last j.0) j.2)
 
 pub returns-clause-kept : goal.returns-clause-kept
-returns-clause-kept g c = λ room.
+returns-clause-kept g c = λ room x there own.
     let v = c.loop-entrant.waiting in
     let n = length c.args.points.now in
     let k = c.loop-entrant.entrant-index in
@@ -129,9 +131,10 @@ returns-clause-kept g c = λ room.
     let most : k ≤ length es = c.loop-entrant.auto.entrant-index-end in
     let few = c.loop-entrant.invariant.few in
     let worked = c.loop-entrant.invariant.worked in
-    let left = room_left 0 k m m n (2 * n) c.args.work v.work (omega (arith, few, most, short)) (omega (arith, few, most, short)) worked room in
-    IfOk-weaker c.put.result _ (λ (u : Work). paths_in u.watches ≡ paths_in c.args.work.watches)
-    (λ u same. same ∙ worked_kept 0 k n (2 * n) c.args.work v.work (omega arith) (omega (arith, most, short)) worked room) (c.put.ensures.kept left)
+    let left = room_left 0 k m n c.args.work v.work (omega (arith, few, most, short)) worked room in
+    let first = still_left 0 k n (2 * n) c.args.work v.work (omega arith) (omega (arith, most, short)) worked room x there own in
+    subst (λ (q : List Side). IfOk c.put.result (λ (u : Work). Member q (paths_in u.watches))) first.path
+    (c.put.ensures.kept left first.watch first.there (omega (arith, own, first.few, few, most, short)))
 
 pub returns-clause-stepped : goal.returns-clause-stepped
 returns-clause-stepped g c =

@@ -4,7 +4,7 @@ use Rattle.std.proofs.lemmas.Result.{IfOk-weaker}
 use Rattle.map_items.specs.declared.item.Item.{Item}
 use Rattle.kd_tree.specs.Contents.{contents}
 use Rattle.kd_update.specs.Scan.{MayJoin, put_each}
-use Rattle.map_update.specs.Draft.{HasRoomFor}
+use Rattle.map_update.specs.Draft.{KeepsWatched}
 use Rattle.map_update.specs.Waiting.{held_by}
 use Rattle.map_update.specs.declared.work.Work.{Work}
 use Rattle.map_update.proofs.Both.{may_join, put_held}
@@ -33,5 +33,5 @@ returns-clause-draft g c = λ last ps d.
     c.put_items.ensures.draft c.args.high last ps (subst (All (λ (i : Item). i.number < c.args.high)) (sym c.as_slice.ensures.value) c.requires.waiting.given) d
 
 pub returns-clause-kept : goal.returns-clause-kept
-returns-clause-kept g c = λ room.
-    c.put_items.ensures.kept (subst (λ (xs : List Item). HasRoomFor (length xs) (length xs) c.args.self.work) (sym c.as_slice.ensures.value) room)
+returns-clause-kept g c =
+    subst (λ (xs : List Item). KeepsWatched (length xs) (length xs) c.args.self.work c.put_items.result) c.as_slice.ensures.value c.put_items.ensures.kept

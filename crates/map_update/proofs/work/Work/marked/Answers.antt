@@ -19,7 +19,7 @@ returns-clause-draft g c = λ next last ps d.
 pub returns-clause-worked : goal.returns-clause-worked
 returns-clause-worked g c =
     let e = c.in_ok-work.ensures in
-    worked_mark c.args.choice.now c.args.tag c.args.self c.in_ok-work.work c.in_ok-tree.tree c.marked_watched.new.watches e.same e.low e.few c.in_ok-tree.ensures.refresh c.marked_watched.ensures.begins c.marked_watched.ensures.few
+    worked_mark c.args.choice.now c.args.tag c.args.self c.in_ok-work.work c.in_ok-tree.tree c.marked_watched.new.watches e.spared e.low e.few c.in_ok-tree.ensures.refresh c.marked_watched.ensures.begins c.marked_watched.ensures.few
 
 pub returns-clause-unrebuilt : goal.returns-clause-unrebuilt
 returns-clause-unrebuilt g c = λ room unrebuilt.

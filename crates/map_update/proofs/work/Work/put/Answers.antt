@@ -25,7 +25,7 @@ returns-clause-draft g c = λ next last ps less d.
 pub returns-clause-worked : goal.returns-clause-worked
 returns-clause-worked g c =
     let e = c.in_ok-work.ensures in
-    worked_put c.args.number c.args.point c.args.self c.in_ok-work.work c.in_ok-tree.tree c.put_watched.new.watches e.same e.lower e.fewer c.in_ok-tree.ensures.refresh c.put_watched.ensures.begins c.put_watched.ensures.few
+    worked_put c.args.number c.args.point c.args.self c.in_ok-work.work c.in_ok-tree.tree c.put_watched.new.watches e.spared e.lower e.fewer c.in_ok-tree.ensures.refresh c.put_watched.ensures.begins c.put_watched.ensures.few
 
 pub returns-clause-unrebuilt : goal.returns-clause-unrebuilt
 returns-clause-unrebuilt g c = λ room unrebuilt.

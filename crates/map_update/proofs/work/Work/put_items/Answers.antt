@@ -68,10 +68,10 @@ pub returns-clause-draft : goal.returns-clause-draft
 returns-clause-draft g c = λ next last ps below d. (c.loop-rest.invariant.draft next last ps below d).1
 
 pub returns-clause-kept : goal.returns-clause-kept
-returns-clause-kept g c = λ room.
+returns-clause-kept g c = λ room x there own.
     let n = length c.args.items.now in
     let k = c.loop-rest.invariant.worked in
-    worked_kept k.0 k.0 n n c.args.self c.loop-rest.work (omega (arith, k.1)) (omega (arith, k.1)) k.2 room
+    worked_kept k.0 k.0 n n c.args.self c.loop-rest.work (omega (arith, k.1)) (omega (arith, k.1)) k.2 room x there own
 
 pub returns-then-len-eq0-clause-draft : goal.returns-then-len-eq0-clause-draft
 returns-then-len-eq0-clause-draft g c = λ next last ps less d.
@@ -85,4 +85,4 @@ returns-then-len-eq0-clause-draft g c = λ next last ps less d.
     (among_below next (numbers t) (numbers_in is ++ numbers w.tree) c.in_ok-tree.ensures.numbers below) (c.in_ok-tree.ensures.balance old)
 
 pub returns-then-len-eq0-clause-kept : goal.returns-then-len-eq0-clause-kept
-returns-then-len-eq0-clause-kept g c = λ room. refl
+returns-then-len-eq0-clause-kept g c = let n = length c.args.items.now in worked_kept 0 0 n n c.args.self c.args.self (omega arith) (omega arith) (worked_itself 0 0 c.args.self)

@@ -2,14 +2,12 @@ use Rattle.std.proofs.Common.{◌≡◌, ◌∷◌, ◌≤◌, List, ap, sym, �
 use Rattle.kd_tree.specs.Shape.{levels, nodes, numbers}
 use Rattle.kd_tree.specs.Apart.{IsClear}
 use Rattle.kd_tree.specs.declared.path.Side.{Side}
-use Rattle.kd_mark.specs.declared.watch.Watch.{Watch}
 use Rattle.kd_mark.specs.Refresh.{AreAmong}
 use Rattle.kd_mark.specs.Several.{AreLargeAt, AreSameAt, IsBalancedClear}
 use Rattle.kd_mark.specs.Watches.{paths_in}
 use Rattle.kd_update.proofs.StandsFor.{replaced_nodes}
 use Rattle.kd_mark.proofs.Update.{criteria_balanced}
-use Rattle.map_update.specs.Draft.{IsDraftLeft}
-use Rattle.map_update.proofs.Working.{among_part, at_numbers, draft_anew, draft_without, levels_kept, without_of}
+use Rattle.map_update.proofs.Working.{among_part, at_numbers, draft_without, levels_kept, no_larger, without_of}
 use Rattle.map_update.proofs.work.Work.without.Goals as goal
 
 pub returns-in_default-clause-draft : goal.returns-in_default-clause-draft
@@ -33,32 +31,6 @@ replaced-requires-clause-apart g c =
     let others : c.as_slice-others.result.now ≡ paths_in c.remove-path.new.self = c.as_slice-others.ensures.value ∙ c.in_ok-others.ensures ∙ ap paths_in c.as_slice.ensures.value in
     subst (IsClear c.remove-path.result.path) (sym others) k.clear
 
-pub returns-then-anew-clause-draft : goal.returns-then-anew-clause-draft
-returns-then-anew-clause-draft g c = λ next last ps d.
-    let t = c.args.self.tree in
-    let u = c.in_ok-tree.field-0.tree in
-    let node = c.in-Some.node.now in
-    let with = c.in_ok-with.with in
-    let of_node : AreAmong (numbers with) (numbers node) = c.in_ok-with.ensures.numbers in
-    let among = among_part (numbers u) (numbers with) (numbers node) (numbers t) c.in_ok-tree.ensures.numbers of_node (at_numbers c.remove-path.result.path t node c.in-Some.ensures.some) in
-    subst (λ (ws : List Watch). IsDraftLeft c.args.large next last ps (record { tree = u; watches = ws })) (sym c.new.ensures) (draft_anew c.args.large next last c.args.self u ps d among (c.in_ok-tree.ensures.criteria c.if-anew.true))
-
-pub returns-then-anew-clause-low : goal.returns-then-anew-clause-low
-returns-then-anew-clause-low g c =
-    let t = c.args.self.tree in
-    let node = c.in-Some.node.now in
-    let with = c.in_ok-with.with in
-    let low : levels with ≤ levels node = c.in_ok-with.ensures.low in
-    omega (arith, c.in_ok-tree.ensures.size.low, levels_kept c.remove-path.result.path with t node c.in-Some.ensures.some low)
-
-pub returns-then-anew-clause-few : goal.returns-then-anew-clause-few
-returns-then-anew-clause-few g c =
-    let t = c.args.self.tree in
-    let node = c.in-Some.node.now in
-    let with = c.in_ok-with.with in
-    let few : nodes with ≤ nodes node = c.in_ok-with.ensures.few in
-    omega (arith, c.in_ok-tree.ensures.size.few, replaced_nodes c.remove-path.result.path with t node c.in-Some.ensures.some, few)
-
 pub returns-clause-draft : goal.returns-clause-draft
 returns-clause-draft g c = λ next last ps d.
     let t = c.args.self.tree in
@@ -72,7 +44,8 @@ returns-clause-draft g c = λ next last ps d.
     let among = among_part (numbers u) (numbers with) (numbers node) (numbers t) c.in_ok-tree.ensures.numbers of_node (at_numbers c.remove-path.result.path t node c.in-Some.ensures.some) in
     let outside = subst (λ (qs : List (List Side)). IsBalancedClear c.args.large (c.remove-path.result.path ∷ qs) t) (sym others) k.outside in
     let balanced = subst (λ (qs : List (List Side)). IsBalancedClear c.args.large qs u) others (c.in_ok-tree.ensures.balance outside (criteria_balanced c.args.large with c.in_ok-with.ensures.criteria)) in
-    let same = subst (λ (qs : List (List Side)). AreSameAt qs u t) others (c.in_ok-tree.ensures.others c.if-anew.false) in
+    let room = no_larger c.remove-path.result.path with t node c.in-Some.ensures.some c.in_ok-with.ensures.low c.in_ok-with.ensures.few (omega (arith, c.levels-levels.ensures.value, c.levels-levels.ensures.low)) (omega (arith, c.size-size.ensures.value, c.size-size.ensures.few)) in
+    let same = subst (λ (qs : List (List Side)). AreSameAt qs u t) others (c.in_ok-tree.ensures.others (c.in_ok-tree.ensures.anew.1 room)) in
     draft_without c.args.large next last ps c.args.self c.remove-path.result ws u d k same balanced among
 
 pub returns-clause-low : goal.returns-clause-low

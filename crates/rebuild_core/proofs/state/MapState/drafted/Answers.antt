@@ -7,7 +7,7 @@ use Rattle.map_update.specs.declared.work.Work.{Work}
 use Rattle.rebuild_core.proofs.OnePoint.{thinned_from, turned_copy}
 use Rattle.rebuild_core.proofs.Outcome.{makes_none, plan_makes}
 use Rattle.rebuild_core.proofs.Plans.{plan_shape}
-use Rattle.rebuild_core.proofs.Staying.{plan_kept, plan_logged}
+use Rattle.rebuild_core.proofs.Staying.{plan_kept, plan_left, plan_logged}
 use Rattle.rebuild_core.proofs.state.MapState.drafted.Goals as goal
 
 pub returns-in_err-copy-clause-nodes : goal.returns-in_err-copy-clause-nodes
@@ -50,6 +50,7 @@ returns-clause-leaves g c =
     let plans = rw c.as_slice.ensures.value at c.in_ok-logs.ensures in
     let work = c.in_ok-work.ensures in
     record {
+      left = plan_left s z t ws new logs (s.next + points_in u) lawful is same seen work.draft plans;
       kept = plan_kept u s z t ws new logs (s.next + points_in u) lawful is same seen work.draft work.kept plans;
       logged = λ op. plan_logged u op s z t ws new logs is same seen (work.unrebuilt op) plans;
       unrebuilt = λ op. plan_shape u op s z t new.tree ws is same seen (λ only room criteria. ap (λ (w : Work). w.tree) (work.unrebuilt op only room criteria));
