@@ -3,8 +3,9 @@ ghost use Rattle.std.specs.Prelude.{◌≤◌};
 ghost use Rattle.kd_tree.specs.Counter.{IsBlankOf};
 
 use crate::tests::assertions::{found, made, same};
+use crate::tests::looks::cuboid;
 use kd_tree::Steps;
-use map_fold::{Points, Settings, Update};
+use map_fold::{Cuboids, Points, Settings, Update};
 use point_geom::Point;
 use rebuild_core::{Built, Job, LogAsk, MapState, StateFault, SwapFault, SwapLeft};
 use std::alloc::Global;
@@ -126,6 +127,14 @@ pub fn row(rt: &impl Abort, alloc: Global, first: i64, last: i64) -> Points {
 fn push(rt: &impl Abort, points: &mut Points, x: i64) {
     let point = made(rt, Point::new(x, 0, 0));
     made(rt, points.push(point));
+}
+
+// The box of those points.
+pub fn row_box(rt: &impl Abort, alloc: Global, first: i64, last: i64) -> Cuboids {
+    let mut boxes = Cuboids::new(alloc);
+    let cuboid = cuboid(rt, (first, 0, 0), (last, 1, 1));
+    made(rt, boxes.push(cuboid));
+    boxes
 }
 
 // The first caller makes the update.
