@@ -1,5 +1,5 @@
 //! How many callers there are.
-ghost use Rattle.std.specs.Prelude.{◌≤◌};
+ghost use Rattle.std.specs.Prelude.{◌≤◌, ℕ};
 ghost use Rattle.std.specs.List.{AllByRecursion};
 ghost use Rattle.scan_log.specs.Plain.{IsPlain};
 ghost use Rattle.mapper_core.specs.Meetings.{HasCaller};
@@ -12,6 +12,7 @@ fn named(command: &Command) -> u8
     ensures from { 1 ≤ result }
     ensures to { result ≤ 8 }
     ensures own { HasCaller result command.now }
+    ensures no_more { (n : ℕ) → 1 ≤ n → HasCaller n command.now → result ≤ n }
 {
     command.caller().unwrap_or(1)
 }
@@ -22,6 +23,7 @@ pub fn callers_in(commands: &[Command]) -> u8
     ensures from { 1 ≤ result }
     ensures to { result ≤ 8 }
     ensures named { AllByRecursion (HasCaller result) commands.now }
+    ensures no_more { (n : ℕ) → 1 ≤ n → AllByRecursion (HasCaller n) commands.now → result ≤ n }
 {
     let mut most = 1;
     for command in commands {

@@ -1,5 +1,5 @@
 //! The whole run of a script by its callers.
-ghost use Rattle.std.specs.Prelude.{◌≡◌, ◌<◌, ◌≤◌, IfOk};
+ghost use Rattle.std.specs.Prelude.{◌≡◌, ◌<◌, ◌≤◌, ℕ, IfOk};
 ghost use Rattle.std.specs.List.{AllByRecursion};
 ghost use Rattle.scan_log.specs.Legal.{AreLegalReplies};
 ghost use Rattle.scan_log.specs.Plain.{IsPlainScript};
@@ -125,7 +125,7 @@ fn run_plain<L: MapName + Send + Sync, G: Gate + Sync, R: Threads + Wait + Sync>
     all
 }
 
-// The replies on a map of this name.
+// The replies on a map of this name, which has the callers up to the greatest that the script names, and no more.
 fn run_map<L: MapName + Send + Sync, G: Gate + Sync, R: Threads + Wait + Sync>(
     rt: &R,
     alloc: Global,
@@ -138,6 +138,7 @@ fn run_map<L: MapName + Send + Sync, G: Gate + Sync, R: Threads + Wait + Sync>(
     requires voxel { opened.voxel ≡ script.now.sizes.voxel }
     requires named { AllByRecursion (HasCaller L.callers) script.now.commands }
     requires callers { 0 < opened.callers }
+    requires no_more { (n : ℕ) → 1 ≤ n → AllByRecursion (HasCaller n) script.now.commands → L.callers ≤ n }
     ensures { IfOk result (λ rs. AreLegalReplies script.now rs) }
 {
     let (shared, passes) = Shared::<L>::start(rt, alloc, blank, opened)?;

@@ -8,4 +8,5 @@ invariant-loop-command l = record {
   from : 1 ≤ l.most;
   to : l.most ≤ 8;
   named : (n : ℕ) → l.most ≤ n → AllByRecursion (HasCaller n) (drop l.command-index l.commands) → AllByRecursion (HasCaller n) l.commands;
+  no_more : (n : ℕ) → 1 ≤ n → AllByRecursion (HasCaller n) l.commands → l.most ≤ n;
 }
