@@ -7,3 +7,4 @@ pub mod Crossing
 pub mod Detached
 pub mod Replace
 pub mod Replay
+pub mod Settle
