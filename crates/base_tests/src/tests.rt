@@ -7,6 +7,7 @@ mod breaches;
 mod draw;
 mod each;
 mod forty;
+mod frozen;
 mod grown;
 mod hits;
 mod labels;

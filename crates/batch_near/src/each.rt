@@ -2,11 +2,13 @@ ghost use Rattle.std.specs.Prelude.{◌≡◌, ◌≤◌, ◌<◌, ◌+◌, leng
 ghost use Rattle.std.specs.Option.{ForSome};
 ghost use Rattle.std.specs.Thread.{IsSync};
 ghost use Rattle.kd_search.specs.Query.{IsQuery};
+ghost use Rattle.batch_near.specs.Searched.{items_of};
 ghost use Rattle.batch_near.specs.Slabs.{slab_of, AreFilled};
 ghost use Rattle.map_fold.specs.Answers.{nearest, nearest_each};
 ghost use Rattle.kd_tree.specs.Contents.{contents};
 
-use kd_search::nearest;
+use crate::searched::Searched;
+use kd_frozen::Frozen;
 use kd_tree::Tree;
 use map_fold::{HitLists, Hits};
 use map_items::{MAX_FOUND, MAX_WITHIN, NoMemory, Points};
@@ -42,11 +44,41 @@ pub fn nearest_each<R: Threads + Sync>(
     requires query { IsQuery k within }
     ensures found { IfOk result (λ lists. lists ≡ nearest_each (contents tree.now) k queries.now within) }
 {
+    each(rt, alloc, Searched::Tree(tree), k, queries, within)
+}
+
+/// For each query, in order, what `Frozen::nearest` finds for it: what `nearest_each` finds in a tree whose live items these are.
+/// Threads and memory are as there.
+pub fn frozen_nearest_each<R: Threads + Sync>(
+    rt: &R,
+    alloc: Global,
+    frozen: &Frozen,
+    k: u32,
+    queries: &Points,
+    within: Option<u64>,
+) -> Result<HitLists, NoMemory>
+    requires query { IsQuery k within }
+    ensures found { IfOk result (λ lists. lists ≡ nearest_each frozen.now k queries.now within) }
+{
+    each(rt, alloc, Searched::Frozen(frozen), k, queries, within)
+}
+
+fn each<R: Threads + Sync>(
+    rt: &R,
+    alloc: Global,
+    searched: Searched<'_>,
+    k: u32,
+    queries: &Points,
+    within: Option<u64>,
+) -> Result<HitLists, NoMemory>
+    requires query { IsQuery k within }
+    ensures found { IfOk result (λ lists. lists ≡ nearest_each (items_of searched) k queries.now within) }
+{
     let queries = queries.as_slice();
     let lists = if k <= INLINE && 2 * LEAST_PIECE <= queries.len() {
-        in_place(rt, alloc, tree, k, queries, within)?
+        in_place(rt, alloc, searched, k, queries, within)?
     } else {
-        in_pieces(rt, alloc, tree, k, queries, within)?
+        in_pieces(rt, alloc, searched, k, queries, within)?
     };
     Ok(HitLists::from(lists))
 }
@@ -55,21 +87,21 @@ pub fn nearest_each<R: Threads + Sync>(
 fn in_place<R: Threads + Sync>(
     rt: &R,
     alloc: Global,
-    tree: &Tree,
+    searched: Searched<'_>,
     k: u32,
     queries: &[Point],
     within: Option<u64>,
 ) -> Result<Vec<Hits>, NoMemory>
     requires query { IsQuery k within }
     requires k_to { k ≤ 16 }
-    ensures { IfOk result (λ lists. lists.items ≡ nearest_each (contents tree.now) k queries.now within) }
+    ensures { IfOk result (λ lists. lists.items ≡ nearest_each (items_of searched) k queries.now within) }
 {
     let mut lists = empty_lists(alloc, queries.len())?;
     let pieces = (queries.len() / LEAST_PIECE).clamp(1, current_num_threads(rt));
     fill(
         rt,
         alloc,
-        tree,
+        searched,
         k,
         within,
         pieces,
@@ -83,7 +115,7 @@ fn in_place<R: Threads + Sync>(
 fn fill<R: Threads + Sync>(
     rt: &R,
     alloc: Global,
-    tree: &Tree,
+    searched: Searched<'_>,
     k: u32,
     within: Option<u64>,
     pieces: usize,
@@ -93,10 +125,10 @@ fn fill<R: Threads + Sync>(
     requires query { IsQuery k within }
     requires k_to { k ≤ 16 }
     requires len { length lists.old ≡ length queries.now }
-    ensures { lists.new ≡ nearest_each (contents tree.now) k queries.now within }
+    ensures { lists.new ≡ nearest_each (items_of searched) k queries.now within }
 {
     if pieces < 2 {
-        fill_piece(alloc, tree, k, within, queries, lists);
+        fill_piece(alloc, searched, k, within, queries, lists);
         return;
     }
     let piece = queries.len() / pieces;
@@ -106,19 +138,19 @@ fn fill<R: Threads + Sync>(
         rt,
         &mut ||
             requires { (1 ≤ k) × (k ≤ 16) × ForSome within (λ r. r ≤ MAX_WITHIN) × (length first.now ≡ length these.now) }
-            ensures { first.exit.now ≡ nearest_each (contents tree.entry.now) k these.entry.now within }
-        { fill_piece(alloc, tree, k, within, these, first) },
+            ensures { first.exit.now ≡ nearest_each (items_of searched) k these.entry.now within }
+        { fill_piece(alloc, searched, k, within, these, first) },
         &mut ||
             requires { IsSync R.row × (1 ≤ k) × (k ≤ 16) × ForSome within (λ r. r ≤ MAX_WITHIN) × (2 ≤ pieces) × (length rest.now ≡ length others.now) }
-            ensures { rest.exit.now ≡ nearest_each (contents tree.entry.now) k others.entry.now within }
-        { fill(rt, alloc, tree, k, within, pieces - 1, others, rest) },
+            ensures { rest.exit.now ≡ nearest_each (items_of searched) k others.entry.now within }
+        { fill(rt, alloc, searched, k, within, pieces - 1, others, rest) },
     );
 }
 
 // Slab by slab: most of what a search reads is then still in the cache.
 fn fill_piece(
     alloc: Global,
-    tree: &Tree,
+    searched: Searched<'_>,
     k: u32,
     within: Option<u64>,
     queries: &[Point],
@@ -127,16 +159,16 @@ fn fill_piece(
     requires query { IsQuery k within }
     requires k_to { k ≤ 16 }
     requires len { length lists.old ≡ length queries.now }
-    ensures { lists.new ≡ nearest_each (contents tree.now) k queries.now within }
+    ensures { lists.new ≡ nearest_each (items_of searched) k queries.now within }
 {
     for slab in 0..SLABS {
-        fill_slab(alloc, tree, k, within, slab, queries, lists);
+        fill_slab(alloc, searched, k, within, slab, queries, lists);
     }
 }
 
 fn fill_slab(
     alloc: Global,
-    tree: &Tree,
+    searched: Searched<'_>,
     k: u32,
     within: Option<u64>,
     slab: u64,
@@ -146,13 +178,13 @@ fn fill_slab(
     requires query { IsQuery k within }
     requires k_to { k ≤ 16 }
     requires len { length lists.old ≡ length queries.now }
-    requires filled { AreFilled (λ q. nearest (contents tree.now) k q within) slab queries.now lists.old }
-    ensures { AreFilled (λ q. nearest (contents tree.now) k q within) (slab + 1) queries.now lists.new }
+    requires filled { AreFilled (λ q. nearest (items_of searched) k q within) slab queries.now lists.old }
+    ensures { AreFilled (λ q. nearest (items_of searched) k q within) (slab + 1) queries.now lists.new }
 {
     for place in 0..queries.len() {
         let query = &queries[place];
         if slab_of(query) == slab {
-            lists[place] = nearest(alloc, tree, k, query, within).unwrap();
+            lists[place] = searched.nearest(alloc, k, query, within).unwrap();
         }
     }
 }
@@ -176,13 +208,13 @@ fn empty_lists(alloc: Global, count: usize) -> Result<Vec<Hits>, NoMemory>
 fn in_pieces<R: Threads + Sync>(
     rt: &R,
     alloc: Global,
-    tree: &Tree,
+    searched: Searched<'_>,
     k: u32,
     queries: &[Point],
     within: Option<u64>,
 ) -> Result<Vec<Hits>, NoMemory>
     requires query { IsQuery k within }
-    ensures { IfOk result (λ lists. lists.items ≡ nearest_each (contents tree.now) k queries.now within) }
+    ensures { IfOk result (λ lists. lists.items ≡ nearest_each (items_of searched) k queries.now within) }
 {
     let lists: Result<Vec<Hits>, NoMemory> = queries
         .par_iter()
@@ -190,8 +222,8 @@ fn in_pieces<R: Threads + Sync>(
         .map(
             move |q: &Point| -> Result<Hits, NoMemory>
                 requires { (1 ≤ k) × (k ≤ MAX_FOUND) × ForSome within (λ r. r ≤ MAX_WITHIN) }
-                ensures { IfOk result (λ hits. hits ≡ nearest (contents tree.entry.now) k q.now within) }
-            { nearest(alloc, tree, k, q, within) },
+                ensures { IfOk result (λ hits. hits ≡ nearest (items_of searched) k q.now within) }
+            { searched.nearest(alloc, k, q, within) },
         )
         .collect(rt, alloc)?;
     Ok(lists?)

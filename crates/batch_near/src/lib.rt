@@ -2,5 +2,6 @@
 #![tactic(auto)]
 
 mod each;
+mod searched;
 
-pub use each::nearest_each;
+pub use each::{frozen_nearest_each, nearest_each};

@@ -63,7 +63,7 @@ impl Draw {
     }
 
     // It covers, touches, cuts or misses a part of the points.
-    fn cuboid(&mut self, rt: &impl Abort) -> Cuboid {
+    pub fn cuboid(&mut self, rt: &impl Abort) -> Cuboid {
         let lo = (self.sixteenth(), self.sixteenth(), self.sixteenth());
         let hi = (
             lo.0 + self.sixteenth(),

@@ -1,0 +1,217 @@
+//! Frozen indexes beside the tree that they were made of: equal points, lines, lattices, corners of space, one point and none, asked
+//! from among the points and from far outside; and boxes that cut what is found.
+ghost use Rattle.std.specs.Prelude.{◌≡◌, ◌≤◌};
+ghost use Rattle.std.specs.Option.{ForSome};
+ghost use Rattle.map_fold.specs.Answers.{inside_all};
+ghost use Rattle.kd_tree.specs.Contents.{contents};
+
+use crate::tests::assertions::{made, same};
+use crate::tests::draw::Draw;
+use crate::tests::grown::grown;
+use crate::tests::places::{Place, at};
+use batch_near::frozen_nearest_each;
+use kd_frozen::{Frozen, nearest_beside};
+use kd_search::{count_in, nearest};
+use kd_tree::Tree;
+use map_fold::{Points, Tag};
+use point_geom::{Cuboid, Point};
+use std::alloc::Global;
+use std::process::Abort;
+use std::thread::Threads;
+
+// The last coordinate there is.
+const FAR: i64 = 1_099_511_627_776;
+
+const CORNERS: [Place; 8] = [
+    (-FAR, -FAR, -FAR),
+    (-FAR, -FAR, FAR),
+    (-FAR, FAR, -FAR),
+    (-FAR, FAR, FAR),
+    (FAR, -FAR, -FAR),
+    (FAR, -FAR, FAR),
+    (FAR, FAR, -FAR),
+    (FAR, FAR, FAR),
+];
+
+#[test]
+fn of_nothing_nothing_is_found(rt: HostRuntime) {
+    finds_as_the_tree(&rt, rt.alloc(), &[]);
+}
+
+#[test]
+fn one_point_is_found_from_everywhere(rt: HostRuntime) {
+    let points = [at(&rt, (7, 7, 7))];
+    finds_as_the_tree(&rt, rt.alloc(), &points);
+}
+
+#[test]
+fn equal_points_are_found_by_their_numbers(rt: HostRuntime) {
+    let points = [at(&rt, (7, 7, 7)); 100];
+    finds_as_the_tree(&rt, rt.alloc(), &points);
+}
+
+#[test]
+fn points_of_a_line_are_found(rt: HostRuntime) {
+    let alloc = rt.alloc();
+    let points = line(&rt, alloc);
+    finds_as_the_tree(&rt, alloc, points.as_slice());
+}
+
+// Each of its points is there twice.
+fn line(rt: &impl Abort, alloc: Global) -> Vec<Point> {
+    let mut points = Vec::new(alloc);
+    for i in 0..200 {
+        made(rt, points.push(at(rt, (7, i * 37 % 100 - 40, 7))));
+    }
+    points
+}
+
+#[test]
+fn points_of_a_lattice_are_found(rt: HostRuntime) {
+    let alloc = rt.alloc();
+    let mut draw = Draw { state: 3 };
+    let points = draw.points(&rt, alloc, 400);
+    finds_as_the_tree(&rt, alloc, points.as_slice());
+}
+
+#[test]
+fn corners_of_space_are_found(rt: HostRuntime) {
+    let alloc = rt.alloc();
+    let mut draw = Draw { state: 5 };
+    let mut points = draw.points(&rt, alloc, 20);
+    put_corners(&rt, &mut points);
+    finds_as_the_tree(&rt, alloc, points.as_slice());
+}
+
+fn put_corners(rt: &impl Abort, points: &mut Vec<Point>) {
+    for corner in CORNERS {
+        made(rt, points.push(at(rt, corner)));
+    }
+}
+
+// Every third point is suspended.
+fn finds_as_the_tree(rt: &impl Abort, alloc: Global, points: &[Point]) {
+    let tree = grown(rt, alloc, points, Tag::KEEP);
+    let frozen = made(rt, Frozen::of(alloc, &tree));
+    same(rt, "how many", frozen.len(), tree.counts().live as usize);
+    same(rt, "none", frozen.is_empty(), tree.counts().live == 0);
+    let mut places = Draw { state: 7 }.points(rt, alloc, 10);
+    put_corners(rt, &mut places);
+    for q in places.as_slice() {
+        from_place(rt, alloc, &tree, &frozen, q);
+    }
+}
+
+fn from_place(rt: &impl Abort, alloc: Global, tree: &Tree, frozen: &Frozen, q: &Point) {
+    for within in [None, Some(0), Some(3), Some(60), Some(4_398_046_511_104)] {
+        for k in 1..18 {
+            is_as_the_tree(rt, alloc, tree, frozen, k, q, within);
+        }
+    }
+}
+
+fn is_as_the_tree(
+    rt: &impl Abort,
+    alloc: Global,
+    tree: &Tree,
+    frozen: &Frozen,
+    k: u32,
+    q: &Point,
+    within: Option<u64>,
+)
+    requires k_from { 1 ≤ k }
+    requires k_to { k ≤ 256 }
+    requires within_to { ForSome within (λ r. r ≤ 4398046511104) }
+{
+    let got = made(rt, frozen.nearest(alloc, k, q, within));
+    let want = made(rt, nearest(alloc, tree, k, q, within));
+    assert_eq!(rt; got.as_slice(), want.as_slice());
+}
+
+#[test]
+fn what_is_beside_a_frozen_box_is_found_too(rt: HostRuntime) {
+    let alloc = rt.alloc();
+    let mut draw = Draw { state: 9 };
+    let points = draw.points(&rt, alloc, 300);
+    let tree = grown(&rt, alloc, points.as_slice(), Tag::KEEP);
+    for _ in 0..40 {
+        let cuboid = draw.cuboid(&rt);
+        let q = draw.point(&rt);
+        freezes_a_box(&rt, alloc, &tree, &cuboid, &q);
+    }
+}
+
+fn freezes_a_box(rt: &impl Abort, alloc: Global, tree: &Tree, cuboid: &Cuboid, q: &Point) {
+    let frozen = made(rt, Frozen::inside(alloc, tree, cuboid));
+    same(
+        rt,
+        "how many",
+        frozen.len(),
+        count_in(tree, cuboid) as usize,
+    );
+    for within in [None, Some(0), Some(3), Some(60)] {
+        for k in 1..18 {
+            is_as_beside(rt, alloc, tree, cuboid, &frozen, k, q, within);
+        }
+    }
+}
+
+fn is_as_beside(
+    rt: &impl Abort,
+    alloc: Global,
+    tree: &Tree,
+    cuboid: &Cuboid,
+    frozen: &Frozen,
+    k: u32,
+    q: &Point,
+    within: Option<u64>,
+)
+    requires k_from { 1 ≤ k }
+    requires k_to { k ≤ 256 }
+    requires within_to { ForSome within (λ r. r ≤ 4398046511104) }
+    requires frozen { frozen.now ≡ inside_all (contents tree.now) cuboid.now }
+{
+    let got = made(
+        rt,
+        nearest_beside(alloc, tree, cuboid, frozen, k, q, within),
+    );
+    let want = made(rt, nearest(alloc, tree, k, q, within));
+    assert_eq!(rt; got.as_slice(), want.as_slice());
+}
+
+#[test]
+fn each_list_of_many_places_is_what_one_search_finds(rt: HostRuntime) {
+    let alloc = rt.alloc();
+    let mut draw = Draw { state: 11 };
+    let points = draw.points(&rt, alloc, 500);
+    let tree = grown(&rt, alloc, points.as_slice(), Tag::KEEP);
+    let frozen = made(&rt, Frozen::of(alloc, &tree));
+    // Above 16 hits, or for fewer than 256 places, lists aren't filled where they are.
+    for (count, k, within) in [(300, 17, Some(3)), (255, 16, None), (256, 16, Some(3))] {
+        let queries = Points::from(draw.points(&rt, alloc, count));
+        are_as_single(&rt, alloc, &frozen, &queries, k, within);
+    }
+}
+
+fn are_as_single<R: Threads + Sync + Abort>(
+    rt: &R,
+    alloc: Global,
+    frozen: &Frozen,
+    queries: &Points,
+    k: u32,
+    within: Option<u64>,
+)
+    requires k_to { k ≤ 256 }
+    requires k_from { 1 ≤ k }
+    requires within_to { ForSome within (λ r. r ≤ 4398046511104) }
+{
+    let lists = made(
+        rt,
+        frozen_nearest_each(rt, alloc, frozen, k, queries, within),
+    );
+    same(rt, "lists", lists.len(), queries.len());
+    for (list, query) in lists.as_slice().iter().zip(queries.as_slice()) {
+        let want = made(rt, frozen.nearest(alloc, k, query, within));
+        assert_eq!(rt; list.as_slice(), want.as_slice());
+    }
+}

@@ -1,0 +1,71 @@
+//! The walks that gather live items of a tree, in no order of numbers.
+ghost use Rattle.std.specs.Prelude.{◌≡◌, [], ◌∷◌, ◌++◌, OnOk};
+ghost use Rattle.map_items.specs.Contents.{live_items};
+ghost use Rattle.map_fold.specs.Answers.{inside_all};
+ghost use Rattle.kd_tree.specs.Walk.{walk};
+ghost use Rattle.kd_frozen.specs.Cells.{items_of};
+
+use crate::cell::Cell;
+use kd_tree::Tree;
+use map_items::{Item, Label, NoMemory, Tag};
+use point_geom::{Axis, Cuboid};
+
+/// Puts the live items of the tree, which owes this action, after the cells.
+pub(crate) fn gather(tree: &Tree, owed: Tag, cells: &mut Vec<Cell>) -> Result<(), NoMemory>
+    ensures { OnOk result (items_of cells.new.items ≡ items_of cells.old.items ++ live_items (walk owed tree.now)) }
+{
+    let Some(top) = tree.top() else {
+        return Ok(());
+    };
+    push_live(&top.item.relabelled(owed), cells)?;
+    let below = top.pending.then(owed);
+    gather(top.left, below, cells)?;
+    gather(top.right, below, cells)
+}
+
+/// Puts those of them that are in the cuboid after the cells. A subtree that the cuboid doesn't meet is left out.
+pub(crate) fn gather_inside(
+    tree: &Tree,
+    owed: Tag,
+    c: &Cuboid,
+    cells: &mut Vec<Cell>,
+) -> Result<(), NoMemory>
+    ensures { OnOk result (items_of cells.new.items ≡ items_of cells.old.items ++ inside_all (walk owed tree.now) c.now) }
+{
+    let Some(extent) = tree.extent() else {
+        return Ok(());
+    };
+    if !c.meets(&extent) {
+        return Ok(());
+    }
+    let Some(top) = tree.top() else {
+        return Ok(());
+    };
+    push_inside(&top.item.relabelled(owed), c, cells)?;
+    let below = top.pending.then(owed);
+    gather_inside(top.left, below, c, cells)?;
+    gather_inside(top.right, below, c, cells)
+}
+
+fn push_live(item: &Item, cells: &mut Vec<Cell>) -> Result<(), NoMemory>
+    ensures { OnOk result (items_of cells.new.items ≡ items_of cells.old.items ++ live_items (item.now ∷ [])) }
+{
+    if item.label != Label::Live {
+        return Ok(());
+    }
+    cells.push(Cell {
+        point: item.point,
+        number: item.number,
+        axis: Axis::X,
+    })?;
+    Ok(())
+}
+
+fn push_inside(item: &Item, c: &Cuboid, cells: &mut Vec<Cell>) -> Result<(), NoMemory>
+    ensures { OnOk result (items_of cells.new.items ≡ items_of cells.old.items ++ inside_all (item.now ∷ []) c.now) }
+{
+    if !c.holds(&item.point) {
+        return Ok(());
+    }
+    push_live(item, cells)
+}
