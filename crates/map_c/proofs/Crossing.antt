@@ -2,18 +2,22 @@
 use denote.Param.Send.{IsSend, sendable}
 use Rattle.std.proofs.Crossing as std
 use Rattle.std.proofs.option.Option.TheSendSync as o
+use Rattle.kd_frozen.proofs.cell.Cell.TheSendSync as cell
+use Rattle.kd_frozen.proofs.frozen.Frozen.TheSendSync as frozen
 use Rattle.kd_tree.proofs.node.Tree.TheLaws.TheKnot as knot
 use Rattle.map_items.proofs.choice.Choice.TheSendSync as s3
 use Rattle.map_items.proofs.item.Item.TheSendSync as s5
 use Rattle.map_items.proofs.op.Op.TheSendSync as s6
 use Rattle.map_items.proofs.sequence.Sequence.TheSendSync as s7
 use Rattle.node_labels.proofs.label.Label.TheSendSync as s10
+use Rattle.point_geom.proofs.axis.Axis.TheSendSync as axis
 use Rattle.point_geom.proofs.cuboid.Corner.TheSendSync as s12
 use Rattle.point_geom.proofs.cuboid.Cuboid.TheSendSync as s13
 use Rattle.point_geom.proofs.point.Point.TheSendSync as s14
 use Rattle.rebuild_core.proofs.Crossing.{state_send}
 use Rattle.rebuild_parts.proofs.Handing.{version_send, version_sync}
 use Rattle.map_c.specs.contracts.handles.content.Content.{the_row}
+use Rattle.map_c.specs.contracts.handles.content.Index as index
 use Rattle.map_c.specs.contracts.handles.content.Kept as kept
 use Rattle.map_c.specs.contracts.handles.content.Seen as seen
 use Rattle.map_c.specs.contracts.handles.done.Done as done
@@ -33,5 +37,8 @@ work_send = search items depth 40 fits 20000
 done_send : IsSend done.the_row
 done_send = search items depth 40 fits 20000
 
+index_send : IsSend index.the_row
+index_send = search (frozen.the_send, frozen.the_sync, cell.the_send, cell.the_sync, axis.the_field_send, axis.the_field_sync, axis.the_send, axis.the_sync, s14.the_send, s14.the_sync, sendable, std.crosses) depth 40 fits 20000
+
 pub content_send : IsSend the_row
-content_send = search (kept_send, seen_send, work_send, done_send, sendable, std.crosses) depth 40 fits 20000
+content_send = search (kept_send, seen_send, work_send, done_send, index_send, sendable, std.crosses) depth 40 fits 20000

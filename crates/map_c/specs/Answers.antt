@@ -1,5 +1,5 @@
 -- What questions answer.
-use Rattle.std.specs.Prelude.{◌≡◌, ◌≢◌, ◌<◌, ◌≤◌, ◌*◌, ◌/◌, ◌%◌, ◌⊎◌, ◌≤ℤ◌, ℕ, ℤ, pos, negsuc, List, map, length, take, Any, All, Option, None, Some}
+use Rattle.std.specs.Prelude.{◌≡◌, ◌≢◌, ◌<◌, ◌≤◌, ◌*◌, ◌/◌, ◌%◌, ◌⊎◌, ◌≤ℤ◌, ℕ, ℤ, pos, negsuc, List, map, length, take, Any, All, Option, None, Some, option_map}
 use Rattle.std.specs.List.{flat_map}
 use Rattle.point_geom.specs.Place as geom
 use Rattle.node_labels.specs.declared.label.Label.{Label}
@@ -37,7 +37,12 @@ shown_in (Some (content.Map s)) = Some (record { tree = s.tree; next = s.next; l
 shown_in (Some (content.View v)) = Some v
 shown_in (Some (content.Job w)) = None
 shown_in (Some (content.Built b)) = None
+shown_in (Some (content.Frozen m)) = None
 shown_in (Some content.Nothing) = None
+
+-- what it shows is held in these items
+abbrev pub items_in : Option Content → Option (List held.Item)
+items_in c = option_map (λ v. contents v.tree) (shown_in c)
 
 -- a point, a hit and an item, as C has them
 abbrev pub c_point : geom.Place → Point
@@ -68,19 +73,19 @@ pub record IsSearch (k : ℕ) (within : ℤ) : Type 0 where
   pub k_to : k ≤ MAX_FOUND
   pub within_to : within ≤ℤ pos MAX_WITHIN
 
--- the k nearest to a place of what is shown, within so many millimetres, as C has them
-abbrev pub nearest_hits : VersionAt → ℕ → Option ℕ → Place → List Hit
-nearest_hits v k r p = map c_hit (nearest (contents v.tree) k (place_at p) r)
+-- of these items the k live ones that are nearest to a place, within so many millimetres, as C has them
+abbrev pub nearest_hits : List held.Item → ℕ → Option ℕ → Place → List Hit
+nearest_hits m k r p = map c_hit (nearest m k (place_at p) r)
 
--- The front of the hits, as long as the count, is the k nearest to the place of what the handle shows.
-pub record IsNearest (c : Option Content) (p : Place) (k : ℕ) (within : ℤ) (hits : List Hit) (count : ℕ) : Type 0 where
-  pub version : VersionAt
-  pub shown : shown_in c ≡ Some version
+-- There are items to be searched. The front of the hits, as long as the count, is the k live ones that are nearest to the place.
+pub record IsNearest (searched : Option (List held.Item)) (p : Place) (k : ℕ) (within : ℤ) (hits : List Hit) (count : ℕ) : Type 0 where
+  pub items : List held.Item
+  pub shown : searched ≡ Some items
   pub asked : IsSearch k within
   pub room : k ≤ length hits
   pub range : IsRightPlace p
-  pub list : take count hits ≡ nearest_hits version k (within_at within) p
-  pub number : count ≡ length (nearest_hits version k (within_at within) p)
+  pub list : take count hits ≡ nearest_hits items k (within_at within) p
+  pub number : count ≡ length (nearest_hits items k (within_at within) p)
 
 -- why a search is refused
 abbrev pub IsSearchRefusal : Place → ℕ → ℤ → ℕ → ℤ → Type 0
@@ -90,29 +95,29 @@ IsSearchRefusal p k within room status =
     ⊎ ((status ≡ out_of_range) × (IsRightPlace p → ⊥))
     ⊎ ((status ≡ no_memory) × (16 < k))
 
--- why the nearest aren't told: the handle shows nothing, or the search is refused
-abbrev pub IsNearestRefusal : Option Content → Place → ℕ → ℤ → ℕ → ℤ → Type 0
-IsNearestRefusal c p k within room status = ((status ≡ empty) × (shown_in c ≡ None)) ⊎ IsSearchRefusal p k within room status
+-- why the nearest aren't told: there is nothing to be searched, or the search is refused
+abbrev pub IsNearestRefusal : Option (List held.Item) → Place → ℕ → ℤ → ℕ → ℤ → Type 0
+IsNearestRefusal searched p k within room status = ((status ≡ empty) × (searched ≡ None)) ⊎ IsSearchRefusal p k within room status
 
 -- the hits of each place in turn
-abbrev pub all_hits : VersionAt → ℕ → Option ℕ → List Place → List Hit
-all_hits v k r ps = flat_map (nearest_hits v k r) ps
+abbrev pub all_hits : List held.Item → ℕ → Option ℕ → List Place → List Hit
+all_hits m k r ps = flat_map (nearest_hits m k r) ps
 
 -- how many each place has
-abbrev pub hit_counts : VersionAt → ℕ → Option ℕ → List Place → List ℕ
-hit_counts v k r ps = map (λ p. length (nearest_hits v k r p)) ps
+abbrev pub hit_counts : List held.Item → ℕ → Option ℕ → List Place → List ℕ
+hit_counts m k r ps = map (λ p. length (nearest_hits m k r p)) ps
 
 -- The front of the hits, as long as the count, is the hits of each place in turn, and the front of the counts how many each has.
-pub record IsNearestEach (c : Option Content) (ps : List Place) (k : ℕ) (within : ℤ) (hits : List Hit) (counts : List ℕ) (count : ℕ) : Type 0 where
-  pub version : VersionAt
-  pub shown : shown_in c ≡ Some version
+pub record IsNearestEach (searched : Option (List held.Item)) (ps : List Place) (k : ℕ) (within : ℤ) (hits : List Hit) (counts : List ℕ) (count : ℕ) : Type 0 where
+  pub items : List held.Item
+  pub shown : searched ≡ Some items
   pub asked : IsSearch k within
   pub counts_room : length ps ≤ length counts
   pub room : length ps * k ≤ length hits
   pub range : All IsRightPlace ps
-  pub list : take count hits ≡ all_hits version k (within_at within) ps
-  pub each : take (length ps) counts ≡ hit_counts version k (within_at within) ps
-  pub number : count ≡ length (all_hits version k (within_at within) ps)
+  pub list : take count hits ≡ all_hits items k (within_at within) ps
+  pub each : take (length ps) counts ≡ hit_counts items k (within_at within) ps
+  pub number : count ≡ length (all_hits items k (within_at within) ps)
 
 -- why several searches are refused
 abbrev pub AreSearchesRefusal : List Place → ℕ → ℤ → ℕ → ℕ → ℤ → Type 0
@@ -122,10 +127,10 @@ AreSearchesRefusal ps k within room counts_room status =
     ⊎ ((status ≡ out_of_range) × Any (λ p. IsRightPlace p → ⊥) ps)
     ⊎ ((status ≡ no_memory) × (16 < k))
 
--- why those of several places aren't told: the handle shows nothing, or the searches are refused
-abbrev pub IsNearestEachRefusal : Option Content → List Place → ℕ → ℤ → ℕ → ℕ → ℤ → Type 0
-IsNearestEachRefusal c ps k within room counts_room status =
-    ((status ≡ empty) × (shown_in c ≡ None)) ⊎ AreSearchesRefusal ps k within room counts_room status
+-- why those of several places aren't told: there is nothing to be searched, or the searches are refused
+abbrev pub IsNearestEachRefusal : Option (List held.Item) → List Place → ℕ → ℤ → ℕ → ℕ → ℤ → Type 0
+IsNearestEachRefusal searched ps k within room counts_room status =
+    ((status ≡ empty) × (searched ≡ None)) ⊎ AreSearchesRefusal ps k within room counts_room status
 
 -- the handle shows `live` live points in the box
 pub record IsCount (c : Option Content) (b : Bounds) (live : ℕ) : Type 0 where

@@ -14,6 +14,7 @@ job_in (Some (content.Map s)) = None
 job_in (Some (content.View v)) = None
 job_in (Some (content.Job w)) = Some w
 job_in (Some (content.Built b)) = None
+job_in (Some (content.Frozen m)) = None
 job_in (Some content.Nothing) = None
 
 -- the built subtree that a handle holds, if it holds one
@@ -23,6 +24,7 @@ built_in (Some (content.Map s)) = None
 built_in (Some (content.View v)) = None
 built_in (Some (content.Job w)) = None
 built_in (Some (content.Built b)) = Some b
+built_in (Some (content.Frozen m)) = None
 built_in (Some content.Nothing) = None
 
 -- The handle held a job, and the other holds the subtree that was built of it, with nothing to be done on it next.

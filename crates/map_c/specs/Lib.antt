@@ -3,6 +3,7 @@ pub mod Balls
 pub mod Building
 pub mod Done
 pub mod Forms
+pub mod Frozen
 pub mod Held
 pub mod Logged
 pub mod Maps

@@ -21,6 +21,7 @@ map_in (Some (content.Map s)) = Some s
 map_in (Some (content.View v)) = None
 map_in (Some (content.Job w)) = None
 map_in (Some (content.Built b)) = None
+map_in (Some (content.Frozen m)) = None
 map_in (Some content.Nothing) = None
 
 -- the handle holds a new map of these sizes

@@ -1,6 +1,6 @@
 //! Questions to a map or a view: the handle may hold either.
 ghost use Rattle.std.specs.Prelude.{length};
-ghost use Rattle.map_c.specs.Answers.{AreTold, IsCount, IsCountRefusal, IsInside, IsInsideRefusal, IsNearest, IsNearestEach, IsNearestEachRefusal, IsNearestRefusal, IsTold};
+ghost use Rattle.map_c.specs.Answers.{AreTold, IsCount, IsCountRefusal, IsInside, IsInsideRefusal, IsNearest, IsNearestEach, IsNearestEachRefusal, IsNearestRefusal, IsTold, items_in};
 
 use crate::searching::{search, search_each};
 use crate::{
@@ -19,8 +19,8 @@ pub extern "C" fn corv_map_nearest(
     hits: &mut [Hit],
     count: &mut usize,
 ) -> i32
-    ensures { IsTold (IsNearest map.old.held.content place.now k within hits.new count.new)
-        (IsNearestRefusal map.old.held.content place.now k within (length hits.old))
+    ensures { IsTold (IsNearest (items_in map.old.held.content) place.now k within hits.new count.new)
+        (IsNearestRefusal (items_in map.old.held.content) place.now k within (length hits.old))
         map.old.held.content map.new.held.content count.new result }
 {
     *count = 0;
@@ -50,8 +50,8 @@ pub extern "C" fn corv_map_nearest_each(
     counts: &mut [u32],
     count: &mut usize,
 ) -> i32
-    ensures { IsTold (IsNearestEach map.old.held.content places.now k within hits.new counts.new count.new)
-        (IsNearestEachRefusal map.old.held.content places.now k within (length hits.old) (length counts.old))
+    ensures { IsTold (IsNearestEach (items_in map.old.held.content) places.now k within hits.new counts.new count.new)
+        (IsNearestEachRefusal (items_in map.old.held.content) places.now k within (length hits.old) (length counts.old))
         map.old.held.content map.new.held.content count.new result }
 {
     *count = 0;

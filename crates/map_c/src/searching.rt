@@ -2,14 +2,14 @@
 ghost use Rattle.std.specs.Prelude.{◌≡◌, ◌+◌, ◌*◌, ◌<◌, ◌≤◌, ◌⊎◌, ◌≤ℤ◌, ◌++◌, All, Any, IfErr, IfOk, OnOk, Some, None, false, length, pos, take, true};
 ghost use Rattle.std.specs.Option.{ForSome};
 ghost use Rattle.kd_search.specs.Query.{IsQuery};
-ghost use Rattle.map_c.specs.Answers.{IsNearest, IsNearestEach, IsNearestEachRefusal, IsNearestRefusal, IsSearch, all_hits, hit_counts, nearest_hits, within_at};
+ghost use Rattle.map_c.specs.Answers.{AreSearchesRefusal, IsNearest, IsNearestEach, IsNearestEachRefusal, IsNearestRefusal, IsSearch, IsSearchRefusal, all_hits, hit_counts, items_in, nearest_hits, within_at};
 ghost use Rattle.map_c.specs.Forms.{IsRightPlace};
+ghost use Rattle.map_c.specs.Frozen.{frozen_in};
 ghost use Rattle.map_c.specs.Status.{code, no_memory, out_of_range};
 
-use crate::{Content, Hit, Place, Refusal, read_place, shown, write_hits};
-use kd_search::nearest;
+use crate::searched::Searched;
+use crate::{Content, Hit, Place, Refusal, frozen_index, read_place, shown, write_hits};
 use map_fold::{MAX_FOUND, MAX_WITHIN};
-use rebuild_core::Version;
 use std::alloc::Global;
 
 /// The k nearest to a place of what is shown, from the front of the hits on, and how many they are.
@@ -21,19 +21,51 @@ pub fn search(
     within: i64,
     hits: &mut [Hit],
 ) -> Result<usize, Refusal>
-    ensures found { IfOk result (IsNearest (Some content.now) place.now k within hits.new) }
-    ensures refused { IfErr result (λ r. IsNearestRefusal (Some content.now) place.now k within (length hits.old) (code r)) }
+    ensures found { IfOk result (IsNearest (items_in (Some content.now)) place.now k within hits.new) }
+    ensures refused { IfErr result (λ r. IsNearestRefusal (items_in (Some content.now)) place.now k within (length hits.old) (code r)) }
 {
-    let Some(version) = shown(content) else {
-        return Err(Refusal::Empty);
-    };
+    match shown(content) {
+        None => Err(Refusal::Empty),
+        Some(version) => search_in(alloc, version.tree(), place, k, within, hits),
+    }
+}
+
+/// The same of the frozen index.
+pub fn search_frozen(
+    alloc: Global,
+    content: &Content,
+    place: &Place,
+    k: u32,
+    within: i64,
+    hits: &mut [Hit],
+) -> Result<usize, Refusal>
+    ensures found { IfOk result (IsNearest (frozen_in (Some content.now)) place.now k within hits.new) }
+    ensures refused { IfErr result (λ r. IsNearestRefusal (frozen_in (Some content.now)) place.now k within (length hits.old) (code r)) }
+{
+    match frozen_index(content) {
+        None => Err(Refusal::Empty),
+        Some(index) => search_in(alloc, &**index, place, k, within, hits),
+    }
+}
+
+fn search_in<S: Searched>(
+    alloc: Global,
+    searched: &S,
+    place: &Place,
+    k: u32,
+    within: i64,
+    hits: &mut [Hit],
+) -> Result<usize, Refusal>
+    ensures found { IfOk result (IsNearest (Some (S.items searched.now)) place.now k within hits.new) }
+    ensures refused { IfErr result (λ r. IsSearchRefusal place.now k within (length hits.old) (code r)) }
+{
     if !is_search(k, within) {
         return Err(Refusal::BadNumber);
     }
     if hits.len() < k as usize {
         return Err(Refusal::NoRoom);
     }
-    add_nearest(alloc, version, place, k, reach(within), 0, hits)
+    add_nearest(alloc, searched, place, k, reach(within), 0, hits)
 }
 
 /// Those of each place in turn, one behind the other, and how many each place has.
@@ -46,24 +78,58 @@ pub fn search_each(
     hits: &mut [Hit],
     counts: &mut [u32],
 ) -> Result<usize, Refusal>
-    ensures found { IfOk result (IsNearestEach (Some content.now) places.now k within hits.new counts.new) }
-    ensures refused { IfErr result (λ r. IsNearestEachRefusal (Some content.now) places.now k within (length hits.old) (length counts.old) (code r)) }
+    ensures found { IfOk result (IsNearestEach (items_in (Some content.now)) places.now k within hits.new counts.new) }
+    ensures refused { IfErr result (λ r. IsNearestEachRefusal (items_in (Some content.now)) places.now k within (length hits.old) (length counts.old) (code r)) }
 {
-    let Some(version) = shown(content) else {
-        return Err(Refusal::Empty);
-    };
+    match shown(content) {
+        None => Err(Refusal::Empty),
+        Some(version) => { search_each_in(alloc, version.tree(), places, k, within, hits, counts) }
+    }
+}
+
+/// The same of the frozen index.
+pub fn search_each_frozen(
+    alloc: Global,
+    content: &Content,
+    places: &[Place],
+    k: u32,
+    within: i64,
+    hits: &mut [Hit],
+    counts: &mut [u32],
+) -> Result<usize, Refusal>
+    ensures found { IfOk result (IsNearestEach (frozen_in (Some content.now)) places.now k within hits.new counts.new) }
+    ensures refused { IfErr result (λ r. IsNearestEachRefusal (frozen_in (Some content.now)) places.now k within (length hits.old) (length counts.old) (code r)) }
+{
+    match frozen_index(content) {
+        None => Err(Refusal::Empty),
+        Some(index) => search_each_in(alloc, &**index, places, k, within, hits, counts),
+    }
+}
+
+fn search_each_in<S: Searched>(
+    alloc: Global,
+    searched: &S,
+    places: &[Place],
+    k: u32,
+    within: i64,
+    hits: &mut [Hit],
+    counts: &mut [u32],
+) -> Result<usize, Refusal>
+    ensures found { IfOk result (IsNearestEach (Some (S.items searched.now)) places.now k within hits.new counts.new) }
+    ensures refused { IfErr result (λ r. AreSearchesRefusal places.now k within (length hits.old) (length counts.old) (code r)) }
+{
     if !is_search(k, within) {
         return Err(Refusal::BadNumber);
     }
     if !has_room(places.len(), k, hits.len(), counts.len()) {
         return Err(Refusal::NoRoom);
     }
-    add_each(alloc, version, places, k, reach(within), hits, counts)
+    add_each(alloc, searched, places, k, reach(within), hits, counts)
 }
 
-fn add_each(
+fn add_each<S: Searched>(
     alloc: Global,
-    version: &Version,
+    searched: &S,
     places: &[Place],
     k: u32,
     within: Option<u64>,
@@ -73,9 +139,9 @@ fn add_each(
     requires query { IsQuery k within }
     requires room { length places.now * k ≤ length hits.old }
     requires counts_room { length places.now ≤ length counts.old }
-    ensures list { IfOk result (λ n. take n hits.new ≡ all_hits version.now k within places.now) }
-    ensures count { IfOk result (λ n. n ≡ length (all_hits version.now k within places.now)) }
-    ensures each { OnOk result (take (length places.now) counts.new ≡ hit_counts version.now k within places.now) }
+    ensures list { IfOk result (λ n. take n hits.new ≡ all_hits (S.items searched.now) k within places.now) }
+    ensures count { IfOk result (λ n. n ≡ length (all_hits (S.items searched.now) k within places.now)) }
+    ensures each { OnOk result (take (length places.now) counts.new ≡ hit_counts (S.items searched.now) k within places.now) }
     ensures range { OnOk result (All IsRightPlace places.now) }
     ensures length { length hits.new ≡ length hits.old }
     ensures counts_length { length counts.new ≡ length counts.old }
@@ -83,17 +149,17 @@ fn add_each(
 {
     let mut at = 0;
     for i in 0..places.len() {
-        let next = add_nearest(alloc, version, &places[i], k, within, at, hits)?;
+        let next = add_nearest(alloc, searched, &places[i], k, within, at, hits)?;
         counts[i] = (next - at) as u32;
         at = next;
     }
     Ok(at)
 }
 
-// Writes the hits of one place from here on, and answers where they end.
-fn add_nearest(
+// Writes the hits of one place from here on, and returns where they end.
+fn add_nearest<S: Searched>(
     alloc: Global,
-    version: &Version,
+    searched: &S,
     place: &Place,
     k: u32,
     within: Option<u64>,
@@ -102,15 +168,15 @@ fn add_nearest(
 ) -> Result<usize, Refusal>
     requires query { IsQuery k within }
     requires room { at + k ≤ length hits.old }
-    ensures list { IfOk result (λ n. take n hits.new ≡ take at hits.old ++ nearest_hits version.now k within place.now) }
-    ensures count { IfOk result (λ n. n ≡ at + length (nearest_hits version.now k within place.now)) }
+    ensures list { IfOk result (λ n. take n hits.new ≡ take at hits.old ++ nearest_hits (S.items searched.now) k within place.now) }
+    ensures count { IfOk result (λ n. n ≡ at + length (nearest_hits (S.items searched.now) k within place.now)) }
     ensures few { IfOk result (λ n. n ≤ at + k) }
     ensures range { OnOk result (IsRightPlace place.now) }
     ensures length { length hits.new ≡ length hits.old }
     ensures refused { IfErr result (λ r. ((code r ≡ out_of_range) × (IsRightPlace place.now → ⊥)) ⊎ ((code r ≡ no_memory) × (16 < k))) }
 {
     let point = read_place(place)?;
-    let found = nearest(alloc, version.tree(), k, &point, within)?;
+    let found = searched.nearest_to(alloc, k, &point, within)?;
     write_hits(found.as_slice(), at, hits);
     Ok(at + found.len())
 }

@@ -1,6 +1,6 @@
 //! Views, made and freed. A question to a view is the one to a map.
 ghost use Rattle.std.specs.Prelude.{◌≡◌, IfErr, IfOk, None, Some, length};
-ghost use Rattle.map_c.specs.Answers.{AreTold, IsCount, IsCountRefusal, IsInside, IsInsideRefusal, IsNearest, IsNearestEach, IsNearestEachRefusal, IsNearestRefusal, IsTold, IsViewOf, IsViewRefusal, IsViewed};
+ghost use Rattle.map_c.specs.Answers.{AreTold, IsCount, IsCountRefusal, IsInside, IsInsideRefusal, IsNearest, IsNearestEach, IsNearestEachRefusal, IsNearestRefusal, IsTold, IsViewOf, IsViewRefusal, IsViewed, items_in};
 ghost use Rattle.map_c.specs.Status.{code};
 ghost use Rattle.map_c.specs.declared.handles.content.Content.TheVariants as is;
 
@@ -79,8 +79,8 @@ pub extern "C" fn corv_view_nearest(
     hits: &mut [Hit],
     count: &mut usize,
 ) -> i32
-    ensures { IsTold (IsNearest view.old.held.content place.now k within hits.new count.new)
-        (IsNearestRefusal view.old.held.content place.now k within (length hits.old))
+    ensures { IsTold (IsNearest (items_in view.old.held.content) place.now k within hits.new count.new)
+        (IsNearestRefusal (items_in view.old.held.content) place.now k within (length hits.old))
         view.old.held.content view.new.held.content count.new result }
 {
     corv_map_nearest(alloc, view, place, k, within, hits, count)
@@ -98,8 +98,8 @@ pub extern "C" fn corv_view_nearest_each(
     counts: &mut [u32],
     count: &mut usize,
 ) -> i32
-    ensures { IsTold (IsNearestEach view.old.held.content places.now k within hits.new counts.new count.new)
-        (IsNearestEachRefusal view.old.held.content places.now k within (length hits.old) (length counts.old))
+    ensures { IsTold (IsNearestEach (items_in view.old.held.content) places.now k within hits.new counts.new count.new)
+        (IsNearestEachRefusal (items_in view.old.held.content) places.now k within (length hits.old) (length counts.old))
         view.old.held.content view.new.held.content count.new result }
 {
     corv_map_nearest_each(alloc, view, places, k, within, hits, counts, count)

@@ -7,6 +7,7 @@ ghost use Rattle.rebuild_parts.specs.Seen.{VersionAt};
 
 use crate::handles::done::Done;
 use crate::handles::work::Work;
+use kd_frozen::Frozen;
 use map_fold::NoMemory;
 use rebuild_core::{MapState, Version};
 use std::alloc::Global;
@@ -20,6 +21,7 @@ pub enum Content {
     View(Seen),
     Job(Work),
     Built(Done),
+    Frozen(Index),
     // Only while a call runs: what is to be there isn't yet, or was taken out.
     Nothing,
 }
@@ -57,4 +59,19 @@ impl Model for Seen {
     ghost coded = { Prim.hlevel (codes, coded_shape) };
 
     ghost view = { λ s. s.version.value };
+}
+
+/// A share of a frozen index.
+#[derive(Drop)]
+pub struct Index {
+    pub frozen: Arc<Frozen>,
+}
+
+impl Model for Index {
+    ghost use Rattle.std.specs.Prelude.{List};
+    ghost use Rattle.map_items.specs.declared.item.Item.{Item};
+
+    ghost Value = { List Item };
+
+    ghost view = { λ i. i.frozen.value };
 }

@@ -1,9 +1,11 @@
-//! What a handle shows: its map as it is now, or its view.
+//! What a handle shows: its map as it is now, or its view; and the frozen index that it holds.
 ghost use Rattle.std.specs.Prelude.{◌≡◌, IfSome, IsNone, None, Some};
 ghost use Rattle.map_c.specs.Answers.{AreTotals, shown_in};
+ghost use Rattle.map_c.specs.Frozen.{frozen_in};
 
 use crate::handles::content::Content;
 use crate::handles::forms::Totals;
+use kd_frozen::Frozen;
 use rebuild_core::Version;
 use std::sync::Arc;
 
@@ -18,7 +20,22 @@ pub fn shown(content: &Content) -> Option<&Arc<Version>>
             Some(kept.state.version())
         }
         Content::View(seen) => Some(&seen.version),
-        Content::Job(_) | Content::Built(_) | Content::Nothing => None,
+        Content::Job(_) | Content::Built(_) | Content::Frozen(_) | Content::Nothing => None,
+    }
+}
+
+/// The frozen index, if it holds one.
+pub fn frozen_index(content: &Content) -> Option<&Arc<Frozen>>
+    ensures some { IfSome result (λ f. frozen_in (Some content.now) ≡ Some f.now.value) }
+    ensures none { IsNone result → frozen_in (Some content.now) ≡ None }
+{
+    match content {
+        Content::Frozen(index) => Some(&index.frozen),
+        Content::Map(_)
+        | Content::View(_)
+        | Content::Job(_)
+        | Content::Built(_)
+        | Content::Nothing => None,
     }
 }
 

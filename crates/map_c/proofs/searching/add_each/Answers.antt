@@ -10,9 +10,9 @@ use Rattle.map_c.proofs.Pieces.{piece_more, pieces_fit, pieces_length}
 use Rattle.map_c.proofs.searching.add_each.Goals as goal
 
 pub loop-i-preserved : goal.loop-i-preserved
-loop-i-preserved c =
+loop-i-preserved g c =
     let d : Place = record { x = pos 0; y = pos 0; z = pos 0 } in
-    let f : Place → List Hit = nearest_hits c.args.version.now c.args.k c.args.within in
+    let f : Place → List Hit = nearest_hits (g.S.Searched.items c.args.searched.now) c.args.k c.args.within in
     let ps : List Place = c.args.places.now in
     let lt : c.loop-i.i < length ps = c.loop-i-test.true in
     let room : c.loop-i.i < length c.loop-i.counts = omega (arith, c.requires.counts_room, c.loop-i.auto.counts, c.loop-i-test.true) in

@@ -1,0 +1,175 @@
+//! Frozen indexes, made, searched, copied and freed. They don't follow the map's updates.
+ghost use Rattle.std.specs.Prelude.{◌≡◌, IfErr, IfOk, None, Some, length};
+ghost use Rattle.map_c.specs.Answers.{IsNearest, IsNearestEach, IsNearestEachRefusal, IsNearestRefusal, IsTold, IsViewRefusal};
+ghost use Rattle.map_c.specs.Frozen.{IsCopyOf, IsCopyRefusal, IsFrozen, IsFrozenOf, IsMadeInto, frozen_in};
+ghost use Rattle.map_c.specs.Status.{code};
+ghost use Rattle.map_c.specs.declared.handles.content.Content.TheVariants as is;
+
+use crate::searching::{search_each_frozen, search_frozen};
+use crate::{Content, DONE, Handle, Hit, Index, Place, Refusal, boxed, frozen_index, shown};
+use kd_frozen::Frozen;
+use map_fold::NoMemory;
+use rebuild_core::Version;
+use std::alloc::Global;
+use std::sync::Arc;
+
+/// Makes a frozen index of what is live in the map now.
+#[unsafe(no_mangle)]
+pub extern "C" fn corv_map_freeze(alloc: Global, map: &mut Handle, frozen: &mut Handle) -> i32
+    ensures { IsMadeInto (IsFrozen map.old.held.content frozen.new.held.content)
+        (IsViewRefusal map.old.held.content frozen.old.held.content)
+        map.old.held.content map.new.held.content frozen.old.held.content frozen.new.held.content result }
+{
+    if !frozen.is_empty() {
+        return Refusal::Full.status();
+    }
+    let Some(content) = map.take(alloc) else {
+        return Refusal::Empty.status();
+    };
+    let made = index_of(alloc, &content);
+    *map = Handle::of(content);
+    match made {
+        Err(refusal) => refusal.status(),
+        Ok(index) => {
+            *frozen = Handle::of(index);
+            DONE
+        }
+    }
+}
+
+fn index_of(alloc: Global, content: &Content) -> Result<Box<Content>, Refusal>
+    ensures made { IfOk result (λ index. IsFrozen (Some content.now) (Some index.value)) }
+    ensures refused { IfErr result (λ r. IsViewRefusal (Some content.now) None (code r)) }
+{
+    match shown(content) {
+        None => Err(Refusal::Empty),
+        Some(version) => Ok(made_of(alloc, version)?),
+    }
+}
+
+fn made_of(alloc: Global, version: &Version) -> Result<Box<Content>, NoMemory>
+    ensures { IfOk result (λ index. IsFrozenOf version.now index.value) }
+{
+    let frozen = Arc::new(alloc, Frozen::of(alloc, version.tree())?)?;
+    boxed(alloc, Content::Frozen(Index { frozen }))
+}
+
+/// As of a map, of what is live in the view.
+#[unsafe(no_mangle)]
+pub extern "C" fn corv_view_freeze(alloc: Global, view: &mut Handle, frozen: &mut Handle) -> i32
+    ensures { IsMadeInto (IsFrozen view.old.held.content frozen.new.held.content)
+        (IsViewRefusal view.old.held.content frozen.old.held.content)
+        view.old.held.content view.new.held.content frozen.old.held.content frozen.new.held.content result }
+{
+    corv_map_freeze(alloc, view, frozen)
+}
+
+/// Makes another handle of the same index, which isn't copied.
+#[unsafe(no_mangle)]
+pub extern "C" fn corv_frozen_copy(alloc: Global, frozen: &mut Handle, copy: &mut Handle) -> i32
+    ensures { IsMadeInto (IsCopyOf frozen.old.held.content copy.new.held.content)
+        (IsCopyRefusal frozen.old.held.content copy.old.held.content)
+        frozen.old.held.content frozen.new.held.content copy.old.held.content copy.new.held.content result }
+{
+    if !copy.is_empty() {
+        return Refusal::Full.status();
+    }
+    let Some(content) = frozen.take(alloc) else {
+        return Refusal::Empty.status();
+    };
+    let made = copy_of(alloc, &content);
+    *frozen = Handle::of(content);
+    match made {
+        Err(refusal) => refusal.status(),
+        Ok(index) => {
+            *copy = Handle::of(index);
+            DONE
+        }
+    }
+}
+
+fn copy_of(alloc: Global, content: &Content) -> Result<Box<Content>, Refusal>
+    ensures made { IfOk result (λ copy. IsCopyOf (Some content.now) (Some copy.value)) }
+    ensures refused { IfErr result (λ r. IsCopyRefusal (Some content.now) None (code r)) }
+{
+    match frozen_index(content) {
+        None => Err(Refusal::Empty),
+        Some(frozen) => Ok(shared(alloc, frozen)?),
+    }
+}
+
+fn shared(alloc: Global, frozen: &Arc<Frozen>) -> Result<Box<Content>, NoMemory>
+    ensures { IfOk result (λ copy. copy.value ≡ is.Frozen frozen.now.value) }
+{
+    let frozen = Arc::try_clone(frozen)?;
+    boxed(alloc, Content::Frozen(Index { frozen }))
+}
+
+/// Frees what the handle holds. The index goes with its last handle.
+#[unsafe(no_mangle)]
+pub extern "C" fn corv_frozen_free(alloc: Global, frozen: &mut Handle)
+    ensures { frozen.new.held.content ≡ None }
+{
+    let _content = frozen.take(alloc);
+}
+
+/// As of a map, of what the index holds.
+#[unsafe(no_mangle)]
+pub extern "C" fn corv_frozen_nearest(
+    alloc: Global,
+    frozen: &mut Handle,
+    place: &Place,
+    k: u32,
+    within: i64,
+    hits: &mut [Hit],
+    count: &mut usize,
+) -> i32
+    ensures { IsTold (IsNearest (frozen_in frozen.old.held.content) place.now k within hits.new count.new)
+        (IsNearestRefusal (frozen_in frozen.old.held.content) place.now k within (length hits.old))
+        frozen.old.held.content frozen.new.held.content count.new result }
+{
+    *count = 0;
+    let Some(content) = frozen.take(alloc) else {
+        return Refusal::Empty.status();
+    };
+    let found = search_frozen(alloc, &content, place, k, within, hits);
+    *frozen = Handle::of(content);
+    match found {
+        Err(refusal) => refusal.status(),
+        Ok(n) => {
+            *count = n;
+            DONE
+        }
+    }
+}
+
+/// As of a map.
+#[unsafe(no_mangle)]
+pub extern "C" fn corv_frozen_nearest_each(
+    alloc: Global,
+    frozen: &mut Handle,
+    places: &[Place],
+    k: u32,
+    within: i64,
+    hits: &mut [Hit],
+    counts: &mut [u32],
+    count: &mut usize,
+) -> i32
+    ensures { IsTold (IsNearestEach (frozen_in frozen.old.held.content) places.now k within hits.new counts.new count.new)
+        (IsNearestEachRefusal (frozen_in frozen.old.held.content) places.now k within (length hits.old) (length counts.old))
+        frozen.old.held.content frozen.new.held.content count.new result }
+{
+    *count = 0;
+    let Some(content) = frozen.take(alloc) else {
+        return Refusal::Empty.status();
+    };
+    let found = search_each_frozen(alloc, &content, places, k, within, hits, counts);
+    *frozen = Handle::of(content);
+    match found {
+        Err(refusal) => refusal.status(),
+        Ok(n) => {
+            *count = n;
+            DONE
+        }
+    }
+}
