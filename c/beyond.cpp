@@ -92,6 +92,7 @@ static void clouds_and_matrices_are_taken() {
 static void threads_answer_what_one_does() {
     auto map = drawn_map();
     auto view = map.view();
+    auto frozen = view.freeze();
     for (std::size_t count : {0, 1, 63, 64, 65, 129, 1000}) {
         auto places = drawn(2, count);
         for (auto within : {std::optional<std::uint64_t>(), std::optional<std::uint64_t>(1500)}) {
@@ -99,6 +100,8 @@ static void threads_answer_what_one_does() {
             view.nearest_each(places, 5, within, one);
             for (unsigned threads : {0, 1, 2, 3, 4, 9}) {
                 corv::nearest_each(view, places, 5, within, several, threads);
+                HOLDS(same(one, several));
+                corv::nearest_each(frozen, places, 5, within, several, threads);
                 HOLDS(same(one, several));
             }
         }

@@ -11,7 +11,8 @@
 template <class Owner>
 constexpr bool is_moved_alone = std::is_nothrow_move_constructible_v<Owner> && std::is_nothrow_move_assignable_v<Owner> &&
                                 !std::is_copy_constructible_v<Owner> && !std::is_copy_assignable_v<Owner>;
-static_assert(is_moved_alone<corv::Map> && is_moved_alone<corv::View> && is_moved_alone<corv::Job> && is_moved_alone<corv::Built>);
+static_assert(is_moved_alone<corv::Map> && is_moved_alone<corv::View> && is_moved_alone<corv::Frozen> && is_moved_alone<corv::Job> &&
+              is_moved_alone<corv::Built>);
 
 static int faults = 0;
 
@@ -51,6 +52,10 @@ static void what_was_moved_from_is_empty() {
     auto view = map.view();
     auto moved = std::move(view);
     HOLDS(status_of([&] { view.copy(); }) == CORV_EMPTY && moved.copy().count(all) == 3);
+    auto frozen = moved.freeze();
+    auto kept = std::move(frozen);
+    HOLDS(status_of([&] { frozen.nearest({0, 0, 0}, 1); }) == CORV_EMPTY && status_of([&] { view.freeze(); }) == CORV_EMPTY);
+    HOLDS(kept.copy().nearest({2, 0, 0}, 9).size() == 3);
 }
 
 static void refusals_are_thrown() {
@@ -162,6 +167,55 @@ static void all_is_listed_by_number() {
     HOLDS(are(view.ball(center, 70, 3), points, is_suspended, part(near, 0, 3)));
 }
 
+static bool is_same(const std::vector<corv::Hit> &left, const std::vector<corv::Hit> &right) {
+    return std::equal(left.begin(), left.end(), right.begin(), right.end(), [](const corv::Hit &a, const corv::Hit &b) {
+        return a.number == b.number && a.dist2_low == b.dist2_low && a.dist2_high == b.dist2_high && a.point.x == b.point.x &&
+               a.point.y == b.point.y && a.point.z == b.point.z && a.point.intensity == b.point.intensity;
+    });
+}
+
+// Places among the points and farther and farther outside, to the corners of the space.
+static std::vector<corv::Place> looked_from() {
+    std::vector<corv::Place> places;
+    std::int64_t far = 1;
+    for (auto &point : scattered(300)) {
+        places.push_back({point.x, point.y, point.z});
+        if (places.size() % 7 == 0) {
+            places.push_back({point.x < 0 ? -far : far, point.y < 0 ? -far : far, point.z < 8 ? -far : far});
+            far = std::min<std::int64_t>(far * 2, std::int64_t{1} << 40);
+        }
+    }
+    return places;
+}
+
+// An index against the view that it was made of: points that coincide, suspended and dropped ones, and a map that goes on.
+static void an_index_answers_what_the_view_does() {
+    const corv::Box hidden = {{-40, -40, -40}, {40, 50, 40}}, gone = {{60, -200, -200}, {90, 200, 200}};
+    const auto points = scattered(9000);
+    const auto places = looked_from();
+    for (std::size_t held : {0, 1, 12, 13, 25, 9000}) {
+        corv::Map map(200, 16);
+        for (std::size_t i = 0; i < held; i += 500) map.add({points.data() + i, std::min<std::size_t>(500, held - i)});
+        map.suspend(std::array{hidden});
+        map.remove(std::array{gone});
+        auto view = map.view();
+        auto frozen = map.freeze();
+        map.restore(std::array{hidden});
+        auto other = view.freeze();
+        for (std::uint32_t k : {1, 2, 5, 16, 17, 256})
+            for (auto within : {std::optional<std::uint64_t>(), std::optional<std::uint64_t>(0), std::optional<std::uint64_t>(30)}) {
+                corv::Hits due, found;
+                view.nearest_each(places, k, within, due);
+                frozen.nearest_each(places, k, within, found);
+                HOLDS(is_same(due.all, found.all) && due.counts == found.counts);
+                other.nearest_each(places, k, within, found);
+                HOLDS(is_same(due.all, found.all) && due.counts == found.counts);
+                for (std::size_t i = 0; i < places.size(); i += 50)
+                    HOLDS(is_same(view.nearest(places[i], k, within), frozen.nearest(places[i], k, within)));
+            }
+    }
+}
+
 // Chains of points that are 10 mm apart, with longer ways between them, and points by themselves.
 static void clusters_and_lonely_points() {
     corv::Map map(200, 1500);
@@ -231,6 +285,28 @@ static void views_are_asked_beside_the_map() {
     for (auto so : is_so) HOLDS(so);
 }
 
+// Each thread asks a copy of its own. The map and the first index are gone before the last of them.
+static void copies_of_an_index_are_asked_by_threads() {
+    std::vector<std::thread> threads;
+    std::array<bool, 4> is_so{};
+    {
+        corv::Map map(200, 1500);
+        map.add(row(500));
+        auto frozen = map.freeze();
+        map.remove(std::array{all});
+        for (auto &so : is_so)
+            threads.emplace_back([mine = frozen.copy(), &so]() mutable {
+                so = true;
+                for (std::int64_t x = 0; x < 500; x++) {
+                    auto hits = mine.nearest({x, 0, 0}, 1, 0);
+                    so = so && hits.size() == 1 && hits[0].point.x == x;
+                }
+            });
+    }
+    for (auto &thread : threads) thread.join();
+    for (auto so : is_so) HOLDS(so);
+}
+
 static void a_subtree_is_built_on_another_thread() {
     corv::Map map(200, 16);
     for (int scan = 0; scan < 9; scan++) map.add(row(500));
@@ -257,9 +333,11 @@ int main() {
     lists_may_be_empty();
     distances();
     all_is_listed_by_number();
+    an_index_answers_what_the_view_does();
     clusters_and_lonely_points();
     a_region_follows();
     views_are_asked_beside_the_map();
+    copies_of_an_index_are_asked_by_threads();
     a_subtree_is_built_on_another_thread();
     return faults != 0;
 }

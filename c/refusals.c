@@ -57,6 +57,7 @@ static void a_map_is_made(void) {
 static void an_empty_handle_is_told(void) {
     corv_map map = {0};
     corv_view view = {0}, copy = {0};
+    corv_frozen frozen = {0}, other = {0};
     corv_job job = {0};
     corv_built built = {0};
     corv_point far = {FARTHEST + 1, 0, 0, 0};
@@ -79,11 +80,15 @@ static void an_empty_handle_is_told(void) {
     IS(CORV_EMPTY, corv_view_copy(&view, &copy));
     IS(CORV_EMPTY, corv_view_count(&view, &turned, &live));
     IS(CORV_EMPTY, corv_view_totals(&view, &totals));
+    IS(CORV_EMPTY, corv_map_freeze(&map, &frozen));
+    IS(CORV_EMPTY, corv_view_freeze(&view, &frozen));
+    IS(CORV_EMPTY, corv_frozen_copy(&frozen, &other));
     IS(CORV_EMPTY, corv_map_detach(&map, 9, &job));
     IS(CORV_EMPTY, corv_job_build(&job, &built));
     IS(CORV_EMPTY, corv_built_replay(&built));
     IS(CORV_EMPTY, corv_map_swap(&map, &built, 1));
     corv_view_free(&view);
+    corv_frozen_free(&frozen);
     corv_job_free(&job);
     corv_built_free(&built);
 }
@@ -110,15 +115,17 @@ static void an_update_is_refused_whole(corv_map *map) {
     HOLDS(totals_of(map).updates == before.updates + 2);
 }
 
-/* A map or a view, which are asked alike. */
-typedef struct { corv_map *map; corv_view *view; } asked;
+/* A map, a view or an index, which are asked alike, an index for the nearest alone. */
+typedef struct { corv_map *map; corv_view *view; corv_frozen *frozen; } asked;
 
 static int32_t nearest(asked a, const corv_place *place, uint32_t k, int64_t within, corv_hit *hits, size_t room, size_t *n) {
+    if (a.frozen) return corv_frozen_nearest(a.frozen, place, k, within, hits, room, n);
     return a.map ? corv_map_nearest(a.map, place, k, within, hits, room, n) : corv_view_nearest(a.view, place, k, within, hits, room, n);
 }
 
 static int32_t each(asked a, const corv_place *places, uint32_t k, corv_hit *hits, size_t room, size_t counted, size_t *n) {
     uint32_t counts[2];
+    if (a.frozen) return corv_frozen_nearest_each(a.frozen, places, 2, k, -1, hits, room, counts, counted, n);
     return a.map ? corv_map_nearest_each(a.map, places, 2, k, -1, hits, room, counts, counted, n)
                  : corv_view_nearest_each(a.view, places, 2, k, -1, hits, room, counts, counted, n);
 }
@@ -245,7 +252,7 @@ static void is_asked_for_lists(asked a, bool is_empty) {
 }
 
 static void is_asked(corv_map *map, corv_view *view, bool is_empty) {
-    asked a = {map, view};
+    asked a = {map, view, NULL};
     is_asked_for_the_nearest(a, is_empty);
     is_asked_for_boxes(a, is_empty);
     is_asked_for_neighbours(a, is_empty);
@@ -268,6 +275,38 @@ static void a_view_stays(corv_map *map) {
     HOLDS(before == after);
     corv_view_free(&copy);
     is_asked(NULL, &copy, true);
+}
+
+/* An index stays as it is while the map goes on, and until its last handle is freed. */
+static void an_index_stays(corv_map *map) {
+    corv_frozen frozen = {0}, copy = {0};
+    corv_view view = {0};
+    corv_place place = {7, 8, 9};
+    corv_point point = {7, 8, 9, 5};
+    corv_hit hit;
+    size_t n;
+    asked first = {NULL, NULL, &frozen}, second = {NULL, NULL, &copy};
+    is_asked_for_the_nearest(first, true);
+    IS(CORV_DONE, corv_map_view(map, &view));
+    IS(CORV_DONE, corv_view_freeze(&view, &frozen));
+    IS(CORV_FULL, corv_view_freeze(&view, &frozen));
+    IS(CORV_FULL, corv_map_freeze(map, &frozen));
+    corv_view_free(&view);
+    is_asked_for_the_nearest(first, false);
+    IS(CORV_DONE, corv_frozen_copy(&frozen, &copy));
+    IS(CORV_FULL, corv_frozen_copy(&frozen, &copy));
+    corv_frozen_free(&frozen);
+    corv_frozen_free(&frozen);
+    is_asked_for_the_nearest(first, true);
+    IS(CORV_DONE, corv_map_add(map, &point, 1));
+    is_asked_for_the_nearest(second, false);
+    IS(CORV_DONE, corv_frozen_nearest(&copy, &place, 1, 0, &hit, 1, &n));
+    HOLDS(n == 0);
+    IS(CORV_DONE, corv_map_freeze(map, &frozen));
+    IS(CORV_DONE, corv_frozen_nearest(&frozen, &place, 1, 0, &hit, 1, &n));
+    HOLDS(n == 1 && hit.point.z == 9 && hit.point.intensity == 5);
+    corv_frozen_free(&frozen);
+    corv_frozen_free(&copy);
 }
 
 /* What is found is what was added: numbers, places, intensities and a distance of more than 64 bits. */
@@ -472,6 +511,7 @@ int main(void) {
     an_update_is_refused_whole(&map);
     is_asked(&map, NULL, false);
     a_view_stays(&map);
+    an_index_stays(&map);
     corv_map_free(&map);
     answers();
     a_region_moves();

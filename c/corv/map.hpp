@@ -1,8 +1,9 @@
 // The map, for C++17: map.h with owners that free what they hold, moves in place of copies, and refusals that are thrown.
 //
 // An owner has its handle in memory of its own, so that it may be moved and the handle never is. What map.h asks of a caller is seen
-// to here, but for this: one thread at a time calls a Map, View, Job or Built, and one that goes to another thread goes there by a
-// lock, or by that thread's start or join. So nothing here is const: a View is cheap, and each thread that asks has one of its own.
+// to here, but for this: one thread at a time calls a Map, View, Frozen, Job or Built, and one that goes to another thread goes there by a
+// lock, or by that thread's start or join. So nothing here is const: a View or a copy of a Frozen is cheap, and each thread that asks has
+// one of its own.
 //
 // Why exceptions: a scan that isn't taken in, and nobody looks, would leave a map with a hole, and C++17 has no type for a result
 // that has to be looked at. What is no fault is no exception: that there is nothing to detach, and how a swap goes. Who builds
@@ -118,6 +119,14 @@ struct ViewCalls {
     static constexpr auto totals = corv_view_totals;
 };
 
+/// The calls by which a frozen index is searched.
+struct FrozenCalls {
+    using Handle = corv_frozen;
+    static constexpr auto release = corv_frozen_free;
+    static constexpr auto nearest = corv_frozen_nearest;
+    static constexpr auto nearest_each = corv_frozen_nearest_each;
+};
+
 }  // namespace detail
 
 /// Values that stand side by side and are the caller's: a std::vector, a std::array, or a pointer and a count.
@@ -197,9 +206,9 @@ struct Found {
     std::vector<T> first;
 };
 
-/// What is asked of a Map and of a View. Numbers out of their range are refused, and so are places and boxes.
+/// A Map, a View or a Frozen, searched for the nearest points. Numbers out of their range are refused, and so are places.
 template <class Calls>
-class Asked {
+class Searched {
 public:
     /// The k nearest live points, from 1 to 256, or all where there are fewer; no farther than so many millimetres where that is given.
     std::vector<Hit> nearest(const Place &place, std::uint32_t k, std::optional<std::uint64_t> within = {}) {
@@ -243,6 +252,25 @@ public:
         return count;
     }
 
+protected:
+    typename Calls::Handle *get() const { return handle_.get(); }
+
+    // Room for as many as a call can give; where k is refused, for what it would say.
+    static std::size_t room(std::uint32_t k) { return std::clamp<std::uint32_t>(k, 1, 256); }
+
+private:
+    // What is too far for a signed number is too far for the call too.
+    static std::int64_t reach(std::optional<std::uint64_t> within) {
+        return within ? static_cast<std::int64_t>(std::min<std::uint64_t>(*within, INT64_MAX)) : -1;
+    }
+
+    detail::Owned<typename Calls::Handle, Calls::release> handle_;
+};
+
+/// What else is asked of a Map and of a View. Boxes out of their range are refused too.
+template <class Calls>
+class Asked : public Searched<Calls> {
+public:
     /// How many live points are in a box.
     std::uint32_t count(const Box &box) {
         std::uint32_t live = 0;
@@ -322,11 +350,10 @@ public:
     }
 
 protected:
-    typename Calls::Handle *get() const { return handle_.get(); }
+    using Searched<Calls>::get;
 
 private:
-    // Room for as many as a call can give; where k is refused, for what it would say.
-    static std::size_t room(std::uint32_t k) { return std::clamp<std::uint32_t>(k, 1, 256); }
+    using Searched<Calls>::room;
 
     // The front of an array for so many that a call writes. It is never of no length, since a call takes no null.
     template <class T, class Call>
@@ -338,18 +365,35 @@ private:
         detail::check(status);
         return list;
     }
+};
 
-    // What is too far for a signed number is too far for the call too.
-    static std::int64_t reach(std::optional<std::uint64_t> within) {
-        return within ? static_cast<std::int64_t>(std::min<std::uint64_t>(*within, INT64_MAX)) : -1;
+/// The live points of a map or a view as they were when it was made, for asking many times: each place is found sooner than in the map,
+/// with the same answer. It follows no update. It takes 32 bytes a point, and as much again while it is made.
+class Frozen : public Searched<detail::FrozenCalls> {
+public:
+    /// Another owner of the same points, for another thread.
+    Frozen copy() {
+        Frozen other;
+        detail::check(corv_frozen_copy(get(), other.get()));
+        return other;
     }
 
-    detail::Owned<typename Calls::Handle, Calls::release> handle_;
+private:
+    friend class Map;
+    friend class View;
+    Frozen() = default;
 };
 
 /// What a map held when the view was made, for a thread that asks while the map goes on.
 class View : public Asked<detail::ViewCalls> {
 public:
+    /// What is live in it, to be asked many times. In any thread.
+    Frozen freeze() {
+        Frozen frozen;
+        detail::check(corv_view_freeze(get(), frozen.get()));
+        return frozen;
+    }
+
     /// Another view of the same, for another thread.
     View copy() {
         View other;
@@ -439,6 +483,13 @@ public:
         View view;
         detail::check(corv_map_view(get(), view.get()));
         return view;
+    }
+
+    /// What is live in the map now, to be asked many times before it changes.
+    Frozen freeze() {
+        Frozen frozen;
+        detail::check(corv_map_freeze(get(), frozen.get()));
+        return frozen;
     }
 
     /// Gives out a large subtree to be rebuilt, if there is one, in a slot from 1 to 4. What the slot gave out before, and isn't

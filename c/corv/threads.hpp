@@ -17,21 +17,22 @@
 
 namespace corv {
 
-/// What `nearest_each` of the view answers, worked out on so many threads, this one among them, each with a view of its own. Where places
-/// are refused it is the first one's refusal that is thrown, and nothing is answered.
-inline void nearest_each(View &view, List<Place> places, std::uint32_t k, std::optional<std::uint64_t> within, Hits &hits,
-                         unsigned threads) {
+/// What `nearest_each` of a View or a Frozen returns, worked out on so many threads, this one among them, each with a copy of its own.
+/// Where places are refused it is the first one's refusal that is thrown, and there are no hits.
+template <class Owner>
+void nearest_each(Owner &owner, List<Place> places, std::uint32_t k, std::optional<std::uint64_t> within, Hits &hits,
+                  unsigned threads) {
     constexpr std::size_t least = 64;  // places that are worth a thread
     std::size_t parts = std::min<std::size_t>(threads, (places.size() + least - 1) / least);
-    if (parts < 2 || k == 0 || k > 256) return view.nearest_each(places, k, within, hits);
-    std::vector<View> views;
-    for (std::size_t part = 1; part < parts; ++part) views.push_back(view.copy());
+    if (parts < 2 || k == 0 || k > 256) return owner.nearest_each(places, k, within, hits);
+    std::vector<Owner> copies;
+    for (std::size_t part = 1; part < parts; ++part) copies.push_back(owner.copy());
     hits.all.resize(places.size() * k);
     hits.counts.resize(places.size());
     std::vector<std::size_t> found(parts);
     std::vector<std::exception_ptr> faults(parts);
     auto first = [&](std::size_t part) { return places.size() * part / parts; };
-    auto ask = [&](View &asked, std::size_t part) noexcept {
+    auto ask = [&](Owner &asked, std::size_t part) noexcept {
         try {
             auto at = first(part), count = first(part + 1) - at;
             found[part] = asked.nearest_each({places.data() + at, count}, k, within, hits.all.data() + at * k, count * k,
@@ -44,8 +45,8 @@ inline void nearest_each(View &view, List<Place> places, std::uint32_t k, std::o
     std::exception_ptr fault;
     try {
         others.reserve(parts);
-        for (std::size_t part = 1; part < parts; ++part) others.emplace_back(ask, std::ref(views[part - 1]), part);
-        ask(view, 0);
+        for (std::size_t part = 1; part < parts; ++part) others.emplace_back(ask, std::ref(copies[part - 1]), part);
+        ask(owner, 0);
     } catch (...) {  // there is no further thread
         fault = std::current_exception();
     }
