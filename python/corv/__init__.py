@@ -12,20 +12,20 @@ Points are rows x, y, z or x, y, z, intensity of whole numbers, places are rows 
 the one behind the highest. With numpy they are arrays, and those of 64-bit numbers are read where they are; without it they are
 sequences of rows, or two-dimensional memoryviews.
 
-Calls let other threads of Python run. A map or view takes one call at a time, and others wait; so each thread that asks has a view
-of its own, by `view.copy()`. What a process had before a fork isn't to be called after it, in the child.
+Calls let other threads of Python run. A map, view or frozen index takes one call at a time, and others wait; so each thread that asks
+has a view of its own, by `view.copy()`, or an index, by `frozen.copy()`. What a process had before a fork isn't to be called after it, in the child.
 """
 
 from ._library import VERSION as __version__
 from ._library import BadBox, BadNumber, Closed, Error, NoLine, OutOfRange, TooManyPoints, TooManyUpdates
 from ._beside import Rebuilder, Recorder
-from ._map import Built, Job, Log, Map, Swapped, Totals, View
+from ._map import Built, Frozen, Job, Log, Map, Swapped, Totals, View
 from ._points import FARTHEST, Scan, metres, rows
 from ._region import Region
 from ._answers import Cluster, Found, Hit, Hits, Item, Items
 
 __all__ = [
-    *("Map", "View", "Job", "Built", "Rebuilder", "Swapped", "Totals", "Hits", "Hit", "Items", "Item", "Found", "Cluster", "Region", "Log", "Recorder"),
+    *("Map", "View", "Frozen", "Job", "Built", "Rebuilder", "Swapped", "Totals", "Hits", "Hit", "Items", "Item", "Found", "Cluster", "Region", "Log", "Recorder"),
     *("metres", "rows", "Scan", "FARTHEST"),
     *("Error", "Closed", "BadNumber", "BadBox", "OutOfRange", "TooManyPoints", "TooManyUpdates", "NoLine", "__version__"),
 ]

@@ -117,8 +117,8 @@ def signatures():
     """The arguments of each call that the package makes, by its name. Those that free answer nothing, and the others a status."""
     handle, u32, u64, i64, size, array = POINTER(Handle), c_uint32, c_uint64, c_int64, c_size_t, c_void_p
     answer = [array, size, POINTER(c_size_t)]  # where it is written, the room there, and how much of it was written
+    nearest_each = [array, size, u32, i64, array, size, *answer]
     asked = {
-        "nearest_each": [array, size, u32, i64, array, size, *answer],
         "count": [array, POINTER(u32)],
         "lonely": [u64, u32, POINTER(u32), *answer],
         "clusters": [u64, u32, POINTER(u32), *answer],
@@ -129,13 +129,14 @@ def signatures():
     }
     return {
         **{f"{kind}_{call}": [handle, *words] for call, words in asked.items() for kind in ("map", "view")},
+        **{f"{kind}_nearest_each": [handle, *nearest_each] for kind in ("map", "view", "frozen")},
         **{f"map_{call}": [handle, array, size] for call in ("add", "thin", "delete", "suspend", "restore")},
         **{"map_new": [u32, u32, handle], "map_expire": [handle, u32], "map_detach": [handle, u32, handle]},
         **{"map_log": [handle, u64, *answer, POINTER(u64)]},
         **{"region_begin": [u64, u64, u64, array, POINTER(Region)], "region_move": [POINTER(Region), array, *answer]},
-        **{call: [handle, handle] for call in ("map_view", "view_copy", "job_build")},
+        **{call: [handle, handle] for call in ("map_view", "view_copy", "job_build", "map_freeze", "view_freeze", "frozen_copy")},
         **{"view_renew": [handle, u32, u32, handle], "built_replay": [handle], "map_swap": [handle, handle, u32]},
-        **{f"{kind}_free": [handle] for kind in ("map", "view", "job", "built")},
+        **{f"{kind}_free": [handle] for kind in ("map", "view", "frozen", "job", "built")},
     }
 
 

@@ -60,8 +60,8 @@ class Owner:
         raise TypeError(f"corv: a {type(self).__name__} can't be copied")
 
 
-class Asked(Owner):
-    """What is asked of a map and of a view."""
+class Searched(Owner):
+    """A map, a view or a frozen index, searched for the nearest points."""
 
     def nearest(self, places, k=1, within=None, *, threads=1, out=None):
         """The k nearest live points to each place, from 1 to 256, or all where there are fewer; no farther than so many millimetres.
@@ -107,6 +107,16 @@ class Asked(Owner):
                 ctypes.memmove(hits._address + end * size, hits._address + first * k * size, count * size)
             end += count
         return end
+
+
+class Asked(Searched):
+    """What else is asked of a map and of a view."""
+
+    def freeze(self):
+        """What is live in it now, to be asked many times: each place is found sooner, with the same answer. It follows no update."""
+        frozen = Frozen()
+        self._call("freeze", frozen._handle)
+        return frozen
 
     def count(self, box):
         """How many live points are in a box: its lowest corner, and the one behind its highest."""
@@ -169,6 +179,20 @@ class Asked(Owner):
 
     def __len__(self):
         return self.totals().live
+
+
+class Frozen(Searched):
+    """The live points of a map or a view as they were when it was made. It takes 32 bytes a point, and as much again while it is made."""
+
+    _kind = "frozen"
+
+    def copy(self):
+        """Another owner of the same points, for another thread."""
+        other = Frozen()
+        self._call("copy", other._handle)
+        return other
+
+    _another = copy
 
 
 class View(Asked):

@@ -60,6 +60,21 @@ class Answers(unittest.TestCase):
             view.nearest([(0, 0, 0)] * places, 2, threads=threads)
             self.assertEqual(made, [(threading.get_ident(), True)] * count)
 
+    def test_a_frozen_index_is_asked_in_the_view_s_place(self):
+        self.map.suspend([[[-9_000] * 3, [5_000] * 3]])
+        places = [point[:3] for point in cloud(3, 130, 25_000)]
+        with self.map.view() as view:
+            frozen = view.freeze()
+            want = [*view.nearest(places, 5, 6_000)]
+        self.map.delete([ALL])
+        self.assertEqual([*self.map.freeze().nearest(places, 5)], [[]] * len(places))
+        other = frozen.copy()
+        frozen.close()
+        for threads in (1, 3):
+            self.assertEqual([*other.nearest(places, 5, 6_000, threads=threads)], want)
+        with self.assertRaises(corv.Closed):
+            frozen.nearest(places)
+
     def test_hits_are_used_again(self):
         hits = self.map.nearest([(0, 0, 0)] * 50, 8)
         address = hits._address

@@ -23,6 +23,7 @@ LEFT_OUT = {
     "view_inside": "view_box_items has the same with no bound of 256",
     "map_ball": "map_ball_items has the same with no bound of 256",
     "view_ball": "view_ball_items has the same with no bound of 256",
+    "frozen_nearest": "frozen_nearest_each has the same of one place",
 }
 NUMBERS = {
     "int64_t": ctypes.c_int64,
@@ -33,7 +34,7 @@ NUMBERS = {
     "bool": ctypes.c_bool,
     "int32_t": ctypes.c_int32,
 }
-HANDLES = {"corv_map", "corv_view", "corv_job", "corv_built"}
+HANDLES = {"corv_map", "corv_view", "corv_job", "corv_built", "corv_frozen"}
 STRUCTS = {
     "corv_point": _library.Point,
     "corv_hit": _library.Hit,
