@@ -1,6 +1,6 @@
-// Odometry's turn on the map. Of each scan the points are first asked for what is nearest to them in the map, on four threads, from which
-// odometry would work out where the robot is, and then the scan is taken into the map. Meanwhile another thread rebuilds what has become
-// unbalanced in it.
+// Odometry's turn on the map. The points nearest to each scan's are looked up on four threads, from which odometry would work out where
+// the robot is, and then the scan is put into the map. Where many are looked up between two updates, a frozen index is searched.
+// Meanwhile another thread rebuilds what has become unbalanced.
 //
 //     odometry < LOG > TRANSCRIPT
 //
@@ -13,6 +13,7 @@
 #include <cstdio>
 #include <future>
 #include <iostream>
+#include <optional>
 
 using Clock = std::chrono::steady_clock;
 
@@ -52,15 +53,48 @@ private:
     int swapped_ = 0;
 };
 
+// Queries between two updates. Freezing the map costs about what is saved by then searching an index for one place in four points: so
+// an index is made once that many places were searched for, as while a scan's pose is found.
+class Questions {
+public:
+    explicit Questions(corv::Map &map) : map_(map) {}
+
+    void nearest(const Command &command, corv::Hits &hits) {
+        asked_ += command.places.size();
+        if (!frozen_ && asked_ > map_.totals().live / 4) {
+            frozen_ = map_.freeze();
+            ++made_;
+        }
+        if (frozen_) return corv::nearest_each(*frozen_, command.places, command.k, command.within, hits, threads);
+        auto view = map_.view();
+        corv::nearest_each(view, command.places, command.k, command.within, hits, threads);
+    }
+
+    // The map is about to change.
+    void forget() {
+        frozen_.reset();
+        asked_ = 0;
+    }
+
+    int made() const { return made_; }
+
+private:
+    static constexpr unsigned threads = 4;
+    corv::Map &map_;
+    std::optional<corv::Frozen> frozen_;
+    std::size_t asked_ = 0;
+    int made_ = 0;
+};
+
 // Has the map do a command: what it finds is left in `hits`.
-void turn(corv::Map &map, Rebuild &rebuild, const Command &command, corv::Hits &hits) {
+void turn(corv::Map &map, Rebuild &rebuild, Questions &questions, const Command &command, corv::Hits &hits) {
     if (command.word == "add" || command.word == "thin") {
+        questions.forget();
         rebuild.step();
         command.word == "add" ? map.add(command.points) : map.thin(command.points);
         rebuild.step();
     } else if (command.word != "sync") {
-        auto view = map.view();
-        corv::nearest_each(view, command.places, command.k, command.within, hits, 4);
+        questions.nearest(command, hits);
     }
 }
 
@@ -69,19 +103,21 @@ int main() try {
     LogReader log(std::cin);
     corv::Map map(log.voxel, log.large);
     Rebuild rebuild(map);
+    Questions questions(map);
     Command command;
     corv::Hits hits;
     Clock::duration spent{};
     while (log.next(command)) {
         auto start = Clock::now();
-        turn(map, rebuild, command, hits);
+        turn(map, rebuild, questions, command, hits);
         spent += Clock::now() - start;
         auto totals = map.totals();
         std::cout << (command.word == "sync" ? Reply("sync").totals(totals).line() : reply(command, totals.updates, hits));
     }
     std::cout << Reply("end").totals(map.totals()).line() << std::flush;
     auto micros = std::chrono::duration_cast<std::chrono::microseconds>(spent).count();
-    std::fprintf(stderr, "odometry: the map took %lld us; subtrees swapped in: %d\n", static_cast<long long>(micros), rebuild.swapped());
+    std::fprintf(stderr, "odometry: the map took %lld us; frozen: %d; subtrees swapped in: %d\n", static_cast<long long>(micros),
+                 questions.made(), rebuild.swapped());
 } catch (const std::exception &fault) {
     std::fprintf(stderr, "odometry: %s\n", fault.what());
     return 1;

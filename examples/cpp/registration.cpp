@@ -1,7 +1,8 @@
 // Odometry from nothing but scans, which is what the map is for. A lidar goes once round a made town. Each scan is put where it fits the
 // map best, point to plane: each of its points is asked for the 5 nearest of the map, through which a plane goes, and the pose is moved
-// until the points lie on their planes. Then the scan is thinned into the map. At the end the way is held against the true one. How many
-// threads ask changes the time, and no digit of the way.
+// until the points lie on their planes. As each scan is asked for several times, it is a frozen index of the map that is asked. Then the
+// scan is thinned into the map. At the end the way is held against the true one. How many threads ask changes the time, and no digit of
+// the way.
 //
 //     registration [scans N] [noise MM] [threads N] [seed N] [finer N] [way FILE]
 //
@@ -188,12 +189,12 @@ void put(corv::Scan &scan, const std::vector<std::array<float, 3>> &points, cons
 }
 
 // The pose at which the points lie best on the map, from a guess.
-Pose fitted(corv::View &view, const std::vector<std::array<float, 3>> &points, Pose pose, unsigned threads, std::size_t &asked) {
+Pose fitted(corv::Frozen &map, const std::vector<std::array<float, 3>> &points, Pose pose, unsigned threads, std::size_t &asked) {
     static corv::Scan scan;
     static corv::Hits hits;
     for (int round = 0; round < 12; ++round) {
         put(scan, points, pose, 5);
-        corv::nearest_each(view, scan.places, 5, std::uint64_t(1.5 * a_metre), hits, threads);
+        corv::nearest_each(map, scan.places, 5, std::uint64_t(1.5 * a_metre), hits, threads);
         asked += scan.places.size();
         Squares squares;
         auto point = scan.points.begin();
@@ -246,10 +247,10 @@ int main(int argc, char **argv) try {
         auto points = town.scan(truth, noise, draw);
         auto start = std::chrono::steady_clock::now();
         if (k > 0) {
-            auto view = map.view();
+            auto frozen = map.freeze();
             auto guess = now * (before.inverse() * now);  // it goes on as it went
             way += (truth.at - Town::at_scan(k - 1).at).length();
-            before = std::exchange(now, fitted(view, points, guess, threads, asked));
+            before = std::exchange(now, fitted(frozen, points, guess, threads, asked));
         }
         put(scan, points, now, 1);
         map.thin(scan.points);
