@@ -72,7 +72,7 @@ fn each<R: Threads + Sync>(
     within: Option<u64>,
 ) -> Result<HitLists, NoMemory>
     requires query { IsQuery k within }
-    ensures found { IfOk result (λ lists. lists ≡ nearest_each (items_of searched) k queries.now within) }
+    ensures found { IfOk result (λ lists. lists ≡ nearest_each (items_of searched.entry) k queries.now within) }
 {
     let queries = queries.as_slice();
     let lists = if k <= INLINE && 2 * LEAST_PIECE <= queries.len() {
@@ -94,7 +94,7 @@ fn in_place<R: Threads + Sync>(
 ) -> Result<Vec<Hits>, NoMemory>
     requires query { IsQuery k within }
     requires k_to { k ≤ 16 }
-    ensures { IfOk result (λ lists. lists.items ≡ nearest_each (items_of searched) k queries.now within) }
+    ensures { IfOk result (λ lists. lists.items ≡ nearest_each (items_of searched.entry) k queries.now within) }
 {
     let mut lists = empty_lists(alloc, queries.len())?;
     let pieces = (queries.len() / LEAST_PIECE).clamp(1, current_num_threads(rt));
@@ -125,7 +125,7 @@ fn fill<R: Threads + Sync>(
     requires query { IsQuery k within }
     requires k_to { k ≤ 16 }
     requires len { length lists.old ≡ length queries.now }
-    ensures { lists.new ≡ nearest_each (items_of searched) k queries.now within }
+    ensures { lists.new ≡ nearest_each (items_of searched.entry) k queries.now within }
 {
     if pieces < 2 {
         fill_piece(alloc, searched, k, within, queries, lists);
@@ -138,11 +138,11 @@ fn fill<R: Threads + Sync>(
         rt,
         &mut ||
             requires { (1 ≤ k) × (k ≤ 16) × ForSome within (λ r. r ≤ MAX_WITHIN) × (length first.now ≡ length these.now) }
-            ensures { first.exit.now ≡ nearest_each (items_of searched) k these.entry.now within }
+            ensures { first.exit.now ≡ nearest_each (items_of searched.entry) k these.entry.now within }
         { fill_piece(alloc, searched, k, within, these, first) },
         &mut ||
             requires { IsSync R.row × (1 ≤ k) × (k ≤ 16) × ForSome within (λ r. r ≤ MAX_WITHIN) × (2 ≤ pieces) × (length rest.now ≡ length others.now) }
-            ensures { rest.exit.now ≡ nearest_each (items_of searched) k others.entry.now within }
+            ensures { rest.exit.now ≡ nearest_each (items_of searched.entry) k others.entry.now within }
         { fill(rt, alloc, searched, k, within, pieces - 1, others, rest) },
     );
 }
@@ -159,7 +159,7 @@ fn fill_piece(
     requires query { IsQuery k within }
     requires k_to { k ≤ 16 }
     requires len { length lists.old ≡ length queries.now }
-    ensures { lists.new ≡ nearest_each (items_of searched) k queries.now within }
+    ensures { lists.new ≡ nearest_each (items_of searched.entry) k queries.now within }
 {
     for slab in 0..SLABS {
         fill_slab(alloc, searched, k, within, slab, queries, lists);
@@ -179,7 +179,7 @@ fn fill_slab(
     requires k_to { k ≤ 16 }
     requires len { length lists.old ≡ length queries.now }
     requires filled { AreFilled (λ q. nearest (items_of searched) k q within) slab queries.now lists.old }
-    ensures { AreFilled (λ q. nearest (items_of searched) k q within) (slab + 1) queries.now lists.new }
+    ensures { AreFilled (λ q. nearest (items_of searched.entry) k q within) (slab + 1) queries.now lists.new }
 {
     for place in 0..queries.len() {
         let query = &queries[place];
@@ -214,7 +214,7 @@ fn in_pieces<R: Threads + Sync>(
     within: Option<u64>,
 ) -> Result<Vec<Hits>, NoMemory>
     requires query { IsQuery k within }
-    ensures { IfOk result (λ lists. lists.items ≡ nearest_each (items_of searched) k queries.now within) }
+    ensures { IfOk result (λ lists. lists.items ≡ nearest_each (items_of searched.entry) k queries.now within) }
 {
     let lists: Result<Vec<Hits>, NoMemory> = queries
         .par_iter()
@@ -222,7 +222,7 @@ fn in_pieces<R: Threads + Sync>(
         .map(
             move |q: &Point| -> Result<Hits, NoMemory>
                 requires { (1 ≤ k) × (k ≤ MAX_FOUND) × ForSome within (λ r. r ≤ MAX_WITHIN) }
-                ensures { IfOk result (λ hits. hits ≡ nearest (items_of searched) k q.now within) }
+                ensures { IfOk result (λ hits. hits ≡ nearest (items_of searched.entry) k q.now within) }
             { searched.nearest(alloc, k, q, within) },
         )
         .collect(rt, alloc)?;

@@ -28,7 +28,7 @@ impl<'a> Searched<'a> {
         within: Option<u64>,
     ) -> Result<Hits, NoMemory>
         requires query { IsQuery k within }
-        ensures found { IfOk result (λ hits. hits ≡ nearest (items_of self) k q.now within) }
+        ensures found { IfOk result (λ hits. hits ≡ nearest (items_of self.entry) k q.now within) }
         ensures inline { k ≤ 16 → IsOk result }
     {
         match self {
