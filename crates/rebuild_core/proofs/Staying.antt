@@ -89,7 +89,7 @@ part_stays p (x ∷ ps) qs (inr k) apart (inl is) there =
 part_stays p (x ∷ ps) qs (inr k) apart (inr m) there =
     let here : Member p.path (x.path ∷ paths k.1) = subst (λ (rs : List PartAt). Member p.path (paths rs)) k.2 there in
     elim here [
-      inl is ↦ absurd (not_one x.path (paths ps) apart.0 (subst (λ (q : List Side). Member q (paths ps)) is (path_one p ps m)))
+      | inl is ↦ absurd (not_one x.path (paths ps) apart.0 (subst (λ (q : List Side). Member q (paths ps)) is (path_one p ps m)))
       | inr rest ↦ stays_later p (record x { log = k.0 }) k.1 qs k.2 (part_stays p ps k.1 k.4 apart.1 m rest)
     ]
 
