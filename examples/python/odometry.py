@@ -1,6 +1,6 @@
 #!/usr/bin/env python3
-"""Odometry's turn on the map, as examples/cpp/odometry.cpp has it: of each scan the points are asked for what is nearest to them, and
-then the scan is taken into the map. Meanwhile a second thread rebuilds what got uneven in it.
+"""Odometry's turn on the map, as examples/cpp/odometry.cpp has it: the points nearest to each scan's are looked up, and then the scan
+is put into the map. Meanwhile a second thread rebuilds what has become unbalanced.
 
     odometry.py < LOG > TRANSCRIPT
 
@@ -39,6 +39,7 @@ def main():
             if k is not None:
                 map.nearest(rows, k, within, out=hits)
             elif word != "sync":
+                rebuilder.step()
                 (map.add if word == "add" else map.thin)(rows)
                 rebuilder.step()
             spent += time.perf_counter() - start
