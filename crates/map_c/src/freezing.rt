@@ -50,7 +50,8 @@ fn index_of(alloc: Global, content: &Content) -> Result<Box<Content>, Refusal>
 fn made_of(alloc: Global, version: &Version) -> Result<Box<Content>, NoMemory>
     ensures { IfOk result (λ index. IsFrozenOf version.now index.value) }
 {
-    let frozen = Arc::new(alloc, Frozen::of(alloc, version.tree())?)?;
+    let live = Frozen::of(alloc, version.tree())?;
+    let frozen = Arc::new(alloc, live)?;
     boxed(alloc, Content::Frozen(Index { frozen }))
 }
 
