@@ -103,8 +103,8 @@ marked-tagged c a p (fork h l r) =
     ∙ ap (λ q. F (tagged p (fork h l r)) (relabelled p h.item) q) (composed-keep_right (composed h.pending p))
 
 -- a child that was handed the pending action, marked
-pub son-marked : (c : Choice) (a q : Tag) (t : Shape) → marked_shape c a (tagged q t) ≡ marked_under c a (composed q keep_tag) t
-son-marked c a q t = marked-tagged c a q t ∙ ap (λ p. marked_under c a p t) (sym (composed-keep_right q))
+pub child-marked : (c : Choice) (a q : Tag) (t : Shape) → marked_shape c a (tagged q t) ≡ marked_under c a (composed q keep_tag) t
+child-marked c a q t = marked-tagged c a q t ∙ ap (λ p. marked_under c a p t) (sym (composed-keep_right q))
 
 -- what holds where the choice misses a node, covers it or enters it
 marked_cases : (P : Shape → Type 0) (c : Choice) (a p : Tag) (h : Head) (l r : Shape) → P (tagged p (fork h l r)) → P (tagged a (tagged p (fork h l r)))
@@ -242,7 +242,7 @@ pub record IsEntered (c : Choice) (a : Tag) (s : Shape) (f : Fork) : Type 0 wher
 enters : (c : Choice) (a : Tag) (h : Head) (l r : Shape) → meets c (reach_of h l r) ≡ true → covers c (reach_of h l r) ≡ false → fork (head (marked_item (chosen_by c) a h.item) h.axis) (marked_shape c a (tagged h.pending l)) (marked_shape c a (tagged h.pending r)) ≡ marked_shape c a (fork h l r)
 unfolding marked_under
 enters c a h l r m k =
-    tops_alike (marked_item (chosen_by c) a) h _ _ _ _ (son-marked c a h.pending l) (son-marked c a h.pending r)
+    tops_alike (marked_item (chosen_by c) a) h _ _ _ _ (child-marked c a h.pending l) (child-marked c a h.pending r)
     ∙ sym (cond-true (meets c (reach_of h l r)) _ _ m ∙ cond-false (covers c (reach_of h l r)) _ _ k)
 
 entered_is : (c : Choice) (e : Reach) → meets c e ≡ true → covers c e ≡ false → is_entered c e ≡ true
@@ -250,8 +250,8 @@ entered_is c e m k = rw (m, k) refl
 
 reach-entered : (c : Choice) (a : Tag) (h : Head) (l r : Shape) → reach_of (head (marked_item (chosen_by c) a h.item) h.axis) (marked_shape c a (tagged h.pending l)) (marked_shape c a (tagged h.pending r)) ≡ reach_of h l r
 reach-entered c a h l r =
-    let son : (t : Shape) → AreAlike (marked_shape c a (tagged h.pending t)) t = λ t. let k = reach-marked c a keep_tag (tagged h.pending t) in let o = reach-tagged h.pending t in (k.0 ∙ o.0, k.1 ∙ o.1) in
-    let all = reaches_alike (marked_item (chosen_by c) a h.item) h.item (marked_shape c a (tagged h.pending l)) (marked_shape c a (tagged h.pending r)) l r (marked-point (chosen_by c) a h.item) (marked_number (chosen_by c) a h.item) (son l) (son r) in
+    let child : (t : Shape) → AreAlike (marked_shape c a (tagged h.pending t)) t = λ t. let k = reach-marked c a keep_tag (tagged h.pending t) in let o = reach-tagged h.pending t in (k.0 ∙ o.0, k.1 ∙ o.1) in
+    let all = reaches_alike (marked_item (chosen_by c) a h.item) h.item (marked_shape c a (tagged h.pending l)) (marked_shape c a (tagged h.pending r)) l r (marked-point (chosen_by c) a h.item) (marked_number (chosen_by c) a h.item) (child l) (child r) in
     λ i. record { extent = all.0 i; numbers = all.1 i }
 
 criteria_parts : (large : ℕ) (c : Choice) (h : Head) (l r : Shape) → is_entered c (reach_of h l r) ≡ true → RebuildsNoneEntered large c (fork h l r) → IsNotDue large (fork h l r) × RebuildsNoneEntered large c l × RebuildsNoneEntered large c r

@@ -12,7 +12,7 @@ use Rattle.map_items.specs.declared.op.Op.TheVariants.{Mark}
 use Rattle.kd_tree.specs.Shape.{Head, Shape, leaf, fork}
 use Rattle.kd_tree.specs.Walk.{tagged}
 use Rattle.kd_tree.specs.declared.path.Side.{Side}
-use Rattle.kd_tree.specs.Parts.{son}
+use Rattle.kd_tree.specs.Parts.{child}
 use Rattle.kd_mark.specs.Mark.{is_entered}
 use Rattle.kd_mark.specs.Watch.{is_keep, handed, is_met, logged_mark}
 use Rattle.std.proofs.lemmas.Option.{same_Some}
@@ -29,7 +29,7 @@ unfolding logged_mark
 mark_few c a [] t = cond_both (is_met c t) (Mark c a ∷ []) [] (λ os. length os ≤ 1) (λ _. omega arith) (λ _. omega arith)
 mark_few c a (side ∷ path) leaf = omega arith
 mark_few c a (side ∷ path) (fork h l r) =
-    let few : length (handed path h.pending ++ logged_mark c a path (tagged h.pending (son side l r))) ≤ 2 = handed_few path h.pending _ (mark_few c a path (tagged h.pending (son side l r))) in
+    let few : length (handed path h.pending ++ logged_mark c a path (tagged h.pending (child side l r))) ≤ 2 = handed_few path h.pending _ (mark_few c a path (tagged h.pending (child side l r))) in
     cond_both (is_entered c (reach_of h l r)) _ [] (λ os. length os ≤ 1 + min 1 (length (side ∷ path))) (λ _. omega (arith, few)) (λ _. omega arith)
 
 pub logged_mark_few : (c : Choice) (a : Tag) (path : List Side) (t : Shape) → length (logged_mark c a path t) ≤ 2
@@ -77,7 +77,7 @@ unfolding logged_mark
 ahead_passed c a q side path leaf e x k = refl
 ahead_passed c a q side path (fork h l r) e x k = cond-false (is_entered c (reach_of h l r)) _ _ (rw (same_Some e (reach_of h l r) x) at k)
 
-pub ahead_entered : (c : Choice) (a q p : Tag) (side : Side) (path : List Side) (t s : Shape) (e : Reach) (h : Head) (l r : Shape) → Some e ≡ reach t → meets c e ≡ true → covers c e ≡ false → t ≡ fork h l r → p ≡ composed h.pending q → s ≡ son side l r
+pub ahead_entered : (c : Choice) (a q p : Tag) (side : Side) (path : List Side) (t s : Shape) (e : Reach) (h : Head) (l r : Shape) → Some e ≡ reach t → meets c e ≡ true → covers c e ≡ false → t ≡ fork h l r → p ≡ composed h.pending q → s ≡ child side l r
     → logged_mark c a (side ∷ path) (tagged q t) ≡ handed path p ++ logged_mark c a path (tagged p s)
 unfolding logged_mark
 ahead_entered c a q p side path t s e h l r x m k is owed on =

@@ -25,7 +25,7 @@ use Rattle.kd_mark.proofs.Criteria.{criteria_none}
 use Rattle.kd_mark.proofs.Near.{near}
 use Rattle.kd_mark.proofs.Trees.{at_pushed, forked}
 use Rattle.kd_mark.proofs.Refresh.{head, refresh_same, refresh_trans, refresh_fork, refreshed_refresh}
-use Rattle.kd_mark.proofs.Update.{criteria_balanced, sons_alike}
+use Rattle.kd_mark.proofs.Update.{criteria_balanced, children_alike}
 use Rattle.kd_mark.proofs.WatchedMark.{watched-mark}
 use Rattle.kd_mark.proofs.Large.{large_nodes, large_same, large_after, watched_new}
 use Rattle.std.specs.Prelude.{◌==◌}
@@ -82,11 +82,11 @@ large_any : (large : ℕ) (ps : List (List Side)) (t : Shape) → AreLargeAt lar
 large_any large [] t k = tt
 large_any large (p ∷ ps) t k = (record { node = k.0.node; there = k.0.there; size = omega arith }, large_any large ps t k.1)
 
-pub same_sons : (ps : List (List Side)) (h : Head) (l r l' r' : Shape) → is_here ps ≡ false → AreSameAt (onward Left ps) l' l → AreSameAt (onward Right ps) r' r → AreSameAt ps (fork h l' r') (fork h l r)
-same_sons [] h l r l' r' e u v = tt
-same_sons ([] ∷ ps) h l r l' r' e u v = absurd (cc)
-same_sons ((Left ∷ p) ∷ ps) h l r l' r' e u v = (u.0, same_sons ps h l r l' r' e u.1 v)
-same_sons ((Right ∷ p) ∷ ps) h l r l' r' e u v = (v.0, same_sons ps h l r l' r' e u v.1)
+pub same_children : (ps : List (List Side)) (h : Head) (l r l' r' : Shape) → is_here ps ≡ false → AreSameAt (onward Left ps) l' l → AreSameAt (onward Right ps) r' r → AreSameAt ps (fork h l' r') (fork h l r)
+same_children [] h l r l' r' e u v = tt
+same_children ([] ∷ ps) h l r l' r' e u v = absurd (cc)
+same_children ((Left ∷ p) ∷ ps) h l r l' r' e u v = (u.0, same_children ps h l r l' r' e u.1 v)
+same_children ((Right ∷ p) ∷ ps) h l r l' r' e u v = (v.0, same_children ps h l r l' r' e u v.1)
 
 pub same_itself : (ps : List (List Side)) (t : Shape) → AreSameAt ps t t
 same_itself [] t = tt
@@ -148,17 +148,17 @@ clear_fork large ps old i a ol or l r l' r' t C Cl Cr balanced criteria none the
     (λ (m : ℕ). IsUpdatedClear m (onward Left ps) ol l (Cl m) l' → IsUpdatedClear m (onward Right ps) or r (Cr m) r' → RefreshesIfDue m (fork (head i a) l' r') t → IsUpdatedClear large ps old (fork (head i a) l r) (C large) t)
     (λ e u v done. clear_here large ps old (fork (head i a) l r) t (C large) e (unrebuilt 0 u v done none))
     (λ e u v done.
-    let sons = same_sons ps (head i a) l r l' r' e u.same v.same in
+    let children = same_children ps (head i a) l r l' r' e u.same v.same in
     record {
       refresh = refresh_trans (fork (head i a) l r) (fork (head i a) l' r') t (refresh_fork i a l r l' r' u.refresh v.refresh) (refreshed_refresh large (fork (head i a) l' r') t done);
-      same = same_then ps t (fork (head i a) l' r') (fork (head i a) l r) (spared_same large ps (fork (head i a) l' r') t (large_all_same large ps (fork (head i a) l r) (fork (head i a) l' r') sons there) done) sons;
+      same = same_then ps t (fork (head i a) l' r') (fork (head i a) l r) (spared_same large ps (fork (head i a) l' r') t (large_all_same large ps (fork (head i a) l r) (fork (head i a) l' r') children there) done) children;
       unrebuilt = unrebuilt large u v done;
       balance = λ k. let both = balanced e k in refreshed_outside large ps (head i a) l' r' t done (λ _. (u.balance both.0, v.balance both.1));
     })
   where
     unrebuilt : (m : ℕ) → IsUpdatedClear m (onward Left ps) ol l (Cl m) l' → IsUpdatedClear m (onward Right ps) or r (Cr m) r' → RefreshesIfDue m (fork (head i a) l' r') t → C m → t ≡ fork (head i a) l r
-    unrebuilt m u v (inl k) c = let all = criteria m c in sym k.1 ∙ sons_alike (head i a) l r l' r' (u.unrebuilt all.1) (v.unrebuilt all.2)
-    unrebuilt m u v (inr k) c = let all = criteria m c in absurd (k.0 (subst (IsNotDue m) (sym (sons_alike (head i a) l r l' r' (u.unrebuilt all.1) (v.unrebuilt all.2))) all.0))
+    unrebuilt m u v (inl k) c = let all = criteria m c in sym k.1 ∙ children_alike (head i a) l r l' r' (u.unrebuilt all.1) (v.unrebuilt all.2)
+    unrebuilt m u v (inr k) c = let all = criteria m c in absurd (k.0 (subst (IsNotDue m) (sym (children_alike (head i a) l r l' r' (u.unrebuilt all.1) (v.unrebuilt all.2))) all.0))
 
 -- each watch by itself
 

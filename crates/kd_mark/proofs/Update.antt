@@ -16,8 +16,8 @@ balanced_tagged large a leaf k = tt
 balanced_tagged large a (fork h l r) k = k
 
 -- the children of a tree taken apart
-pub balanced_sons : (large : ℕ) (h : Head) (l r : Shape) → IsBalancedBelow large (fork h l r) → IsBalancedBelow large (tagged h.pending l) × IsBalancedBelow large (tagged h.pending r)
-balanced_sons large h l r k = (balanced_tagged large h.pending l k.1, balanced_tagged large h.pending r k.2)
+pub balanced_children : (large : ℕ) (h : Head) (l r : Shape) → IsBalancedBelow large (fork h l r) → IsBalancedBelow large (tagged h.pending l) × IsBalancedBelow large (tagged h.pending r)
+balanced_children large h l r k = (balanced_tagged large h.pending l k.1, balanced_tagged large h.pending r k.2)
 
-pub sons_alike : (h : Head) (l r l' r' : Shape) → l' ≡ l → r' ≡ r → fork h l' r' ≡ fork h l r
-sons_alike h l r l' r' e f = ap (λ x. fork h x r') e ∙ ap (λ x. fork h l x) f
+pub children_alike : (h : Head) (l r l' r' : Shape) → l' ≡ l → r' ≡ r → fork h l' r' ≡ fork h l r
+children_alike h l r l' r' e f = ap (λ x. fork h x r') e ∙ ap (λ x. fork h l x) f

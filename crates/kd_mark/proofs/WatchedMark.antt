@@ -16,14 +16,14 @@ use Rattle.map_items.specs.Ops.{Fit, replay}
 use Rattle.kd_tree.specs.Shape.{Head, Shape, leaf, fork, nodes}
 use Rattle.kd_tree.specs.Walk.{tagged}
 use Rattle.kd_tree.specs.Contents.{contents}
-use Rattle.kd_tree.specs.Parts.{at, son}
+use Rattle.kd_tree.specs.Parts.{at, child}
 use Rattle.kd_tree.specs.declared.path.Side.{Side}
 use Rattle.kd_tree.specs.declared.path.Side.TheVariants.{Left, Right}
 use Rattle.kd_tree.proofs.Actions.{tagged-keep, tagged_nodes}
 use Rattle.kd_tree.proofs.Contents.{contents-tagged}
 use Rattle.kd_mark.specs.Mark.{marked_under, marked_shape}
 use Rattle.kd_mark.specs.Watch.{is_keep, handed, is_met, logged_mark, IsWatched}
-use Rattle.kd_mark.proofs.InBox.{son-marked, nodes-marked, contents-marked, marked_missed}
+use Rattle.kd_mark.proofs.InBox.{child-marked, nodes-marked, contents-marked, marked_missed}
 
 only_live : (x : Label) → is_live x ≡ true → x ≡ Live
 only_live Live e = refl
@@ -64,18 +64,18 @@ watched_handed (Left ∷ path) q (fork h l r) u s ops e w = record { before = w.
 watched_handed (Right ∷ path) q (fork h l r) u s ops e w = record { before = w.before; after = w.after; was = w.was; is = w.is; size = w.size; fit = w.fit; replayed = w.replayed }
 
 -- what is watched in a child is watched in the tree
-pub watched_son : (side : Side) (path : List Side) (h g : Head) (l r l' r' : Shape) (ops : List Op) → IsWatched path (son side l r) (son side l' r') ops → IsWatched (side ∷ path) (fork h l r) (fork g l' r') ops
-watched_son Left path h g l r l' r' ops w = record { before = w.before; after = w.after; was = w.was; is = w.is; size = w.size; fit = w.fit; replayed = w.replayed }
-watched_son Right path h g l r l' r' ops w = record { before = w.before; after = w.after; was = w.was; is = w.is; size = w.size; fit = w.fit; replayed = w.replayed }
+pub watched_child : (side : Side) (path : List Side) (h g : Head) (l r l' r' : Shape) (ops : List Op) → IsWatched path (child side l r) (child side l' r') ops → IsWatched (side ∷ path) (fork h l r) (fork g l' r') ops
+watched_child Left path h g l r l' r' ops w = record { before = w.before; after = w.after; was = w.was; is = w.is; size = w.size; fit = w.fit; replayed = w.replayed }
+watched_child Right path h g l r l' r' ops w = record { before = w.before; after = w.after; was = w.was; is = w.is; size = w.size; fit = w.fit; replayed = w.replayed }
 
-pub at_son : (side : Side) (path : List Side) (h : Head) (l r s : Shape) → at (side ∷ path) (fork h l r) ≡ Some s → at path (son side l r) ≡ Some s
-at_son Left path h l r s e = e
-at_son Right path h l r s e = e
+pub at_child : (side : Side) (path : List Side) (h : Head) (l r s : Shape) → at (side ∷ path) (fork h l r) ≡ Some s → at path (child side l r) ≡ Some s
+at_child Left path h l r s e = e
+at_child Right path h l r s e = e
 
 -- what is done to both children is done to this one
-pub son_done : (f : Shape → Shape) (side : Side) (l r : Shape) → f (son side l r) ≡ son side (f l) (f r)
-son_done f Left l r = refl
-son_done f Right l r = refl
+pub child_done : (f : Shape → Shape) (side : Side) (l r : Shape) → f (child side l r) ≡ child side (f l) (f r)
+child_done f Left l r = refl
+child_done f Right l r = refl
 
 -- there is a subtree at the path of a tree that had an action done to it
 pub at-tagged : (path : List Side) (q : Tag) (t s : Shape) → at path t ≡ Some s → (u : Shape) × (at path (tagged q t) ≡ Some u)
@@ -108,16 +108,16 @@ watched-mark c a [] t s e = mark_root c a t
 watched-mark c a (side ∷ path) leaf s e = absurd (cc)
 watched-mark c a (side ∷ path) (fork h l r) s e =
     let top : Head = record h { item = marked_item (chosen_by c) a (relabelled keep_tag h.item); pending = keep_tag } in
-    let x = son side l r in
+    let x = child side l r in
     let l' = marked_under c a (composed h.pending keep_tag) l in
     let r' = marked_under c a (composed h.pending keep_tag) r in
-    let here : at path x ≡ Some s = at_son side path h l r s e in
-    let same : IsWatched (side ∷ path) (fork h l r) (tagged keep_tag (fork h l r)) [] = watched_son side path h _ l r l r [] (watched_same path x s here) in
-    let covered : IsWatched (side ∷ path) (fork h l r) (tagged a (tagged keep_tag (fork h l r))) [] = watched_son side path h _ l r l r [] (watched_same path x s here) in
+    let here : at path x ≡ Some s = at_child side path h l r s e in
+    let same : IsWatched (side ∷ path) (fork h l r) (tagged keep_tag (fork h l r)) [] = watched_child side path h _ l r l r [] (watched_same path x s here) in
+    let covered : IsWatched (side ∷ path) (fork h l r) (tagged a (tagged keep_tag (fork h l r))) [] = watched_child side path h _ l r l r [] (watched_same path x s here) in
     let u = at-tagged path h.pending x s here in
     let ops = handed path h.pending ++ logged_mark c a path (tagged h.pending x) in
-    let entered = watched_son side path h top l r l' r' ops (watched_handed path h.pending x (son side l' r') s (logged_mark c a path (tagged h.pending x)) here
-    (subst (λ z. IsWatched path (tagged h.pending x) z (logged_mark c a path (tagged h.pending x))) (son-marked c a h.pending x ∙ son_done (marked_under c a (composed h.pending keep_tag)) side l r) (watched-mark c a path (tagged h.pending x) u.0 u.1))) in
+    let entered = watched_child side path h top l r l' r' ops (watched_handed path h.pending x (child side l' r') s (logged_mark c a path (tagged h.pending x)) here
+    (subst (λ z. IsWatched path (tagged h.pending x) z (logged_mark c a path (tagged h.pending x))) (child-marked c a h.pending x ∙ child_done (marked_under c a (composed h.pending keep_tag)) side l r) (watched-mark c a path (tagged h.pending x) u.0 u.1))) in
     elim (meets c (reach_of h l r)) as (λ m. IsWatched (side ∷ path) (fork h l r) (cond m (cond (covers c (reach_of h l r)) (tagged a (tagged keep_tag (fork h l r))) (fork top l' r')) (tagged keep_tag (fork h l r))) (cond (m && not (covers c (reach_of h l r))) ops [])) [
       | true ↦ elim (covers c (reach_of h l r)) as (λ k. IsWatched (side ∷ path) (fork h l r) (cond k (tagged a (tagged keep_tag (fork h l r))) (fork top l' r')) (cond (true && not k) ops [])) [
         | true ↦ covered

@@ -11,7 +11,7 @@ use Rattle.map_items.specs.Ops.{Fit, replay}
 use Rattle.kd_tree.specs.Shape.{Shape, leaf, fork, nodes}
 use Rattle.kd_tree.specs.Walk.{tagged}
 use Rattle.kd_tree.specs.Contents.{contents}
-use Rattle.kd_tree.specs.Parts.{at, son}
+use Rattle.kd_tree.specs.Parts.{at, child}
 use Rattle.kd_tree.specs.declared.path.Side.{Side}
 use Rattle.kd_mark.specs.Mark.{is_entered}
 
@@ -41,7 +41,7 @@ is_met c (fork h l r) = meets c (reach_of h l r)
 unfoldable pub logged_mark : Choice → Tag → List Side → Shape → List Op
 logged_mark c a [] t = if is_met c t then Mark c a ∷ [] else []
 logged_mark c a (side ∷ path) leaf = []
-logged_mark c a (side ∷ path) (fork h l r) = if is_entered c (reach_of h l r) then handed path h.pending ++ logged_mark c a path (tagged h.pending (son side l r)) else []
+logged_mark c a (side ∷ path) (fork h l r) = if is_entered c (reach_of h l r) then handed path h.pending ++ logged_mark c a path (tagged h.pending (child side l r)) else []
 
 -- Of the subtree at the path, the new tree has what the operations make of the old tree's own contents, which they fit.
 pub record IsWatched (path : List Side) (old new : Shape) (ops : List Op) : Type 0 where

@@ -71,7 +71,7 @@ fn log_mark(
         return Ok(());
     };
     let owed = top.pending.then(owed);
-    let next = top.son(*side);
+    let next = top.child(*side);
     note_owed(owed, rest, log)?;
     log_mark(next, owed, rest, choice, tag, log)
 }

@@ -163,19 +163,19 @@ turned top xs ys m k =
     ∙ ap (insert_all top) (insert_all-append xs ys m ∙ insert_all-insert_all xs ys m k ∙ sym (insert_all-append ys xs m))
     ∙ sym (insert_all-append top (ys ++ xs) m)
 
-either_way : (c : Bounds) (i : Item) (first second sons m : List Item) → AreApart first second → IsEitherWay sons first second
-    → insert_all (inside_all (i ∷ []) c ++ (inside_all second c ++ inside_all first c)) m ≡ insert_all (inside_all (kept (i ∷ []) ++ sons) c) m
-either_way c i first second sons m k (inl e) =
+either_way : (c : Bounds) (i : Item) (first second children m : List Item) → AreApart first second → IsEitherWay children first second
+    → insert_all (inside_all (i ∷ []) c ++ (inside_all second c ++ inside_all first c)) m ≡ insert_all (inside_all (kept (i ∷ []) ++ children) c) m
+either_way c i first second children m k (inl e) =
     turned (inside_all (i ∷ []) c) (inside_all second c) (inside_all first c) m (inside_apart c second first (λ a b n o x. k b a o n (sym x)))
     ∙ ap (λ z. insert_all z m) (sym (ap (λ w. inside_all (kept (i ∷ []) ++ w) c) e ∙ inside-top c i first second))
-either_way c i first second sons m k (inr e) =
+either_way c i first second children m k (inr e) =
     ap (λ z. insert_all z m) (sym (ap (λ w. inside_all (kept (i ∷ []) ++ w) c) e ∙ inside-top c i second first))
 
 -- both children, whichever comes first, and then a node's item
-pub in_either_turn : (k : ℕ) (c : Bounds) (i : Item) (first second sons whole m one two three : List Item) → AreDistinct whole → whole ≡ kept (i ∷ []) ++ sons → IsEitherWay sons first second
+pub in_either_turn : (k : ℕ) (c : Bounds) (i : Item) (first second children whole m one two three : List Item) → AreDistinct whole → whole ≡ kept (i ∷ []) ++ children → IsEitherWay children first second
     → one ≡ take k (insert_all (inside_all first c) m) → two ≡ take k (insert_all (inside_all second c) one) → three ≡ take k (insert_all (inside_all (i ∷ []) c) two)
     → three ≡ take k (insert_all (inside_all whole c) m)
-in_either_turn k c i first second sons whole m one two three distinct all way e f g =
-    let apart = three_of i first second sons whole distinct all way in
+in_either_turn k c i first second children whole m one two three distinct all way e f g =
+    let apart = three_of i first second children whole distinct all way in
     in_turn k (inside_all (i ∷ []) c) (inside_all second c) (inside_all first c) m one two three e f g
-    ∙ ap (take k) (either_way c i first second sons m apart.sons way ∙ ap (λ z. insert_all (inside_all z c) m) (sym all))
+    ∙ ap (take k) (either_way c i first second children m apart.children way ∙ ap (λ z. insert_all (inside_all z c) m) (sym all))

@@ -153,26 +153,26 @@ swapped xs ys zs hits d =
     ∙ ap (put_all ys) (sym (put_all-append xs zs hits))
     ∙ sym (put_all-append ys (xs ++ zs) hits)
 
-either_way : (q : Place) (r : Option ℕ) (i : Item) (near far sons : List Item) (hits : List Hit) → AreApart near far → IsEitherWay sons near far
-    → put_all (candidates (i ∷ []) q r ++ (candidates near q r ++ candidates far q r)) hits ≡ put_all (candidates (kept (i ∷ []) ++ sons) q r) hits
-either_way q r i near far sons hits d (inl e) =
+either_way : (q : Place) (r : Option ℕ) (i : Item) (near far children : List Item) (hits : List Hit) → AreApart near far → IsEitherWay children near far
+    → put_all (candidates (i ∷ []) q r ++ (candidates near q r ++ candidates far q r)) hits ≡ put_all (candidates (kept (i ∷ []) ++ children) q r) hits
+either_way q r i near far children hits d (inl e) =
     ap (λ z. put_all z hits) (sym (ap (λ m. candidates (kept (i ∷ []) ++ m) q r) e ∙ candidates-top q r i near far))
-either_way q r i near far sons hits d (inr e) =
+either_way q r i near far children hits d (inr e) =
     turned (candidates (i ∷ []) q r) (candidates far q r) (candidates near q r) hits (candidates_apart q r near far d)
     ∙ ap (λ z. put_all z hits) (sym (ap (λ m. candidates (kept (i ∷ []) ++ m) q r) e ∙ candidates-top q r i far near))
 
 -- the near child, then a node's item, then the far child
-pub near_first : (k : ℕ) (q : Place) (r : Option ℕ) (i : Item) (near far sons whole : List Item) (hits one two three : List Hit) → AreDistinct whole → whole ≡ kept (i ∷ []) ++ sons → IsEitherWay sons near far
+pub near_first : (k : ℕ) (q : Place) (r : Option ℕ) (i : Item) (near far children whole : List Item) (hits one two three : List Hit) → AreDistinct whole → whole ≡ kept (i ∷ []) ++ children → IsEitherWay children near far
     → one ≡ take k (put_all (candidates near q r) hits) → two ≡ take k (put_all (candidates (i ∷ []) q r) one) → three ≡ take k (put_all (candidates far q r) two)
     → three ≡ take k (put_all (candidates whole q r) hits)
-near_first k q r i near far sons whole hits one two three distinct all way e f g =
-    let d = three_of i near far sons whole distinct all way in
+near_first k q r i near far children whole hits one two three distinct all way e f g =
+    let d = three_of i near far children whole distinct all way in
     let near_item : HitsApart (candidates near q r) (candidates (i ∷ []) q r) = candidates_apart q r near (i ∷ []) (λ a b m n x. d.item_one b a n m (sym x)) in
-    let near_far : HitsApart (candidates near q r) (candidates far q r) = candidates_apart q r near far d.sons in
+    let near_far : HitsApart (candidates near q r) (candidates far q r) = candidates_apart q r near far d.children in
     let far_item : HitsApart (candidates far q r) (candidates (i ∷ []) q r) = candidates_apart q r far (i ∷ []) (λ a b m n x. d.item_other b a n m (sym x)) in
     in_turn k (candidates near q r) (candidates (i ∷ []) q r) (candidates far q r) hits one two three near_item near_far far_item e f g
     ∙ ap (take k) (
     swapped (candidates near q r) (candidates (i ∷ []) q r) (candidates far q r) hits near_item
-    ∙ either_way q r i near far sons hits d.sons way
+    ∙ either_way q r i near far children hits d.children way
     ∙ ap (λ m. put_all (candidates m q r) hits) (sym all)
     )

@@ -60,7 +60,7 @@ rest_distinct xs ys k = record { once = λ n. let g : Item → ℕ = λ w. cond 
 pub record AreThree (i : Item) (one other : List Item) : Type 0 where
   pub item_one : AreApart (i ∷ []) one
   pub item_other : AreApart (i ∷ []) other
-  pub sons : AreApart one other
+  pub children : AreApart one other
 
 kept_live : (i j : Item) → Member j (live_items (i ∷ [])) → Member j (kept (i ∷ []))
 kept_live i j m = live_in j (kept (i ∷ [])) (subst (Member j) (sym (live-kept i)) m)
@@ -72,15 +72,15 @@ three i one other k =
     record {
       item_one = λ a b m n e. first a b (kept_live i a m) (member-left b one other (live_in b one n)) e;
       item_other = λ a b m n e. first a b (kept_live i a m) (member-right b one other (live_in b other n)) e;
-      sons = λ a b m n e. second a b (live_in a one m) (live_in b other n) e;
+      children = λ a b m n e. second a b (live_in a one m) (live_in b other n) e;
     }
 
 -- so it is where no number is twice in all of them
-pub three_of : (i : Item) (one other sons whole : List Item) → AreDistinct whole → whole ≡ kept (i ∷ []) ++ sons → IsEitherWay sons one other → AreThree i one other
-three_of i one other sons whole k all (inl e) = three i one other (subst AreDistinct (all ∙ ap (λ m. kept (i ∷ []) ++ m) e) k)
-three_of i one other sons whole k all (inr e) =
+pub three_of : (i : Item) (one other children whole : List Item) → AreDistinct whole → whole ≡ kept (i ∷ []) ++ children → IsEitherWay children one other → AreThree i one other
+three_of i one other children whole k all (inl e) = three i one other (subst AreDistinct (all ∙ ap (λ m. kept (i ∷ []) ++ m) e) k)
+three_of i one other children whole k all (inr e) =
     let t = three i other one (subst AreDistinct (all ∙ ap (λ m. kept (i ∷ []) ++ m) e) k) in
-    record { item_one = t.item_other; item_other = t.item_one; sons = λ a b m n f. t.sons b a n m (sym f) }
+    record { item_one = t.item_other; item_other = t.item_one; children = λ a b m n f. t.children b a n m (sym f) }
 
 -- no number is twice in what remains of a tree under an action
 pub walk_distinct : (a : Tag) (t : Shape) → IsSound t → AreDistinct (walk a t)

@@ -34,9 +34,9 @@ right_above h owed t l r e s =
 
 -- the top's item, which the gap is crossed to, and both children, the farther of which it is crossed to
 pub record IsSplit (m : List Item) (q : Place) (gap : ℕ) (i : Item) (one other : List Item) : Type 0 where
-  pub sons : List Item
-  pub items : m ≡ kept (i ∷ []) ++ sons
-  pub turned : IsEitherWay sons one other
+  pub children : List Item
+  pub items : m ≡ kept (i ∷ []) ++ children
+  pub turned : IsEitherWay children one other
   pub item : gap ≤ dist2 q i.point
   pub far : AreAway gap q other
 
@@ -49,9 +49,9 @@ split_owed t owed top q s e sound is =
     let left = top.left.now in
     let right = top.right.now in
     let own : s.gap ≤ dist2 q p = subst (λ d. d ≤ dist2 q p) (sym is.gap) (axis_gap top.axis q p) in
-    elim is.sons [
+    elim is.children [
       | inl w ↦ record {
-        sons = walk below left ++ walk below right;
+        children = walk below left ++ walk below right;
         items = ap (walk owed) e;
         turned = inl (ap (λ x. walk below x ++ walk below right) (sym w.near) ∙ ap (λ x. walk below s.near.now ++ walk below x) (sym w.far));
         item = own;
@@ -60,7 +60,7 @@ split_owed t owed top q s e sound is =
             (subst (λ x. AreAway (gap2 (on top.axis q) (on top.axis p)) q (walk below x)) (sym w.far) (away_above top.axis q p (walk below right) w.side (right_above h owed t left right e sound)));
       }
       | inr w ↦ record {
-        sons = walk below left ++ walk below right;
+        children = walk below left ++ walk below right;
         items = ap (walk owed) e;
         turned = inr (ap (λ x. walk below x ++ walk below right) (sym w.far) ∙ ap (λ x. walk below s.far.now ++ walk below x) (sym w.near));
         item = own;

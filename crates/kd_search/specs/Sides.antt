@@ -22,7 +22,7 @@ pub record IsRightNear (t : Top) (q : Place) (s : Sides) : Type 0 where
 -- the children, and how far the plane is from q
 pub record AreSidesOf (t : Top) (q : Place) (s : Sides) : Type 0 where
   pub gap : s.gap ≡ gap2 (on t.axis q) (on t.axis t.item.point)
-  pub sons : IsLeftNear t q s ⊎ IsRightNear t q s
+  pub children : IsLeftNear t q s ⊎ IsRightNear t q s
 
 -- the items are those of the one, then of the other, or the other way round
 abbrev pub IsEitherWay : List Item → List Item → List Item → Type 0

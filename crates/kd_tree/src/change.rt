@@ -6,7 +6,7 @@ ghost use Rattle.kd_tree.specs.Shape.{leaf, numbers};
 ghost use Rattle.kd_tree.specs.Walk.{tagged};
 ghost use Rattle.kd_tree.specs.Sound.{IsSound, IsTopSound};
 ghost use Rattle.kd_tree.specs.Contents.{contents};
-ghost use Rattle.kd_tree.specs.Parts.{contents_of_parts, joined, pushed, with_son};
+ghost use Rattle.kd_tree.specs.Parts.{contents_of_parts, joined, pushed, with_child};
 
 use crate::open_node::{Block, OpenNode, Opened};
 use crate::{Side, Steps, Tree};
@@ -99,15 +99,15 @@ impl Tree {
 
     /// The tree with another child on this side. What is pending at the top is pending for that child too. An empty
     /// tree stays empty. On `NoMemory` both trees are dropped.
-    pub fn with_son<L: Ledger>(
+    pub fn with_child<L: Ledger>(
         self,
         alloc: Global,
         side: Side,
-        son: Tree,
+        child: Tree,
         steps: &mut Steps<L>,
     ) -> Result<Tree, NoMemory>
-        requires { IsTopSound (with_son side son self) }
-        ensures shape { IfOk result (λ t. t ≡ with_son side son self) }
+        requires { IsTopSound (with_child side child self) }
+        ensures shape { IfOk result (λ t. t ≡ with_child side child self) }
         ensures ticks { steps.new ≤ steps.old + 1 }
     {
         match self.opened()? {
@@ -122,8 +122,8 @@ impl Tree {
                     block,
                 } = node;
                 let (left, right) = match side {
-                    Side::Left => (son, right),
-                    Side::Right => (left, son),
+                    Side::Left => (child, right),
+                    Side::Right => (left, child),
                 };
                 let node = Opened {
                     item,

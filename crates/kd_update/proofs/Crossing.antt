@@ -21,7 +21,7 @@ use Rattle.kd_tree.specs.Sound.{IsSound}
 use Rattle.kd_tree.specs.Contents.{AreDistinct, by_number, contents}
 use Rattle.kd_tree.specs.Build.{IsBuilt}
 use Rattle.kd_tree.specs.Apart.{AreAllApart, IsClear, is_here, onward}
-use Rattle.kd_tree.specs.Parts.{at, pushed, son}
+use Rattle.kd_tree.specs.Parts.{at, pushed, child}
 use Rattle.kd_tree.specs.declared.change.Fork.{Fork}
 use Rattle.kd_tree.specs.declared.path.Side.{Side}
 use Rattle.kd_tree.specs.declared.path.Side.TheVariants.{Left, Right}
@@ -47,7 +47,7 @@ use Rattle.kd_update.proofs.Logged.{handed_puts}
 use Rattle.kd_mark.proofs.Several.{clear_balanced, balanced_clear, balanced_here, passed_by}
 use Rattle.kd_update.proofs.Several.{some_of}
 use Rattle.kd_mark.proofs.Trees.{at_pushed, pushed_nodes, walk-tagged_keep}
-use Rattle.kd_mark.proofs.WatchedMark.{at-tagged, at_son, watched_handed, watched_same, watched_son}
+use Rattle.kd_mark.proofs.WatchedMark.{at-tagged, at_child, watched_handed, watched_same, watched_child}
 
 -- lists
 
@@ -107,7 +107,7 @@ met_moved (side ∷ path) (i ∷ is) (j ∷ js) leaf t d m k = k
 met_moved (side ∷ path) (i ∷ is) (j ∷ js) (fork h l r) leaf d m k = k
 met_moved (side ∷ path) (i ∷ is) (j ∷ js) (fork h l r) (fork g l' r') d m k =
     let p : Item → Bool = λ x. goes_to side (goes_left h.axis x.point h.item.point) in
-    met_moved path (filter p (i ∷ is)) (filter p (j ∷ js)) (tagged h.pending (son side l r)) (son side l' r') (distinct_filter p (i ∷ is) d) (filter_moved p (i ∷ is) (j ∷ js) d m) k
+    met_moved path (filter p (i ∷ is)) (filter p (j ∷ js)) (tagged h.pending (child side l r)) (child side l' r') (distinct_filter p (i ∷ is) d) (filter_moved p (i ∷ is) (j ∷ js) d m) k
 
 -- the operations that put them
 
@@ -160,7 +160,7 @@ come_side p k a b is s e live d room = record {
   room = omega (arith, room, filter_short p is, length-append k (a ++ b), length-append a b, ap length e);
 }
 
-come_on : (side : Side) (p : Item → Bool) (h : Head) (l r : Shape) (is : List Item) → MayCome (fork h l r) is → MayCome (tagged h.pending (son side l r)) (filter p is)
+come_on : (side : Side) (p : Item → Bool) (h : Head) (l r : Shape) (is : List Item) → MayCome (fork h l r) is → MayCome (tagged h.pending (child side l r)) (filter p is)
 come_on Left p h l r is k =
     come_side p (kept (relabelled keep_tag h.item ∷ [])) (walk (composed h.pending keep_tag) l) (walk (composed h.pending keep_tag) r) is (tagged h.pending l)
     (walk-tagged_keep h.pending l ∙ ap (λ q. walk q l) (sym (composed-keep_right h.pending))) k.live k.distinct k.room
@@ -180,11 +180,11 @@ watched_scan (side ∷ path) [] s t q e k m = subst (λ u. IsWatched (side ∷ p
 watched_scan (side ∷ path) (i ∷ is) leaf t q e k m = absurd m
 watched_scan (side ∷ path) (i ∷ is) (fork h l r) leaf q e k m = absurd m
 watched_scan (side ∷ path) (i ∷ is) (fork h l r) (fork g l' r') q e k m =
-    let u = at-tagged path h.pending (son side l r) q (at_son side path h l r q e) in
+    let u = at-tagged path h.pending (child side l r) q (at_child side path h l r q e) in
     let xs = going side h.axis h.item.point (i ∷ is) in
     let come = come_on side (λ x. goes_to side (goes_left h.axis x.point h.item.point)) h l r (i ∷ is) k in
-    watched_son side path h g l r l' r' (handed path h.pending ++ logged_scan path xs (tagged h.pending (son side l r)))
-    (watched_handed path h.pending (son side l r) (son side l' r') q (logged_scan path xs (tagged h.pending (son side l r))) (at_son side path h l r q e) (watched_scan path xs (tagged h.pending (son side l r)) (son side l' r') u.0 u.1 come m))
+    watched_child side path h g l r l' r' (handed path h.pending ++ logged_scan path xs (tagged h.pending (child side l r)))
+    (watched_handed path h.pending (child side l r) (child side l' r') q (logged_scan path xs (tagged h.pending (child side l r))) (at_child side path h l r q e) (watched_scan path xs (tagged h.pending (child side l r)) (child side l' r') u.0 u.1 come m))
 
 pub piece_comes : (large : ℕ) (s : Shape) (is : List Item) → IsPiece large s is → MayCome s is
 piece_comes large s is p = record { live = p.live; distinct = p.distinct; room = omega (arith, p.few, walk_few keep_tag s) }
@@ -225,13 +225,13 @@ all_met_none [] s e = tt
 all_met_none ([] ∷ ps) s e = absurd (cc)
 all_met_none ((side ∷ p) ∷ ps) s e = (refl, all_met_none ps s e)
 
-met_sons : (ps : List (List Side)) (i : Item) (is : List Item) (h g : Head) (l r l' r' : Shape) → is_here ps ≡ false
+met_children : (ps : List (List Side)) (i : Item) (is : List Item) (h g : Head) (l r l' r' : Shape) → is_here ps ≡ false
     → AreMet (onward Left ps) (going Left h.axis h.item.point (i ∷ is)) (tagged h.pending l) l' → AreMet (onward Right ps) (going Right h.axis h.item.point (i ∷ is)) (tagged h.pending r) r'
     → AreMet ps (i ∷ is) (fork h l r) (fork g l' r')
-met_sons [] i is h g l r l' r' e u v = tt
-met_sons ([] ∷ ps) i is h g l r l' r' e u v = absurd (cc)
-met_sons ((Left ∷ p) ∷ ps) i is h g l r l' r' e u v = (u.0, met_sons ps i is h g l r l' r' e u.1 v)
-met_sons ((Right ∷ p) ∷ ps) i is h g l r l' r' e u v = (v.0, met_sons ps i is h g l r l' r' e u v.1)
+met_children [] i is h g l r l' r' e u v = tt
+met_children ([] ∷ ps) i is h g l r l' r' e u v = absurd (cc)
+met_children ((Left ∷ p) ∷ ps) i is h g l r l' r' e u v = (u.0, met_children ps i is h g l r l' r' e u.1 v)
+met_children ((Right ∷ p) ∷ ps) i is h g l r l' r' e u v = (v.0, met_children ps i is h g l r l' r' e u v.1)
 
 filter_every : (p : Item → Bool) (xs : List Item) → AllByRecursion (λ i. p i ≡ true) xs → filter p xs ≡ xs
 filter_every p [] k = refl
@@ -257,7 +257,7 @@ met_fork ps i is h l0 r0 l r xs ys d m b e u v =
     let q : Item → Bool = λ x. not (p x) in
     let pl = first_parted p (i ∷ is) xs ys d m b.left b.right in
     let pr = last_parted q (i ∷ is) xs ys d m (All-weaker (λ x. p x ≡ true) (λ x. q x ≡ false) (λ x k. ap not k) xs b.left) (All-weaker (λ x. p x ≡ false) (λ x. q x ≡ true) (λ x k. ap not k) ys b.right) in
-    met_sons ps i is h (head h.item h.axis) l0 r0 l r e
+    met_children ps i is h (head h.item h.axis) l0 r0 l r e
     (all_met_moved (onward Left ps) (filter p (i ∷ is)) xs (tagged h.pending l0) l (distinct_filter p (i ∷ is) d) pl u)
     (all_met_moved (onward Right ps) (filter q (i ∷ is)) ys (tagged h.pending r0) r (distinct_filter q (i ∷ is) d) pr v)
 
@@ -301,7 +301,7 @@ puts_length : (is : List Item) → length (puts_of is) ≡ length is
 puts_length [] = refl
 puts_length (i ∷ is) = omega (arith, puts_length is)
 
-pub ahead_scan : (side : Side) (path : List Side) (is : List Item) (q o : Tag) (t s : Shape) (h : Head) (l r : Shape) → t ≡ fork h l r → o ≡ composed h.pending q → s ≡ son side l r → (is ≡ [] → ⊥)
+pub ahead_scan : (side : Side) (path : List Side) (is : List Item) (q o : Tag) (t s : Shape) (h : Head) (l r : Shape) → t ≡ fork h l r → o ≡ composed h.pending q → s ≡ child side l r → (is ≡ [] → ⊥)
     → logged_scan (side ∷ path) is (tagged q t) ≡ handed path o ++ logged_scan path (going side h.axis h.item.point is) (tagged o s)
 ahead_scan side path [] q o t s h l r e owed on some = absurd (some refl)
 ahead_scan side path (i ∷ is) q o t s h l r e owed on some = rw (e, owed, on) refl
@@ -331,7 +331,7 @@ logged_scan_few (side ∷ []) (i ∷ is) (fork h l r) =
     cond_both (is_keep h.pending) [] (Mark all_items h.pending ∷ []) (λ (os : List Op). length (os ++ puts_of xs) ≤ length (i ∷ is) + 1) (λ _. omega (arith, few, same)) (λ _. omega (arith, few, same))
 logged_scan_few (side ∷ (next ∷ path)) (i ∷ is) (fork h l r) =
     let p : Item → Bool = λ x. goes_to side (goes_left h.axis x.point h.item.point) in
-    omega (arith, logged_scan_few (next ∷ path) (filter p (i ∷ is)) (tagged h.pending (son side l r)), filter_short p (i ∷ is))
+    omega (arith, logged_scan_few (next ∷ path) (filter p (i ∷ is)) (tagged h.pending (child side l r)), filter_short p (i ∷ is))
 
 puts_put : (P : ℕ → Type 0) (is : List Item) → All (λ i. P i.number) is → All P (numbers_put (puts_of is))
 puts_put P [] k = All-nil P
@@ -344,5 +344,5 @@ scan_puts P (side ∷ path) [] t k = All-nil P
 scan_puts P (side ∷ path) (i ∷ is) leaf k = All-nil P
 scan_puts P (side ∷ path) (i ∷ is) (fork h l r) k =
     let p : Item → Bool = λ x. goes_to side (goes_left h.axis x.point h.item.point) in
-    let ops = logged_scan path (filter p (i ∷ is)) (tagged h.pending (son side l r)) in
-    subst (All P) (sym (handed_puts path h.pending ops)) (scan_puts P path (filter p (i ∷ is)) (tagged h.pending (son side l r)) (All-filter p (λ j. P j.number) (i ∷ is) k))
+    let ops = logged_scan path (filter p (i ∷ is)) (tagged h.pending (child side l r)) in
+    subst (All P) (sym (handed_puts path h.pending ops)) (scan_puts P path (filter p (i ∷ is)) (tagged h.pending (child side l r)) (All-filter p (λ j. P j.number) (i ∷ is) k))

@@ -30,7 +30,7 @@ use Rattle.kd_update.specs.Scan.{AreLive, IsGrown, IsParted, IsPiece, numbers_in
 use Rattle.kd_mark.proofs.Trees.{among_same, among_append, among_fork, at_pushed}
 use Rattle.kd_mark.proofs.Among.{swapped}
 use Rattle.kd_mark.proofs.Refresh.{head, left_among, refreshed_refresh}
-use Rattle.kd_mark.proofs.Update.{criteria_balanced, balanced_sons}
+use Rattle.kd_mark.proofs.Update.{criteria_balanced, balanced_children}
 use Rattle.kd_mark.proofs.TakenApart.{IsApart, apart}
 use Rattle.kd_update.proofs.Route.{le_of_true, le_of_false, walk-put, nodes-put, levels-put, numbers-put}
 
@@ -187,8 +187,8 @@ pub distinct_back : (xs ys : List Item) → AreDistinct (xs ++ ys) → AreDistin
 distinct_back xs ys d = record { once = λ n. let g : Item → ℕ = λ i. cond (n == i.number) 1 0 in omega (arith, d.once n, sum_by-append g xs ys) }
 
 -- the items that go to each child may be put there
-piece_sons : (large : ℕ) (i : Item) (a : Axis) (l r : Shape) (xs ys : List Item) → IsPiece large (fork (head i a) l r) (xs ++ ys) → IsPiece large l xs × IsPiece large r ys
-piece_sons large i a l r xs ys p =
+piece_children : (large : ℕ) (i : Item) (a : Axis) (l r : Shape) (xs ys : List Item) → IsPiece large (fork (head i a) l r) (xs ++ ys) → IsPiece large l xs × IsPiece large r ys
+piece_children large i a l r xs ys p =
     let both : AreDistinct ((walk keep_tag l ++ xs) ++ (walk keep_tag r ++ ys)) = distinct_back _ _ (once_moved _ _ (spread (kept (relabelled keep_tag i ∷ [])) (walk keep_tag l) (walk keep_tag r) xs ys) p.distinct) in
     let size = length-append xs ys in
     let s = fork (head i a) l r in (
@@ -237,7 +237,7 @@ step_at s f n is js xs ys x k m p e e' = record {
 
 pub step_pieces : (large : ℕ) (s : Shape) (is : List Item) (f : Fork) (xs ys : List Item) → IsStep s is f xs ys → IsPiece large s is → IsPiece large f.left xs × IsPiece large f.right ys
 step_pieces large s is f xs ys k p =
-    piece_sons large f.item f.axis f.left f.right xs ys (piece_after large s (fork (head f.item f.axis) f.left f.right) (xs ++ ys) k.apart.refresh (piece_moved large s is (xs ++ ys) k.moved p))
+    piece_children large f.item f.axis f.left f.right xs ys (piece_after large s (fork (head f.item f.axis) f.left f.right) (xs ++ ys) k.apart.refresh (piece_moved large s is (xs ++ ys) k.moved p))
 
 pub step_sound : (large : ℕ) (s : Shape) (is : List Item) (f : Fork) (xs ys : List Item) (l r : Shape) → IsStep s is f xs ys → IsPiece large s is → IsGrown f.left xs l → IsGrown f.right ys r → IsSoundFork (head f.item f.axis) l r
 step_sound large s is f xs ys l r k p left right =
@@ -259,5 +259,5 @@ balanced_due large h l r t left right (inr k) = criteria_balanced large t k.2
 pub step_balanced : (large : ℕ) (s : Shape) (f : Fork) (l r t : Shape) → Some f ≡ pushed s → (IsBalancedBelow large f.left → IsBalancedBelow large l) → (IsBalancedBelow large f.right → IsBalancedBelow large r) → RefreshesIfDue large (fork (head f.item f.axis) l r) t
     → IsBalancedBelow large s → IsBalancedBelow large t
 step_balanced large s f l r t x left right done balanced =
-    let both = at_pushed (λ z g. IsBalancedBelow large z → IsBalancedBelow large g.left × IsBalancedBelow large g.right) s f x (balanced_sons large) balanced in
+    let both = at_pushed (λ z g. IsBalancedBelow large z → IsBalancedBelow large g.left × IsBalancedBelow large g.right) s f x (balanced_children large) balanced in
     balanced_due large (head f.item f.axis) l r t (left both.0) (right both.1) done

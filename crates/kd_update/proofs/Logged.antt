@@ -14,7 +14,7 @@ use Rattle.map_items.specs.Ops.{numbers_put}
 use Rattle.kd_tree.specs.Shape.{Head, Shape, leaf, fork}
 use Rattle.kd_tree.specs.Walk.{tagged}
 use Rattle.kd_tree.specs.declared.path.Side.{Side}
-use Rattle.kd_tree.specs.Parts.{son}
+use Rattle.kd_tree.specs.Parts.{child}
 use Rattle.kd_mark.specs.Mark.{is_entered}
 use Rattle.kd_update.specs.Put.{goes_left}
 use Rattle.kd_mark.specs.Watch.{is_keep, handed, is_met, logged_mark}
@@ -28,9 +28,9 @@ unfolding logged_put
 put_few n p [] t = omega arith
 put_few n p (side ∷ path) leaf = omega arith
 put_few n p (side ∷ path) (fork h l r) =
-    let few = put_few n p path (tagged h.pending (son side l r)) in
+    let few = put_few n p path (tagged h.pending (child side l r)) in
     let on : List Op → Type 0 = λ os. length os ≤ 1 + min 1 (length path) in
-    omega (arith, handed_few path h.pending _ (cond_both (goes_to side (goes_left h.axis p h.item.point)) (logged_put n p path (tagged h.pending (son side l r))) [] on (λ _. few) (λ _. omega arith)))
+    omega (arith, handed_few path h.pending _ (cond_both (goes_to side (goes_left h.axis p h.item.point)) (logged_put n p path (tagged h.pending (child side l r))) [] on (λ _. few) (λ _. omega arith)))
 
 pub logged_put_few : (n : ℕ) (p : Place) (path : List Side) (t : Shape) → length (logged_put n p path t) ≤ 2
 logged_put_few n p path t = omega (arith, put_few n p path t)
@@ -46,8 +46,8 @@ unfolding logged_mark
 mark_puts c a [] t = cond_both (is_met c t) (Mark c a ∷ []) [] (λ os. numbers_put os ≡ []) (λ _. refl) (λ _. refl)
 mark_puts c a (side ∷ path) leaf = refl
 mark_puts c a (side ∷ path) (fork h l r) =
-    cond_both (is_entered c (reach_of h l r)) (handed path h.pending ++ logged_mark c a path (tagged h.pending (son side l r))) [] (λ os. numbers_put os ≡ [])
-    (λ _. handed_puts path h.pending (logged_mark c a path (tagged h.pending (son side l r))) ∙ mark_puts c a path (tagged h.pending (son side l r))) (λ _. refl)
+    cond_both (is_entered c (reach_of h l r)) (handed path h.pending ++ logged_mark c a path (tagged h.pending (child side l r))) [] (λ os. numbers_put os ≡ [])
+    (λ _. handed_puts path h.pending (logged_mark c a path (tagged h.pending (child side l r))) ∙ mark_puts c a path (tagged h.pending (child side l r))) (λ _. refl)
 
 -- and a point puts its own number alone
 pub put_puts : (P : ℕ → Type 0) (n : ℕ) (p : Place) (path : List Side) (t : Shape) → P n → All P (numbers_put (logged_put n p path t))
@@ -55,8 +55,8 @@ unfolding logged_put
 put_puts P n p [] t k = All-cons P n [] k (All-nil P)
 put_puts P n p (side ∷ path) leaf k = All-nil P
 put_puts P n p (side ∷ path) (fork h l r) k =
-    cond_both (goes_to side (goes_left h.axis p h.item.point)) (logged_put n p path (tagged h.pending (son side l r))) [] (λ os. All P (numbers_put (handed path h.pending ++ os)))
-    (λ _. subst (All P) (sym (handed_puts path h.pending (logged_put n p path (tagged h.pending (son side l r))))) (put_puts P n p path (tagged h.pending (son side l r)) k))
+    cond_both (goes_to side (goes_left h.axis p h.item.point)) (logged_put n p path (tagged h.pending (child side l r))) [] (λ os. All P (numbers_put (handed path h.pending ++ os)))
+    (λ _. subst (All P) (sym (handed_puts path h.pending (logged_put n p path (tagged h.pending (child side l r))))) (put_puts P n p path (tagged h.pending (child side l r)) k))
     (λ _. subst (All P) (sym (handed_puts path h.pending [])) (All-nil P))
 
 -- a point, read from the tree
@@ -70,7 +70,7 @@ pub ahead_put_none : (n : ℕ) (p : Place) (q : Tag) (side : Side) (path : List 
 unfolding logged_put
 ahead_put_none n p q side path t e = ap (λ z. logged_put n p (side ∷ path) (tagged q z)) e
 
-pub ahead_put : (n : ℕ) (p : Place) (q o : Tag) (side : Side) (path : List Side) (t s : Shape) (h : Head) (l r : Shape) (b : Bool) → t ≡ fork h l r → o ≡ composed h.pending q → s ≡ son side l r → b ≡ goes_to side (goes_left h.axis p h.item.point)
+pub ahead_put : (n : ℕ) (p : Place) (q o : Tag) (side : Side) (path : List Side) (t s : Shape) (h : Head) (l r : Shape) (b : Bool) → t ≡ fork h l r → o ≡ composed h.pending q → s ≡ child side l r → b ≡ goes_to side (goes_left h.axis p h.item.point)
     → logged_put n p (side ∷ path) (tagged q t) ≡ handed path o ++ cond b (logged_put n p path (tagged o s)) []
 unfolding logged_put
 ahead_put n p q o side path t s h l r b is owed on goes = rw (is, owed, on, goes) refl

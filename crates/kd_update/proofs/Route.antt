@@ -44,8 +44,8 @@ put-tagged n p axis a leaf = refl
 put-tagged n p axis a (fork h l r) = rw (relabelled-keep (relabelled a h.item), composed-keep_right (composed h.pending a)) refl
 
 -- a child that was handed the pending action
-pub son-put : (n : ℕ) (p : Place) (axis : Axis) (q : Tag) (t : Shape) → put_from n p axis (tagged q t) ≡ put_under n p axis (composed q keep_tag) t
-son-put n p axis q t = put-tagged n p axis q t ∙ ap (λ b. put_under n p axis b t) (sym (composed-keep_right q))
+pub child-put : (n : ℕ) (p : Place) (axis : Axis) (q : Tag) (t : Shape) → put_from n p axis (tagged q t) ≡ put_under n p axis (composed q keep_tag) t
+child-put n p axis q t = put-tagged n p axis q t ∙ ap (λ b. put_under n p axis b t) (sym (composed-keep_right q))
 
 pub nodes-put : (n : ℕ) (p : Place) (axis : Axis) (a : Tag) (t : Shape) → nodes (put_under n p axis a t) ≡ nodes t + 1
 unfolding put_under
@@ -149,10 +149,10 @@ pub le_of_false : (a b : ℤ) → int_lt a b ≡ false → b ≤ℤ a
 le_of_false a b h = grind (arith, ints)
 
 -- the point may go on to this child
-pub record IsFree (n : ℕ) (son : Shape) : Type 0 where
-  pub low : levels son < 512
-  pub few : nodes son < 4194304
-  pub new : times n keep_tag son ≡ 0
+pub record IsFree (n : ℕ) (child : Shape) : Type 0 where
+  pub low : levels child < 512
+  pub few : nodes child < 4194304
+  pub new : times n keep_tag child ≡ 0
 
 -- what holds where the point goes on to the child on the side, when the top of s is taken apart to f
 pub record IsOnRoute (n : ℕ) (p : Place) (axis : Axis) (s : Shape) (f : Fork) (side : Side) : Type 0 where
@@ -170,21 +170,21 @@ criteria_parts large p h l r k = k
 value_left : (n : ℕ) (p : Place) (axis : Axis) (h : Head) (l r : Shape) → goes_left h.axis p h.item.point ≡ true → fork (head h.item h.axis) (put_from n p (next_axis h.axis) (tagged h.pending l)) (tagged h.pending r) ≡ put_from n p axis (fork h l r)
 unfolding put_under
 value_left n p axis h l r e =
-    tops_alike (λ i. i) h _ _ _ (tagged (composed h.pending keep_tag) r) (son-put n p (next_axis h.axis) h.pending l) (ap (λ t. tagged t r) (sym (composed-keep_right h.pending)))
+    tops_alike (λ i. i) h _ _ _ (tagged (composed h.pending keep_tag) r) (child-put n p (next_axis h.axis) h.pending l) (ap (λ t. tagged t r) (sym (composed-keep_right h.pending)))
     ∙ sym (cond-true (goes_left h.axis p h.item.point) _ _ e)
 
 value_right : (n : ℕ) (p : Place) (axis : Axis) (h : Head) (l r : Shape) → goes_left h.axis p h.item.point ≡ false → fork (head h.item h.axis) (tagged h.pending l) (put_from n p (next_axis h.axis) (tagged h.pending r)) ≡ put_from n p axis (fork h l r)
 unfolding put_under
 value_right n p axis h l r e =
-    tops_alike (λ i. i) h _ _ (tagged (composed h.pending keep_tag) l) _ (ap (λ t. tagged t l) (sym (composed-keep_right h.pending))) (son-put n p (next_axis h.axis) h.pending r)
+    tops_alike (λ i. i) h _ _ (tagged (composed h.pending keep_tag) l) _ (ap (λ t. tagged t l) (sym (composed-keep_right h.pending))) (child-put n p (next_axis h.axis) h.pending r)
     ∙ sym (cond-false (goes_left h.axis p h.item.point) _ _ e)
 
-pub new_sons : (n : ℕ) (h : Head) (l r : Shape) → times n keep_tag (fork h l r) ≡ 0 → (times n keep_tag (tagged h.pending l) ≡ 0) × (times n keep_tag (tagged h.pending r) ≡ 0)
-new_sons n h l r k = (omega (arith, k, times-tagged n h.pending keep_tag l), omega (arith, k, times-tagged n h.pending keep_tag r))
+pub new_children : (n : ℕ) (h : Head) (l r : Shape) → times n keep_tag (fork h l r) ≡ 0 → (times n keep_tag (tagged h.pending l) ≡ 0) × (times n keep_tag (tagged h.pending r) ≡ 0)
+new_children n h l r k = (omega (arith, k, times-tagged n h.pending keep_tag l), omega (arith, k, times-tagged n h.pending keep_tag r))
 
-free_sons : (n : ℕ) (h : Head) (l r : Shape) → IsFree n (fork h l r) → IsFree n (tagged h.pending l) × IsFree n (tagged h.pending r)
-free_sons n h l r k =
-    let new = new_sons n h l r k.new in (
+free_children : (n : ℕ) (h : Head) (l r : Shape) → IsFree n (fork h l r) → IsFree n (tagged h.pending l) × IsFree n (tagged h.pending r)
+free_children n h l r k =
+    let new = new_children n h l r k.new in (
       record { low = omega (arith, k.low, tagged_levels h.pending l); few = omega (arith, k.few, tagged_nodes h.pending l); new = new.0 },
       record { low = omega (arith, k.low, tagged_levels h.pending r); few = omega (arith, k.few, tagged_nodes h.pending r); new = new.1 },
     )
@@ -194,9 +194,9 @@ unfolding entered_put
 entered_put-tagged p a leaf = refl
 entered_put-tagged p a (fork h l r) = refl
 
-entered_son : (p : Place) (h : Head) (l r : Shape) (b : Bool) → goes_left h.axis p h.item.point ≡ b → entered_put p (fork h l r) ≡ 1 + cond b (entered_put p (tagged h.pending l)) (entered_put p (tagged h.pending r))
+entered_child : (p : Place) (h : Head) (l r : Shape) (b : Bool) → goes_left h.axis p h.item.point ≡ b → entered_put p (fork h l r) ≡ 1 + cond b (entered_put p (tagged h.pending l)) (entered_put p (tagged h.pending r))
 unfolding entered_put
-entered_son p h l r b e = rw (e, entered_put-tagged p h.pending l, entered_put-tagged p h.pending r) refl
+entered_child p h l r b e = rw (e, entered_put-tagged p h.pending l, entered_put-tagged p h.pending r) refl
 
 -- a node with the point put below it is sound, where its children lie on their sides
 route_sound : (n : ℕ) (p : Place) (axis : Axis) (h : Head) (l r l' r' : Shape) → IsSound (fork h l r) → IsFree n (fork h l r) → fork (head h.item h.axis) l' r' ≡ put_from n p axis (fork h l r)
@@ -219,8 +219,8 @@ left_fork n p axis h l r e s k =
       sound = route_sound n p axis h l r (put_from n p next (tagged h.pending l)) (tagged h.pending r) s k value
           (rw (put-tagged n p next h.pending l) (AllKept-put P n p next h.pending l (le_of_true (on h.axis p) (on h.axis h.item.point) e) s.0.below)) (pushed_sound h l r s).0.above;
       criteria = λ large all. let parts = criteria_parts large p (head h.item h.axis) (put_from n p next (tagged h.pending l)) (tagged h.pending r) (subst (RebuildsNoneOnRoute large p) (sym value) all) in (parts.0, parts.1 e);
-      free = (free_sons n h l r k).0;
-      entered = entered_son p h l r true e;
+      free = (free_children n h l r k).0;
+      entered = entered_child p h l r true e;
     }
 
 right_fork : (n : ℕ) (p : Place) (axis : Axis) (h : Head) (l r : Shape) → goes_left h.axis p h.item.point ≡ false → IsSound (fork h l r) → IsFree n (fork h l r) → IsOnRoute n p axis (fork h l r) (forked h l r) Right
@@ -233,8 +233,8 @@ right_fork n p axis h l r e s k =
       sound = route_sound n p axis h l r (tagged h.pending l) (put_from n p next (tagged h.pending r)) s k value (pushed_sound h l r s).0.below
           (rw (put-tagged n p next h.pending r) (AllKept-put P n p next h.pending r (le_of_false (on h.axis p) (on h.axis h.item.point) e) s.0.above));
       criteria = λ large all. let parts = criteria_parts large p (head h.item h.axis) (tagged h.pending l) (put_from n p next (tagged h.pending r)) (subst (RebuildsNoneOnRoute large p) (sym value) all) in (parts.0, parts.2 e);
-      free = (free_sons n h l r k).1;
-      entered = entered_son p h l r false e;
+      free = (free_children n h l r k).1;
+      entered = entered_child p h l r false e;
     }
 
 pub on_route : (n : ℕ) (p : Place) (axis : Axis) (s : Shape) (f : Fork) (side : Side) → Some f ≡ pushed s → side ≡ side_of f.axis p f.item.point → IsSound s → IsFree n s → IsOnRoute n p axis s f side

@@ -44,7 +44,7 @@ breached_not t p e k =
     let none : first_breach 10 t ≡ None = sym (first_free-none 10 t) ∙ none_of_clear 10 [] t (λ q s there clear large. criteria_at 10 t q s k there large) in
     cc
 
--- what a fork's first breach is, by whether its top is one, and by those of its sons
+-- what a fork's first breach is, by whether its top is one, and by those of its children
 abbrev first : Bool → Option (List Side) → Option (List Side) → Option (List Side)
 first top o q = cond top (Some []) (first_of (on_side Left o) (on_side Right q))
 
@@ -71,7 +71,7 @@ module _ (t : Shape) (h : Head) (l r : Shape) (f : Fork) (rest : List Side) (is 
   right_is : f.right ≡ r
   right_is = let same : f.right ≡ tagged h.pending r = cc taken in same ∙ ap (λ (a : Tag). tagged a r) keep ∙ tagged-keep r
 
-  -- a breach on the left is the left son's first one
+  -- a breach on the left is the left child's first one
   pub first_left : first_breach 10 t ≡ Some (Left ∷ rest) → first_breach 10 f.left ≡ Some rest
   first_left e = ap (first_breach 10) left_is ∙ went_left _ (first_breach 10 l) (first_breach 10 r) rest (sym (ap (first_breach 10) is) ∙ e)
 
@@ -79,6 +79,6 @@ module _ (t : Shape) (h : Head) (l r : Shape) (f : Fork) (rest : List Side) (is 
   pub none_left : first_breach 10 t ≡ Some (Right ∷ rest) → first_breach 10 f.left ≡ None
   none_left e = ap (first_breach 10) left_is ∙ (went_right _ (first_breach 10 l) (first_breach 10 r) rest (sym (ap (first_breach 10) is) ∙ e)).0
 
-  -- and it is the right son's first one
+  -- and it is the right child's first one
   pub first_right : first_breach 10 t ≡ Some (Right ∷ rest) → first_breach 10 f.right ≡ Some rest
   first_right e = ap (first_breach 10) right_is ∙ (went_right _ (first_breach 10 l) (first_breach 10 r) rest (sym (ap (first_breach 10) is) ∙ e)).1

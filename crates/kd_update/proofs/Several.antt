@@ -26,14 +26,14 @@ use Rattle.kd_mark.proofs.Large.{large_nodes, large_after, watched_new}
 use Rattle.kd_mark.proofs.Several.{clear_plain, IsPassedBy, passed_by, clear_fork}
 
 -- the child on one side updated, the other as it was
-clear_son : (large : ℕ) (ps : List (List Side)) (s : Shape) (f : Fork) (side : Side) (plain y t : Shape) (C Cs : ℕ → Type 0) → IsPassedBy large ps s f
+clear_child : (large : ℕ) (ps : List (List Side)) (s : Shape) (f : Fork) (side : Side) (plain y t : Shape) (C Cs : ℕ → Type 0) → IsPassedBy large ps s f
     → ((m : ℕ) → C m → IsNotDue m (with_near side f plain) × Cs m) → C 0 → AreLargeAt large ps (with_near side f plain)
     → IsUpdatedClear (large_at ps large) (onward side ps) (near side f) plain (Cs (large_at ps large)) y
     → RefreshesIfDue (large_at ps large) (with_near side f y) t → IsUpdatedClear large ps s (with_near side f plain) (C large) t
-clear_son large ps s f Left plain y t C Cs pass criteria none there u done =
+clear_child large ps s f Left plain y t C Cs pass criteria none there u done =
     clear_fork large ps s f.item f.axis f.left f.right plain f.right y f.right t C Cs (λ _. Unit {0}) pass.balanced (λ m c. let all = criteria m c in (all.0, all.1, tt)) none there
     u (clear_plain (large_at ps large) (onward Right ps) f.right f.right (Unit {0}) (λ k. k)) done
-clear_son large ps s f Right plain y t C Cs pass criteria none there u done =
+clear_child large ps s f Right plain y t C Cs pass criteria none there u done =
     clear_fork large ps s f.item f.axis f.left f.right f.left plain f.left y t C (λ _. Unit {0}) Cs pass.balanced (λ m c. let all = criteria m c in (all.0, tt, all.1)) none there
     (clear_plain (large_at ps large) (onward Left ps) f.left f.left (Unit {0}) (λ k. k)) u done
 
@@ -73,5 +73,5 @@ put_joined large m n p axis next ps qs s x y t f side w e sound none few k limit
     let plain = put_from n p (next_axis f.axis) (near side f) in
     let there = subst (AreLargeAt large ps) (sym w.value) (large_all_put large n p axis ps s sound none few k) in
     subst (λ v. IsUpdatedClear large ps s v (RebuildsNoneOnRoute large p (put_from n p axis s)) t) w.value
-    (clear_son large ps s f side plain y t (λ z. RebuildsNoneOnRoute z p (put_from n p axis s)) (λ z. RebuildsNoneOnRoute z p plain)
+    (clear_child large ps s f side plain y t (λ z. RebuildsNoneOnRoute z p (put_from n p axis s)) (λ z. RebuildsNoneOnRoute z p plain)
     (passed_by large ps s f e k) w.criteria (route_none p (put_from n p axis s)) there (rw (limit, axes, ways, same) at u) (rw limit at done))

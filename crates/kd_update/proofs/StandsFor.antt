@@ -15,7 +15,7 @@ use Rattle.kd_tree.specs.Shape.{Head, Shape, leaf, fork, nodes, levels, numbers}
 use Rattle.kd_tree.specs.Walk.{walk, AllKept, times}
 use Rattle.kd_tree.specs.Sound.{IsSound, IsSoundFork, IsTopSound}
 use Rattle.kd_tree.specs.Contents.{by_number, contents}
-use Rattle.kd_tree.specs.Parts.{at, replaced_at, with_son}
+use Rattle.kd_tree.specs.Parts.{at, replaced_at, with_child}
 use Rattle.kd_tree.specs.Apart.{AreApart, IsClear, onward}
 use Rattle.kd_tree.specs.declared.path.Side.{Side}
 use Rattle.kd_tree.specs.declared.path.Side.TheVariants.{Left, Right}
@@ -148,47 +148,47 @@ replaced_nodes (Right ∷ path) other (fork h l r) s e = omega (arith, replaced_
 
 -- the child on the way
 
-pub son_stands : (side : Side) (path : List Side) (t other s : Shape) → at (side ∷ []) t ≡ Some s → StandsFor (side ∷ path) t other → StandsFor path s other
-son_stands side path leaf other s e k = absurd (cc)
-son_stands Left path (fork h l r) other s e k = record { node = k.node; there = subst (λ x. at path x ≡ Some k.node) (same_Some l s e) k.there; same = k.same }
-son_stands Right path (fork h l r) other s e k = record { node = k.node; there = subst (λ x. at path x ≡ Some k.node) (same_Some r s e) k.there; same = k.same }
+pub child_stands : (side : Side) (path : List Side) (t other s : Shape) → at (side ∷ []) t ≡ Some s → StandsFor (side ∷ path) t other → StandsFor path s other
+child_stands side path leaf other s e k = absurd (cc)
+child_stands Left path (fork h l r) other s e k = record { node = k.node; there = subst (λ x. at path x ≡ Some k.node) (same_Some l s e) k.there; same = k.same }
+child_stands Right path (fork h l r) other s e k = record { node = k.node; there = subst (λ x. at path x ≡ Some k.node) (same_Some r s e) k.there; same = k.same }
 
-pub son_room : (side : Side) (path : List Side) (t other s : Shape) → at (side ∷ []) t ≡ Some s → HasRoomAt (side ∷ path) other t → HasRoomAt path other s
-son_room side path leaf other s e k = absurd (cc)
-son_room Left path (fork h l r) other s e k = subst (HasRoomAt path other) (same_Some l s e) (record { low = omega (arith, k.low); few = omega (arith, k.few) })
-son_room Right path (fork h l r) other s e k = subst (HasRoomAt path other) (same_Some r s e) (record { low = omega (arith, k.low); few = omega (arith, k.few) })
+pub child_room : (side : Side) (path : List Side) (t other s : Shape) → at (side ∷ []) t ≡ Some s → HasRoomAt (side ∷ path) other t → HasRoomAt path other s
+child_room side path leaf other s e k = absurd (cc)
+child_room Left path (fork h l r) other s e k = subst (HasRoomAt path other) (same_Some l s e) (record { low = omega (arith, k.low); few = omega (arith, k.few) })
+child_room Right path (fork h l r) other s e k = subst (HasRoomAt path other) (same_Some r s e) (record { low = omega (arith, k.low); few = omega (arith, k.few) })
 
 -- where no node above the path is to be rebuilt, neither is the parent nor one above it in the child
-pub son_calm : (large : ℕ) (side : Side) (path : List Side) (t other s : Shape) → at (side ∷ []) t ≡ Some s → RebuildsNoneAbove large (side ∷ path) (replaced_at (side ∷ path) other t)
-    → IsNotDue large (with_son side (replaced_at path other s) t) × RebuildsNoneAbove large path (replaced_at path other s)
-son_calm large side path leaf other s e k = absurd (cc)
-son_calm large Left path (fork h l r) other s e k = subst (λ x. IsNotDue large (fork h (replaced_at path other x) r) × RebuildsNoneAbove large path (replaced_at path other x)) (same_Some l s e) k
-son_calm large Right path (fork h l r) other s e k = subst (λ x. IsNotDue large (fork h l (replaced_at path other x)) × RebuildsNoneAbove large path (replaced_at path other x)) (same_Some r s e) k
+pub child_calm : (large : ℕ) (side : Side) (path : List Side) (t other s : Shape) → at (side ∷ []) t ≡ Some s → RebuildsNoneAbove large (side ∷ path) (replaced_at (side ∷ path) other t)
+    → IsNotDue large (with_child side (replaced_at path other s) t) × RebuildsNoneAbove large path (replaced_at path other s)
+child_calm large side path leaf other s e k = absurd (cc)
+child_calm large Left path (fork h l r) other s e k = subst (λ x. IsNotDue large (fork h (replaced_at path other x) r) × RebuildsNoneAbove large path (replaced_at path other x)) (same_Some l s e) k
+child_calm large Right path (fork h l r) other s e k = subst (λ x. IsNotDue large (fork h l (replaced_at path other x)) × RebuildsNoneAbove large path (replaced_at path other x)) (same_Some r s e) k
 
 -- there is one
-pub son_there : (side : Side) (path : List Side) (t other : Shape) → at (side ∷ []) t ≡ None → StandsFor (side ∷ path) t other → ⊥
-son_there side path leaf other e k = cc k.there
-son_there Left path (fork h l r) other e k = cc
-son_there Right path (fork h l r) other e k = cc
+pub child_there : (side : Side) (path : List Side) (t other : Shape) → at (side ∷ []) t ≡ None → StandsFor (side ∷ path) t other → ⊥
+child_there side path leaf other e k = cc k.there
+child_there Left path (fork h l r) other e k = cc
+child_there Right path (fork h l r) other e k = cc
 
 -- the tree with the changed child is sound
-pub son_sound : (large : ℕ) (side : Side) (path : List Side) (t other s new : Shape) → at (side ∷ []) t ≡ Some s → IsSound t → HasRoomAt (side ∷ path) other t → IsReplaced large path s other new → IsTopSound (with_son side new t)
-son_sound large side path leaf other s new e sound k u = absurd (cc)
-son_sound large Left path (fork h l r) other s new e sound k u =
+pub child_sound : (large : ℕ) (side : Side) (path : List Side) (t other s new : Shape) → at (side ∷ []) t ≡ Some s → IsSound t → HasRoomAt (side ∷ path) other t → IsReplaced large path s other new → IsTopSound (with_child side new t)
+child_sound large side path leaf other s new e sound k u = absurd (cc)
+child_sound large Left path (fork h l r) other s new e sound k u =
     let f = subst (λ x. IsReplaced large path x other new) (sym (same_Some l s e)) u in
     same_sound h l r new r sound.0 (sym f.held) refl (omega (arith, k.few, f.size.few)) (omega (arith, k.low, f.size.low)) (omega (arith, k.low))
-son_sound large Right path (fork h l r) other s new e sound k u =
+child_sound large Right path (fork h l r) other s new e sound k u =
     let f = subst (λ x. IsReplaced large path x other new) (sym (same_Some r s e)) u in
     same_sound h l r l new sound.0 refl (sym f.held) (omega (arith, k.few, f.size.few)) (omega (arith, k.low)) (omega (arith, k.low, f.size.low))
 
 -- and where it is rebuilt if it is to be, the whole is replaced
-pub son_replaced : (large : ℕ) (side : Side) (path : List Side) (t other s new u : Shape) → at (side ∷ []) t ≡ Some s → IsSound t → HasRoomAt (side ∷ path) other t → IsReplaced large path s other new
-    → RefreshesIfDue large (with_son side new t) u → IsReplaced large (side ∷ path) t other u
-son_replaced large side path leaf other s new u e sound k f g = absurd (cc)
-son_replaced large Left path (fork h l r) other s new u e sound k f g =
-    replaced_left large path h l r other new u sound (subst (λ x. IsReplaced large path x other new) (sym (same_Some l s e)) f) g (son_sound large Left path (fork h l r) other s new e sound k f)
-son_replaced large Right path (fork h l r) other s new u e sound k f g =
-    replaced_right large path h l r other new u sound (subst (λ x. IsReplaced large path x other new) (sym (same_Some r s e)) f) g (son_sound large Right path (fork h l r) other s new e sound k f)
+pub child_replaced : (large : ℕ) (side : Side) (path : List Side) (t other s new u : Shape) → at (side ∷ []) t ≡ Some s → IsSound t → HasRoomAt (side ∷ path) other t → IsReplaced large path s other new
+    → RefreshesIfDue large (with_child side new t) u → IsReplaced large (side ∷ path) t other u
+child_replaced large side path leaf other s new u e sound k f g = absurd (cc)
+child_replaced large Left path (fork h l r) other s new u e sound k f g =
+    replaced_left large path h l r other new u sound (subst (λ x. IsReplaced large path x other new) (sym (same_Some l s e)) f) g (child_sound large Left path (fork h l r) other s new e sound k f)
+child_replaced large Right path (fork h l r) other s new u e sound k f g =
+    replaced_right large path h l r other new u sound (subst (λ x. IsReplaced large path x other new) (sym (same_Some r s e)) f) g (child_sound large Right path (fork h l r) other s new e sound k f)
 
 -- several paths
 
@@ -204,9 +204,9 @@ pub replaced_contents : (path : List Side) (t other : Shape) → IsSound t → S
 replaced_contents [] t other sound k = k.same ∙ ap contents (same_Some k.node t (sym k.there))
 replaced_contents (side ∷ path) leaf other sound k = refl
 replaced_contents (Left ∷ path) (fork h l r) other sound k =
-    same_fork h l r (replaced_at path other l) r sound.0.once (sym (replaced_contents path l other sound.1 (son_stands Left path (fork h l r) other l refl k))) refl
+    same_fork h l r (replaced_at path other l) r sound.0.once (sym (replaced_contents path l other sound.1 (child_stands Left path (fork h l r) other l refl k))) refl
 replaced_contents (Right ∷ path) (fork h l r) other sound k =
-    same_fork h l r l (replaced_at path other r) sound.0.once refl (sym (replaced_contents path r other sound.2 (son_stands Right path (fork h l r) other r refl k)))
+    same_fork h l r l (replaced_at path other r) sound.0.once refl (sym (replaced_contents path r other sound.2 (child_stands Right path (fork h l r) other r refl k)))
 
 -- what is built of all that remains is no larger
 pub anew_no_larger : (path : List Side) (t other new : Shape) → IsSound t → StandsFor path t other → (HasRoomAt path other t → ⊥) → nodes new ≡ length (contents t) → levels new ≤ 23 → IsNoLarger (replaced_at path other t) new

@@ -8,7 +8,7 @@ use Rattle.map_items.specs.declared.op.Op.TheVariants.{Put}
 use Rattle.kd_tree.specs.Shape.{Shape, leaf, fork, nodes}
 use Rattle.kd_tree.specs.Walk.{tagged}
 use Rattle.kd_tree.specs.declared.path.Side.{Side}
-use Rattle.kd_tree.specs.Parts.{son}
+use Rattle.kd_tree.specs.Parts.{child}
 use Rattle.kd_mark.specs.declared.watch.Watch.{Watch}
 use Rattle.kd_update.specs.Put.{goes_left}
 use Rattle.kd_update.specs.Scan.{IsGrown}
@@ -32,7 +32,7 @@ abbrev pub logged_scan : List Side → List Item → Shape → List Op
 logged_scan [] is t = puts_of is
 logged_scan (side ∷ path) [] t = []
 logged_scan (side ∷ path) (i ∷ is) leaf = []
-logged_scan (side ∷ path) (i ∷ is) (fork h l r) = handed path h.pending ++ logged_scan path (going side h.axis h.item.point (i ∷ is)) (tagged h.pending (son side l r))
+logged_scan (side ∷ path) (i ∷ is) (fork h l r) = handed path h.pending ++ logged_scan path (going side h.axis h.item.point (i ∷ is)) (tagged h.pending (child side l r))
 
 -- The second tree has what remains of the first and the items, and no node of the first is gone.
 pub record IsWholeGrown (s : Shape) (is : List Item) (t : Shape) : Type 0 where
@@ -46,7 +46,7 @@ IsMet [] is s t = IsWholeGrown s is t
 IsMet (side ∷ path) [] s t = s ≡ t
 IsMet (side ∷ path) (i ∷ is) leaf t = ⊥
 IsMet (side ∷ path) (i ∷ is) (fork h l r) leaf = ⊥
-IsMet (side ∷ path) (i ∷ is) (fork h l r) (fork g l' r') = IsMet path (going side h.axis h.item.point (i ∷ is)) (tagged h.pending (son side l r)) (son side l' r')
+IsMet (side ∷ path) (i ∷ is) (fork h l r) (fork g l' r') = IsMet path (going side h.axis h.item.point (i ∷ is)) (tagged h.pending (child side l r)) (child side l' r')
 
 -- `IsMet` for the subtree at each of the paths
 abbrev pub AreMet : List (List Side) → List Item → Shape → Shape → Type 0

@@ -5,7 +5,7 @@ use Rattle.map_items.specs.declared.op.Op.{Op}
 use Rattle.map_items.specs.declared.op.Op.TheVariants.{Put}
 use Rattle.kd_tree.specs.Shape.{Shape, leaf, fork}
 use Rattle.kd_tree.specs.Walk.{tagged}
-use Rattle.kd_tree.specs.Parts.{son}
+use Rattle.kd_tree.specs.Parts.{child}
 use Rattle.kd_tree.specs.declared.path.Side.{Side}
 use Rattle.kd_tree.specs.declared.path.Side.TheVariants.{Left, Right}
 use Rattle.kd_update.specs.Put.{goes_left}
@@ -22,4 +22,4 @@ unfoldable pub logged_put : ℕ → Place → List Side → Shape → List Op
 logged_put n p [] t = Put n p ∷ []
 logged_put n p (side ∷ path) leaf = []
 logged_put n p (side ∷ path) (fork h l r) =
-    handed path h.pending ++ (if goes_to side (goes_left h.axis p h.item.point) then logged_put n p path (tagged h.pending (son side l r)) else [])
+    handed path h.pending ++ (if goes_to side (goes_left h.axis p h.item.point) then logged_put n p path (tagged h.pending (child side l r)) else [])

@@ -38,7 +38,7 @@ fn joined<L: Ledger>(rt: &impl Abort, alloc: Global, steps: &mut Steps<L>) -> Tr
     made(rt, Tree::pull_up(alloc, parts, steps))
 }
 
-// The tree with what its top owes done to both sons.
+// The tree with what its top owes done to both children.
 pub fn pushed<L: Ledger>(rt: &impl Abort, alloc: Global, tree: Tree, steps: &mut Steps<L>) -> Tree {
     let Some(parts) = made(rt, tree.push_down(alloc, steps)) else {
         panic!(rt; "no top");
@@ -120,12 +120,12 @@ fn put_back<L: Ledger>(rt: &impl Abort, alloc: Global, tree: Tree, blank: Blank)
     let Some(top) = tree.top() else {
         panic!(rt; "no top");
     };
-    let son = made(rt, top.left.copy(alloc, &mut steps));
-    made(rt, tree.with_son(alloc, Side::Left, son, &mut steps))
+    let child = made(rt, top.left.copy(alloc, &mut steps));
+    made(rt, tree.with_child(alloc, Side::Left, child, &mut steps))
 }
 
 #[test]
-fn a_son_that_is_put_back_owes_the_pending_action(rt: HostRuntime) {
+fn a_child_that_is_put_back_owes_the_pending_action(rt: HostRuntime) {
     let alloc = rt.alloc();
     let tree = forty_after(&rt, alloc, Tag::SUSPEND);
     is_live_left(&rt, &tree);
@@ -134,7 +134,7 @@ fn a_son_that_is_put_back_owes_the_pending_action(rt: HostRuntime) {
     is_suspended(&rt, alloc, &tree, 40);
 }
 
-// The left son by itself doesn't know of what is owed to it.
+// The left child by itself doesn't know of what is owed to it.
 fn is_live_left(rt: &impl Abort, tree: &Tree) {
     let left = Path::root().down(Side::Left);
     let live = tree.subtree_at(&left).map(|t| t.counts().live);

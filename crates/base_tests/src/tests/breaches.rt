@@ -24,7 +24,7 @@ pub fn left_dropped<L: Ledger>(
     made(rt, marked(alloc, tree, 0, &left, Tag::DELETE, steps))
 }
 
-// The tree without its right son.
+// The tree without its right child.
 fn leaning<L: Ledger>(rt: &impl Abort, alloc: Global, tree: Tree, steps: &mut Steps<L>) -> Tree {
     let Some(parts) = made(rt, tree.push_down(alloc, steps)) else {
         panic!(rt; "no top");
@@ -38,7 +38,7 @@ fn first_breaches<L: Ledger>(rt: &impl Abort, alloc: Global, blank: Blank)
     requires blank { IsBlankOf L.name L.parts blank }
 {
     let mut steps: Steps<L> = Steps::new(blank);
-    // 19 of 40 dropped are fewer than half, and all of the left son's.
+    // 19 of 40 dropped are fewer than half, and all of the left child's.
     let tree = forty(rt, alloc, &mut steps);
     let dropped = left_dropped(rt, alloc, tree, &mut steps);
     begin(rt, &dropped, Path::root().down(Side::Left), 20);
@@ -64,11 +64,11 @@ fn begins(rt: &impl Abort, tree: &Tree, least: u32, want: Option<Path>)
 }
 
 #[test]
-fn the_first_breach_is_the_node_before_its_sons(rt: HostRuntime) {
+fn the_first_breach_is_the_node_before_its_children(rt: HostRuntime) {
     first_breaches::<Brand>(&rt, rt.alloc(), Blank::new(1));
 }
 
-// A tree whose top and both sons breach a criterion: all of its items are dropped, and the sons know it.
+// A tree whose top and both children breach a criterion: all of its items are dropped, and the children know it.
 fn dropped<L: Ledger>(rt: &impl Abort, alloc: Global, blank: Blank) -> Tree
     requires blank { IsBlankOf L.name L.parts blank }
 {
@@ -86,7 +86,7 @@ fn a_breach_is_free_that_is_neither_above_nor_below_an_excepted_node(rt: HostRun
     are_free(&rt, &tree);
 }
 
-// Beside one of its sons and what is below them.
+// Beside one of its children and what is below them.
 fn are_free(rt: &impl Abort, tree: &Tree) {
     let root = Path::root();
     let (left, right) = (root.down(Side::Left), root.down(Side::Right));

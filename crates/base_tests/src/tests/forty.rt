@@ -101,19 +101,19 @@ fn halves_each_row(rt: &impl Abort, tree: &Tree) {
     };
     holds(rt, "the axis", top.axis == Axis::X);
     same(rt, "the top", top_of(rt, tree), (20, 19, 20));
-    same(rt, "the left son", top_of(rt, top.left), (10, 9, 9));
-    same(rt, "the right son", top_of(rt, top.right), (30, 9, 10));
+    same(rt, "the left child", top_of(rt, top.left), (10, 9, 9));
+    same(rt, "the right child", top_of(rt, top.right), (30, 9, 10));
 }
 
-// The least item has no son.
+// The least item has no child.
 fn begins_with_a_leaf(rt: &impl Abort, tree: &Tree) {
     let twice = Path::root().down(Side::Left).down(Side::Left);
     let least = twice.down(Side::Left).down(Side::Left);
     same(rt, "the least item", size_at(tree, &least), Some(1));
     let past = least.down(Side::Left);
-    same(rt, "its left son", size_at(tree, &past), Some(0));
+    same(rt, "its left child", size_at(tree, &past), Some(0));
     let farther = past.down(Side::Right);
-    same(rt, "a son of that", size_at(tree, &farther), None);
+    same(rt, "a child of that", size_at(tree, &farther), None);
 }
 
 fn size_at(tree: &Tree, path: &Path) -> Option<u32> {

@@ -6,7 +6,7 @@ use map_fold::Item;
 use std::alloc::Global;
 use std::process::Abort;
 
-// The top's x, and how many nodes its sons have.
+// The top's x, and how many nodes its children have.
 pub fn top_of(rt: &impl Abort, tree: &Tree) -> (i64, u32, u32) {
     let Some(top) = tree.top() else {
         panic!(rt; "no top");
@@ -30,9 +30,9 @@ fn a_rising_row_leans_to_the_right_until_it_is_settled(rt: HostRuntime) {
 
 fn leans_to_the_right(rt: &impl Abort, tree: &Tree) {
     let right = Path::root().down(Side::Right);
-    let son = found(rt, tree.subtree_at(&right));
-    let (_, left, below) = top_of(rt, son);
-    same(rt, "the right son", (left, below), (9, 14));
+    let child = found(rt, tree.subtree_at(&right));
+    let (_, left, below) = top_of(rt, child);
+    same(rt, "the right child", (left, below), (9, 14));
     let is_first = tree.first_breach(16) == Some(right);
     holds(rt, "the first breach", is_first);
     holds(rt, "a whole that may stand", !tree.is_breached());

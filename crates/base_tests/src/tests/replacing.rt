@@ -61,7 +61,7 @@ fn hold_the_same(alloc: Global, one: &Tree, other: &Tree) -> Result<bool, NoMemo
     Ok(held.as_slice() == there.as_slice())
 }
 
-// Points at x from 0 on, each the right son of the one before. The first so many are dropped.
+// Points at x from 0 on, each the right child of the one before. The first so many are dropped.
 fn chain(rt: &impl Abort, alloc: Global, points: i64, dropped: i64) -> Tree {
     let script = Script::new(alloc).risen(rt, 0, dropped);
     let script = made(rt, script.mark(Choice::ALL, Tag::DELETE));
@@ -148,7 +148,7 @@ fn under_a_dropped_point(rt: &impl Abort, alloc: Global) -> Tree {
     done(rt, alloc, script.risen(rt, 0, 32))
 }
 
-// The tree with the other on its left, where its right son has 16 nodes and more, which stay.
+// The tree with the other on its left, where its right child has 16 nodes and more, which stay.
 fn put_left(rt: &impl Abort, alloc: Global, tree: Tree, with: Tree) -> Replaced {
     let left = Path::root().down(Side::Left);
     let right = Path::root().down(Side::Right);

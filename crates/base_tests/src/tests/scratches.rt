@@ -14,7 +14,7 @@ use std::marker::Brand;
 use std::process::Abort;
 use std::sync::ledger::{Blank, Ledger};
 
-// Of forty items 19 are dropped, and the others suspended, which the sons of the top are yet to hear.
+// Of forty items 19 are dropped, and the others suspended, which the children of the top are yet to hear.
 fn half_left<L: Ledger>(rt: &impl Abort, alloc: Global, steps: &mut Steps<L>) -> Tree {
     let tree = forty(rt, alloc, steps);
     let tree = left_dropped(rt, alloc, tree, steps);

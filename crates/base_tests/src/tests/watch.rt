@@ -13,8 +13,8 @@ use std::process::Abort;
 
 // What the subtree at the path holds by itself.
 pub fn own(rt: &impl Abort, alloc: Global, tree: &Tree, path: &Path) -> Vec<Item> {
-    let son = found(rt, tree.subtree_at(path));
-    let items = made(rt, son.flatten(alloc));
+    let child = found(rt, tree.subtree_at(path));
+    let items = made(rt, child.flatten(alloc));
     made(rt, Vec::from_slice(alloc, items.as_slice()))
 }
 
@@ -125,12 +125,12 @@ fn an_action_is_logged_where_it_meets_a_watched_root_that_is_not_covered_from_ab
         (0, 1, Tag::DELETE, (2, 1, 0, 0)),
         // It covers the whole tree, and rests at its top.
         (0, 100, Tag::SUSPEND, (2, 1, 0, 0)),
-        // What rests is pushed into both sons of the node above the first two, and into the father of the others.
+        // What rests is pushed into both children of the node above the first two, and into the parent of the others.
         (30, 33, Tag::RESTORE, (3, 3, 0, 0)),
     ] {
         at = acted(&rt, alloc, at, row);
     }
-    // Here the father pushes it on, also into the root that the point doesn't go to.
+    // Here the parent pushes it on, also into the root that the point doesn't go to.
     for row in [(50, (3, 3, 2, 1)), (90, (3, 3, 2, 2)), (5, (4, 3, 2, 2))] {
         at = with_point(&rt, alloc, at, row);
     }

@@ -113,7 +113,7 @@ pub fn is_large(tree: &Tree, large: u32, path: &Path) -> bool
 {
     match tree.subtree_at(path) {
         None => false,
-        Some(son) => large <= son.size(),
+        Some(child) => large <= child.size(),
     }
 }
 

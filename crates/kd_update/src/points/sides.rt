@@ -1,5 +1,5 @@
 ghost use Rattle.std.specs.Prelude.{◌≡◌};
-ghost use Rattle.kd_tree.specs.Parts.{son};
+ghost use Rattle.kd_tree.specs.Parts.{child};
 ghost use Rattle.kd_update.specs.Watch.{goes_to};
 
 use kd_tree::{Side, Tree};
@@ -7,8 +7,8 @@ use kd_tree::{Side, Tree};
 // The child on this side comes first. Doing it again puts both in their places.
 #[inline]
 pub(crate) fn by_side(side: Side, left: Tree, right: Tree) -> (Tree, Tree)
-    ensures near { result.0 ≡ son side left right }
-    ensures far { result.1 ≡ son side right left }
+    ensures near { result.0 ≡ child side left right }
+    ensures far { result.1 ≡ child side right left }
 {
     match side {
         Side::Left => (left, right),

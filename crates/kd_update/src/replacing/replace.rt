@@ -81,23 +81,23 @@ fn replaced_along<L: Ledger>(
     let Some((side, rest)) = sides.split_first() else {
         return Ok(with);
     };
-    let Some(son) = son_of(&tree, *side) else {
+    let Some(child) = child_of(&tree, *side) else {
         return Ok(Tree::empty());
     };
-    let son = son.copy(alloc, steps)?;
-    let son = replaced_along(alloc, son, large, rest, with, steps)?;
-    let tree = tree.with_son(alloc, *side, son, steps)?;
+    let child = child.copy(alloc, steps)?;
+    let child = replaced_along(alloc, child, large, rest, with, steps)?;
+    let tree = tree.with_child(alloc, *side, child, steps)?;
     refreshed(alloc, tree, large, steps)
 }
 
-fn son_of(tree: &Tree, side: Side) -> Option<&Tree>
+fn child_of(tree: &Tree, side: Side) -> Option<&Tree>
     ensures none { IsNone result ↔ (at (side ∷ []) tree.now ≡ None) }
     ensures some { IfSome result (λ s. at (side ∷ []) tree.now ≡ Some s.now) }
 {
     let Some(top) = tree.top() else {
         return None;
     };
-    Some(top.son(side))
+    Some(top.child(side))
 }
 
 // Whether the tree with the other at the path would have no more levels and nodes than a tree may have.

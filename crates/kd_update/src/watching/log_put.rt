@@ -74,7 +74,7 @@ fn log_put(
         return Ok(());
     };
     let owed = top.pending.then(owed);
-    let next = top.son(*side);
+    let next = top.child(*side);
     let goes_on = goes_to(*side, goes_left(&point, top.axis, &top.item.point));
     note_owed(owed, rest, log)?;
     if !goes_on {

@@ -76,7 +76,7 @@ fn log_scan(
         return Ok(());
     };
     let owed = top.pending.then(owed);
-    let next = top.son(*side);
+    let next = top.child(*side);
     note_owed(owed, rest, log)?;
     keep_going(items, *side, top.axis, &top.item.point);
     log_scan(next, owed, rest, items, log)

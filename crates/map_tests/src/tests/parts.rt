@@ -67,11 +67,11 @@ fn pushes_meanwhile(rt: &impl Abort, alloc: Global, state: &mut MapState) {
     swap_ends(rt, alloc, state, built, true, None);
 }
 
-// Settles a row and puts points more at its end. Its right son leans to the right then, and is detached.
+// Settles a row and puts points more at its end. Its right child leans to the right then, and is detached.
 fn leaning(rt: &impl Abort, alloc: Global, state: &mut MapState) -> Job {
     add(rt, alloc, state, 1, 41);
     settled(rt, alloc, state);
-    // The right son has 9 nodes on its left and 14 on its right now.
+    // The right child has 9 nodes on its left and 14 on its right now.
     add(rt, alloc, state, 41, 45);
     let job = detached(rt, alloc, state, 1);
     is_of(rt, &job, 1, 24);

@@ -196,7 +196,7 @@ fn fill_its_log(rt: &impl Abort, alloc: Global, state: &mut MapState) {
 // Points on either side of a row from 1 to 40.
 const OUTER: [i64; 9] = [41, 42, 43, 44, 0, -1, -2, -3, -4];
 
-// Leaves two sons out of balance.
+// Leaves two children out of balance.
 fn unbalance(rt: &impl Abort, alloc: Global, state: &mut MapState) {
     add(rt, alloc, state, 1, 41);
     settled(rt, alloc, state);

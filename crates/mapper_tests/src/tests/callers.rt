@@ -150,7 +150,7 @@ fn a_gate_is_told_of_the_caller_that_was_replied_to(rt: HostRuntime) {
 // waits for a build sees it begin.
 #[test]
 fn neither_a_build_nor_a_barrier_waits_for_a_build(rt: HostRuntime) {
-    // Two workers build beside each other: each of these updates leaves one of the top's sons in breach.
+    // Two workers build beside each other: each of these updates leaves one of the top's children in breach.
     let rest = "sync\n\
                 @1 add 41 0 0 42 0 0 43 0 0 44 0 0\n\
                 @1 add 0 0 0 -1 0 0 -2 0 0 -3 0 0 -4 0 0\n";

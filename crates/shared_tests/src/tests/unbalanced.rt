@@ -22,7 +22,7 @@ pub fn with_forty(rt: &impl Abort, alloc: Global) -> MapState {
     state
 }
 
-// A map whose two sons, but not their father, are to be rebuilt.
+// A map whose two children, but not their parent, are to be rebuilt.
 pub fn with_two_breaches(rt: &impl Abort, alloc: Global) -> MapState {
     let mut state = with_forty(rt, alloc);
     made(rt, state.settle(alloc));

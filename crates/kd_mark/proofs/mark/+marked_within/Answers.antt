@@ -16,7 +16,7 @@ use Rattle.kd_mark.proofs.Made.{apart_mark, made_covered, ticks_entered}
 use Rattle.kd_mark.proofs.Trees.{pushed_smaller}
 use Rattle.kd_mark.proofs.Refresh.{head, refresh_sound}
 use Rattle.kd_mark.proofs.Several.{clear_covered, clear_missed, clear_none_there, large_next, marked_joined}
-use Rattle.kd_mark.proofs.Update.{sons_alike}
+use Rattle.kd_mark.proofs.Update.{children_alike}
 use Rattle.kd_mark.proofs.mark.+marked_within.Goals as goal
 use Rattle.kd_mark.proofs.mark.+marked_within.Goals.{In-Some-2}
 
@@ -88,7 +88,7 @@ returns-clause-ticks g t c = λ all.
     (sym c.in-Some.is ∙ c.reach_of.ensures) (sym c.meets.ensures ∙ c.if-not-meets.false) (sym c.covers.ensures ∙ c.if-covers.false) (ap fork_in (sym c.in-Some-2.is) ∙ c.in_ok-node.ensures.parts) c.take_apart.ensures.ticks c.marked_within.ensures.ticks c.marked_within-2.ensures.ticks
     (λ on off spared. c.rejoined.ensures.ticks
     (subst (λ (j : Item). IsNotDue c.spared_from-large.result (fork (head j f.axis) c.in_ok-left.left c.in_ok-right.right)) (sym c.marked-item.ensures)
-    (subst (IsNotDue c.spared_from-large.result) (sym (sons_alike (head (marked_item (chosen_by c.args.choice.now) c.args.tag f.item) f.axis) _ _ c.in_ok-left.left c.in_ok-right.right (c.in_ok-left.ensures.updated.unrebuilt on) (c.in_ok-right.ensures.updated.unrebuilt off))) spared)))
+    (subst (IsNotDue c.spared_from-large.result) (sym (children_alike (head (marked_item (chosen_by c.args.choice.now) c.args.tag f.item) f.axis) _ _ c.in_ok-left.left c.in_ok-right.right (c.in_ok-left.ensures.updated.unrebuilt on) (c.in_ok-right.ensures.updated.unrebuilt off))) spared)))
     (criteria_spared c.args.large _ (g.W.Ways.paths c.args.ways.now) _ _ c.spared_from-large.ensures all)
 
 pub returns-in_default-2-clause-updated : goal.returns-in_default-2-clause-updated

@@ -33,7 +33,7 @@ add_under-returns-then-found-sides-clause-found t c =
     let bound = c.in_ok-add_from.ensures.bound in
     let Far = λ (i : Item). sides.gap ≤ dist2 query.point i.point in
     let own : AreAway sides.gap query.point (item ∷ []) = All-cons Far item [] is.item (All-nil Far) in
-    near_first query.k query.point query.within item (walk below sides.near.now) (walk below sides.far.now) is.sons (walk owed c.args.tree.now) c.args.found.now.hits found.hits found.hits found.hits
+    near_first query.k query.point query.within item (walk below sides.near.now) (walk below sides.far.now) is.children (walk owed c.args.tree.now) c.args.found.now.hits found.hits found.hits found.hits
     (walk_distinct owed c.args.tree.now c.size-size.ensures.sound) is.items is.turned c.in_ok-add_from.ensures.found
     (left_out query.k query.point query.within found.hits found.bound sides.gap (item ∷ []) bound c.if-found-sides.true (omega arith) own)
     (left_out query.k query.point query.within found.hits found.bound sides.gap (walk below sides.far.now) bound c.if-found-sides.true (omega arith) is.far)
@@ -48,6 +48,6 @@ add_under-returns-clause-found t c =
     let item = c.relabelled-item.result in
     let is = split c.args.tree.now owed top query.point sides item below c.in-Some.ensures.some c.size-size.ensures.sound c.of-sides.ensures c.relabelled-item.ensures c.then-below.ensures.value in
     on_ok_weaker c.add_from-2.result
-    (near_first query.k query.point query.within item (walk below sides.near.now) (walk below sides.far.now) is.sons (walk owed c.args.tree.now) c.args.found.now.hits _ _ _
+    (near_first query.k query.point query.within item (walk below sides.near.now) (walk below sides.far.now) is.children (walk owed c.args.tree.now) c.args.found.now.hits _ _ _
     (walk_distinct owed c.args.tree.now c.size-size.ensures.sound) is.items is.turned c.in_ok-add_from.ensures.found c.in_ok-add.ensures.found)
     c.add_from-2.ensures.found

@@ -21,10 +21,10 @@ returns-then-own-clause-reached t c =
     let f = c.args.front.now in
     let cut = c.in-Some.ensures.cases.0 in
     let own = c.in-Some.own.now in
-    let sons = c.in-Some.sons.now in
-    let long : length (own ∷ sons) ≡ nodes c.args.tree.now = ap length (sym cut) ∙ c.requires.flags in
+    let children = c.in-Some.children.now in
+    let long : length (own ∷ children) ≡ nodes c.args.tree.now = ap length (sym cut) ∙ c.requires.flags in
     let k = subst (AreSpent f.seen c.args.owed c.args.tree.now) cut c.requires.spent in
-    near_seen f c.args.ball.now.center c.args.ball.now.limit (walk c.args.owed c.args.tree.now) (spent_first f.seen c.args.owed c.args.tree.now own sons long k c.if-own.true)
+    near_seen f c.args.ball.now.center c.args.ball.now.limit (walk c.args.owed c.args.tree.now) (spent_first f.seen c.args.owed c.args.tree.now own children long k c.if-own.true)
 
 pub returns-then-not-meets-clause-reached : goal.returns-then-not-meets-clause-reached
 returns-then-not-meets-clause-reached t c =
@@ -43,17 +43,17 @@ reach_under-requires t c =
     let is = c.in-Some-top.ensures.some in
     let cut = c.in-Some.ensures.cases.0 in
     let own = c.in-Some.own.now in
-    let sons = c.in-Some.sons.now in
-    let long : length (own ∷ sons) ≡ nodes c.args.tree.now = ap length (sym cut) ∙ c.requires.flags in
+    let children = c.in-Some.children.now in
+    let long : length (own ∷ children) ≡ nodes c.args.tree.now = ap length (sym cut) ∙ c.requires.flags in
     let k = subst (AreSpent f.seen c.args.owed c.args.tree.now) cut c.requires.spent in
-    let parts = spent_parts f.seen c.args.owed head top.left.now top.right.now c.args.tree.now own sons below is c.then-below.ensures.value long k in
+    let parts = spent_parts f.seen c.args.owed head top.left.now top.right.now c.args.tree.now own children below is c.then-below.ensures.value long k in
     let kept = grown_kept f c.reach.new.front (near (item ∷ []) q d) c.in_ok-reach.ensures in
     let left = c.split_at_mut-left.result.0.now in (
       omega (arith, ap nodes is),
       (
         c.split_at_mut-left.ensures.front_len ∙ c.size.ensures.value,
         spent_more f.seen c.reach.new.front.seen kept below top.left.now left
-            (subst (AreSpent f.seen below top.left.now) (sym (c.split_at_mut-left.ensures.front ∙ ap (λ n. take n sons) c.size.ensures.value)) parts.left),
+            (subst (AreSpent f.seen below top.left.now) (sym (c.split_at_mut-left.ensures.front ∙ ap (λ n. take n children) c.size.ensures.value)) parts.left),
       ),
     )
 
@@ -69,10 +69,10 @@ reach_under-requires-2 t c =
     let is = c.in-Some-top.ensures.some in
     let cut = c.in-Some.ensures.cases.0 in
     let own = c.in-Some.own.now in
-    let sons = c.in-Some.sons.now in
-    let long : length (own ∷ sons) ≡ nodes c.args.tree.now = ap length (sym cut) ∙ c.requires.flags in
+    let children = c.in-Some.children.now in
+    let long : length (own ∷ children) ≡ nodes c.args.tree.now = ap length (sym cut) ∙ c.requires.flags in
     let k = subst (AreSpent f.seen c.args.owed c.args.tree.now) cut c.requires.spent in
-    let parts = spent_parts f.seen c.args.owed head top.left.now top.right.now c.args.tree.now own sons below is c.then-below.ensures.value long k in
+    let parts = spent_parts f.seen c.args.owed head top.left.now top.right.now c.args.tree.now own children below is c.then-below.ensures.value long k in
     let kept = grown_kept f c.reach.new.front (near (item ∷ []) q d) c.in_ok-reach.ensures in
     let right = c.split_at_mut-left.result.1.now in
     let kept_on = grown_kept c.reach.new.front c.reach_under.new.front (near (walk below top.left.now) q d) c.in_ok-left.ensures.reached in (
@@ -80,7 +80,7 @@ reach_under-requires-2 t c =
       (
         omega (arith, c.split_at_mut-left.ensures.back_len, c.size.ensures.value, parts.long),
         spent_more f.seen c.reach_under.new.front.seen (λ n h. kept_on n (kept n h)) below top.right.now right
-            (subst (AreSpent f.seen below top.right.now) (sym (c.split_at_mut-left.ensures.back ∙ ap (λ n. drop n sons) c.size.ensures.value)) parts.right),
+            (subst (AreSpent f.seen below top.right.now) (sym (c.split_at_mut-left.ensures.back ∙ ap (λ n. drop n children) c.size.ensures.value)) parts.right),
       ),
     )
 
@@ -102,9 +102,9 @@ returns-then-own-clause-whole t c =
     let f = c.args.front.now in
     let cut = c.in-Some.ensures.cases.0 in
     let own = c.in-Some.own.now in
-    let sons = c.in-Some.sons.now in
-    let long : length (own ∷ sons) ≡ nodes c.args.tree.now = ap length (sym cut) ∙ c.requires.flags in
-    let k = subst (AreSpent f.seen c.args.owed c.args.tree.now) cut c.requires.spent in λ e. spent_first f.seen c.args.owed c.args.tree.now own sons long k c.if-own.true
+    let children = c.in-Some.children.now in
+    let long : length (own ∷ children) ≡ nodes c.args.tree.now = ap length (sym cut) ∙ c.requires.flags in
+    let k = subst (AreSpent f.seen c.args.owed c.args.tree.now) cut c.requires.spent in λ e. spent_first f.seen c.args.owed c.args.tree.now own children long k c.if-own.true
 
 pub returns-clause-whole : goal.returns-clause-whole
 returns-clause-whole t c =

@@ -11,13 +11,13 @@ use Rattle.kd_update.proofs.watching.log_put.+log_put.Goals.{After-goes_to-goes_
 
 -- what is logged of a node is its pending action, and what is logged of its child, if the point goes on to it
 parts : (t : _) (c : After-goes_to-goes_on t) (b : Bool) → c.goes_to-goes_on.result ≡ b → logged_put c.args.number c.args.point c.args.sides.now (tagged c.args.owed c.args.tree.now)
-    ≡ handed c.in-Some.rest.now c.then-owed.result ++ cond b (logged_put c.args.number c.args.point c.in-Some.rest.now (tagged c.then-owed.result c.son-next.result.now)) []
+    ≡ handed c.in-Some.rest.now c.then-owed.result ++ cond b (logged_put c.args.number c.args.point c.in-Some.rest.now (tagged c.then-owed.result c.child-next.result.now)) []
 parts t c b e =
     let top = c.in-Some-top.top in
     let h : Head = record { item = top.item; axis = top.axis; pending = top.pending } in
     ap (λ q. logged_put c.args.number c.args.point q (tagged c.args.owed c.args.tree.now)) c.in-Some.ensures.cases.0
-    ∙ ahead_put c.args.number c.args.point c.args.owed c.then-owed.result c.in-Some.side.now c.in-Some.rest.now c.args.tree.now c.son-next.result.now h top.left.now top.right.now b
-    c.in-Some-top.ensures.some c.then-owed.ensures.value c.son-next.ensures (sym e ∙ c.goes_to-goes_on.ensures ∙ ap (goes_to c.in-Some.side.now) c.goes_left.ensures)
+    ∙ ahead_put c.args.number c.args.point c.args.owed c.then-owed.result c.in-Some.side.now c.in-Some.rest.now c.args.tree.now c.child-next.result.now h top.left.now top.right.now b
+    c.in-Some-top.ensures.some c.then-owed.ensures.value c.child-next.ensures (sym e ∙ c.goes_to-goes_on.ensures ∙ ap (goes_to c.in-Some.side.now) c.goes_left.ensures)
 
 pub note-requires : goal.note-requires
 note-requires t c =

@@ -13,15 +13,15 @@ use Rattle.kd_update.proofs.watching.log_scan.+log_scan.Goals.{After-as_slice, A
 
 -- what is logged of a node is its pending action, and what is logged of its child
 parts : (t : _) (c : After-keep_going t) → logged_scan c.args.sides.now c.args.items.now.items (tagged c.args.owed c.args.tree.now)
-    ≡ handed c.in-Some.rest.now c.then-owed.result ++ logged_scan c.in-Some.rest.now c.keep_going.new.items.items (tagged c.then-owed.result c.son-next.result.now)
+    ≡ handed c.in-Some.rest.now c.then-owed.result ++ logged_scan c.in-Some.rest.now c.keep_going.new.items.items (tagged c.then-owed.result c.child-next.result.now)
 parts t c =
     let top = c.in-Some-top.top in
     let h : Head = record { item = top.item; axis = top.axis; pending = top.pending } in
     let rest = c.in-Some.rest.now in
     let o = c.then-owed.result in
     ap (λ q. logged_scan q c.args.items.now.items (tagged c.args.owed c.args.tree.now)) c.in-Some.ensures.cases.0
-    ∙ ahead_scan c.in-Some.side.now rest c.args.items.now.items c.args.owed o c.args.tree.now c.son-next.result.now h top.left.now top.right.now c.in-Some-top.ensures.some c.then-owed.ensures.value c.son-next.ensures (λ e. c.is_none.ensures.some c.if-is_none.false (c.as_slice-2.ensures.value ∙ e))
-    ∙ ap (λ (xs : List Item). handed rest o ++ logged_scan rest xs (tagged o c.son-next.result.now)) (sym c.keep_going.ensures)
+    ∙ ahead_scan c.in-Some.side.now rest c.args.items.now.items c.args.owed o c.args.tree.now c.child-next.result.now h top.left.now top.right.now c.in-Some-top.ensures.some c.then-owed.ensures.value c.child-next.ensures (λ e. c.is_none.ensures.some c.if-is_none.false (c.as_slice-2.ensures.value ∙ e))
+    ∙ ap (λ (xs : List Item). handed rest o ++ logged_scan rest xs (tagged o c.child-next.result.now)) (sym c.keep_going.ensures)
 
 -- what is logged of the watched root itself
 root : (t : _) (c : After-as_slice t) → logged_scan c.args.sides.now c.args.items.now.items (tagged c.args.owed c.args.tree.now) ≡ puts_of c.as_slice.result.now
