@@ -12,13 +12,13 @@ use map_items::{Item, Label, NoMemory, Tag};
 /// before its children.
 pub(crate) fn gather(
     tree: &Tree,
-    owed: Tag,
+    pending: Tag,
     from: u32,
     bound: Option<u32>,
     sought: &Sought,
     items: &mut Vec<Item>,
 ) -> Result<(), NoMemory>
-    ensures { OnOk result (items.new.items ≡ items.old.items ++ wanted from bound sought.now (walk owed tree.now)) }
+    ensures { OnOk result (items.new.items ≡ items.old.items ++ wanted from bound sought.now (walk pending tree.now)) }
 {
     let Some(numbers) = tree.numbers() else {
         return Ok(());
@@ -38,8 +38,8 @@ pub(crate) fn gather(
     let Some(top) = tree.top() else {
         return Ok(());
     };
-    push_wanted(top.item.relabelled(owed), from, bound, sought, items)?;
-    let below = top.pending.then(owed);
+    push_wanted(top.item.relabelled(pending), from, bound, sought, items)?;
+    let below = top.pending.then(pending);
     gather(top.left, below, from, bound, sought, items)?;
     gather(top.right, below, from, bound, sought, items)
 }

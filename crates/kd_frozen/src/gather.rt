@@ -11,14 +11,14 @@ use map_items::{Item, Label, NoMemory, Tag};
 use point_geom::{Axis, Cuboid};
 
 /// Puts the live items of the tree, which owes this action, after the cells.
-pub(crate) fn gather(tree: &Tree, owed: Tag, cells: &mut Vec<Cell>) -> Result<(), NoMemory>
-    ensures { OnOk result (items_of cells.new.items ≡ items_of cells.old.items ++ live_items (walk owed tree.now)) }
+pub(crate) fn gather(tree: &Tree, pending: Tag, cells: &mut Vec<Cell>) -> Result<(), NoMemory>
+    ensures { OnOk result (items_of cells.new.items ≡ items_of cells.old.items ++ live_items (walk pending tree.now)) }
 {
     let Some(top) = tree.top() else {
         return Ok(());
     };
-    push_live(&top.item.relabelled(owed), cells)?;
-    let below = top.pending.then(owed);
+    push_live(&top.item.relabelled(pending), cells)?;
+    let below = top.pending.then(pending);
     gather(top.left, below, cells)?;
     gather(top.right, below, cells)
 }
@@ -26,11 +26,11 @@ pub(crate) fn gather(tree: &Tree, owed: Tag, cells: &mut Vec<Cell>) -> Result<()
 /// Puts those of them that are in the cuboid after the cells. A subtree that the cuboid doesn't meet is left out.
 pub(crate) fn gather_inside(
     tree: &Tree,
-    owed: Tag,
+    pending: Tag,
     c: &Cuboid,
     cells: &mut Vec<Cell>,
 ) -> Result<(), NoMemory>
-    ensures { OnOk result (items_of cells.new.items ≡ items_of cells.old.items ++ inside_all (walk owed tree.now) c.now) }
+    ensures { OnOk result (items_of cells.new.items ≡ items_of cells.old.items ++ inside_all (walk pending tree.now) c.now) }
 {
     let Some(extent) = tree.extent() else {
         return Ok(());
@@ -41,8 +41,8 @@ pub(crate) fn gather_inside(
     let Some(top) = tree.top() else {
         return Ok(());
     };
-    push_inside(&top.item.relabelled(owed), c, cells)?;
-    let below = top.pending.then(owed);
+    push_inside(&top.item.relabelled(pending), c, cells)?;
+    let below = top.pending.then(pending);
     gather_inside(top.left, below, c, cells)?;
     gather_inside(top.right, below, c, cells)
 }

@@ -10,7 +10,7 @@ mod watch;
 mod watches;
 mod ways;
 
-pub use log_mark::note_owed;
+pub use log_mark::note_pending;
 pub use mark::marked;
 pub use mark_watched::marked_watched;
 pub use rebuild::{LEAST, NEVER, joined, rebuilt, refreshed, rejoined};

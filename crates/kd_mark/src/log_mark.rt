@@ -37,19 +37,19 @@ pub fn log_each_mark(
     log_each_mark(tree, rest, choice, tag)
 }
 
-// `owed` is pending above the tree.
+// `pending` is the action from above the tree.
 fn log_mark(
     tree: &Tree,
-    owed: Tag,
+    pending: Tag,
     sides: &[Side],
     choice: &Choice,
     tag: Tag,
     log: &mut OpLog,
 ) -> Result<(), NoMemory>
-    requires { length log.old + length (logged_mark choice.now tag sides.now (tagged owed tree.now)) ≤ MAX_LOGGED }
-    ensures logged { OnOk result (log.new ≡ log.old ++ logged_mark choice.now tag sides.now (tagged owed tree.now)) }
+    requires { length log.old + length (logged_mark choice.now tag sides.now (tagged pending tree.now)) ≤ MAX_LOGGED }
+    ensures logged { OnOk result (log.new ≡ log.old ++ logged_mark choice.now tag sides.now (tagged pending tree.now)) }
     ensures begins { Extends log.old log.new }
-    ensures few { length log.new ≤ length log.old + length (logged_mark choice.now tag sides.now (tagged owed tree.now)) }
+    ensures few { length log.new ≤ length log.old + length (logged_mark choice.now tag sides.now (tagged pending tree.now)) }
 {
     let Some((side, rest)) = sides.split_first() else {
         if !is_met(choice, tree) {
@@ -70,24 +70,24 @@ fn log_mark(
     let Some(top) = tree.top() else {
         return Ok(());
     };
-    let owed = top.pending.then(owed);
+    let pending = top.pending.then(pending);
     let next = top.child(*side);
-    note_owed(owed, rest, log)?;
-    log_mark(next, owed, rest, choice, tag, log)
+    note_pending(pending, rest, log)?;
+    log_mark(next, pending, rest, choice, tag, log)
 }
 
 /// Logs the action handed down to a child, where that is the watched root: `rest` is the path from there.
-pub fn note_owed(owed: Tag, rest: &[Side], log: &mut OpLog) -> Result<(), NoMemory>
-    requires { length log.old + length (handed rest.now owed) ≤ MAX_LOGGED }
-    ensures logged { OnOk result (log.new ≡ log.old ++ handed rest.now owed) }
+pub fn note_pending(pending: Tag, rest: &[Side], log: &mut OpLog) -> Result<(), NoMemory>
+    requires { length log.old + length (handed rest.now pending) ≤ MAX_LOGGED }
+    ensures logged { OnOk result (log.new ≡ log.old ++ handed rest.now pending) }
     ensures begins { Extends log.old log.new }
-    ensures few { length log.new ≤ length log.old + length (handed rest.now owed) }
+    ensures few { length log.new ≤ length log.old + length (handed rest.now pending) }
 {
-    if !rest.is_empty() || owed == Tag::KEEP {
+    if !rest.is_empty() || pending == Tag::KEEP {
         return Ok(());
     }
     let choice = Choice::ALL;
-    note(log, Op::Mark { choice, tag: owed })
+    note(log, Op::Mark { choice, tag: pending })
 }
 
 fn is_met(choice: &Choice, tree: &Tree) -> bool

@@ -12,7 +12,7 @@ use Rattle.kd_tree.specs.declared.limits.TheConstants.{MAX_NODES}
 
 -- its remaining items, node first
 abbrev pub items_of : Part → List Item
-items_of p = walk p.owed p.tree.now
+items_of p = walk p.pending p.tree.now
 
 -- how many nodes it has, dropped ones too
 abbrev pub nodes_of : Part → ℕ

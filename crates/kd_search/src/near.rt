@@ -49,10 +49,10 @@ pub fn nearest(
 }
 
 #[cycle(near)]
-fn add_from(tree: &Tree, owed: Tag, query: &Query, found: &mut Found) -> Result<(), NoMemory>
+fn add_from(tree: &Tree, pending: Tag, query: &Query, found: &mut Found) -> Result<(), NoMemory>
     requires { IsBound query.now.k query.now.within found.old.hits found.old.bound }
     ensures bound { OnOk result (IsBound query.now.k query.now.within found.new.hits found.new.bound) }
-    ensures found { OnOk result (found.new.hits ≡ take query.now.k (put_all (candidates (walk owed tree.now) query.now.point query.now.within) found.old.hits)) }
+    ensures found { OnOk result (found.new.hits ≡ take query.now.k (put_all (candidates (walk pending tree.now) query.now.point query.now.within) found.old.hits)) }
     ensures inline { query.now.k ≤ 16 → IsOk result }
 {
     let Some(extent) = tree.extent() else {
@@ -61,32 +61,32 @@ fn add_from(tree: &Tree, owed: Tag, query: &Query, found: &mut Found) -> Result<
     if found.bound < extent.dist2(&query.point) {
         return Ok(());
     }
-    add_under(tree, owed, query, found)
+    add_under(tree, pending, query, found)
 }
 
 // Not part of `add_from`: most trees are too far to be entered, and this isn't set up for them.
 #[cycle(near)]
 #[inline(never)]
-fn add_under(tree: &Tree, owed: Tag, query: &Query, found: &mut Found) -> Result<(), NoMemory>
+fn add_under(tree: &Tree, pending: Tag, query: &Query, found: &mut Found) -> Result<(), NoMemory>
     requires { IsBound query.now.k query.now.within found.old.hits found.old.bound }
     ensures bound { OnOk result (IsBound query.now.k query.now.within found.new.hits found.new.bound) }
-    ensures found { OnOk result (found.new.hits ≡ take query.now.k (put_all (candidates (walk owed tree.now) query.now.point query.now.within) found.old.hits)) }
+    ensures found { OnOk result (found.new.hits ≡ take query.now.k (put_all (candidates (walk pending tree.now) query.now.point query.now.within) found.old.hits)) }
     ensures inline { query.now.k ≤ 16 → IsOk result }
 {
     let _size = tree.size();
-    if live_under(tree, owed) == 0 {
+    if live_under(tree, pending) == 0 {
         return Ok(());
     }
     let Some(top) = tree.top() else {
         return Ok(());
     };
     let sides = Sides::of(&top, &query.point);
-    let below = top.pending.then(owed);
+    let below = top.pending.then(pending);
     add_from(sides.near, below, query, found)?;
     if found.bound < sides.gap {
         return Ok(());
     }
-    let item = top.item.relabelled(owed);
+    let item = top.item.relabelled(pending);
     query.add(&item, found)?;
     add_from(sides.far, below, query, found)
 }

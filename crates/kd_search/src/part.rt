@@ -14,7 +14,7 @@ use point_geom::{Axis, Extent};
 #[derive(Drop)]
 pub(crate) struct Part<'a> {
     tree: &'a Tree,
-    owed: Tag,
+    pending: Tag,
 }
 
 /// The action from above is done to the item's label, and pending for the children after the node's own.
@@ -32,7 +32,7 @@ impl<'a> Part<'a> {
     {
         Part {
             tree,
-            owed: Tag::KEEP,
+            pending: Tag::KEEP,
         }
     }
 
@@ -57,7 +57,7 @@ impl<'a> Part<'a> {
     pub(crate) fn live(&self) -> u32
         ensures { result ≡ length (live_items (items_of self.now)) }
     {
-        live_under(self.tree, self.owed)
+        live_under(self.tree, self.pending)
     }
 
     /// None where no item is live.
@@ -72,17 +72,17 @@ impl<'a> Part<'a> {
         match self.tree.top() {
             None => None,
             Some(top) => {
-                let owed = top.pending.then(self.owed);
+                let pending = top.pending.then(self.pending);
                 Some(PartTop {
-                    item: top.item.relabelled(self.owed),
+                    item: top.item.relabelled(self.pending),
                     axis: top.axis,
                     left: Part {
                         tree: top.left,
-                        owed,
+                        pending,
                     },
                     right: Part {
                         tree: top.right,
-                        owed,
+                        pending,
                     },
                 })
             }
@@ -91,9 +91,9 @@ impl<'a> Part<'a> {
 }
 
 /// How many items are live where this action is pending above the tree, in constant time.
-pub fn live_under(tree: &Tree, owed: Tag) -> u32
-    ensures { result ≡ length (live_items (walk owed tree.now)) }
+pub fn live_under(tree: &Tree, pending: Tag) -> u32
+    ensures { result ≡ length (live_items (walk pending tree.now)) }
 {
     let _size = tree.size();
-    tree.counts().apply(owed).live
+    tree.counts().apply(pending).live
 }

@@ -37,38 +37,38 @@ pub fn rivals_in(tree: &Tree, c: &Cuboid) -> Rivals
 }
 
 #[cycle(rivals)]
-fn add_from(tree: &Tree, owed: Tag, c: &Cuboid, found: &mut Rivals)
+fn add_from(tree: &Tree, pending: Tag, c: &Cuboid, found: &mut Rivals)
     requires { found.old.count + nodes tree.now ≤ MAX_NODES }
-    ensures best { found.new.best ≡ best_from c.now found.old.best (inside_all (walk owed tree.now) c.now) }
-    ensures count { found.new.count ≡ found.old.count + count (walk owed tree.now) c.now }
+    ensures best { found.new.best ≡ best_from c.now found.old.best (inside_all (walk pending tree.now) c.now) }
+    ensures count { found.new.count ≡ found.old.count + count (walk pending tree.now) c.now }
     ensures few { found.new.count ≤ found.old.count + nodes tree.now }
 {
     let Some(extent) = tree.extent() else {
         return;
     };
     if c.meets(&extent) {
-        add_under(tree, owed, c, found);
+        add_under(tree, pending, c, found);
     }
 }
 
 // Not part of `add_from`: the cuboid meets few trees, and this isn't set up for the others.
 #[cycle(rivals)]
 #[inline(never)]
-fn add_under(tree: &Tree, owed: Tag, c: &Cuboid, found: &mut Rivals)
+fn add_under(tree: &Tree, pending: Tag, c: &Cuboid, found: &mut Rivals)
     requires { found.old.count + nodes tree.now ≤ MAX_NODES }
-    ensures best { found.new.best ≡ best_from c.now found.old.best (inside_all (walk owed tree.now) c.now) }
-    ensures count { found.new.count ≡ found.old.count + count (walk owed tree.now) c.now }
+    ensures best { found.new.best ≡ best_from c.now found.old.best (inside_all (walk pending tree.now) c.now) }
+    ensures count { found.new.count ≡ found.old.count + count (walk pending tree.now) c.now }
     ensures few { found.new.count ≤ found.old.count + nodes tree.now }
 {
-    if live_under(tree, owed) == 0 {
+    if live_under(tree, pending) == 0 {
         return;
     }
     let Some(top) = tree.top() else {
         return;
     };
-    let item = top.item.relabelled(owed);
+    let item = top.item.relabelled(pending);
     add(&item, c, found);
-    let below = top.pending.then(owed);
+    let below = top.pending.then(pending);
     add_from(top.left, below, c, found);
     add_from(top.right, below, c, found);
 }

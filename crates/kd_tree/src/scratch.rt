@@ -9,7 +9,7 @@ ghost use Rattle.kd_tree.specs.Build.{IsBuilt};
 
 use crate::blocks::Blocks;
 use crate::build::built;
-use crate::flatten::{gather_owed, push_kept};
+use crate::flatten::{gather_pending, push_kept};
 use crate::{Block, MAX_NODES, Steps, Tree};
 use map_items::{Item, NoMemory, Tag};
 use std::alloc::Global;
@@ -82,7 +82,7 @@ impl Tree {
         let held = (counts.live + counts.suspended) as usize;
         scratch.items.clear();
         scratch.items.reserve(held + more.len())?;
-        empty_owed(self, Tag::KEEP, &mut scratch.items, &mut scratch.blocks)?;
+        empty_pending(self, Tag::KEEP, &mut scratch.items, &mut scratch.blocks)?;
         scratch.items.extend_from_slice(more)?;
         built_in(
             alloc,
@@ -115,22 +115,22 @@ fn built_in<L: Ledger>(
 }
 
 // What is below a shared node is read, and stays.
-fn empty_owed(
+fn empty_pending(
     tree: Tree,
-    owed: Tag,
+    pending: Tag,
     items: &mut Vec<Item>,
     blocks: &mut Blocks,
 ) -> Result<(), NoMemory>
-    ensures { OnOk result (items.new.items ≡ items.old.items ++ walk owed tree) }
+    ensures { OnOk result (items.new.items ≡ items.old.items ++ walk pending tree) }
 {
     match tree.opened_if_own() {
-        Err(tree) => gather_owed(&tree, owed, items),
+        Err(tree) => gather_pending(&tree, pending, items),
         Ok(node) => {
-            push_kept(items, node.item.relabelled(owed))?;
+            push_kept(items, node.item.relabelled(pending))?;
             blocks.push(node.block)?;
-            let below = node.pending.then(owed);
-            empty_owed(node.left, below, items, blocks)?;
-            empty_owed(node.right, below, items, blocks)
+            let below = node.pending.then(pending);
+            empty_pending(node.left, below, items, blocks)?;
+            empty_pending(node.right, below, items, blocks)
         }
     }
 }

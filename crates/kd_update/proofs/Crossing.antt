@@ -303,8 +303,8 @@ puts_length (i ∷ is) = omega (arith, puts_length is)
 
 pub ahead_scan : (side : Side) (path : List Side) (is : List Item) (q o : Tag) (t s : Shape) (h : Head) (l r : Shape) → t ≡ fork h l r → o ≡ composed h.pending q → s ≡ child side l r → (is ≡ [] → ⊥)
     → logged_scan (side ∷ path) is (tagged q t) ≡ handed path o ++ logged_scan path (going side h.axis h.item.point is) (tagged o s)
-ahead_scan side path [] q o t s h l r e owed on some = absurd (some refl)
-ahead_scan side path (i ∷ is) q o t s h l r e owed on some = rw (e, owed, on) refl
+ahead_scan side path [] q o t s h l r e pending on some = absurd (some refl)
+ahead_scan side path (i ∷ is) q o t s h l r e pending on some = rw (e, pending, on) refl
 
 -- where the path ends, all items
 pub ahead_scan_root : (path : List Side) (is : List Item) (t : Shape) → length path ≡ 0 → logged_scan path is t ≡ puts_of is

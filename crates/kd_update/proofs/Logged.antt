@@ -73,4 +73,4 @@ ahead_put_none n p q side path t e = ap (λ z. logged_put n p (side ∷ path) (t
 pub ahead_put : (n : ℕ) (p : Place) (q o : Tag) (side : Side) (path : List Side) (t s : Shape) (h : Head) (l r : Shape) (b : Bool) → t ≡ fork h l r → o ≡ composed h.pending q → s ≡ child side l r → b ≡ goes_to side (goes_left h.axis p h.item.point)
     → logged_put n p (side ∷ path) (tagged q t) ≡ handed path o ++ cond b (logged_put n p path (tagged o s)) []
 unfolding logged_put
-ahead_put n p q o side path t s h l r b is owed on goes = rw (is, owed, on, goes) refl
+ahead_put n p q o side path t s h l r b is pending on goes = rw (is, pending, on, goes) refl

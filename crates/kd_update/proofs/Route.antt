@@ -52,20 +52,20 @@ unfolding put_under
 nodes-put n p axis a leaf = refl
 nodes-put n p axis a (fork h l r) =
     let P : Shape → Type 0 = λ s. nodes s ≡ nodes l + nodes r + 1 + 1 in
-    let owed = composed h.pending a in
+    let pending = composed h.pending a in
     cond_both (goes_left h.axis p h.item.point) _ _ P
-    (λ _. omega (arith, nodes-put n p (next_axis h.axis) owed l, tagged_nodes owed r))
-    (λ _. omega (arith, nodes-put n p (next_axis h.axis) owed r, tagged_nodes owed l))
+    (λ _. omega (arith, nodes-put n p (next_axis h.axis) pending l, tagged_nodes pending r))
+    (λ _. omega (arith, nodes-put n p (next_axis h.axis) pending r, tagged_nodes pending l))
 
 pub levels-put : (n : ℕ) (p : Place) (axis : Axis) (a : Tag) (t : Shape) → levels (put_under n p axis a t) ≤ levels t + 1
 unfolding put_under
 levels-put n p axis a leaf = omega arith
 levels-put n p axis a (fork h l r) =
     let P : Shape → Type 0 = λ s. levels s ≤ max (levels l) (levels r) + 1 + 1 in
-    let owed = composed h.pending a in
+    let pending = composed h.pending a in
     cond_both (goes_left h.axis p h.item.point) _ _ P
-    (λ _. omega (arith, levels-put n p (next_axis h.axis) owed l, tagged_levels owed r))
-    (λ _. omega (arith, levels-put n p (next_axis h.axis) owed r, tagged_levels owed l))
+    (λ _. omega (arith, levels-put n p (next_axis h.axis) pending l, tagged_levels pending r))
+    (λ _. omega (arith, levels-put n p (next_axis h.axis) pending r, tagged_levels pending l))
 
 -- each number is the new one or was there
 pub numbers-put : (n : ℕ) (p : Place) (axis : Axis) (a : Tag) (t : Shape) → AreAmong (numbers (put_under n p axis a t)) (n ∷ numbers t)
@@ -73,12 +73,12 @@ unfolding put_under
 numbers-put n p axis a leaf = among_same (n ∷ [])
 numbers-put n p axis a (fork h l r) =
     let P : Shape → Type 0 = λ s. AreAmong (numbers s) (n ∷ h.item.number ∷ (numbers l ++ numbers r)) in
-    let owed = composed h.pending a in
+    let pending = composed h.pending a in
     cond_both (goes_left h.axis p h.item.point) _ _ P
-    (λ _. subst (λ z. AreAmong (h.item.number ∷ (numbers (put_under n p (next_axis h.axis) owed l) ++ z)) (n ∷ h.item.number ∷ (numbers l ++ numbers r))) (sym (tagged_numbers owed r))
-    (among_left h.item.number (numbers (put_under n p (next_axis h.axis) owed l)) (numbers l) (numbers r) (n ∷ []) (numbers-put n p (next_axis h.axis) owed l)))
-    (λ _. subst (λ z. AreAmong (h.item.number ∷ (z ++ numbers (put_under n p (next_axis h.axis) owed r))) (n ∷ h.item.number ∷ (numbers l ++ numbers r))) (sym (tagged_numbers owed l))
-    (among_right h.item.number (numbers (put_under n p (next_axis h.axis) owed r)) (numbers l) (numbers r) (n ∷ []) (numbers-put n p (next_axis h.axis) owed r)))
+    (λ _. subst (λ z. AreAmong (h.item.number ∷ (numbers (put_under n p (next_axis h.axis) pending l) ++ z)) (n ∷ h.item.number ∷ (numbers l ++ numbers r))) (sym (tagged_numbers pending r))
+    (among_left h.item.number (numbers (put_under n p (next_axis h.axis) pending l)) (numbers l) (numbers r) (n ∷ []) (numbers-put n p (next_axis h.axis) pending l)))
+    (λ _. subst (λ z. AreAmong (h.item.number ∷ (z ++ numbers (put_under n p (next_axis h.axis) pending r))) (n ∷ h.item.number ∷ (numbers l ++ numbers r))) (sym (tagged_numbers pending l))
+    (among_right h.item.number (numbers (put_under n p (next_axis h.axis) pending r)) (numbers l) (numbers r) (n ∷ []) (numbers-put n p (next_axis h.axis) pending r)))
 
 moved_left : {X : Type 0} (x : X) (k l r l' : List X) → IsPermutation (x ∷ l) l' → IsPermutation (x ∷ (k ++ (l ++ r))) (k ++ (l' ++ r))
 moved_left x k l r l' m =
@@ -95,15 +95,15 @@ unfolding put_under
 walk-put n p axis a leaf = IsPermutation-refl (live_at n p ∷ [])
 walk-put n p axis a (fork h l r) =
     let Q : Shape → Type 0 = λ s. IsPermutation (live_at n p ∷ walk a (fork h l r)) (walk keep_tag s) in
-    let owed = composed h.pending a in
+    let pending = composed h.pending a in
     let own : kept (relabelled a h.item ∷ []) ≡ kept (relabelled keep_tag (relabelled a h.item) ∷ []) = ap (λ i. kept (i ∷ [])) (sym (relabelled-keep (relabelled a h.item))) in
-    let pl = put_under n p (next_axis h.axis) owed l in
-    let pr = put_under n p (next_axis h.axis) owed r in
+    let pl = put_under n p (next_axis h.axis) pending l in
+    let pr = put_under n p (next_axis h.axis) pending r in
     cond_both (goes_left h.axis p h.item.point) _ _ Q
-    (λ _. subst (IsPermutation (live_at n p ∷ walk a (fork h l r))) (parts_alike _ _ _ _ _ _ own refl (sym (walk-tagged_keep owed r)))
-    (moved_left (live_at n p) (kept (relabelled a h.item ∷ [])) (walk owed l) (walk owed r) (walk keep_tag pl) (walk-put n p (next_axis h.axis) owed l)))
-    (λ _. subst (IsPermutation (live_at n p ∷ walk a (fork h l r))) (parts_alike _ _ _ _ _ _ own (sym (walk-tagged_keep owed l)) refl)
-    (moved_right (live_at n p) (kept (relabelled a h.item ∷ [])) (walk owed l) (walk owed r) (walk keep_tag pr) (walk-put n p (next_axis h.axis) owed r)))
+    (λ _. subst (IsPermutation (live_at n p ∷ walk a (fork h l r))) (parts_alike _ _ _ _ _ _ own refl (sym (walk-tagged_keep pending r)))
+    (moved_left (live_at n p) (kept (relabelled a h.item ∷ [])) (walk pending l) (walk pending r) (walk keep_tag pl) (walk-put n p (next_axis h.axis) pending l)))
+    (λ _. subst (IsPermutation (live_at n p ∷ walk a (fork h l r))) (parts_alike _ _ _ _ _ _ own (sym (walk-tagged_keep pending l)) refl)
+    (moved_right (live_at n p) (kept (relabelled a h.item ∷ [])) (walk pending l) (walk pending r) (walk keep_tag pr) (walk-put n p (next_axis h.axis) pending r)))
 
 AllKept-put : (P : Place → Type 0) (n : ℕ) (p : Place) (axis : Axis) (a : Tag) (t : Shape) → P p → AllKept P a t → AllKept P keep_tag (put_under n p axis a t)
 AllKept-put P n p axis a t here k =

@@ -70,15 +70,15 @@ watched-put n p axis [] t s e sound new few = record {
 }
 watched-put n p axis (side ∷ path) leaf s e sound new few = absurd (cc)
 watched-put n p axis (side ∷ path) (fork h l r) s e sound new few =
-    let owed = composed h.pending keep_tag in
+    let pending = composed h.pending keep_tag in
     let next = next_axis h.axis in
     let x = child side l r in
-    let l' = put_under n p next owed l in
-    let r' = put_under n p next owed r in
+    let l' = put_under n p next pending l in
+    let r' = put_under n p next pending r in
     let here : at path x ≡ Some s = at_child side path h l r s e in
     let u = at-tagged path h.pending x s here in
     let free = free_on n side h l r new few in
     let ops = logged_put n p path (tagged h.pending x) in
-    let below = subst (λ z. IsWatched path (tagged h.pending x) z ops) (child-put n p next h.pending x ∙ child_done (put_under n p next owed) side l r) (watched-put n p next path (tagged h.pending x) u.0 u.1 (sound_on side h l r sound) free.0 free.1) in
-    route_watched side (goes_left h.axis p h.item.point) path h (record h { item = relabelled keep_tag h.item; pending = keep_tag }) l r l' r' (tagged owed l) (tagged owed r) (handed path h.pending) ops
-    (watched_handed path h.pending x (child side l' r') s ops here below) (subst (λ z. IsWatched path x z (handed path h.pending ++ [])) (child_done (tagged owed) side l r) (at_child_tagged path h.pending x s here))
+    let below = subst (λ z. IsWatched path (tagged h.pending x) z ops) (child-put n p next h.pending x ∙ child_done (put_under n p next pending) side l r) (watched-put n p next path (tagged h.pending x) u.0 u.1 (sound_on side h l r sound) free.0 free.1) in
+    route_watched side (goes_left h.axis p h.item.point) path h (record h { item = relabelled keep_tag h.item; pending = keep_tag }) l r l' r' (tagged pending l) (tagged pending r) (handed path h.pending) ops
+    (watched_handed path h.pending x (child side l' r') s ops here below) (subst (λ z. IsWatched path x z (handed path h.pending ++ [])) (child_done (tagged pending) side l r) (at_child_tagged path h.pending x s here))

@@ -27,15 +27,15 @@ pub(crate) fn holds(tree: &Tree, items: &[Item]) -> bool
     are_among(tree, Tag::KEEP, items)
 }
 
-fn are_among(tree: &Tree, owed: Tag, items: &[Item]) -> bool
+fn are_among(tree: &Tree, pending: Tag, items: &[Item]) -> bool
     requires { AreContents 0 MAX_POINTS items.now }
-    ensures { result ≡ true ↔ AreAllFrom (walk owed tree.now) items.now }
+    ensures { result ≡ true ↔ AreAllFrom (walk pending tree.now) items.now }
 {
     let Some(top) = tree.top() else {
         return true;
     };
-    let below = top.pending.then(owed);
-    if !is_among(&top.item.relabelled(owed), items) {
+    let below = top.pending.then(pending);
+    if !is_among(&top.item.relabelled(pending), items) {
         return false;
     }
     if !are_among(top.left, below, items) {

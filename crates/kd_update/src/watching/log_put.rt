@@ -8,7 +8,7 @@ ghost use Rattle.kd_update.specs.Watches.{with_puts};
 
 use crate::points::insert::goes_left;
 use crate::points::sides::goes_to;
-use kd_mark::{Watch, Watches, note, note_owed};
+use kd_mark::{Watch, Watches, note, note_pending};
 use kd_tree::{Side, Tree};
 use map_items::{NoMemory, Op, Tag};
 use op_logger::{MAX_LOGGED, OpLog};
@@ -56,16 +56,16 @@ fn log_each_put(
 // For the subtree at the sides, of a tree with this pending action.
 fn log_put(
     tree: &Tree,
-    owed: Tag,
+    pending: Tag,
     sides: &[Side],
     number: u32,
     point: Point,
     log: &mut OpLog,
 ) -> Result<(), NoMemory>
-    requires { length log.old + length (logged_put number point sides.now (tagged owed tree.now)) ≤ MAX_LOGGED }
-    ensures logged { OnOk result (log.new ≡ log.old ++ logged_put number point sides.now (tagged owed tree.now)) }
+    requires { length log.old + length (logged_put number point sides.now (tagged pending tree.now)) ≤ MAX_LOGGED }
+    ensures logged { OnOk result (log.new ≡ log.old ++ logged_put number point sides.now (tagged pending tree.now)) }
     ensures begins { Extends log.old log.new }
-    ensures few { length log.new ≤ length log.old + length (logged_put number point sides.now (tagged owed tree.now)) }
+    ensures few { length log.new ≤ length log.old + length (logged_put number point sides.now (tagged pending tree.now)) }
 {
     let Some((side, rest)) = sides.split_first() else {
         return note(log, Op::Put { number, point });
@@ -73,12 +73,12 @@ fn log_put(
     let Some(top) = tree.top() else {
         return Ok(());
     };
-    let owed = top.pending.then(owed);
+    let pending = top.pending.then(pending);
     let next = top.child(*side);
     let goes_on = goes_to(*side, goes_left(&point, top.axis, &top.item.point));
-    note_owed(owed, rest, log)?;
+    note_pending(pending, rest, log)?;
     if !goes_on {
         return Ok(());
     }
-    log_put(next, owed, rest, number, point, log)
+    log_put(next, pending, rest, number, point, log)
 }

@@ -7,7 +7,7 @@ ghost use Rattle.kd_update.specs.Crossing.{HaveRoomAtOnce, going, logged_scan, p
 
 use crate::points::insert::goes_left;
 use crate::points::sides::goes_to;
-use kd_mark::{Watch, Watches, note, note_owed};
+use kd_mark::{Watch, Watches, note, note_pending};
 use kd_tree::{Side, Tree};
 use map_items::{Item, NoMemory, Op, Tag};
 use op_logger::{MAX_LOGGED, OpLog};
@@ -56,15 +56,15 @@ fn log_each_scan(
 // Of the items those that come to the subtree remain.
 fn log_scan(
     tree: &Tree,
-    owed: Tag,
+    pending: Tag,
     sides: &[Side],
     items: &mut Vec<Item>,
     log: &mut OpLog,
 ) -> Result<(), NoMemory>
-    requires { length log.old + length (logged_scan sides.now items.old.items (tagged owed tree.now)) ≤ MAX_LOGGED }
-    ensures logged { OnOk result (log.new ≡ log.old ++ logged_scan sides.now items.old.items (tagged owed tree.now)) }
+    requires { length log.old + length (logged_scan sides.now items.old.items (tagged pending tree.now)) ≤ MAX_LOGGED }
+    ensures logged { OnOk result (log.new ≡ log.old ++ logged_scan sides.now items.old.items (tagged pending tree.now)) }
     ensures begins { Extends log.old log.new }
-    ensures few { length log.new ≤ length log.old + length (logged_scan sides.now items.old.items (tagged owed tree.now)) }
+    ensures few { length log.new ≤ length log.old + length (logged_scan sides.now items.old.items (tagged pending tree.now)) }
 {
     let Some((side, rest)) = sides.split_first() else {
         return note_puts(log, items.as_slice());
@@ -75,11 +75,11 @@ fn log_scan(
     let Some(top) = tree.top() else {
         return Ok(());
     };
-    let owed = top.pending.then(owed);
+    let pending = top.pending.then(pending);
     let next = top.child(*side);
-    note_owed(owed, rest, log)?;
+    note_pending(pending, rest, log)?;
     keep_going(items, *side, top.axis, &top.item.point);
-    log_scan(next, owed, rest, items, log)
+    log_scan(next, pending, rest, items, log)
 }
 
 fn is_none(items: &[Item]) -> bool

@@ -4,16 +4,16 @@ use Rattle.item_lists.proofs.gather.+gather.Goals as goal
 
 pub returns-then-numbers-from : goal.returns-then-numbers-from
 returns-then-numbers-from t c =
-    let none = numbered_before c.args.from c.in-Some.numbers.greatest c.args.bound c.args.sought.now c.args.owed c.args.tree.now c.if-numbers-from.true c.in-Some.ensures.range.to in
+    let none = numbered_before c.args.from c.in-Some.numbers.greatest c.args.bound c.args.sought.now c.args.pending c.args.tree.now c.if-numbers-from.true c.in-Some.ensures.range.to in
     sym (ap (λ z. c.args.items.now.items ++ z) none ∙ append-nil c.args.items.now.items)
 
 pub returns-then-not-is_below : goal.returns-then-not-is_below
 returns-then-not-is_below t c =
     let beyond = sym c.is_below.ensures ∙ c.if-not-is_below.true in
-    let none = numbered_beyond c.args.from c.in-Some.numbers.least c.args.bound c.args.sought.now c.args.owed c.args.tree.now beyond c.in-Some.ensures.range.from in
+    let none = numbered_beyond c.args.from c.in-Some.numbers.least c.args.bound c.args.sought.now c.args.pending c.args.tree.now beyond c.in-Some.ensures.range.from in
     sym (ap (λ z. c.args.items.now.items ++ z) none ∙ append-nil c.args.items.now.items)
 
 pub returns-then-not-meets : goal.returns-then-not-meets
 returns-then-not-meets t c =
-    let none = lies_apart c.args.from c.args.bound c.args.sought.now c.in-Some-extent.extent c.args.owed c.args.tree.now c.in-Some-extent.ensures.value (c.meets.ensures c.if-not-meets.true) in
+    let none = lies_apart c.args.from c.args.bound c.args.sought.now c.in-Some-extent.extent c.args.pending c.args.tree.now c.in-Some-extent.ensures.value (c.meets.ensures c.if-not-meets.true) in
     sym (ap (λ z. c.args.items.now.items ++ z) none ∙ append-nil c.args.items.now.items)

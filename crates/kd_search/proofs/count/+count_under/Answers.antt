@@ -14,7 +14,7 @@ returns-then-covers-clause-value t c =
     c.live.ensures ∙ sym (ap length (inside_covered c.args.c.now c.in-Some.extent (items_of c.args.part.now) c.in-Some.ensures.some (sym c.covers.ensures.value ∙ c.if-covers.true)))
 
 pub returns-then-covers-clause-few : goal.returns-then-covers-clause-few
-returns-then-covers-clause-few t c = omega (arith, c.live.ensures, live_few c.args.part.now.owed c.args.part.now.tree.now)
+returns-then-covers-clause-few t c = omega (arith, c.live.ensures, live_few c.args.part.now.pending c.args.part.now.tree.now)
 
 pub returns-clause-value : goal.returns-clause-value
 returns-clause-value t c =

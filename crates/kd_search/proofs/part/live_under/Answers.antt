@@ -8,7 +8,7 @@ use Rattle.kd_search.proofs.part.live_under.Goals as goal
 
 pub returns : goal.returns
 returns c =
-    let owed = c.args.owed in
+    let pending = c.args.pending in
     let tree = c.args.tree.now in
     let live : Counts → _ = λ x. x.live in
-    ap live (c.apply.ensures.value ∙ ap (applied owed) c.counts.ensures.value ∙ sym (tally-composed keep_tag owed tree)) ∙ sym (walk_live owed tree)
+    ap live (c.apply.ensures.value ∙ ap (applied pending) c.counts.ensures.value ∙ sym (tally-composed keep_tag pending tree)) ∙ sym (walk_live pending tree)

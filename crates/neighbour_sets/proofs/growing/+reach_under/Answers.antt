@@ -14,7 +14,7 @@ use Rattle.neighbour_sets.proofs.growing.+reach_under.Goals as goal
 pub returns-in_default-clause-reached : goal.returns-in_default-clause-reached
 returns-in_default-clause-reached t c =
     let none : nodes c.args.tree.now ≡ 0 = sym c.requires.flags ∙ c.in_default.ensures.cases in
-    near_seen c.args.front.now c.args.ball.now.center c.args.ball.now.limit (walk c.args.owed c.args.tree.now) (spent_empty c.args.front.now.seen c.args.owed c.args.tree.now none)
+    near_seen c.args.front.now c.args.ball.now.center c.args.ball.now.limit (walk c.args.pending c.args.tree.now) (spent_empty c.args.front.now.seen c.args.pending c.args.tree.now none)
 
 pub returns-then-own-clause-reached : goal.returns-then-own-clause-reached
 returns-then-own-clause-reached t c =
@@ -23,13 +23,13 @@ returns-then-own-clause-reached t c =
     let own = c.in-Some.own.now in
     let children = c.in-Some.children.now in
     let long : length (own ∷ children) ≡ nodes c.args.tree.now = ap length (sym cut) ∙ c.requires.flags in
-    let k = subst (AreSpent f.seen c.args.owed c.args.tree.now) cut c.requires.spent in
-    near_seen f c.args.ball.now.center c.args.ball.now.limit (walk c.args.owed c.args.tree.now) (spent_first f.seen c.args.owed c.args.tree.now own children long k c.if-own.true)
+    let k = subst (AreSpent f.seen c.args.pending c.args.tree.now) cut c.requires.spent in
+    near_seen f c.args.ball.now.center c.args.ball.now.limit (walk c.args.pending c.args.tree.now) (spent_first f.seen c.args.pending c.args.tree.now own children long k c.if-own.true)
 
 pub returns-then-not-meets-clause-reached : goal.returns-then-not-meets-clause-reached
 returns-then-not-meets-clause-reached t c =
-    let inside = walk_in_extent (Some c.in-Some-extent.extent) c.args.owed c.args.tree.now c.in-Some-extent.ensures.value in
-    ap (put_all_new c.args.front.now) (sym (near_missed c.args.ball.now.center c.args.ball.now.limit c.in-Some-extent.extent (walk c.args.owed c.args.tree.now) inside (sym c.meets.ensures ∙ c.if-not-meets.true)))
+    let inside = walk_in_extent (Some c.in-Some-extent.extent) c.args.pending c.args.tree.now c.in-Some-extent.ensures.value in
+    ap (put_all_new c.args.front.now) (sym (near_missed c.args.ball.now.center c.args.ball.now.limit c.in-Some-extent.extent (walk c.args.pending c.args.tree.now) inside (sym c.meets.ensures ∙ c.if-not-meets.true)))
 
 pub reach_under-requires : goal.reach_under-requires
 reach_under-requires t c =
@@ -45,8 +45,8 @@ reach_under-requires t c =
     let own = c.in-Some.own.now in
     let children = c.in-Some.children.now in
     let long : length (own ∷ children) ≡ nodes c.args.tree.now = ap length (sym cut) ∙ c.requires.flags in
-    let k = subst (AreSpent f.seen c.args.owed c.args.tree.now) cut c.requires.spent in
-    let parts = spent_parts f.seen c.args.owed head top.left.now top.right.now c.args.tree.now own children below is c.then-below.ensures.value long k in
+    let k = subst (AreSpent f.seen c.args.pending c.args.tree.now) cut c.requires.spent in
+    let parts = spent_parts f.seen c.args.pending head top.left.now top.right.now c.args.tree.now own children below is c.then-below.ensures.value long k in
     let kept = grown_kept f c.reach.new.front (near (item ∷ []) q d) c.in_ok-reach.ensures in
     let left = c.split_at_mut-left.result.0.now in (
       omega (arith, ap nodes is),
@@ -71,8 +71,8 @@ reach_under-requires-2 t c =
     let own = c.in-Some.own.now in
     let children = c.in-Some.children.now in
     let long : length (own ∷ children) ≡ nodes c.args.tree.now = ap length (sym cut) ∙ c.requires.flags in
-    let k = subst (AreSpent f.seen c.args.owed c.args.tree.now) cut c.requires.spent in
-    let parts = spent_parts f.seen c.args.owed head top.left.now top.right.now c.args.tree.now own children below is c.then-below.ensures.value long k in
+    let k = subst (AreSpent f.seen c.args.pending c.args.tree.now) cut c.requires.spent in
+    let parts = spent_parts f.seen c.args.pending head top.left.now top.right.now c.args.tree.now own children below is c.then-below.ensures.value long k in
     let kept = grown_kept f c.reach.new.front (near (item ∷ []) q d) c.in_ok-reach.ensures in
     let right = c.split_at_mut-left.result.1.now in
     let kept_on = grown_kept c.reach.new.front c.reach_under.new.front (near (walk below top.left.now) q d) c.in_ok-left.ensures.reached in (
@@ -89,13 +89,13 @@ returns-clause-reached t c =
     let top = c.in-Some-top.top in
     let below = c.then-below.result in
     let item = c.relabelled-item.result in
-    let parts = walk_top c.args.tree.now c.args.owed top item below c.in-Some-top.ensures.some c.relabelled-item.ensures c.then-below.ensures.value in
-    put_in_turn c.args.ball.now.center c.args.ball.now.limit item (walk below top.left.now) (walk below top.right.now) (walk c.args.owed c.args.tree.now) c.args.front.now _ _ _
+    let parts = walk_top c.args.tree.now c.args.pending top item below c.in-Some-top.ensures.some c.relabelled-item.ensures c.then-below.ensures.value in
+    put_in_turn c.args.ball.now.center c.args.ball.now.limit item (walk below top.left.now) (walk below top.right.now) (walk c.args.pending c.args.tree.now) c.args.front.now _ _ _
     parts c.in_ok-reach.ensures c.in_ok-left.ensures.reached c.in_ok-right.ensures.reached
 
 pub returns-in_default-clause-whole : goal.returns-in_default-clause-whole
 returns-in_default-clause-whole t c =
-    let none : nodes c.args.tree.now ≡ 0 = sym c.requires.flags ∙ c.in_default.ensures.cases in λ e. spent_empty c.args.front.now.seen c.args.owed c.args.tree.now none
+    let none : nodes c.args.tree.now ≡ 0 = sym c.requires.flags ∙ c.in_default.ensures.cases in λ e. spent_empty c.args.front.now.seen c.args.pending c.args.tree.now none
 
 pub returns-then-own-clause-whole : goal.returns-then-own-clause-whole
 returns-then-own-clause-whole t c =
@@ -104,7 +104,7 @@ returns-then-own-clause-whole t c =
     let own = c.in-Some.own.now in
     let children = c.in-Some.children.now in
     let long : length (own ∷ children) ≡ nodes c.args.tree.now = ap length (sym cut) ∙ c.requires.flags in
-    let k = subst (AreSpent f.seen c.args.owed c.args.tree.now) cut c.requires.spent in λ e. spent_first f.seen c.args.owed c.args.tree.now own children long k c.if-own.true
+    let k = subst (AreSpent f.seen c.args.pending c.args.tree.now) cut c.requires.spent in λ e. spent_first f.seen c.args.pending c.args.tree.now own children long k c.if-own.true
 
 pub returns-clause-whole : goal.returns-clause-whole
 returns-clause-whole t c =
@@ -112,9 +112,9 @@ returns-clause-whole t c =
     let below = c.then-below.result in
     let item = c.relabelled-item.result in
     let now = c.reach_under-2.new.front in
-    let parts = walk_top c.args.tree.now c.args.owed top item below c.in-Some-top.ensures.some c.relabelled-item.ensures c.then-below.ensures.value in
+    let parts = walk_top c.args.tree.now c.args.pending top item below c.in-Some-top.ensures.some c.relabelled-item.ensures c.then-below.ensures.value in
     let kept = grown_kept c.reach_under.new.front now (near (walk below top.right.now) c.args.ball.now.center c.args.ball.now.limit) c.in_ok-right.ensures.reached in
-    whole_seen c.reach_under.new.front.seen now.seen item (walk below top.left.now) (walk below top.right.now) (walk c.args.owed c.args.tree.now) c.is_over.result c.in_ok-left.left
+    whole_seen c.reach_under.new.front.seen now.seen item (walk below top.left.now) (walk below top.right.now) (walk c.args.pending c.args.tree.now) c.is_over.result c.in_ok-left.left
     c.in_ok-right.right c.all-whole.result parts kept c.is_over.ensures c.in_ok-left.ensures.whole c.in_ok-right.ensures.whole c.all-whole.ensures
 
 pub returns-clause-spent : goal.returns-clause-spent
@@ -124,11 +124,11 @@ returns-clause-spent t c =
     let below = c.then-below.result in
     let item = c.relabelled-item.result in
     let now = c.reach_under-2.new.front in
-    let parts = walk_top c.args.tree.now c.args.owed top item below c.in-Some-top.ensures.some c.relabelled-item.ensures c.then-below.ensures.value in
+    let parts = walk_top c.args.tree.now c.args.pending top item below c.in-Some-top.ensures.some c.relabelled-item.ensures c.then-below.ensures.value in
     let kept = grown_kept c.reach_under.new.front now (near (walk below top.right.now) c.args.ball.now.center c.args.ball.now.limit) c.in_ok-right.ensures.reached in
     let whole =
-    whole_seen c.reach_under.new.front.seen now.seen item (walk below top.left.now) (walk below top.right.now) (walk c.args.owed c.args.tree.now) c.is_over.result c.in_ok-left.left
+    whole_seen c.reach_under.new.front.seen now.seen item (walk below top.left.now) (walk below top.right.now) (walk c.args.pending c.args.tree.now) c.is_over.result c.in_ok-left.left
     c.in_ok-right.right c.all-whole.result parts kept c.is_over.ensures c.in_ok-left.ensures.whole c.in_ok-right.ensures.whole c.all-whole.ensures in
-    spent_joined now.seen c.args.owed head top.left.now top.right.now c.args.tree.now c.all-whole.result c.reach_under.new.spent c.reach_under-2.new.spent below
+    spent_joined now.seen c.args.pending head top.left.now top.right.now c.args.tree.now c.all-whole.result c.reach_under.new.spent c.reach_under-2.new.spent below
     c.in-Some-top.ensures.some c.then-below.ensures.value c.in_ok-left.ensures.flags
     (spent_more c.reach_under.new.front.seen now.seen kept below top.left.now c.reach_under.new.spent c.in_ok-left.ensures.spent) c.in_ok-right.ensures.spent whole

@@ -13,7 +13,7 @@ returns-then-not-is_among t c =
     let top = c.in-Some.top in
     let below = c.then-below.result in
     let i = c.relabelled.result in
-    let whole = walk_top c.args.tree.now c.args.owed top i below c.in-Some.ensures.some c.relabelled.ensures c.then-below.ensures.value in
+    let whole = walk_top c.args.tree.now c.args.pending top i below c.in-Some.ensures.some c.relabelled.ensures c.then-below.ensures.value in
     let no = c.if-not-is_among.true in (
       (λ e. absurd (not_both false e refl)),
       λ k.
@@ -28,7 +28,7 @@ returns-then-not-are_among t c =
     let top = c.in-Some.top in
     let below = c.then-below.result in
     let i = c.relabelled.result in
-    let whole = walk_top c.args.tree.now c.args.owed top i below c.in-Some.ensures.some c.relabelled.ensures c.then-below.ensures.value in
+    let whole = walk_top c.args.tree.now c.args.pending top i below c.in-Some.ensures.some c.relabelled.ensures c.then-below.ensures.value in
     let no = c.if-not-are_among.true in (
       (λ e. absurd (not_both false e refl)),
       λ k.
@@ -45,7 +45,7 @@ returns t c =
     let i = c.relabelled.result in
     let left = walk below top.left.now in
     let right = walk below top.right.now in
-    let whole = walk_top c.args.tree.now c.args.owed top i below c.in-Some.ensures.some c.relabelled.ensures c.then-below.ensures.value in
+    let whole = walk_top c.args.tree.now c.args.pending top i below c.in-Some.ensures.some c.relabelled.ensures c.then-below.ensures.value in
     let own = c.is_among.ensures.0 c.if-not-is_among.false in
     let near = c.are_among.ensures.0 c.if-not-are_among.false in (
       (λ e. subst (λ (xs : List Item). AreAllFrom xs m) (sym whole) (parts_in (kept (i ∷ [])) left right m own near (c.are_among-2.ensures.0 e))),

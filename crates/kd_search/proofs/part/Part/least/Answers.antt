@@ -8,11 +8,11 @@ use Rattle.kd_search.specs.First.{AreFrom}
 use Rattle.kd_search.proofs.part.Part.least.Goals as goal
 
 pub returns-in-None : goal.returns-in-None
-returns-in-None c = subst (λ (t : Shape). AreFrom 4294967295 (walk c.args.self.now.owed t)) (sym (c.in-None.ensures.none.0 refl)) tt
+returns-in-None c = subst (λ (t : Shape). AreFrom 4294967295 (walk c.args.self.now.pending t)) (sym (c.in-None.ensures.none.0 refl)) tt
 
 pub returns-in-Some : goal.returns-in-Some
 returns-in-Some c =
     let tree = c.args.self.now.tree.now in
     let least = c.in-Some.numbers.least in
-    recursion_from_All (λ (i : Item). least ≤ i.number) (walk c.args.self.now.owed tree)
-    (walk_numbers (λ n. least ≤ n) c.args.self.now.owed tree (recursion_from_All (λ n. least ≤ n) (numbers tree) c.in-Some.ensures.range.from))
+    recursion_from_All (λ (i : Item). least ≤ i.number) (walk c.args.self.now.pending tree)
+    (walk_numbers (λ n. least ≤ n) c.args.self.now.pending tree (recursion_from_All (λ n. least ≤ n) (numbers tree) c.in-Some.ensures.range.from))

@@ -24,8 +24,8 @@ listed cleared roomy held all built left more e f g h k = k ∙ h ∙ ap (λ (xs
 -- so it is the tree's remaining items, and the others
 all : (g : _) (c : After-as_mut_slice g) → c.as_mut_slice.result.now ≡ walk keep_tag c.args.self ++ c.args.more.now
 all g c =
-    listed c.clear.new.self.items c.reserve.new.self.items c.empty_owed.new.items.items c.extend_from_slice.new.self.items c.as_mut_slice.result.now (walk keep_tag c.args.self) c.args.more.now
-    c.clear.ensures.items c.reserve.ensures.items c.in_ok-empty_owed.ensures c.in_ok-extend_from_slice.ensures.items c.as_mut_slice.ensures.value
+    listed c.clear.new.self.items c.reserve.new.self.items c.empty_pending.new.items.items c.extend_from_slice.new.self.items c.as_mut_slice.result.now (walk keep_tag c.args.self) c.args.more.now
+    c.clear.ensures.items c.reserve.ensures.items c.in_ok-empty_pending.ensures c.in_ok-extend_from_slice.ensures.items c.as_mut_slice.ensures.value
 
 pub built_in-requires-clause-kept : goal.built_in-requires-clause-kept
 built_in-requires-clause-kept g c = subst AreKept (sym (all g (goal.at.built_in-requires-clause-kept g c).After-as_mut_slice)) (kept_with c.args.self c.args.more.now c.requires.kept)
