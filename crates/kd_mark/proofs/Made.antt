@@ -59,12 +59,12 @@ apart_mark c (fork h l r) e a b x m k two =
     omega (arith, two, made_here c h l r (rw z at m) (rw z at k))
 
 -- an entered node: two for the children, those below them, and one for itself
-pub ticks_entered : (large : ℕ) (c : Choice) (a : Tag) (s : Shape) (f : Fork) (e : Reach) (n0 n1 n2 n3 n4 : ℕ)
+pub nodes_made_entered : (large : ℕ) (c : Choice) (a : Tag) (s : Shape) (f : Fork) (e : Reach) (n0 n1 n2 n3 n4 : ℕ)
     → IsEntered c a s f → Some e ≡ reach s → meets c e ≡ true → covers c e ≡ false → Some f ≡ pushed s
     → n1 ≤ n0 + 2 → (RebuildsNoneEntered large c (marked_shape c a f.left) → n2 ≤ n1 + made_mark c f.left)
     → (RebuildsNoneEntered large c (marked_shape c a f.right) → n3 ≤ n2 + made_mark c f.right)
     → (RebuildsNoneEntered large c (marked_shape c a f.left) → RebuildsNoneEntered large c (marked_shape c a f.right) → IsNotDue large (fork (head (marked_item (chosen_by c) a f.item) f.axis) (marked_shape c a f.left) (marked_shape c a f.right)) → n4 ≤ n3 + 1)
     → RebuildsNoneEntered large c (marked_shape c a s) → n4 ≤ n0 + made_mark c s
-ticks_entered large c a s f e n0 n1 n2 n3 n4 w x m k p two left right own criteria =
+nodes_made_entered large c a s f e n0 n1 n2 n3 n4 w x m k p two left right own criteria =
     let parts = w.criteria large criteria in
     omega (arith, two, left parts.1, right parts.2, own parts.1 parts.2 parts.0, made_entered c s f e x m k p)

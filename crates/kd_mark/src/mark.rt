@@ -39,7 +39,7 @@ pub fn marked<L: Ledger>(
     ensures unrebuilt { RebuildsNoneEntered large choice.now (marked_shape choice.now tag tree)
         → IfOk result (λ t. t ≡ marked_shape choice.now tag tree) }
     // On an error too.
-    ensures ticks { RebuildsNoneEntered large choice.now (marked_shape choice.now tag tree)
+    ensures nodes_made { RebuildsNoneEntered large choice.now (marked_shape choice.now tag tree)
         → steps.new ≤ steps.old + 5 * entered_mark choice.now tree + 1 }
 {
     let _size = tree.size();
@@ -59,7 +59,7 @@ pub fn marked_within<L: Ledger, W: Ways>(
     requires { AreLargeAt large (W.paths ways.now) tree }
     ensures updated { let plain = marked_shape choice.now tag tree in
         IfOk result (λ t. IsUpdatedClear large (W.paths ways.now) tree plain (RebuildsNoneEntered large choice.now plain) t) }
-    ensures ticks { RebuildsNoneEntered large choice.now (marked_shape choice.now tag tree)
+    ensures nodes_made { RebuildsNoneEntered large choice.now (marked_shape choice.now tag tree)
         → steps.new ≤ steps.old + made_mark choice.now tree }
 {
     let _size = tree.size();

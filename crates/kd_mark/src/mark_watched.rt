@@ -48,7 +48,7 @@ pub fn marked_watched<L: Ledger>(
     ensures unrebuilt { RebuildsNoneEntered large choice.now (marked_shape choice.now tag tree)
         → IfOk result (λ t. t ≡ marked_shape choice.now tag tree) }
     // On an error too.
-    ensures ticks { RebuildsNoneEntered large choice.now (marked_shape choice.now tag tree)
+    ensures nodes_made { RebuildsNoneEntered large choice.now (marked_shape choice.now tag tree)
         → steps.new ≤ steps.old + 5 * entered_mark choice.now tree + 1 }
 {
     if watches.is_empty() {

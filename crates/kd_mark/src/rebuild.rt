@@ -29,7 +29,7 @@ pub fn rebuilt<L: Ledger>(alloc: Global, tree: Tree, steps: &mut Steps<L>) -> Re
     ensures nodes { IfOk result (λ t. nodes t ≡ length (contents tree)) }
     ensures levels { IfOk result (λ t. levels t ≤ 23) }
     // On an error too.
-    ensures ticks { steps.new ≤ steps.old + length (contents tree) }
+    ensures nodes_made { steps.new ≤ steps.old + length (contents tree) }
 {
     let _size = tree.size();
     tree.rebuilt_with(alloc, &[], &mut Scratch::new(alloc), steps)
@@ -46,7 +46,7 @@ pub fn rejoined<L: Ledger>(
     requires { IsSoundFork (record { item = node.item; axis = node.axis; pending = keep_tag })
         node.left node.right }
     ensures due { IfOk result (λ t. RefreshesIfDue large (joined (fork_of node)) t) }
-    ensures ticks { IsNotDue large (joined (fork_of node)) → steps.new ≤ steps.old + 1 }
+    ensures nodes_made { IsNotDue large (joined (fork_of node)) → steps.new ≤ steps.old + 1 }
 {
     let tree = joined(alloc, node, steps)?;
     refreshed(alloc, tree, large, steps)
@@ -62,7 +62,7 @@ pub fn joined<L: Ledger>(
     requires { IsSoundFork (record { item = node.item; axis = node.axis; pending = keep_tag })
         node.left node.right }
     ensures shape { IfOk result (λ t. t ≡ joined (fork_of node)) }
-    ensures ticks { steps.new ≤ steps.old + 1 }
+    ensures nodes_made { steps.new ≤ steps.old + 1 }
 {
     Tree::put_together(alloc, node, steps)
 }

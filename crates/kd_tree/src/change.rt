@@ -36,7 +36,7 @@ impl Tree {
         ensures shape { IfOk result (λ t. t ≡ tagged tag self) }
         ensures contents { IfOk result (λ t. contents t ≡ mark (contents self) everything tag) }
         ensures numbers { IfOk result (λ t. numbers t ≡ numbers self) }
-        ensures ticks { steps.new ≤ steps.old + 1 }
+        ensures nodes_made { steps.new ≤ steps.old + 1 }
         ensures still { self ≡ leaf → steps.new ≡ steps.old }
         ensures keep { tag ≡ keep_tag → steps.new ≡ steps.old }
     {
@@ -54,7 +54,7 @@ impl Tree {
         steps: &mut Steps<L>,
     ) -> Result<Tree, NoMemory>
         ensures shape { IfOk result (λ t. t ≡ tagged tag self) }
-        ensures ticks { steps.new ≤ steps.old + 1 }
+        ensures nodes_made { steps.new ≤ steps.old + 1 }
         ensures still { self ≡ leaf → steps.new ≡ steps.old }
     {
         match self.opened()? {
@@ -83,7 +83,7 @@ impl Tree {
         ensures contents { IfOk result (λ o. IfSome o (λ f. contents_of_parts f ≡ contents self)) }
         ensures numbers { IfOk result (λ o. IfSome o (λ f. numbers (joined f) ≡ numbers self)) }
         ensures sound { IfOk result (λ o. IfSome o (λ f. IsSound (joined f))) }
-        ensures ticks { steps.new ≤ steps.old + 2 }
+        ensures nodes_made { steps.new ≤ steps.old + 2 }
         ensures still { self ≡ leaf → steps.new ≡ steps.old }
     {
         match self.take_apart(alloc, steps)? {
@@ -108,7 +108,7 @@ impl Tree {
     ) -> Result<Tree, NoMemory>
         requires { IsTopSound (with_child side child self) }
         ensures shape { IfOk result (λ t. t ≡ with_child side child self) }
-        ensures ticks { steps.new ≤ steps.old + 1 }
+        ensures nodes_made { steps.new ≤ steps.old + 1 }
     {
         match self.opened()? {
             None => Ok(Tree::empty()),
@@ -148,7 +148,7 @@ impl Tree {
         ensures shape { IfOk result (λ t. t ≡ joined fork) }
         ensures contents { IfOk result (λ t. contents t ≡ contents_of_parts fork) }
         ensures numbers { IfOk result (λ t. numbers t ≡ fork.item.number ∷ (numbers fork.left ++ numbers fork.right)) }
-        ensures ticks { steps.new ≤ steps.old + 1 }
+        ensures nodes_made { steps.new ≤ steps.old + 1 }
     {
         let Fork {
             item,

@@ -64,7 +64,7 @@ impl Tree {
         ensures contents { IfOk result (λ o. IfSome o (λ n. contents_of_parts (fork_of n) ≡ contents self)) }
         ensures numbers { IfOk result (λ o. IfSome o (λ n. numbers (joined (fork_of n)) ≡ numbers self)) }
         ensures sound { IfOk result (λ o. IfSome o (λ n. IsSound (joined (fork_of n)))) }
-        ensures ticks { steps.new ≤ steps.old + 2 }
+        ensures nodes_made { steps.new ≤ steps.old + 2 }
         ensures still { self ≡ leaf → steps.new ≡ steps.old }
     {
         match self.opened()? {
@@ -94,7 +94,7 @@ impl Tree {
         ensures shape { IfOk result (λ t. t ≡ joined (fork_of node)) }
         ensures contents { IfOk result (λ t. contents t ≡ contents_of_parts (fork_of node)) }
         ensures numbers { IfOk result (λ t. numbers t ≡ node.item.number ∷ (numbers node.left ++ numbers node.right)) }
-        ensures ticks { steps.new ≤ steps.old + 1 }
+        ensures nodes_made { steps.new ≤ steps.old + 1 }
     {
         let OpenNode {
             item,
@@ -146,7 +146,7 @@ impl Opened {
     ) -> Result<Tree, NoMemory>
         requires { IsSoundFork (top_of self) self.left self.right }
         ensures shape { IfOk result (λ t. t ≡ fork (top_of self) self.left self.right) }
-        ensures ticks { steps.new ≡ steps.old + 1 }
+        ensures nodes_made { steps.new ≡ steps.old + 1 }
     {
         let Opened {
             item,

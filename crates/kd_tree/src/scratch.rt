@@ -75,7 +75,7 @@ impl Tree {
         ensures nodes { IfOk result (λ t. nodes t ≡ length (walk keep_tag self ++ more.now)) }
         ensures levels { (n : ℕ) → length (walk keep_tag self ++ more.now) < 2 ^ n → IfOk result (λ t. levels t ≤ n) }
         ensures once { OnOk result (steps.new ≡ steps.old + length (walk keep_tag self ++ more.now)) }
-        ensures ticks { steps.new ≤ steps.old + length (walk keep_tag self ++ more.now) }
+        ensures nodes_made { steps.new ≤ steps.old + length (walk keep_tag self ++ more.now) }
     {
         let _size = self.size();
         let counts = self.counts();
@@ -106,7 +106,7 @@ fn built_in<L: Ledger>(
     requires few { length items.old ≤ MAX_NODES }
     ensures shape { IfOk result (λ t. IsBuilt items.old t) }
     ensures once { OnOk result (steps.new ≡ steps.old + length items.old) }
-    ensures ticks { steps.new ≤ steps.old + length items.old }
+    ensures nodes_made { steps.new ≤ steps.old + length items.old }
 {
     if items.len() < FRESH_FROM {
         return built(alloc, items, blocks, steps);

@@ -259,11 +259,11 @@ apart_put p leaf a b k e = omega (arith, e refl)
 apart_put p (fork h l r) a b k e = omega (arith, k)
 
 -- a node on the route: two for the children, those of the way below it, and one for itself
-pub route_ticks : (large : ℕ) (n : ℕ) (p : Place) (axis next : Axis) (s x : Shape) (f : Fork) (side : Side) (a b d e : ℕ) → IsOnRoute n p axis s f side → next ≡ next_axis f.axis → x ≡ near side f
+pub route_nodes_made : (large : ℕ) (n : ℕ) (p : Place) (axis next : Axis) (s x : Shape) (f : Fork) (side : Side) (a b d e : ℕ) → IsOnRoute n p axis s f side → next ≡ next_axis f.axis → x ≡ near side f
     → b ≤ a + 2 → (RebuildsNoneOnRoute large p (put_from n p next x) → d ≤ b + (3 * entered_put p x + 1))
     → (RebuildsNoneOnRoute large p (put_from n p next x) → IsNotDue large (with_near side f (put_from n p next x)) → e ≤ d + 1)
     → RebuildsNoneOnRoute large p (put_from n p axis s) → e ≤ a + (3 * entered_put p s + 1)
-route_ticks large n p axis next s x f side a b d e w axes same two below own all =
+route_nodes_made large n p axis next s x f side a b d e w axes same two below own all =
     let parts = w.criteria large all in
     let calm : RebuildsNoneOnRoute large p (put_from n p next x) = rw (axes, same) parts.1 in
     let spared : IsNotDue large (with_near side f (put_from n p next x)) = rw (axes, same) parts.0 in

@@ -40,7 +40,7 @@ pub fn changed<L: Ledger>(
     ensures draft { KeepsDraft settings.now.large next (next + points_in update.now) work result }
     ensures kept { KeepsWatched (points_in update.now) (most_ops update.now) work result }
     ensures unrebuilt { (op : Op) → only_op next update.now ≡ Some op → DoesPlainly settings.now.large op work result }
-    ensures ticks { (op : Op) → only_op next update.now ≡ Some op → MakesFew settings.now.large op work steps.old steps.new }
+    ensures nodes_made { (op : Op) → only_op next update.now ≡ Some op → MakesFew settings.now.large op work steps.old steps.new }
     ensures turned_away { (p : Place) → update.now ≡ Update.Thin (p ∷ []) → IsTurnedAway settings.now.voxel (map_of work.tree next) p
         → IfOk result (λ w. w.tree ≡ work.tree) }
     ensures still { (p : Place) → update.now ≡ Update.Thin (p ∷ []) → IsTurnedAway settings.now.voxel (map_of work.tree next) p
@@ -75,7 +75,7 @@ fn added<L: Ledger>(
     ensures draft { KeepsDraft large next (next + length points.now) work result }
     ensures kept { KeepsWatched (length points.now) (length points.now) work result }
     ensures unrebuilt { (op : Op) → only_op next (Update.Add points.now) ≡ Some op → DoesPlainly large op work result }
-    ensures ticks { (op : Op) → only_op next (Update.Add points.now) ≡ Some op → MakesFew large op work steps.old steps.new }
+    ensures nodes_made { (op : Op) → only_op next (Update.Add points.now) ≡ Some op → MakesFew large op work steps.old steps.new }
 {
     if points.len() >= PASS_FROM {
         let _size = work.tree.size();
@@ -105,7 +105,7 @@ pub(crate) fn added_one<L: Ledger>(
     ensures draft { KeepsDraft large next (next + 1) work result }
     ensures worked { IfOk result (IsWorked 1 1 work) }
     ensures unrebuilt { DoesPlainly large (Put next point) work result }
-    ensures ticks { MakesFew large (Put next point) work steps.old steps.new }
+    ensures nodes_made { MakesFew large (Put next point) work steps.old steps.new }
 {
     let _size = work.tree.size();
     work.put(alloc, large, next, point, steps)
@@ -125,7 +125,7 @@ fn marked_each<L: Ledger>(
     ensures draft { KeepsDraft large next next work result }
     ensures kept { KeepsWatched 0 (length boxes.now) work result }
     ensures unrebuilt { (op : Op) → only_mark tag boxes.now ≡ Some op → DoesPlainly large op work result }
-    ensures ticks { (op : Op) → only_mark tag boxes.now ≡ Some op → MakesFew large op work steps.old steps.new }
+    ensures nodes_made { (op : Op) → only_mark tag boxes.now ≡ Some op → MakesFew large op work steps.old steps.new }
 {
     let mut work = work;
     for cuboid in boxes.as_slice() {

@@ -47,7 +47,7 @@ impl Work {
         ensures draft { (next : ℕ) → KeepsDraft large next next self result }
         ensures worked { IfOk result (IsWorked 0 1 self) }
         ensures unrebuilt { DoesPlainly large (Mark choice.now tag) self result }
-        ensures ticks { MakesFew large (Mark choice.now tag) self steps.old steps.new }
+        ensures nodes_made { MakesFew large (Mark choice.now tag) self steps.old steps.new }
     {
         let work = self.without_full(alloc, large, steps)?;
         let Work { tree, mut watches } = work;
@@ -72,7 +72,7 @@ impl Work {
             → IfOk result (IsDraftLeft large next last ps) }
         ensures worked { IfOk result (IsWorked 1 1 self) }
         ensures unrebuilt { DoesPlainly large (Put number point) self result }
-        ensures ticks { MakesFew large (Put number point) self steps.old steps.new }
+        ensures nodes_made { MakesFew large (Put number point) self steps.old steps.new }
     {
         let work = self.roomy(alloc, large, steps)?;
         let Work { tree, mut watches } = work;

@@ -45,9 +45,9 @@ plan_shape u op s z t new ws is same seen k =
     λ q. subst (λ (x : Shape). RebuildsNothing s.settings.large op x → new ≡ unrebuilt op x) same (k q.only (subst HaveRoom (sym seen) (watched_room s.parts q.room))) q.unrebuilt in
     subst (λ (x : StateAt). IsUnrebuiltUpdate u op x → new ≡ unrebuilt op x.tree) is here
 
-pub plan_ticks : (u : Update) (op : Op) (s z : StateAt) (t : Shape) (m n new : ℕ) (ws : List Watch) → s ≡ z → t ≡ s.tree → m ≡ n → ws ≡ watches_of s.parts
+pub plan_nodes_made : (u : Update) (op : Op) (s z : StateAt) (t : Shape) (m n new : ℕ) (ws : List Watch) → s ≡ z → t ≡ s.tree → m ≡ n → ws ≡ watches_of s.parts
     → (only_op s.next u ≡ Some op → HaveRoom ws → RebuildsNothing s.settings.large op t → new ≤ m + (5 * entered_nodes op t + 1)) → IsUnrebuiltUpdate u op z → new ≤ n + (5 * entered_nodes op z.tree + 1)
-plan_ticks u op s z t m n new ws is same start seen k =
+plan_nodes_made u op s z t m n new ws is same start seen k =
     let here : IsUnrebuiltUpdate u op s → new ≤ m + (5 * entered_nodes op s.tree + 1) =
     λ q. subst (λ (x : Shape). RebuildsNothing s.settings.large op x → new ≤ m + (5 * entered_nodes op x + 1)) same (k q.only (subst HaveRoom (sym seen) (watched_room s.parts q.room))) q.unrebuilt in
     let there : IsUnrebuiltUpdate u op z → new ≤ m + (5 * entered_nodes op z.tree + 1) = subst (λ (x : StateAt). IsUnrebuiltUpdate u op x → new ≤ m + (5 * entered_nodes op x.tree + 1)) is here in

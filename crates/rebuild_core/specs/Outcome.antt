@@ -29,6 +29,6 @@ pub record IsLeftByUpdate (u : Update) (s : StateAt) (ps : List PartAt) (t : Sha
 -- The update makes so many nodes: the counter rises from the one number to the other.
 pub record MakesNodes (u : Update) (s : StateAt) (before after : ℕ) : Type 0 where
   -- one operation that rebuilds nothing makes at most five for each node that it enters, and one more
-  pub ticks : (op : Op) → IsUnrebuiltUpdate u op s → after ≤ before + (5 * entered_nodes op s.tree + 1)
+  pub nodes_made : (op : Op) → IsUnrebuiltUpdate u op s → after ≤ before + (5 * entered_nodes op s.tree + 1)
   -- one point that is turned away makes none
   pub still : (p : Place) → u ≡ Thin (p ∷ []) → IsTurnedAwayFrom s p → after ≡ before

@@ -169,7 +169,7 @@ impl MapState {
     fn copied<L: Ledger>(&self, alloc: Global, steps: &mut Steps<L>) -> Result<Work, NoMemory>
         ensures tree { IfOk result (λ w. w.tree ≡ self.now.state.tree) }
         ensures watches { IfOk result (λ w. w.watches ≡ watches_of self.now.state.parts) }
-        ensures ticks { steps.new ≡ steps.old }
+        ensures nodes_made { steps.new ≡ steps.old }
     {
         let tree = self.tree.copy(alloc, steps)?;
         let watches = watched(alloc, self.parts.as_slice())?;

@@ -48,7 +48,7 @@ impl MapState {
 
         ensures unrebuilt { OnOk result (IsLeftUnrebuilt built self.old.state self.new.state.tree) }
         // On errors too.
-        ensures ticks { MakesPath built self.old.state steps.old steps.new }
+        ensures nodes_made { MakesPath built self.old.state steps.old steps.new }
     {
         match self.plan_swap(alloc, &built, force, steps) {
             Err(fault) => Err(SwapLeft { built, fault }),
@@ -74,7 +74,7 @@ impl MapState {
 
         ensures refused { IfErr result (IsSwapFault built.now force self.old.state) }
         ensures unrebuilt { IfOk result (λ x. IsLeftUnrebuilt built.now self.old.state x.tree) }
-        ensures ticks { MakesPath built.now self.old.state steps.old steps.new }
+        ensures nodes_made { MakesPath built.now self.old.state steps.old steps.new }
     {
         let Some(part) = self.part_built(built) else {
             return Err(SwapFault::Stale {
@@ -108,7 +108,7 @@ impl MapState {
 
         ensures refused { IfErr result (IsLate built most self.now.state) }
         ensures unrebuilt { IfOk result (λ x. IsLeftUnrebuilt built self.now.state x.tree) }
-        ensures ticks { MakesPath built self.now.state steps.old steps.new }
+        ensures nodes_made { MakesPath built self.now.state steps.old steps.new }
     {
         let Some(part) = self.part_known(&built) else {
             return Err(Late::Stale { built });
@@ -142,7 +142,7 @@ impl MapState {
             → IfOk result (IsSwapPlan b self.now.state) }
         ensures unrebuilt { (b : BuiltAt) → IsTreeOf b part.now self.now.state.parts tree ops.now → IsUnrebuiltSwap b part.now self.now.state
             → IfOk result (λ x. x.tree ≡ replaced_at part.now.path b.tree self.now.state.tree) }
-        ensures ticks { (b : BuiltAt) → IsTreeOf b part.now self.now.state.parts tree ops.now → IsUnrebuiltSwap b part.now self.now.state
+        ensures nodes_made { (b : BuiltAt) → IsTreeOf b part.now self.now.state.parts tree ops.now → IsUnrebuiltSwap b part.now self.now.state
             → steps.new ≤ steps.old + length part.now.path }
     {
         let large = self.settings.large();

@@ -43,7 +43,7 @@ pub fn put<L: Ledger>(
     ensures unrebuilt { RebuildsNoneOnRoute large point (put_shape number point tree)
         → IfOk result (λ t. t ≡ put_shape number point tree) }
     // On errors too.
-    ensures ticks { RebuildsNoneOnRoute large point (put_shape number point tree)
+    ensures nodes_made { RebuildsNoneOnRoute large point (put_shape number point tree)
         → steps.new ≤ steps.old + 5 * entered_put point tree + 1 }
 {
     let _size = tree.size();
@@ -71,7 +71,7 @@ pub(crate) fn put_below<L: Ledger, W: Ways>(
     requires there { AreLargeAt large (W.paths ways.now) tree }
     ensures updated { let plain = put_from item.number item.point axis tree in
         IfOk result (λ t. IsUpdatedClear large (W.paths ways.now) tree plain (RebuildsNoneOnRoute large item.point plain) t) }
-    ensures ticks { RebuildsNoneOnRoute large item.point (put_from item.number item.point axis tree)
+    ensures nodes_made { RebuildsNoneOnRoute large item.point (put_from item.number item.point axis tree)
         → steps.new ≤ steps.old + (3 * entered_put item.point tree + 1) }
 {
     let _size = tree.size();
@@ -101,7 +101,7 @@ pub(crate) fn leaf<L: Ledger>(
     steps: &mut Steps<L>,
 ) -> Result<Tree, NoMemory>
     ensures shape { IfOk result (λ t. t ≡ leaf_of item axis) }
-    ensures ticks { steps.new ≤ steps.old + 1 }
+    ensures nodes_made { steps.new ≤ steps.old + 1 }
 {
     let node = OpenNode {
         item,

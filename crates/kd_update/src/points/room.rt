@@ -24,7 +24,7 @@ pub fn roomy<L: Ledger>(alloc: Global, tree: Tree, steps: &mut Steps<L>) -> Resu
     ensures unrebuilt { levels tree < MAX_LEVELS → nodes tree < MAX_NODES → IfOk result (λ t. t ≡ tree) }
     ensures still { levels tree < MAX_LEVELS → nodes tree < MAX_NODES → steps.new ≡ steps.old }
     // On errors too.
-    ensures ticks { steps.new ≤ steps.old + length (contents tree) }
+    ensures nodes_made { steps.new ≤ steps.old + length (contents tree) }
 {
     if tree.levels() < MAX_LEVELS && tree.size() < MAX_NODES {
         return Ok(tree);

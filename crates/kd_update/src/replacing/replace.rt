@@ -51,7 +51,7 @@ pub fn replaced<L: Ledger>(
     // Where there is room, and no node above the path is to be rebuilt, none is.
     ensures unrebuilt { HasRoomAt path.now with tree → RebuildsNoneAbove large path.now (replaced_at path.now with tree)
         → IfOk result (λ r. r.tree ≡ replaced_at path.now with tree) }
-    ensures ticks { HasRoomAt path.now with tree → RebuildsNoneAbove large path.now (replaced_at path.now with tree)
+    ensures nodes_made { HasRoomAt path.now with tree → RebuildsNoneAbove large path.now (replaced_at path.now with tree)
         → steps.new ≤ steps.old + length path.now }
 {
     let _size = tree.size();
@@ -75,7 +75,7 @@ fn replaced_along<L: Ledger>(
     requires stands { StandsFor sides.now tree with }
     requires room { HasRoomAt sides.now with tree }
     ensures replaced { IfOk result (λ t. IsReplaced large sides.now tree with t) }
-    ensures ticks { RebuildsNoneAbove large sides.now (replaced_at sides.now with tree) → steps.new ≤ steps.old + length sides.now }
+    ensures nodes_made { RebuildsNoneAbove large sides.now (replaced_at sides.now with tree) → steps.new ≤ steps.old + length sides.now }
 {
     let _size = tree.size();
     let Some((side, rest)) = sides.split_first() else {

@@ -53,7 +53,7 @@ pub fn put_watched<L: Ledger>(
     ensures unrebuilt { RebuildsNoneOnRoute large point (put_shape number point tree)
         → IfOk result (λ t. t ≡ put_shape number point tree) }
     // On errors too.
-    ensures ticks { RebuildsNoneOnRoute large point (put_shape number point tree)
+    ensures nodes_made { RebuildsNoneOnRoute large point (put_shape number point tree)
         → steps.new ≤ steps.old + 5 * entered_put point tree + 1 }
 {
     if watches.is_empty() {

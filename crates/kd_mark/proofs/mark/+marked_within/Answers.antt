@@ -12,7 +12,7 @@ use Rattle.kd_mark.specs.Refresh.{IsNotDue, RefreshesIfDue}
 use Rattle.kd_mark.specs.Several.{IsUpdatedClear}
 use Rattle.kd_mark.proofs.Criteria.{criteria_spared}
 use Rattle.kd_mark.proofs.InBox.{IsEntered, entered_all}
-use Rattle.kd_mark.proofs.Made.{apart_mark, made_covered, ticks_entered}
+use Rattle.kd_mark.proofs.Made.{apart_mark, made_covered, nodes_made_entered}
 use Rattle.kd_mark.proofs.Trees.{pushed_smaller}
 use Rattle.kd_mark.proofs.Refresh.{head, refresh_sound}
 use Rattle.kd_mark.proofs.Several.{clear_covered, clear_missed, clear_none_there, large_next, marked_joined}
@@ -62,31 +62,31 @@ returns-clause-updated g t c =
     (λ u k. marked_joined c.args.large _ c.args.choice.now c.args.tag _ _ _ c.args.tree f _ _ u (entered g t (goal.at.returns-clause-updated g t c).In-Some-2) (ap fork_in (sym c.in-Some-2.is) ∙ c.in_ok-node.ensures.parts) c.requires
     c.spared_from-large.ensures c.onward-lefts.ensures c.onward-rights.ensures c.in_ok-left.ensures.updated c.in_ok-right.ensures.updated k) made
 
-pub returns-then-covers-clause-ticks : goal.returns-then-covers-clause-ticks
-returns-then-covers-clause-ticks g t c = λ criteria.
-    omega (arith, c.tagged.ensures.ticks, made_covered c.args.choice.now c.args.tree c.in-Some.reach (sym c.in-Some.is ∙ c.reach_of.ensures) (sym c.meets.ensures ∙ c.if-not-meets.false) (sym c.covers.ensures ∙ c.if-covers.true))
+pub returns-then-covers-clause-nodes_made : goal.returns-then-covers-clause-nodes_made
+returns-then-covers-clause-nodes_made g t c = λ criteria.
+    omega (arith, c.tagged.ensures.nodes_made, made_covered c.args.choice.now c.args.tree c.in-Some.reach (sym c.in-Some.is ∙ c.reach_of.ensures) (sym c.meets.ensures ∙ c.if-not-meets.false) (sym c.covers.ensures ∙ c.if-covers.true))
 
-pub returns-in_err-node-clause-ticks : goal.returns-in_err-node-clause-ticks
-returns-in_err-node-clause-ticks g t c = λ criteria. apart_mark c.args.choice.now c.args.tree c.in-Some.reach c.args.steps.now c.take_apart.new.steps (sym c.in-Some.is ∙ c.reach_of.ensures) (sym c.meets.ensures ∙ c.if-not-meets.false) (sym c.covers.ensures ∙ c.if-covers.false) c.take_apart.ensures.ticks
+pub returns-in_err-node-clause-nodes_made : goal.returns-in_err-node-clause-nodes_made
+returns-in_err-node-clause-nodes_made g t c = λ criteria. apart_mark c.args.choice.now c.args.tree c.in-Some.reach c.args.steps.now c.take_apart.new.steps (sym c.in-Some.is ∙ c.reach_of.ensures) (sym c.meets.ensures ∙ c.if-not-meets.false) (sym c.covers.ensures ∙ c.if-covers.false) c.take_apart.ensures.nodes_made
 
-pub returns-in_err-left-clause-ticks : goal.returns-in_err-left-clause-ticks
-returns-in_err-left-clause-ticks g t c = λ all.
-    ticks_entered _ c.args.choice.now c.args.tag c.args.tree (fork_of c.in-Some-2.node) c.in-Some.reach c.args.steps.now c.take_apart.new.steps c.marked_within.new.steps c.marked_within.new.steps c.marked_within.new.steps (entered g t (goal.at.returns-in_err-left-clause-ticks g t c).In-Some-2)
-    (sym c.in-Some.is ∙ c.reach_of.ensures) (sym c.meets.ensures ∙ c.if-not-meets.false) (sym c.covers.ensures ∙ c.if-covers.false) (ap fork_in (sym c.in-Some-2.is) ∙ c.in_ok-node.ensures.parts) c.take_apart.ensures.ticks c.marked_within.ensures.ticks (λ on. omega arith) (λ on off spared. omega arith)
+pub returns-in_err-left-clause-nodes_made : goal.returns-in_err-left-clause-nodes_made
+returns-in_err-left-clause-nodes_made g t c = λ all.
+    nodes_made_entered _ c.args.choice.now c.args.tag c.args.tree (fork_of c.in-Some-2.node) c.in-Some.reach c.args.steps.now c.take_apart.new.steps c.marked_within.new.steps c.marked_within.new.steps c.marked_within.new.steps (entered g t (goal.at.returns-in_err-left-clause-nodes_made g t c).In-Some-2)
+    (sym c.in-Some.is ∙ c.reach_of.ensures) (sym c.meets.ensures ∙ c.if-not-meets.false) (sym c.covers.ensures ∙ c.if-covers.false) (ap fork_in (sym c.in-Some-2.is) ∙ c.in_ok-node.ensures.parts) c.take_apart.ensures.nodes_made c.marked_within.ensures.nodes_made (λ on. omega arith) (λ on off spared. omega arith)
     (criteria_spared c.args.large _ (g.W.Ways.paths c.args.ways.now) _ _ c.spared_from-large.ensures all)
 
-pub returns-in_err-right-clause-ticks : goal.returns-in_err-right-clause-ticks
-returns-in_err-right-clause-ticks g t c = λ all.
-    ticks_entered _ c.args.choice.now c.args.tag c.args.tree (fork_of c.in-Some-2.node) c.in-Some.reach c.args.steps.now c.take_apart.new.steps c.marked_within.new.steps c.marked_within-2.new.steps c.marked_within-2.new.steps (entered g t (goal.at.returns-in_err-right-clause-ticks g t c).In-Some-2)
-    (sym c.in-Some.is ∙ c.reach_of.ensures) (sym c.meets.ensures ∙ c.if-not-meets.false) (sym c.covers.ensures ∙ c.if-covers.false) (ap fork_in (sym c.in-Some-2.is) ∙ c.in_ok-node.ensures.parts) c.take_apart.ensures.ticks c.marked_within.ensures.ticks c.marked_within-2.ensures.ticks (λ on off spared. omega arith)
+pub returns-in_err-right-clause-nodes_made : goal.returns-in_err-right-clause-nodes_made
+returns-in_err-right-clause-nodes_made g t c = λ all.
+    nodes_made_entered _ c.args.choice.now c.args.tag c.args.tree (fork_of c.in-Some-2.node) c.in-Some.reach c.args.steps.now c.take_apart.new.steps c.marked_within.new.steps c.marked_within-2.new.steps c.marked_within-2.new.steps (entered g t (goal.at.returns-in_err-right-clause-nodes_made g t c).In-Some-2)
+    (sym c.in-Some.is ∙ c.reach_of.ensures) (sym c.meets.ensures ∙ c.if-not-meets.false) (sym c.covers.ensures ∙ c.if-covers.false) (ap fork_in (sym c.in-Some-2.is) ∙ c.in_ok-node.ensures.parts) c.take_apart.ensures.nodes_made c.marked_within.ensures.nodes_made c.marked_within-2.ensures.nodes_made (λ on off spared. omega arith)
     (criteria_spared c.args.large _ (g.W.Ways.paths c.args.ways.now) _ _ c.spared_from-large.ensures all)
 
-pub returns-clause-ticks : goal.returns-clause-ticks
-returns-clause-ticks g t c = λ all.
+pub returns-clause-nodes_made : goal.returns-clause-nodes_made
+returns-clause-nodes_made g t c = λ all.
     let f = fork_of c.in-Some-2.node in
-    ticks_entered _ c.args.choice.now c.args.tag c.args.tree f c.in-Some.reach c.args.steps.now c.take_apart.new.steps c.marked_within.new.steps c.marked_within-2.new.steps c.rejoined.new.steps (entered g t (goal.at.returns-clause-ticks g t c).In-Some-2)
-    (sym c.in-Some.is ∙ c.reach_of.ensures) (sym c.meets.ensures ∙ c.if-not-meets.false) (sym c.covers.ensures ∙ c.if-covers.false) (ap fork_in (sym c.in-Some-2.is) ∙ c.in_ok-node.ensures.parts) c.take_apart.ensures.ticks c.marked_within.ensures.ticks c.marked_within-2.ensures.ticks
-    (λ on off spared. c.rejoined.ensures.ticks
+    nodes_made_entered _ c.args.choice.now c.args.tag c.args.tree f c.in-Some.reach c.args.steps.now c.take_apart.new.steps c.marked_within.new.steps c.marked_within-2.new.steps c.rejoined.new.steps (entered g t (goal.at.returns-clause-nodes_made g t c).In-Some-2)
+    (sym c.in-Some.is ∙ c.reach_of.ensures) (sym c.meets.ensures ∙ c.if-not-meets.false) (sym c.covers.ensures ∙ c.if-covers.false) (ap fork_in (sym c.in-Some-2.is) ∙ c.in_ok-node.ensures.parts) c.take_apart.ensures.nodes_made c.marked_within.ensures.nodes_made c.marked_within-2.ensures.nodes_made
+    (λ on off spared. c.rejoined.ensures.nodes_made
     (subst (λ (j : Item). IsNotDue c.spared_from-large.result (fork (head j f.axis) c.in_ok-left.left c.in_ok-right.right)) (sym c.marked-item.ensures)
     (subst (IsNotDue c.spared_from-large.result) (sym (children_alike (head (marked_item (chosen_by c.args.choice.now) c.args.tag f.item) f.axis) _ _ c.in_ok-left.left c.in_ok-right.right (c.in_ok-left.ensures.updated.unrebuilt on) (c.in_ok-right.ensures.updated.unrebuilt off))) spared)))
     (criteria_spared c.args.large _ (g.W.Ways.paths c.args.ways.now) _ _ c.spared_from-large.ensures all)

@@ -15,5 +15,5 @@ returns-clause-numbers g c = IfOk-weaker c.marked_within.result _ _ (λ t u. mar
 pub returns-clause-balance : goal.returns-clause-balance
 returns-clause-balance g c = λ balanced. IfOk-weaker c.marked_within.result _ (λ t. IsBalancedBelow c.args.large t) (λ t u. balanced_free _ _ _ t _ u balanced) c.marked_within.ensures.updated
 
-pub returns-clause-ticks : goal.returns-clause-ticks
-returns-clause-ticks g c = λ criteria. omega (arith, c.marked_within.ensures.ticks criteria, made_few c.args.choice.now c.args.tree)
+pub returns-clause-nodes_made : goal.returns-clause-nodes_made
+returns-clause-nodes_made g c = λ criteria. omega (arith, c.marked_within.ensures.nodes_made criteria, made_few c.args.choice.now c.args.tree)

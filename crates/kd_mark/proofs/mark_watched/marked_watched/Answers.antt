@@ -46,8 +46,8 @@ returns-clause-watched g c = IfOk-weaker c.marked_within.result _ _ (λ t u. all
 pub returns-clause-balance : goal.returns-clause-balance
 returns-clause-balance g c = λ balanced. IfOk-weaker c.marked_within.result _ _ (λ t u. u.balance balanced) (updated g (goal.at.returns-clause-balance g c).After-marked_within)
 
-pub returns-clause-ticks : goal.returns-clause-ticks
-returns-clause-ticks g c = λ criteria. omega (arith, c.marked_within.ensures.ticks criteria, made_few c.args.choice.now c.args.tree)
+pub returns-clause-nodes_made : goal.returns-clause-nodes_made
+returns-clause-nodes_made g c = λ criteria. omega (arith, c.marked_within.ensures.nodes_made criteria, made_few c.args.choice.now c.args.tree)
 
 pub returns-then-is_empty-clause-balance : goal.returns-then-is_empty-clause-balance
 returns-then-is_empty-clause-balance g c = λ balanced.
@@ -88,8 +88,8 @@ returns-then-is_empty-clause-refresh g c = c.marked.ensures.refresh
 pub returns-then-is_empty-clause-unrebuilt : goal.returns-then-is_empty-clause-unrebuilt
 returns-then-is_empty-clause-unrebuilt g c = c.marked.ensures.unrebuilt
 
-pub returns-then-is_empty-clause-ticks : goal.returns-then-is_empty-clause-ticks
-returns-then-is_empty-clause-ticks g c = c.marked.ensures.ticks
+pub returns-then-is_empty-clause-nodes_made : goal.returns-then-is_empty-clause-nodes_made
+returns-then-is_empty-clause-nodes_made g c = c.marked.ensures.nodes_made
 
 pub log_marks-requires : goal.log_marks-requires
 log_marks-requires g c = c.requires.room
@@ -100,8 +100,8 @@ returns-in_err-log_marks-clause-begins g c = c.log_marks.ensures.begins
 pub returns-in_err-log_marks-clause-few : goal.returns-in_err-log_marks-clause-few
 returns-in_err-log_marks-clause-few g c = c.log_marks.ensures.few
 
-pub returns-in_err-log_marks-clause-ticks : goal.returns-in_err-log_marks-clause-ticks
-returns-in_err-log_marks-clause-ticks g c = λ calm. omega arith
+pub returns-in_err-log_marks-clause-nodes_made : goal.returns-in_err-log_marks-clause-nodes_made
+returns-in_err-log_marks-clause-nodes_made g c = λ calm. omega arith
 
 pub returns-clause-begins : goal.returns-clause-begins
 returns-clause-begins g c = c.log_marks.ensures.begins

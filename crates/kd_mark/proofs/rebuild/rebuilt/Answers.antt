@@ -50,5 +50,5 @@ as_many s = ap length (append-nil (walk keep_tag s)) ∙ sym (length_permutation
 pub returns-clause-nodes : goal.returns-clause-nodes
 returns-clause-nodes g c = IfOk-weaker c.rebuilt_with.result _ (λ t. nodes t ≡ length (contents c.args.tree)) (λ t e. e ∙ as_many c.args.tree) c.rebuilt_with.ensures.nodes
 
-pub returns-clause-ticks : goal.returns-clause-ticks
-returns-clause-ticks g c = omega (arith, as_many c.args.tree, c.rebuilt_with.ensures.ticks)
+pub returns-clause-nodes_made : goal.returns-clause-nodes_made
+returns-clause-nodes_made g c = omega (arith, as_many c.args.tree, c.rebuilt_with.ensures.nodes_made)

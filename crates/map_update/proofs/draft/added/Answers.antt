@@ -16,7 +16,7 @@ use Rattle.map_update.specs.Draft.{KeepsWatched}
 use Rattle.kd_tree.specs.Maps.{map_of}
 use Rattle.map_update.specs.declared.work.Work.{Work}
 use Rattle.map_update.proofs.Detached.{left_itself, left_trans}
-use Rattle.map_update.proofs.Drafts.{first_point, only_point, unrebuilt_ticks}
+use Rattle.map_update.proofs.Drafts.{first_point, only_point, unrebuilt_nodes_made}
 use Rattle.map_update.proofs.Passes.{live_from_under}
 use Rattle.map_update.proofs.Working.{draft_more}
 use Rattle.map_update.proofs.Worked.{plain_same, worked_itself, worked_kept, worked_then}
@@ -63,12 +63,12 @@ loop-point-preserved g c =
           let roomy = subst (λ (w : Work). HaveRoom w.watches) (sym start.0) room in
           let is = first_point c.args.next c.loop-point.next i ps p op cut none start.1 only in (
             plain_same c.args.large (Put c.loop-point.next p) op c.loop-point.work c.args.work c.in_ok-work.work is start.0 (c.in_ok-work.ensures.unrebuilt roomy) unrebuilt,
-            unrebuilt_ticks c.args.large (Put c.loop-point.next p) op c.loop-point.work.tree c.args.work.tree c.loop-point.steps c.args.steps.now c.added_one.new.steps is same start.2 (c.in_ok-work.ensures.ticks roomy) unrebuilt,
+            unrebuilt_nodes_made c.args.large (Put c.loop-point.next p) op c.loop-point.work.tree c.args.work.tree c.loop-point.steps c.args.steps.now c.added_one.new.steps is same start.2 (c.in_ok-work.ensures.nodes_made roomy) unrebuilt,
           );
     }
 
-pub returns-in_err-work-clause-ticks : goal.returns-in_err-work-clause-ticks
-returns-in_err-work-clause-ticks g c = λ op only room unrebuilt.
+pub returns-in_err-work-clause-nodes_made : goal.returns-in_err-work-clause-nodes_made
+returns-in_err-work-clause-nodes_made g c = λ op only room unrebuilt.
     let p = c.point-item.result in
     let ps = c.args.points.now in
     let i = c.loop-point.point-index in
@@ -78,7 +78,7 @@ returns-in_err-work-clause-ticks g c = λ op only room unrebuilt.
     let start = c.loop-point.invariant.first none in
     let is = first_point c.args.next c.loop-point.next i ps p op cut none start.1 only in
     let roomy = subst (λ (w : Work). HaveRoom w.watches) (sym start.0) room in
-    unrebuilt_ticks c.args.large (Put c.loop-point.next p) op c.loop-point.work.tree c.args.work.tree c.loop-point.steps c.args.steps.now c.added_one.new.steps is (ap (λ (w : Work). w.tree) start.0) start.2 (c.in_err-work.ensures.ticks roomy) unrebuilt
+    unrebuilt_nodes_made c.args.large (Put c.loop-point.next p) op c.loop-point.work.tree c.args.work.tree c.loop-point.steps c.args.steps.now c.added_one.new.steps is (ap (λ (w : Work). w.tree) start.0) start.2 (c.in_err-work.ensures.nodes_made roomy) unrebuilt
 
 pub returns-clause-unrebuilt : goal.returns-clause-unrebuilt
 returns-clause-unrebuilt g c = λ op only room unrebuilt.
@@ -87,8 +87,8 @@ returns-clause-unrebuilt g c = λ op only room unrebuilt.
     let most = rw c.as_slice-point-items.ensures at c.loop-point.auto.point-index-end in
     (c.loop-point.invariant.second (omega (arith, one, all, most)) op only room unrebuilt).0
 
-pub returns-clause-ticks : goal.returns-clause-ticks
-returns-clause-ticks g c = λ op only room unrebuilt.
+pub returns-clause-nodes_made : goal.returns-clause-nodes_made
+returns-clause-nodes_made g c = λ op only room unrebuilt.
     let one = only_point c.args.next c.args.points.now op only in
     let all = rw c.as_slice-point-items.ensures at c.loop-point-test.false in
     let most = rw c.as_slice-point-items.ensures at c.loop-point.auto.point-index-end in

@@ -19,7 +19,7 @@ returns-in-Add g c =
       draft = rw c.large-large.ensures.value at c.added.ensures.draft;
       kept = c.added.ensures.kept;
       unrebuilt = rw c.large-large.ensures.value at c.added.ensures.unrebuilt;
-      ticks = rw c.large-large.ensures.value at c.added.ensures.ticks;
+      nodes_made = rw c.large-large.ensures.value at c.added.ensures.nodes_made;
       turned_away = λ p one. absurd (add_not_thin c.in-Add.points (p ∷ []) one);
       still = λ p one. absurd (add_not_thin c.in-Add.points (p ∷ []) one);
     })
@@ -32,7 +32,7 @@ returns-in-Delete g c =
       draft = rw c.large-large.ensures.value at c.marked_each.ensures.draft;
       kept = c.marked_each.ensures.kept;
       unrebuilt = rw c.large-large.ensures.value at c.marked_each.ensures.unrebuilt;
-      ticks = rw c.large-large.ensures.value at c.marked_each.ensures.ticks;
+      nodes_made = rw c.large-large.ensures.value at c.marked_each.ensures.nodes_made;
       turned_away = λ p one. absurd (delete_not_thin c.in-Delete.boxes (p ∷ []) one);
       still = λ p one. absurd (delete_not_thin c.in-Delete.boxes (p ∷ []) one);
     })
@@ -45,7 +45,7 @@ returns-in-Suspend g c =
       draft = rw c.large-large.ensures.value at c.marked_each-in-Suspend.ensures.draft;
       kept = c.marked_each-in-Suspend.ensures.kept;
       unrebuilt = rw c.large-large.ensures.value at c.marked_each-in-Suspend.ensures.unrebuilt;
-      ticks = rw c.large-large.ensures.value at c.marked_each-in-Suspend.ensures.ticks;
+      nodes_made = rw c.large-large.ensures.value at c.marked_each-in-Suspend.ensures.nodes_made;
       turned_away = λ p one. absurd (suspend_not_thin c.in-Suspend.boxes (p ∷ []) one);
       still = λ p one. absurd (suspend_not_thin c.in-Suspend.boxes (p ∷ []) one);
     })
@@ -58,7 +58,7 @@ returns-in-Restore g c =
       draft = rw c.large-large.ensures.value at c.marked_each-in-Restore.ensures.draft;
       kept = c.marked_each-in-Restore.ensures.kept;
       unrebuilt = rw c.large-large.ensures.value at c.marked_each-in-Restore.ensures.unrebuilt;
-      ticks = rw c.large-large.ensures.value at c.marked_each-in-Restore.ensures.ticks;
+      nodes_made = rw c.large-large.ensures.value at c.marked_each-in-Restore.ensures.nodes_made;
       turned_away = λ p one. absurd (restore_not_thin c.in-Restore.boxes (p ∷ []) one);
       still = λ p one. absurd (restore_not_thin c.in-Restore.boxes (p ∷ []) one);
     })

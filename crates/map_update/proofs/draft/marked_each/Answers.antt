@@ -5,7 +5,7 @@ use Rattle.map_items.specs.declared.op.Op.TheVariants.{Mark}
 use Rattle.kd_mark.specs.Watches.{HaveRoom}
 use Rattle.map_update.specs.declared.work.Work.{Work}
 use Rattle.map_update.proofs.Detached.{left_itself, left_trans}
-use Rattle.map_update.proofs.Drafts.{first_box, only_box, unrebuilt_ticks}
+use Rattle.map_update.proofs.Drafts.{first_box, only_box, unrebuilt_nodes_made}
 use Rattle.map_update.proofs.Worked.{plain_same, worked_itself, worked_kept, worked_then}
 use Rattle.map_update.proofs.draft.marked_each.Goals as goal
 
@@ -39,12 +39,12 @@ loop-cuboid-preserved g c =
           let roomy = subst (λ (w : Work). HaveRoom w.watches) (sym start.0) room in
           let is = ap (λ (d : Choice). Mark d c.args.tag) c.within.ensures ∙ first_box c.args.tag i cs box op cut none only in (
             plain_same c.args.large (Mark c.within.result c.args.tag) op c.loop-cuboid.work c.args.work c.in_ok-work.work is start.0 (c.in_ok-work.ensures.unrebuilt roomy) unrebuilt,
-            unrebuilt_ticks c.args.large (Mark c.within.result c.args.tag) op c.loop-cuboid.work.tree c.args.work.tree c.loop-cuboid.steps c.args.steps.now c.marked.new.steps is same start.1 (c.in_ok-work.ensures.ticks roomy) unrebuilt,
+            unrebuilt_nodes_made c.args.large (Mark c.within.result c.args.tag) op c.loop-cuboid.work.tree c.args.work.tree c.loop-cuboid.steps c.args.steps.now c.marked.new.steps is same start.1 (c.in_ok-work.ensures.nodes_made roomy) unrebuilt,
           );
     }
 
-pub returns-in_err-work-clause-ticks : goal.returns-in_err-work-clause-ticks
-returns-in_err-work-clause-ticks g c = λ op only room unrebuilt.
+pub returns-in_err-work-clause-nodes_made : goal.returns-in_err-work-clause-nodes_made
+returns-in_err-work-clause-nodes_made g c = λ op only room unrebuilt.
     let box = c.cuboid-item.result in
     let cs = c.args.boxes.now in
     let i = c.loop-cuboid.cuboid-index in
@@ -54,7 +54,7 @@ returns-in_err-work-clause-ticks g c = λ op only room unrebuilt.
     let start = c.loop-cuboid.invariant.first none in
     let is = ap (λ (d : Choice). Mark d c.args.tag) c.within.ensures ∙ first_box c.args.tag i cs box op cut none only in
     let roomy = subst (λ (w : Work). HaveRoom w.watches) (sym start.0) room in
-    unrebuilt_ticks c.args.large (Mark c.within.result c.args.tag) op c.loop-cuboid.work.tree c.args.work.tree c.loop-cuboid.steps c.args.steps.now c.marked.new.steps is (ap (λ (w : Work). w.tree) start.0) start.1 (c.in_err-work.ensures.ticks roomy) unrebuilt
+    unrebuilt_nodes_made c.args.large (Mark c.within.result c.args.tag) op c.loop-cuboid.work.tree c.args.work.tree c.loop-cuboid.steps c.args.steps.now c.marked.new.steps is (ap (λ (w : Work). w.tree) start.0) start.1 (c.in_err-work.ensures.nodes_made roomy) unrebuilt
 
 pub returns-clause-unrebuilt : goal.returns-clause-unrebuilt
 returns-clause-unrebuilt g c = λ op only room unrebuilt.
@@ -63,8 +63,8 @@ returns-clause-unrebuilt g c = λ op only room unrebuilt.
     let most = rw c.as_slice-cuboid-items.ensures at c.loop-cuboid.auto.cuboid-index-end in
     (c.loop-cuboid.invariant.second (omega (arith, one, all, most)) op only room unrebuilt).0
 
-pub returns-clause-ticks : goal.returns-clause-ticks
-returns-clause-ticks g c = λ op only room unrebuilt.
+pub returns-clause-nodes_made : goal.returns-clause-nodes_made
+returns-clause-nodes_made g c = λ op only room unrebuilt.
     let one = only_box c.args.tag c.args.boxes.now op only in
     let all = rw c.as_slice-cuboid-items.ensures at c.loop-cuboid-test.false in
     let most = rw c.as_slice-cuboid-items.ensures at c.loop-cuboid.auto.cuboid-index-end in

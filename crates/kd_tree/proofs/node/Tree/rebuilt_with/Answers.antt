@@ -47,8 +47,8 @@ returns-clause-once g c =
     let is = all g (goal.at.returns-clause-once g c).After-as_mut_slice in
     on_ok_weaker c.built_in.result (λ e. e ∙ ap (λ (xs : List Item). c.args.steps.now + length xs) is) c.built_in.ensures.once
 
-pub returns-clause-ticks : goal.returns-clause-ticks
-returns-clause-ticks g c = omega (arith, c.built_in.ensures.ticks, ap length (all g (goal.at.returns-clause-ticks g c).After-as_mut_slice))
+pub returns-clause-nodes_made : goal.returns-clause-nodes_made
+returns-clause-nodes_made g c = omega (arith, c.built_in.ensures.nodes_made, ap length (all g (goal.at.returns-clause-nodes_made g c).After-as_mut_slice))
 
 pub returns-clause-contents : goal.returns-clause-contents
 returns-clause-contents g c =

@@ -9,7 +9,7 @@ use Rattle.kd_mark.specs.Refresh.{IsNotDue, RefreshesIfDue}
 use Rattle.kd_update.specs.Put.{leaf_of, put_from}
 use Rattle.kd_mark.specs.Several.{IsUpdatedClear}
 use Rattle.kd_mark.proofs.Refresh.{head}
-use Rattle.kd_update.proofs.Route.{IsFree, IsOnRoute, apart_put, on_route, route_spared, route_ticks}
+use Rattle.kd_update.proofs.Route.{IsFree, IsOnRoute, apart_put, on_route, route_spared, route_nodes_made}
 use Rattle.kd_mark.proofs.Several.{large_next}
 use Rattle.kd_update.proofs.Several.{clear_leaf, put_joined}
 use Rattle.kd_update.proofs.Near.{near_smaller, near_sound, sides_back, with_near}
@@ -52,18 +52,18 @@ returns-clause-updated g t c =
     IfOk-weaker c.rejoined.result _ _ (λ v k. put_joined _ _ _ _ _ _ _ _ _ _ _ v (fork_of c.in-Some.node) c.side_of-side.result w x c.size-size.ensures.sound c.requires.new c.requires.few c.requires.there
     c.spared_from-large.ensures c.next-next.ensures c.onward-below.ensures c.by_side-near.ensures.near c.in_ok-near.ensures.updated k) made
 
-pub returns-in_err-node-clause-ticks : goal.returns-in_err-node-clause-ticks
-returns-in_err-node-clause-ticks g t c = λ criteria. apart_put c.args.item.point c.args.tree c.args.steps.now c.take_apart.new.steps c.take_apart.ensures.ticks c.take_apart.ensures.still
+pub returns-in_err-node-clause-nodes_made : goal.returns-in_err-node-clause-nodes_made
+returns-in_err-node-clause-nodes_made g t c = λ criteria. apart_put c.args.item.point c.args.tree c.args.steps.now c.take_apart.new.steps c.take_apart.ensures.nodes_made c.take_apart.ensures.still
 
-pub returns-in_err-near-clause-ticks : goal.returns-in_err-near-clause-ticks
-returns-in_err-near-clause-ticks g t c = λ all.
-    let w = on_way g t (goal.at.returns-in_err-near-clause-ticks g t c).After-side_of-side in
-    route_ticks _ _ _ _ _ _ _ (fork_of c.in-Some.node) c.side_of-side.result c.args.steps.now c.take_apart.new.steps c.put_below.new.steps c.put_below.new.steps w c.next-next.ensures c.by_side-near.ensures.near c.take_apart.ensures.ticks c.put_below.ensures.ticks
+pub returns-in_err-near-clause-nodes_made : goal.returns-in_err-near-clause-nodes_made
+returns-in_err-near-clause-nodes_made g t c = λ all.
+    let w = on_way g t (goal.at.returns-in_err-near-clause-nodes_made g t c).After-side_of-side in
+    route_nodes_made _ _ _ _ _ _ _ (fork_of c.in-Some.node) c.side_of-side.result c.args.steps.now c.take_apart.new.steps c.put_below.new.steps c.put_below.new.steps w c.next-next.ensures c.by_side-near.ensures.near c.take_apart.ensures.nodes_made c.put_below.ensures.nodes_made
     (λ on spared. omega arith) (route_spared c.args.large _ (g.W.Ways.paths c.args.ways.now) _ _ c.spared_from-large.ensures all)
 
-pub returns-clause-ticks : goal.returns-clause-ticks
-returns-clause-ticks g t c = λ all.
-    let w = on_way g t (goal.at.returns-clause-ticks g t c).After-side_of-side in
-    let b = back g t (goal.at.returns-clause-ticks g t c).After-by_side-left in
-    route_ticks _ _ _ _ _ _ _ (fork_of c.in-Some.node) c.side_of-side.result c.args.steps.now c.take_apart.new.steps c.put_below.new.steps c.rejoined.new.steps w c.next-next.ensures c.by_side-near.ensures.near c.take_apart.ensures.ticks c.put_below.ensures.ticks
-    (λ on spared. c.rejoined.ensures.ticks (subst (IsNotDue c.spared_from-large.result) (ap (with_near c.side_of-side.result (fork_of c.in-Some.node)) (sym (c.in_ok-near.ensures.updated.unrebuilt on)) ∙ sym b) spared)) (route_spared c.args.large _ (g.W.Ways.paths c.args.ways.now) _ _ c.spared_from-large.ensures all)
+pub returns-clause-nodes_made : goal.returns-clause-nodes_made
+returns-clause-nodes_made g t c = λ all.
+    let w = on_way g t (goal.at.returns-clause-nodes_made g t c).After-side_of-side in
+    let b = back g t (goal.at.returns-clause-nodes_made g t c).After-by_side-left in
+    route_nodes_made _ _ _ _ _ _ _ (fork_of c.in-Some.node) c.side_of-side.result c.args.steps.now c.take_apart.new.steps c.put_below.new.steps c.rejoined.new.steps w c.next-next.ensures c.by_side-near.ensures.near c.take_apart.ensures.nodes_made c.put_below.ensures.nodes_made
+    (λ on spared. c.rejoined.ensures.nodes_made (subst (IsNotDue c.spared_from-large.result) (ap (with_near c.side_of-side.result (fork_of c.in-Some.node)) (sym (c.in_ok-near.ensures.updated.unrebuilt on)) ∙ sym b) spared)) (route_spared c.args.large _ (g.W.Ways.paths c.args.ways.now) _ _ c.spared_from-large.ensures all)

@@ -34,21 +34,21 @@ calm g t c k =
     child_calm c.args.large c.in-Some.side.now c.in-Some.rest.now c.args.tree c.args.with c.in_ok-child.child (c.in-Some-child_of.ensures.some ∙ ap Some (sym c.in_ok-child.ensures.shape))
     (subst (λ (p : List Side). RebuildsNoneAbove c.args.large p (replaced_at p c.args.with c.args.tree)) c.in-Some.ensures.cases.0 k)
 
-pub returns-in_err-child-2-clause-ticks : goal.returns-in_err-child-2-clause-ticks
-returns-in_err-child-2-clause-ticks g t c = λ k.
-    let k' = calm g t (goal.at.returns-in_err-child-2-clause-ticks g t c).In_ok-child k in
-    omega (arith, c.replaced_along.ensures.ticks k'.1, c.in-Some.ensures.cases.1)
+pub returns-in_err-child-2-clause-nodes_made : goal.returns-in_err-child-2-clause-nodes_made
+returns-in_err-child-2-clause-nodes_made g t c = λ k.
+    let k' = calm g t (goal.at.returns-in_err-child-2-clause-nodes_made g t c).In_ok-child k in
+    omega (arith, c.replaced_along.ensures.nodes_made k'.1, c.in-Some.ensures.cases.1)
 
-pub returns-in_err-tree-clause-ticks : goal.returns-in_err-tree-clause-ticks
-returns-in_err-tree-clause-ticks g t c = λ k.
-    let k' = calm g t (goal.at.returns-in_err-tree-clause-ticks g t c).In_ok-child k in
-    omega (arith, c.replaced_along.ensures.ticks k'.1, c.with_child.ensures.ticks, c.in-Some.ensures.cases.1)
+pub returns-in_err-tree-clause-nodes_made : goal.returns-in_err-tree-clause-nodes_made
+returns-in_err-tree-clause-nodes_made g t c = λ k.
+    let k' = calm g t (goal.at.returns-in_err-tree-clause-nodes_made g t c).In_ok-child k in
+    omega (arith, c.replaced_along.ensures.nodes_made k'.1, c.with_child.ensures.nodes_made, c.in-Some.ensures.cases.1)
 
-pub returns-clause-ticks : goal.returns-clause-ticks
-returns-clause-ticks g t c = λ k.
-    let k' = calm g t (goal.at.returns-clause-ticks g t c).In_ok-child k in
+pub returns-clause-nodes_made : goal.returns-clause-nodes_made
+returns-clause-nodes_made g t c = λ k.
+    let k' = calm g t (goal.at.returns-clause-nodes_made g t c).In_ok-child k in
     let same = c.in_ok-tree.ensures.shape ∙ ap (λ (s : Shape). with_child c.in-Some.side.now s c.args.tree) (c.in_ok-child-2.ensures.replaced.unrebuilt k'.1) in
-    omega (arith, c.replaced_along.ensures.ticks k'.1, c.with_child.ensures.ticks, c.refreshed.ensures.still (subst (IsNotDue c.args.large) (sym same) k'.0), c.in-Some.ensures.cases.1)
+    omega (arith, c.replaced_along.ensures.nodes_made k'.1, c.with_child.ensures.nodes_made, c.refreshed.ensures.still (subst (IsNotDue c.args.large) (sym same) k'.0), c.in-Some.ensures.cases.1)
 
 pub with_child-requires : goal.with_child-requires
 with_child-requires g t c =

@@ -84,8 +84,8 @@ returns-clause-refresh g c = IfOk-weaker c.put_below.result _ _ (λ t u. u.refre
 pub returns-clause-unrebuilt : goal.returns-clause-unrebuilt
 returns-clause-unrebuilt g c = λ calm. IfOk-weaker c.put_below.result _ _ (λ t u. u.unrebuilt calm) (updated g (goal.at.returns-clause-unrebuilt g c).After-put_below)
 
-pub returns-clause-ticks : goal.returns-clause-ticks
-returns-clause-ticks g c = λ calm. let few = rw c.live-item.ensures at c.put_below.ensures.ticks in omega (arith, few calm)
+pub returns-clause-nodes_made : goal.returns-clause-nodes_made
+returns-clause-nodes_made g c = λ calm. let few = rw c.live-item.ensures at c.put_below.ensures.nodes_made in omega (arith, few calm)
 
 pub put-requires-clause-low : goal.put-requires-clause-low
 put-requires-clause-low g c = c.requires.low
@@ -108,8 +108,8 @@ returns-then-is_empty-clause-refresh g c = c.put.ensures.refresh
 pub returns-then-is_empty-clause-unrebuilt : goal.returns-then-is_empty-clause-unrebuilt
 returns-then-is_empty-clause-unrebuilt g c = c.put.ensures.unrebuilt
 
-pub returns-then-is_empty-clause-ticks : goal.returns-then-is_empty-clause-ticks
-returns-then-is_empty-clause-ticks g c = c.put.ensures.ticks
+pub returns-then-is_empty-clause-nodes_made : goal.returns-then-is_empty-clause-nodes_made
+returns-then-is_empty-clause-nodes_made g c = c.put.ensures.nodes_made
 
 pub log_puts-requires : goal.log_puts-requires
 log_puts-requires g c = c.requires.room
@@ -120,8 +120,8 @@ returns-in_err-log_puts-clause-begins g c = c.log_puts.ensures.begins
 pub returns-in_err-log_puts-clause-few : goal.returns-in_err-log_puts-clause-few
 returns-in_err-log_puts-clause-few g c = c.log_puts.ensures.few
 
-pub returns-in_err-log_puts-clause-ticks : goal.returns-in_err-log_puts-clause-ticks
-returns-in_err-log_puts-clause-ticks g c = λ calm. omega arith
+pub returns-in_err-log_puts-clause-nodes_made : goal.returns-in_err-log_puts-clause-nodes_made
+returns-in_err-log_puts-clause-nodes_made g c = λ calm. omega arith
 
 pub put_below-requires-clause-live : goal.put_below-requires-clause-live
 put_below-requires-clause-live g c = rw c.live-item.ensures refl
