@@ -76,7 +76,7 @@ pub fn refreshed<L: Ledger>(
     steps: &mut Steps<L>,
 ) -> Result<Tree, NoMemory>
     ensures due { IfOk result (λ t. RefreshesIfDue large tree t) }
-    ensures still { IsNotDue large tree → steps.new ≡ steps.old }
+    ensures no_nodes_made { IsNotDue large tree → steps.new ≡ steps.old }
 {
     let size = tree.size();
     if size < LEAST || large <= size || !tree.is_breached() {

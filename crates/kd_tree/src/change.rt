@@ -37,7 +37,7 @@ impl Tree {
         ensures contents { IfOk result (λ t. contents t ≡ mark (contents self) everything tag) }
         ensures numbers { IfOk result (λ t. numbers t ≡ numbers self) }
         ensures nodes_made { steps.new ≤ steps.old + 1 }
-        ensures still { self ≡ leaf → steps.new ≡ steps.old }
+        ensures no_nodes_made { self ≡ leaf → steps.new ≡ steps.old }
         ensures keep { tag ≡ keep_tag → steps.new ≡ steps.old }
     {
         if tag == Tag::KEEP {
@@ -55,7 +55,7 @@ impl Tree {
     ) -> Result<Tree, NoMemory>
         ensures shape { IfOk result (λ t. t ≡ tagged tag self) }
         ensures nodes_made { steps.new ≤ steps.old + 1 }
-        ensures still { self ≡ leaf → steps.new ≡ steps.old }
+        ensures no_nodes_made { self ≡ leaf → steps.new ≡ steps.old }
     {
         match self.opened()? {
             None => Ok(Tree::empty()),
@@ -84,7 +84,7 @@ impl Tree {
         ensures numbers { IfOk result (λ o. IfSome o (λ f. numbers (joined f) ≡ numbers self)) }
         ensures sound { IfOk result (λ o. IfSome o (λ f. IsSound (joined f))) }
         ensures nodes_made { steps.new ≤ steps.old + 2 }
-        ensures still { self ≡ leaf → steps.new ≡ steps.old }
+        ensures no_nodes_made { self ≡ leaf → steps.new ≡ steps.old }
     {
         match self.take_apart(alloc, steps)? {
             None => Ok(None),

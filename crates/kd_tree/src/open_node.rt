@@ -65,7 +65,7 @@ impl Tree {
         ensures numbers { IfOk result (λ o. IfSome o (λ n. numbers (joined (fork_of n)) ≡ numbers self)) }
         ensures sound { IfOk result (λ o. IfSome o (λ n. IsSound (joined (fork_of n)))) }
         ensures nodes_made { steps.new ≤ steps.old + 2 }
-        ensures still { self ≡ leaf → steps.new ≡ steps.old }
+        ensures no_nodes_made { self ≡ leaf → steps.new ≡ steps.old }
     {
         match self.opened()? {
             None => Ok(None),

@@ -43,7 +43,7 @@ pub fn changed<L: Ledger>(
     ensures nodes_made { (op : Op) → only_op next update.now ≡ Some op → MakesFew settings.now.large op work steps.old steps.new }
     ensures turned_away { (p : Place) → update.now ≡ Update.Thin (p ∷ []) → IsTurnedAway settings.now.voxel (map_of work.tree next) p
         → IfOk result (λ w. w.tree ≡ work.tree) }
-    ensures still { (p : Place) → update.now ≡ Update.Thin (p ∷ []) → IsTurnedAway settings.now.voxel (map_of work.tree next) p
+    ensures no_nodes_made { (p : Place) → update.now ≡ Update.Thin (p ∷ []) → IsTurnedAway settings.now.voxel (map_of work.tree next) p
         → steps.new ≡ steps.old }
 {
     let large = settings.large();

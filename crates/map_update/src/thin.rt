@@ -37,7 +37,7 @@ pub(crate) fn thinned<L: Ledger>(
     ensures kept { KeepsWatched (length points.now) (2 * length points.now) work result }
     ensures turned_away { (p : Place) → points.now ≡ p ∷ [] → IsTurnedAway settings.now.voxel (map_of work.tree next) p
         → IfOk result (λ w. w.tree ≡ work.tree) }
-    ensures still { (p : Place) → points.now ≡ p ∷ [] → IsTurnedAway settings.now.voxel (map_of work.tree next) p
+    ensures no_nodes_made { (p : Place) → points.now ≡ p ∷ [] → IsTurnedAway settings.now.voxel (map_of work.tree next) p
         → steps.new ≡ steps.old }
 {
     if points.len() >= PASS_FROM && work.may_thin_at_once(points.len()) {
@@ -68,7 +68,7 @@ fn thinned_one<L: Ledger>(
     ensures draft { KeepsDraft settings.now.large next (next + 1) work result }
     ensures worked { IfOk result (IsWorked 1 2 work) }
     ensures turned_away { IsTurnedAway settings.now.voxel (map_of work.tree next) point → IfOk result (λ w. w.tree ≡ work.tree) }
-    ensures still { IsTurnedAway settings.now.voxel (map_of work.tree next) point → steps.new ≡ steps.old }
+    ensures no_nodes_made { IsTurnedAway settings.now.voxel (map_of work.tree next) point → steps.new ≡ steps.old }
 {
     let _size = work.tree.size();
     let large = settings.large();

@@ -94,7 +94,7 @@ impl Work {
         ensures spared { levels self.tree < MAX_LEVELS → nodes self.tree < MAX_NODES → IfOk result (λ w. AreSpared self.watches w.watches) }
         ensures same { levels self.tree < MAX_LEVELS → nodes self.tree < MAX_NODES → HaveRoom self.watches
             → IfOk result (λ w. w ≡ self) }
-        ensures still { levels self.tree < MAX_LEVELS → nodes self.tree < MAX_NODES → HaveRoom self.watches
+        ensures no_nodes_made { levels self.tree < MAX_LEVELS → nodes self.tree < MAX_NODES → HaveRoom self.watches
             → steps.new ≡ steps.old }
     {
         if self.tree.levels() < MAX_LEVELS && self.tree.size() < MAX_NODES {
@@ -118,7 +118,7 @@ impl Work {
         ensures room { IfOk result (λ w. HaveRoom w.watches) }
         ensures spared { IfOk result (λ w. AreSpared self.watches w.watches) }
         ensures same { HaveRoom self.watches → IfOk result (λ w. w ≡ self) }
-        ensures still { HaveRoom self.watches → steps.new ≡ steps.old }
+        ensures no_nodes_made { HaveRoom self.watches → steps.new ≡ steps.old }
     {
         let Some(place) = first_full(self.watches.as_slice()) else {
             return Ok(self);

@@ -20,7 +20,7 @@ use Rattle.rebuild_core.proofs.Plans.{plan_nodes_made}
 
 -- where the counter doesn't rise, no node is made
 pub makes_none : (u : Update) (s : StateAt) (n k : ℕ) → k ≡ n → MakesNodes u s n k
-makes_none u s n k same = record { nodes_made = λ op unrebuilt. omega (arith, same); still = λ p one turned. same }
+makes_none u s n k same = record { nodes_made = λ op unrebuilt. omega (arith, same); no_nodes_made = λ p one turned. same }
 
 -- what is made in an equal state, and then no more
 pub makes_on : (u : Update) (s z : StateAt) (n m k : ℕ) → s ≡ z → k ≡ m → MakesNodes u s n m → MakesNodes u z n k
@@ -30,9 +30,9 @@ makes_on u s z n m k is same made = subst (λ (x : StateAt). MakesNodes u x n k)
 pub plan_makes : (u : Update) (s z : StateAt) (t : Shape) (m n new : ℕ) (ws : List Watch) → s ≡ z → t ≡ s.tree → m ≡ n → ws ≡ watches_of s.parts
     → ((op : Op) → only_op s.next u ≡ Some op → HaveRoom ws → RebuildsNothing s.settings.large op t → new ≤ m + (5 * entered_nodes op t + 1))
     → ((p : Place) → u ≡ Thin (p ∷ []) → IsTurnedAway s.settings.voxel (map_of t s.next) p → new ≡ m) → MakesNodes u z n new
-plan_makes u s z t m n new ws is same start seen nodes_made still = record {
+plan_makes u s z t m n new ws is same start seen nodes_made no_nodes_made = record {
   nodes_made = λ op. plan_nodes_made u op s z t m n new ws is same start seen (nodes_made op);
-  still = λ p one turned. still p one (turned_copy s z t p is same turned) ∙ start;
+  no_nodes_made = λ p one turned. no_nodes_made p one (turned_copy s z t p is same turned) ∙ start;
 }
 
 -- a planned update leaves in the state what was planned

@@ -31,4 +31,4 @@ pub record MakesNodes (u : Update) (s : StateAt) (before after : ℕ) : Type 0 w
   -- one operation that rebuilds nothing makes at most five for each node that it enters, and one more
   pub nodes_made : (op : Op) → IsUnrebuiltUpdate u op s → after ≤ before + (5 * entered_nodes op s.tree + 1)
   -- one point that is turned away makes none
-  pub still : (p : Place) → u ≡ Thin (p ∷ []) → IsTurnedAwayFrom s p → after ≡ before
+  pub no_nodes_made : (p : Place) → u ≡ Thin (p ∷ []) → IsTurnedAwayFrom s p → after ≡ before

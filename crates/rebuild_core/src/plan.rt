@@ -105,7 +105,7 @@ impl MapState {
         ensures spare { OnOk result (1 ≤ self.new.spare) }
         ensures tree { IfOk result (λ p. p.tree ≡ draft.tree) }
         ensures logs { IfOk result (λ p. p.logs ≡ draft.logs.items) }
-        ensures still { steps.new ≡ steps.old }
+        ensures no_nodes_made { steps.new ≡ steps.old }
     {
         let Drafted { tree, logs } = draft;
         let _size = tree.size();

@@ -86,7 +86,7 @@ impl MapState {
         steps: &mut Steps<L>,
     ) -> Result<Planned, NoMemory>
         ensures planned { IfOk result (λ p. p ≡ plan_with tree logs.items self.now.state) }
-        ensures still { steps.new ≡ steps.old }
+        ensures no_nodes_made { steps.new ≡ steps.old }
     {
         let (next, len) = (self.next, self.history.len() as u64);
         let version = Version::shared(alloc, &tree, next, len, steps)?;

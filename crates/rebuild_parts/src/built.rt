@@ -224,7 +224,7 @@ pub fn caught_up<L: Ledger>(
     ensures low { IfOk result (λ t. levels t ≤ levels tree + length (numbers_put ops.now)) }
     ensures few { IfOk result (λ t. nodes t ≤ nodes tree + length (numbers_put ops.now)) }
     ensures same { ops.now ≡ [] → IsBalancedBelow large tree → IfOk result (λ t. t ≡ tree) }
-    ensures still { ops.now ≡ [] → IsBalancedBelow large tree → steps.new ≡ steps.old }
+    ensures no_nodes_made { ops.now ≡ [] → IsBalancedBelow large tree → steps.new ≡ steps.old }
 {
     let tree = balanced_for(alloc, tree, made_with, large, steps)?;
     if ops.is_empty() {
@@ -248,7 +248,7 @@ fn balanced_for<L: Ledger>(
     ensures low { IfOk result (λ t. levels t ≤ levels tree) }
     ensures few { IfOk result (λ t. nodes t ≤ nodes tree) }
     ensures same { IsBalancedBelow large tree → IfOk result (λ t. t ≡ tree) }
-    ensures still { IsBalancedBelow large tree → steps.new ≡ steps.old }
+    ensures no_nodes_made { IsBalancedBelow large tree → steps.new ≡ steps.old }
 {
     if made_with == large {
         return Ok(tree);

@@ -42,7 +42,7 @@ impl Version {
         steps: &mut Steps<L>,
     ) -> Result<Arc<Version>, NoMemory>
         ensures shown { IfOk result (λ v. v.value ≡ record { tree = tree.now; next = next; len = len }) }
-        ensures still { steps.new ≡ steps.old }
+        ensures no_nodes_made { steps.new ≡ steps.old }
     {
         let tree = tree.copy(alloc, steps)?;
         let version = Arc::new(alloc, Version { tree, next, len })?;

@@ -22,7 +22,7 @@ pub fn roomy<L: Ledger>(alloc: Global, tree: Tree, steps: &mut Steps<L>) -> Resu
     ensures low { IfOk result (λ t. levels t < MAX_LEVELS) }
     ensures few { IfOk result (λ t. nodes t < MAX_NODES) }
     ensures unrebuilt { levels tree < MAX_LEVELS → nodes tree < MAX_NODES → IfOk result (λ t. t ≡ tree) }
-    ensures still { levels tree < MAX_LEVELS → nodes tree < MAX_NODES → steps.new ≡ steps.old }
+    ensures no_nodes_made { levels tree < MAX_LEVELS → nodes tree < MAX_NODES → steps.new ≡ steps.old }
     // On errors too.
     ensures nodes_made { steps.new ≤ steps.old + length (contents tree) }
 {

@@ -21,7 +21,7 @@ returns-in-Add g c =
       unrebuilt = rw c.large-large.ensures.value at c.added.ensures.unrebuilt;
       nodes_made = rw c.large-large.ensures.value at c.added.ensures.nodes_made;
       turned_away = λ p one. absurd (add_not_thin c.in-Add.points (p ∷ []) one);
-      still = λ p one. absurd (add_not_thin c.in-Add.points (p ∷ []) one);
+      no_nodes_made = λ p one. absurd (add_not_thin c.in-Add.points (p ∷ []) one);
     })
 
 pub returns-in-Delete : goal.returns-in-Delete
@@ -34,7 +34,7 @@ returns-in-Delete g c =
       unrebuilt = rw c.large-large.ensures.value at c.marked_each.ensures.unrebuilt;
       nodes_made = rw c.large-large.ensures.value at c.marked_each.ensures.nodes_made;
       turned_away = λ p one. absurd (delete_not_thin c.in-Delete.boxes (p ∷ []) one);
-      still = λ p one. absurd (delete_not_thin c.in-Delete.boxes (p ∷ []) one);
+      no_nodes_made = λ p one. absurd (delete_not_thin c.in-Delete.boxes (p ∷ []) one);
     })
 
 pub returns-in-Suspend : goal.returns-in-Suspend
@@ -47,7 +47,7 @@ returns-in-Suspend g c =
       unrebuilt = rw c.large-large.ensures.value at c.marked_each-in-Suspend.ensures.unrebuilt;
       nodes_made = rw c.large-large.ensures.value at c.marked_each-in-Suspend.ensures.nodes_made;
       turned_away = λ p one. absurd (suspend_not_thin c.in-Suspend.boxes (p ∷ []) one);
-      still = λ p one. absurd (suspend_not_thin c.in-Suspend.boxes (p ∷ []) one);
+      no_nodes_made = λ p one. absurd (suspend_not_thin c.in-Suspend.boxes (p ∷ []) one);
     })
 
 pub returns-in-Restore : goal.returns-in-Restore
@@ -60,14 +60,14 @@ returns-in-Restore g c =
       unrebuilt = rw c.large-large.ensures.value at c.marked_each-in-Restore.ensures.unrebuilt;
       nodes_made = rw c.large-large.ensures.value at c.marked_each-in-Restore.ensures.nodes_made;
       turned_away = λ p one. absurd (restore_not_thin c.in-Restore.boxes (p ∷ []) one);
-      still = λ p one. absurd (restore_not_thin c.in-Restore.boxes (p ∷ []) one);
+      no_nodes_made = λ p one. absurd (restore_not_thin c.in-Restore.boxes (p ∷ []) one);
     })
 
 pub returns-in-Thin-clause-turned_away : goal.returns-in-Thin-clause-turned_away
 returns-in-Thin-clause-turned_away g c = λ p one turned. c.thinned.ensures.turned_away p (points_one c.in-Thin.points c.args.update.now p c.in-Thin.is one) turned
 
-pub returns-in-Thin-clause-still : goal.returns-in-Thin-clause-still
-returns-in-Thin-clause-still g c = λ p one turned. c.thinned.ensures.still p (points_one c.in-Thin.points c.args.update.now p c.in-Thin.is one) turned
+pub returns-in-Thin-clause-no_nodes_made : goal.returns-in-Thin-clause-no_nodes_made
+returns-in-Thin-clause-no_nodes_made g c = λ p one turned. c.thinned.ensures.no_nodes_made p (points_one c.in-Thin.points c.args.update.now p c.in-Thin.is one) turned
 
 pub returns-in-Expire-clause-kept : goal.returns-in-Expire-clause-kept
 returns-in-Expire-clause-kept g c =

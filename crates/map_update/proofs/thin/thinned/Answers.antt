@@ -23,8 +23,8 @@ thinned_one-requires-clause-few g c =
     let shorter : length (drop i ps) ≡ length (drop (i + 1) ps) + 1 = rw cut (omega arith) in
     omega arith
 
-pub returns-in_err-work-clause-still : goal.returns-in_err-work-clause-still
-returns-in_err-work-clause-still g c = λ p one turned.
+pub returns-in_err-work-clause-no_nodes_made : goal.returns-in_err-work-clause-no_nodes_made
+returns-in_err-work-clause-no_nodes_made g c = λ p one turned.
     let q = c.point-item.result in
     let ps = c.args.points.now in
     let i = c.loop-point.point-index in
@@ -33,7 +33,7 @@ returns-in_err-work-clause-still g c = λ p one turned.
     let first = only_first i ps p q cut below one in
     let start = c.loop-point.invariant.same p one turned in
     let next : c.loop-point.next ≡ c.args.next = omega (arith, c.loop-point.invariant.room, ap (λ k. length (drop k ps)) first.1) in
-    c.in_err-work.ensures.still (turned_same c.args.settings.now.voxel c.args.work.tree c.loop-point.work.tree c.args.next c.loop-point.next p q start.0 next first.0 turned) ∙ start.1
+    c.in_err-work.ensures.no_nodes_made (turned_same c.args.settings.now.voxel c.args.work.tree c.loop-point.work.tree c.args.next c.loop-point.next p q start.0 next first.0 turned) ∙ start.1
 
 pub loop-point-preserved : goal.loop-point-preserved
 loop-point-preserved g c =
@@ -56,14 +56,14 @@ loop-point-preserved g c =
           let start = c.loop-point.invariant.same p one turned in
           let next : c.loop-point.next ≡ c.args.next = omega (arith, c.loop-point.invariant.room, ap (λ k. length (drop k ps)) first.1) in
           let here = turned_same c.args.settings.now.voxel c.args.work.tree c.loop-point.work.tree c.args.next c.loop-point.next p q start.0 next first.0 turned in
-          (c.in_ok-work.ensures.turned_away here ∙ start.0, c.in_ok-work.ensures.still here ∙ start.1);
+          (c.in_ok-work.ensures.turned_away here ∙ start.0, c.in_ok-work.ensures.no_nodes_made here ∙ start.1);
     }
 
 pub returns-clause-turned_away : goal.returns-clause-turned_away
 returns-clause-turned_away g c = λ p one turned. (c.loop-point.invariant.same p one turned).0
 
-pub returns-clause-still : goal.returns-clause-still
-returns-clause-still g c = λ p one turned. (c.loop-point.invariant.same p one turned).1
+pub returns-clause-no_nodes_made : goal.returns-clause-no_nodes_made
+returns-clause-no_nodes_made g c = λ p one turned. (c.loop-point.invariant.same p one turned).1
 
 pub returns-clause-kept : goal.returns-clause-kept
 returns-clause-kept g c =

@@ -53,7 +53,7 @@ returns-clause-updated g t c =
     c.spared_from-large.ensures c.next-next.ensures c.onward-below.ensures c.by_side-near.ensures.near c.in_ok-near.ensures.updated k) made
 
 pub returns-in_err-node-clause-nodes_made : goal.returns-in_err-node-clause-nodes_made
-returns-in_err-node-clause-nodes_made g t c = λ criteria. apart_put c.args.item.point c.args.tree c.args.steps.now c.take_apart.new.steps c.take_apart.ensures.nodes_made c.take_apart.ensures.still
+returns-in_err-node-clause-nodes_made g t c = λ criteria. apart_put c.args.item.point c.args.tree c.args.steps.now c.take_apart.new.steps c.take_apart.ensures.nodes_made c.take_apart.ensures.no_nodes_made
 
 pub returns-in_err-near-clause-nodes_made : goal.returns-in_err-near-clause-nodes_made
 returns-in_err-near-clause-nodes_made g t c = λ all.

@@ -48,7 +48,7 @@ pub returns-clause-nodes_made : goal.returns-clause-nodes_made
 returns-clause-nodes_made g t c = λ k.
     let k' = calm g t (goal.at.returns-clause-nodes_made g t c).In_ok-child k in
     let same = c.in_ok-tree.ensures.shape ∙ ap (λ (s : Shape). with_child c.in-Some.side.now s c.args.tree) (c.in_ok-child-2.ensures.replaced.unrebuilt k'.1) in
-    omega (arith, c.replaced_along.ensures.nodes_made k'.1, c.with_child.ensures.nodes_made, c.refreshed.ensures.still (subst (IsNotDue c.args.large) (sym same) k'.0), c.in-Some.ensures.cases.1)
+    omega (arith, c.replaced_along.ensures.nodes_made k'.1, c.with_child.ensures.nodes_made, c.refreshed.ensures.no_nodes_made (subst (IsNotDue c.args.large) (sym same) k'.0), c.in-Some.ensures.cases.1)
 
 pub with_child-requires : goal.with_child-requires
 with_child-requires g t c =

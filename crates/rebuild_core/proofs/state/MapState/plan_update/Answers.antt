@@ -49,7 +49,7 @@ pub returns-in_err-draft-clause-nodes : goal.returns-in_err-draft-clause-nodes
 returns-in_err-draft-clause-nodes g c = makes_on _ _ _ _ _ _ c.lent-scratch.ensures.same refl c.drafted-draft.ensures.nodes
 
 pub returns-in_err-planned-clause-nodes : goal.returns-in_err-planned-clause-nodes
-returns-in_err-planned-clause-nodes g c = makes_on _ _ _ _ _ _ c.lent-scratch.ensures.same c.in_err-planned.ensures.still c.drafted-draft.ensures.nodes
+returns-in_err-planned-clause-nodes g c = makes_on _ _ _ _ _ _ c.lent-scratch.ensures.same c.in_err-planned.ensures.no_nodes_made c.drafted-draft.ensures.nodes
 
 pub returns-clause-nodes : goal.returns-clause-nodes
-returns-clause-nodes g c = makes_on _ _ _ _ _ _ c.lent-scratch.ensures.same c.in_ok-planned.ensures.still c.drafted-draft.ensures.nodes
+returns-clause-nodes g c = makes_on _ _ _ _ _ _ c.lent-scratch.ensures.same c.in_ok-planned.ensures.no_nodes_made c.drafted-draft.ensures.nodes
