@@ -30,7 +30,7 @@ impl Blocks {
     }
 
     // What remains of the tree before is dropped.
-    pub(crate) fn take_in(&mut self, tree: Tree) {
+    pub(crate) fn reclaim(&mut self, tree: Tree) {
         self.trees.clear();
         keep(&mut self.trees, tree)
     }

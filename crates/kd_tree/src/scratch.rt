@@ -44,8 +44,8 @@ impl Scratch {
     }
 
     /// Takes in a tree for the memory of the nodes that aren't shared. What remains of the one before is dropped.
-    pub fn take_in(&mut self, tree: Tree) {
-        self.blocks.take_in(tree)
+    pub fn reclaim(&mut self, tree: Tree) {
+        self.blocks.reclaim(tree)
     }
 
     /// The memory of a node, if it has any.

@@ -78,9 +78,9 @@ impl MapState {
         ensures nodes { MakesNodes update self.old.state steps.old steps.new }
     {
         let next = self.next_after(&update)?;
-        let mut scratch = self.lent(alloc);
+        let mut scratch = self.take_scratch(alloc);
         let draft = self.drafted(alloc, &update, &mut scratch, steps);
-        self.returned(scratch);
+        self.put_scratch(scratch);
         let draft = draft?;
         let planned = self.plan_of(alloc, caller, update, next, draft, steps)?;
         Ok(planned)

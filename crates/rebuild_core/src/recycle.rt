@@ -19,23 +19,23 @@ impl MapState {
     }
 
     // With the memory of the version before.
-    pub(crate) fn lent(&mut self, alloc: Global) -> Scratch
+    pub(crate) fn take_scratch(&mut self, alloc: Global) -> Scratch
         ensures same { self.new.state ≡ self.old.state }
         ensures spare { self.new.spare ≡ self.old.spare }
     {
         let mut scratch = mem::replace(&mut self.scratch, Scratch::new(alloc));
         if let Some(version) = self.former.take() {
-            Version::scrap(version, &mut scratch);
+            Version::reclaim(version, &mut scratch);
         }
         scratch
     }
 
     // The rest is dropped now: it might be the last to hold a subtree that is swapped out before the next update.
-    pub(crate) fn returned(&mut self, mut scratch: Scratch)
+    pub(crate) fn put_scratch(&mut self, mut scratch: Scratch)
         ensures same { self.new.state ≡ self.old.state }
         ensures spare { self.new.spare ≡ self.old.spare }
     {
-        scratch.take_in(Tree::empty());
+        scratch.reclaim(Tree::empty());
         self.scratch = scratch;
     }
 }

@@ -63,11 +63,11 @@ impl Version {
     }
 
     /// Drops a version. Where nobody else holds it, the scratch takes the memory of its nodes.
-    pub fn scrap(version: Arc<Version>, scratch: &mut Scratch) {
+    pub fn reclaim(version: Arc<Version>, scratch: &mut Scratch) {
         let mut version = version;
         if let Some(version) = Arc::get_mut(&mut version) {
             let tree = mem::replace(&mut version.tree, Tree::empty());
-            scratch.take_in(tree);
+            scratch.reclaim(tree);
         }
     }
 

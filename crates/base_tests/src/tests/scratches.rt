@@ -87,7 +87,7 @@ fn restored<L: Ledger>(
     let tree = half_left(rt, alloc, steps);
     let copy = made(rt, tree.copy(alloc, steps));
     let restored = made(rt, copy.tagged(alloc, Tag::RESTORE, steps));
-    scratch.take_in(tree);
+    scratch.reclaim(tree);
     restored
 }
 
