@@ -98,6 +98,6 @@ built_refresh s t b ns =
       from = λ n c. left_among s n (Contains-permutation _ _ n (IsPermutation-sym _ _ ns) c);
     }
 
-pub refreshed_refresh : (large : ℕ) (s t : Shape) → RefreshesIfDue large s t → IsRefresh s t
-refreshed_refresh large s t (inl k) = subst (IsRefresh s) k.1 (refresh_same s)
-refreshed_refresh large s t (inr k) = k.1
+pub rebuilt_if_due_refresh : (large : ℕ) (s t : Shape) → RefreshesIfDue large s t → IsRefresh s t
+rebuilt_if_due_refresh large s t (inl k) = subst (IsRefresh s) k.1 (refresh_same s)
+rebuilt_if_due_refresh large s t (inr k) = k.1

@@ -24,7 +24,7 @@ use Rattle.kd_mark.proofs.InBox.{IsEntered, marked_none, marked_missed, marked_c
 use Rattle.kd_mark.proofs.Criteria.{criteria_none}
 use Rattle.kd_mark.proofs.Near.{near}
 use Rattle.kd_mark.proofs.Trees.{at_pushed, forked}
-use Rattle.kd_mark.proofs.Refresh.{head, refresh_same, refresh_trans, refresh_fork, refreshed_refresh}
+use Rattle.kd_mark.proofs.Refresh.{head, refresh_same, refresh_trans, refresh_fork, rebuilt_if_due_refresh}
 use Rattle.kd_mark.proofs.Update.{criteria_balanced, children_alike}
 use Rattle.kd_mark.proofs.WatchedMark.{watched-mark}
 use Rattle.kd_mark.proofs.Large.{large_nodes, large_same, large_after, watched_new}
@@ -103,9 +103,9 @@ spared_same large [] s t k (inr e) = tt
 spared_same large (p ∷ ps) s t k (inr e) = absurd (e.0 (λ many few. absurd (omega (arith, few, large_nodes large p s k.0))))
 
 -- a node with children that are balanced outside the paths, rebuilt where it is to be
-pub refreshed_outside : (large : ℕ) (ps : List (List Side)) (h : Head) (l r t : Shape) → RefreshesIfDue large (fork h l r) t → (is_here ps ≡ false → IsBalancedClear large (onward Left ps) l × IsBalancedClear large (onward Right ps) r) → IsBalancedClear large ps t
-refreshed_outside large ps h l r t (inl k) e = subst (IsBalancedClear large ps) k.1 (λ here. ((λ many few. (k.0 many few).0), (e here).0, (e here).1))
-refreshed_outside large ps h l r t (inr k) e = balanced_outside large ps t (criteria_balanced large t k.2)
+pub rebuilt_if_due_outside : (large : ℕ) (ps : List (List Side)) (h : Head) (l r t : Shape) → RefreshesIfDue large (fork h l r) t → (is_here ps ≡ false → IsBalancedClear large (onward Left ps) l × IsBalancedClear large (onward Right ps) r) → IsBalancedClear large ps t
+rebuilt_if_due_outside large ps h l r t (inl k) e = subst (IsBalancedClear large ps) k.1 (λ here. ((λ many few. (k.0 many few).0), (e here).0, (e here).1))
+rebuilt_if_due_outside large ps h l r t (inr k) e = balanced_outside large ps t (criteria_balanced large t k.2)
 
 -- nothing is rebuilt
 pub clear_plain : (large : ℕ) (ps : List (List Side)) (old t : Shape) (C : Type 0) → (IsBalancedClear large ps old → IsBalancedClear large ps t) → IsUpdatedClear large ps old t C t
@@ -150,10 +150,10 @@ clear_fork large ps old i a ol or l r l' r' t C Cl Cr balanced criteria none the
     (λ e u v done.
     let children = same_children ps (head i a) l r l' r' e u.same v.same in
     record {
-      refresh = refresh_trans (fork (head i a) l r) (fork (head i a) l' r') t (refresh_fork i a l r l' r' u.refresh v.refresh) (refreshed_refresh large (fork (head i a) l' r') t done);
+      refresh = refresh_trans (fork (head i a) l r) (fork (head i a) l' r') t (refresh_fork i a l r l' r' u.refresh v.refresh) (rebuilt_if_due_refresh large (fork (head i a) l' r') t done);
       same = same_then ps t (fork (head i a) l' r') (fork (head i a) l r) (spared_same large ps (fork (head i a) l' r') t (large_all_same large ps (fork (head i a) l r) (fork (head i a) l' r') children there) done) children;
       unrebuilt = unrebuilt large u v done;
-      balance = λ k. let both = balanced e k in refreshed_outside large ps (head i a) l' r' t done (λ _. (u.balance both.0, v.balance both.1));
+      balance = λ k. let both = balanced e k in rebuilt_if_due_outside large ps (head i a) l' r' t done (λ _. (u.balance both.0, v.balance both.1));
     })
   where
     unrebuilt : (m : ℕ) → IsUpdatedClear m (onward Left ps) ol l (Cl m) l' → IsUpdatedClear m (onward Right ps) or r (Cr m) r' → RefreshesIfDue m (fork (head i a) l' r') t → C m → t ≡ fork (head i a) l r

@@ -13,7 +13,7 @@ mod ways;
 pub use log_mark::note_pending;
 pub use mark::marked;
 pub use mark_watched::marked_watched;
-pub use rebuild::{LEAST, NEVER, joined, rebuilt, refreshed, rejoined};
+pub use rebuild::{LEAST, NEVER, joined, joined_and_rebuilt_if_due, rebuilt, rebuilt_if_due};
 pub use watch::{Watch, note};
 pub use watches::Watches;
 pub use ways::{Unwatched, Watched, Ways, spared_from};

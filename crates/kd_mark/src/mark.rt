@@ -11,7 +11,7 @@ ghost use Rattle.kd_mark.specs.Mark.{RebuildsNoneEntered, marked_shape};
 ghost use Rattle.kd_mark.specs.Several.{AreLargeAt, IsUpdatedClear};
 
 use crate::reach::{covers, meets, reach_of};
-use crate::rebuild::rejoined;
+use crate::rebuild::joined_and_rebuilt_if_due;
 use crate::ways::{Unwatched, Ways, spared_from};
 use kd_tree::{OpenNode, Side, Steps, Tree};
 use map_items::{Choice, NoMemory, Tag};
@@ -87,5 +87,5 @@ pub fn marked_within<L: Ledger, W: Ways>(
         right,
         ..node
     };
-    rejoined(alloc, node, large, steps)
+    joined_and_rebuilt_if_due(alloc, node, large, steps)
 }

@@ -35,9 +35,9 @@ pub fn rebuilt<L: Ledger>(alloc: Global, tree: Tree, steps: &mut Steps<L>) -> Re
     tree.rebuilt_with(alloc, &[], &mut Scratch::new(alloc), steps)
 }
 
-/// `joined`, then `refreshed`.
+/// `joined`, then `rebuilt_if_due`.
 #[inline]
-pub fn rejoined<L: Ledger>(
+pub fn joined_and_rebuilt_if_due<L: Ledger>(
     alloc: Global,
     node: OpenNode,
     large: u32,
@@ -49,7 +49,7 @@ pub fn rejoined<L: Ledger>(
     ensures nodes_made { IsNotDue large (joined (fork_of node)) → steps.new ≤ steps.old + 1 }
 {
     let tree = joined(alloc, node, steps)?;
-    refreshed(alloc, tree, large, steps)
+    rebuilt_if_due(alloc, tree, large, steps)
 }
 
 /// The joined parts, without rebuilding.
@@ -69,7 +69,7 @@ pub fn joined<L: Ledger>(
 
 /// The tree, rebuilt where it has 10 to `large - 1` nodes and its top breaches a criterion.
 #[inline]
-pub fn refreshed<L: Ledger>(
+pub fn rebuilt_if_due<L: Ledger>(
     alloc: Global,
     tree: Tree,
     large: u32,

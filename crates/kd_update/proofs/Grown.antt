@@ -29,7 +29,7 @@ use Rattle.kd_update.specs.Put.{goes_left, put_from}
 use Rattle.kd_update.specs.Scan.{AreLive, IsGrown, IsParted, IsPiece, numbers_in}
 use Rattle.kd_mark.proofs.Trees.{among_same, among_append, among_fork, at_pushed}
 use Rattle.kd_mark.proofs.Among.{swapped}
-use Rattle.kd_mark.proofs.Refresh.{head, left_among, refreshed_refresh}
+use Rattle.kd_mark.proofs.Refresh.{head, left_among, rebuilt_if_due_refresh}
 use Rattle.kd_mark.proofs.Update.{criteria_balanced, balanced_children}
 use Rattle.kd_mark.proofs.TakenApart.{IsApart, apart}
 use Rattle.kd_update.proofs.Route.{le_of_true, le_of_false, walk-put, nodes-put, levels-put, numbers-put}
@@ -248,7 +248,7 @@ pub step_grown : (large : ℕ) (s : Shape) (is : List Item) (f : Fork) (xs ys : 
 step_grown large s is f xs ys l r t k left right done =
     grown_moved s t is (xs ++ ys) k.moved
     (grown_after s (fork (head f.item f.axis) f.left f.right) t (xs ++ ys) k.apart.refresh
-    (grown_then (fork (head f.item f.axis) f.left f.right) (fork (head f.item f.axis) l r) t (xs ++ ys) (grown_fork f.item f.axis f.left f.right l r xs ys left right) (refreshed_refresh large (fork (head f.item f.axis) l r) t done)))
+    (grown_then (fork (head f.item f.axis) f.left f.right) (fork (head f.item f.axis) l r) t (xs ++ ys) (grown_fork f.item f.axis f.left f.right l r xs ys left right) (rebuilt_if_due_refresh large (fork (head f.item f.axis) l r) t done)))
 
 -- balance
 

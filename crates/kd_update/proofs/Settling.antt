@@ -14,7 +14,7 @@ use Rattle.kd_tree.proofs.Actions.{tagged-keep}
 use Rattle.kd_tree.proofs.Breaches.{clear_of_none, criteria_at, criteria_of, first_free-none, none_of_clear}
 use Rattle.kd_mark.specs.Refresh.{RefreshesIfDue}
 use Rattle.kd_mark.specs.Update.{IsSettled}
-use Rattle.kd_mark.proofs.Refresh.{head, refresh_same, refresh_trans, refresh_fork, refresh_sound, refreshed_refresh}
+use Rattle.kd_mark.proofs.Refresh.{head, refresh_same, refresh_trans, refresh_fork, refresh_sound, rebuilt_if_due_refresh}
 use Rattle.kd_mark.proofs.TakenApart.{apart}
 
 -- the children of a tree that was taken apart, settled, may be joined
@@ -25,7 +25,7 @@ settled_sound s f l r x k left right = refresh_sound f.item f.axis f.left f.righ
 pub settled_fork : (s : Shape) (f : Fork) (l r t : Shape) → Some f ≡ pushed s → IsSound s → IsSettled f.left l → IsSettled f.right r → RefreshesIfDue 4194305 (fork (head f.item f.axis) l r) t → (AllMeetCriteria 10 s → ⊥) → IsSettled s t
 settled_fork s f l r t x k left right done breach = record {
   refresh = refresh_trans s (fork (head f.item f.axis) f.left f.right) t (apart s f x k).refresh
-      (refresh_trans (fork (head f.item f.axis) f.left f.right) (fork (head f.item f.axis) l r) t (refresh_fork f.item f.axis f.left f.right l r left.refresh right.refresh) (refreshed_refresh 4194305 (fork (head f.item f.axis) l r) t done));
+      (refresh_trans (fork (head f.item f.axis) f.left f.right) (fork (head f.item f.axis) l r) t (refresh_fork f.item f.axis f.left f.right l r left.refresh right.refresh) (rebuilt_if_due_refresh 4194305 (fork (head f.item f.axis) l r) t done));
   criteria = criteria done;
   unrebuilt = λ c. absurd (breach c);
 }

@@ -29,8 +29,8 @@ use Rattle.kd_update.specs.Replace.{StandsFor, HasRoomAt, IsNoLarger, IsReplaced
 use Rattle.kd_tree.proofs.Left.{all_left, left_all}
 use Rattle.kd_mark.proofs.Trees.{nodes_below}
 use Rattle.kd_mark.proofs.Among.{among_left, among_right}
-use Rattle.kd_mark.proofs.Refresh.{refresh_contents, refreshed_refresh}
-use Rattle.kd_mark.proofs.Several.{balanced_outside, refreshed_outside}
+use Rattle.kd_mark.proofs.Refresh.{refresh_contents, rebuilt_if_due_refresh}
+use Rattle.kd_mark.proofs.Several.{balanced_outside, rebuilt_if_due_outside}
 use Rattle.kd_mark.proofs.Large.{large_nodes, large_same}
 
 -- what remains under an action, by number, is what it leaves of the contents
@@ -69,26 +69,26 @@ same_fork h l r l' r' once e f =
     sym (by_number-moved _ _ moved (once_walk (fork h l r) once))
 
 -- a tree that is to be spared stays
-refreshed_spared : (large : ℕ) (s t : Shape) → RefreshesIfDue large s t → IsNotDue large s → t ≡ s
-refreshed_spared large s t (inl k) c = sym k.1
-refreshed_spared large s t (inr k) c = absurd (k.0 c)
+rebuilt_if_due_spared : (large : ℕ) (s t : Shape) → RefreshesIfDue large s t → IsNotDue large s → t ≡ s
+rebuilt_if_due_spared large s t (inl k) c = sym k.1
+rebuilt_if_due_spared large s t (inr k) c = absurd (k.0 c)
 
 -- one above a large subtree is to be spared
 large_spared : (large : ℕ) (p : List Side) (s t : Shape) → RefreshesIfDue large s t → IsLargeAt large p s → t ≡ s
-large_spared large p s t k big = refreshed_spared large s t k (λ many few. absurd (omega (arith, few, large_nodes large p s big)))
+large_spared large p s t k big = rebuilt_if_due_spared large s t k (λ many few. absurd (omega (arith, few, large_nodes large p s big)))
 
 -- what was done in a child, and then the parent rebuilt where it is to be
 replaced_left : (large : ℕ) (path : List Side) (h : Head) (l r other l' t : Shape) → IsSound (fork h l r) → IsReplaced large path l other l' → RefreshesIfDue large (fork h l' r) t → IsSoundFork h l' r
     → IsReplaced large (Left ∷ path) (fork h l r) other t
 replaced_left large path h l r other l' t s u k sound =
-    let f = refreshed_refresh large (fork h l' r) t k in
+    let f = rebuilt_if_due_refresh large (fork h l' r) t k in
     record {
       held = refresh_contents (fork h l' r) t sound.once f ∙ same_fork h l r l' r s.0.once (sym u.held) refl;
       size = record { few = omega (arith, f.few, u.size.few); low = omega (arith, f.low, u.size.low) };
       from = λ n c. among_left h.item.number (numbers l') (numbers l) (numbers r) (numbers other) u.from n (f.from n c);
       beside = beside;
-      balance = λ ps e o. refreshed_outside large ps h l' r t k (λ here. let all = e here in (u.balance (onward Left ps) all.1 o, all.2));
-      unrebuilt = λ c. let same = u.unrebuilt c.1 in refreshed_spared large _ t k (subst (λ x. IsNotDue large (fork h x r)) (sym same) c.0) ∙ ap (λ x. fork h x r) same;
+      balance = λ ps e o. rebuilt_if_due_outside large ps h l' r t k (λ here. let all = e here in (u.balance (onward Left ps) all.1 o, all.2));
+      unrebuilt = λ c. let same = u.unrebuilt c.1 in rebuilt_if_due_spared large _ t k (subst (λ x. IsNotDue large (fork h x r)) (sym same) c.0) ∙ ap (λ x. fork h x r) same;
     }
   where
     stays : (p : List Side) → at p (fork h l' r) ≡ at p (fork h l r) → IsLargeAt large p (fork h l r) → at p t ≡ at p (fork h l r)
@@ -102,14 +102,14 @@ replaced_left large path h l r other l' t s u k sound =
 replaced_right : (large : ℕ) (path : List Side) (h : Head) (l r other r' t : Shape) → IsSound (fork h l r) → IsReplaced large path r other r' → RefreshesIfDue large (fork h l r') t → IsSoundFork h l r'
     → IsReplaced large (Right ∷ path) (fork h l r) other t
 replaced_right large path h l r other r' t s u k sound =
-    let f = refreshed_refresh large (fork h l r') t k in
+    let f = rebuilt_if_due_refresh large (fork h l r') t k in
     record {
       held = refresh_contents (fork h l r') t sound.once f ∙ same_fork h l r l r' s.0.once refl (sym u.held);
       size = record { few = omega (arith, f.few, u.size.few); low = omega (arith, f.low, u.size.low) };
       from = λ n c. among_right h.item.number (numbers r') (numbers l) (numbers r) (numbers other) u.from n (f.from n c);
       beside = beside;
-      balance = λ ps e o. refreshed_outside large ps h l r' t k (λ here. let all = e here in (all.1, u.balance (onward Right ps) all.2 o));
-      unrebuilt = λ c. let same = u.unrebuilt c.1 in refreshed_spared large _ t k (subst (λ x. IsNotDue large (fork h l x)) (sym same) c.0) ∙ ap (λ x. fork h l x) same;
+      balance = λ ps e o. rebuilt_if_due_outside large ps h l r' t k (λ here. let all = e here in (all.1, u.balance (onward Right ps) all.2 o));
+      unrebuilt = λ c. let same = u.unrebuilt c.1 in rebuilt_if_due_spared large _ t k (subst (λ x. IsNotDue large (fork h l x)) (sym same) c.0) ∙ ap (λ x. fork h l x) same;
     }
   where
     stays : (p : List Side) → at p (fork h l r') ≡ at p (fork h l r) → IsLargeAt large p (fork h l r) → at p t ≡ at p (fork h l r)

@@ -12,7 +12,7 @@ ghost use Rattle.kd_update.specs.Put.{RebuildsNoneOnRoute, goes_left, leaf_of, p
 ghost use Rattle.kd_mark.specs.Several.{AreLargeAt, IsUpdatedClear};
 
 use crate::points::sides::by_side;
-use kd_mark::{Unwatched, Ways, rejoined, spared_from};
+use kd_mark::{Unwatched, Ways, joined_and_rebuilt_if_due, spared_from};
 use kd_tree::{Block, MAX_LEVELS, MAX_NODES, OpenNode, Side, Steps, Tree};
 use map_items::{Item, NoMemory};
 use point_geom::{Axis, Point};
@@ -90,7 +90,7 @@ pub(crate) fn put_below<L: Ledger, W: Ways>(
         right,
         ..node
     };
-    rejoined(alloc, node, large, steps)
+    joined_and_rebuilt_if_due(alloc, node, large, steps)
 }
 
 pub(crate) fn leaf<L: Ledger>(

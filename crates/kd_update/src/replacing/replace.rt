@@ -11,7 +11,7 @@ ghost use Rattle.kd_mark.specs.Several.{AreLargeAt, AreSameAt, IsBalancedClear};
 ghost use Rattle.kd_update.specs.Replace.{HasRoomAt, RebuildsNoneAbove, IsNoLarger, IsReplaced, StandsFor};
 
 use crate::Replaced;
-use kd_mark::{rebuilt, refreshed};
+use kd_mark::{rebuilt, rebuilt_if_due};
 use kd_tree::{MAX_LEVELS, MAX_NODES, Path, Side, Steps, Tree};
 use map_items::NoMemory;
 use std::alloc::Global;
@@ -87,7 +87,7 @@ fn replaced_along<L: Ledger>(
     let child = child.copy(alloc, steps)?;
     let child = replaced_along(alloc, child, large, rest, with, steps)?;
     let tree = tree.with_child(alloc, *side, child, steps)?;
-    refreshed(alloc, tree, large, steps)
+    rebuilt_if_due(alloc, tree, large, steps)
 }
 
 fn child_of(tree: &Tree, side: Side) -> Option<&Tree>

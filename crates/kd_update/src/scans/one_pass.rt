@@ -9,7 +9,7 @@ ghost use Rattle.kd_update.specs.Crossing.{IsWholeGrown};
 
 use crate::points::insert::leaf;
 use crate::scans::part_items::parted;
-use kd_mark::rejoined;
+use kd_mark::joined_and_rebuilt_if_due;
 use kd_tree::{MAX_NODES, OpenNode, Scratch, Steps, Tree};
 use map_items::{Item, NoMemory};
 use point_geom::Axis;
@@ -53,7 +53,7 @@ pub fn put_at_once<L: Ledger>(
         block: node.block.or_of(scratch),
         ..node
     };
-    rejoined(alloc, node, large, steps)
+    joined_and_rebuilt_if_due(alloc, node, large, steps)
 }
 
 // No item goes on to a child. No large subtree is built.

@@ -49,16 +49,16 @@ marked_within-requires-2 g t c κs within =
     let f = fork_of c.in-Some-2.node in
     (omega (arith, (pushed_smaller c.args.tree f x).1), (within.0, (within.1, large_next _ _ _ _ c.args.tree f.right f Right x c.requires c.spared_from-large.ensures c.onward-rights.ensures refl)))
 
-pub rejoined-requires : goal.rejoined-requires
-rejoined-requires g t c =
+pub joined_and_rebuilt_if_due-requires : goal.joined_and_rebuilt_if_due-requires
+joined_and_rebuilt_if_due-requires g t c =
     let f = fork_of c.in-Some-2.node in
-    rw c.marked-item.ensures (refresh_sound (marked_item (chosen_by c.args.choice.now) c.args.tag f.item) f.axis _ _ c.in_ok-left.left c.in_ok-right.right (entered g t (goal.at.rejoined-requires g t c).In-Some-2).sound c.in_ok-left.ensures.updated.refresh c.in_ok-right.ensures.updated.refresh)
+    rw c.marked-item.ensures (refresh_sound (marked_item (chosen_by c.args.choice.now) c.args.tag f.item) f.axis _ _ c.in_ok-left.left c.in_ok-right.right (entered g t (goal.at.joined_and_rebuilt_if_due-requires g t c).In-Some-2).sound c.in_ok-left.ensures.updated.refresh c.in_ok-right.ensures.updated.refresh)
 
 pub returns-clause-updated : goal.returns-clause-updated
 returns-clause-updated g t c =
     let f = fork_of c.in-Some-2.node in
-    let made = subst (λ (j : Item). IfOk c.rejoined.result (λ u. RefreshesIfDue c.spared_from-large.result (fork (head j f.axis) c.in_ok-left.left c.in_ok-right.right) u)) c.marked-item.ensures c.rejoined.ensures.due in
-    IfOk-weaker c.rejoined.result _ _
+    let made = subst (λ (j : Item). IfOk c.joined_and_rebuilt_if_due.result (λ u. RefreshesIfDue c.spared_from-large.result (fork (head j f.axis) c.in_ok-left.left c.in_ok-right.right) u)) c.marked-item.ensures c.joined_and_rebuilt_if_due.ensures.due in
+    IfOk-weaker c.joined_and_rebuilt_if_due.result _ _
     (λ u k. marked_joined c.args.large _ c.args.choice.now c.args.tag _ _ _ c.args.tree f _ _ u (entered g t (goal.at.returns-clause-updated g t c).In-Some-2) (ap fork_in (sym c.in-Some-2.is) ∙ c.in_ok-node.ensures.parts) c.requires
     c.spared_from-large.ensures c.onward-lefts.ensures c.onward-rights.ensures c.in_ok-left.ensures.updated c.in_ok-right.ensures.updated k) made
 
@@ -84,9 +84,9 @@ returns-in_err-right-clause-nodes_made g t c = λ all.
 pub returns-clause-nodes_made : goal.returns-clause-nodes_made
 returns-clause-nodes_made g t c = λ all.
     let f = fork_of c.in-Some-2.node in
-    nodes_made_entered _ c.args.choice.now c.args.tag c.args.tree f c.in-Some.reach c.args.steps.now c.take_apart.new.steps c.marked_within.new.steps c.marked_within-2.new.steps c.rejoined.new.steps (entered g t (goal.at.returns-clause-nodes_made g t c).In-Some-2)
+    nodes_made_entered _ c.args.choice.now c.args.tag c.args.tree f c.in-Some.reach c.args.steps.now c.take_apart.new.steps c.marked_within.new.steps c.marked_within-2.new.steps c.joined_and_rebuilt_if_due.new.steps (entered g t (goal.at.returns-clause-nodes_made g t c).In-Some-2)
     (sym c.in-Some.is ∙ c.reach_of.ensures) (sym c.meets.ensures ∙ c.if-not-meets.false) (sym c.covers.ensures ∙ c.if-covers.false) (ap fork_in (sym c.in-Some-2.is) ∙ c.in_ok-node.ensures.parts) c.take_apart.ensures.nodes_made c.marked_within.ensures.nodes_made c.marked_within-2.ensures.nodes_made
-    (λ on off spared. c.rejoined.ensures.nodes_made
+    (λ on off spared. c.joined_and_rebuilt_if_due.ensures.nodes_made
     (subst (λ (j : Item). IsNotDue c.spared_from-large.result (fork (head j f.axis) c.in_ok-left.left c.in_ok-right.right)) (sym c.marked-item.ensures)
     (subst (IsNotDue c.spared_from-large.result) (sym (children_alike (head (marked_item (chosen_by c.args.choice.now) c.args.tag f.item) f.axis) _ _ c.in_ok-left.left c.in_ok-right.right (c.in_ok-left.ensures.updated.unrebuilt on) (c.in_ok-right.ensures.updated.unrebuilt off))) spared)))
     (criteria_spared c.args.large _ (g.W.Ways.paths c.args.ways.now) _ _ c.spared_from-large.ensures all)

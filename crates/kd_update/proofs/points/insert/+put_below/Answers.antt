@@ -38,18 +38,18 @@ put_below-requires g t c κs within =
     let there = large_next _ _ _ _ _ _ (fork_of c.in-Some.node) c.side_of-side.result x c.requires.there c.spared_from-large.ensures c.onward-below.ensures same in
     (omega (arith, near_smaller c.side_of-side.result c.args.tree (fork_of c.in-Some.node) x, ap nodes same), (within.0, (within.1, (c.requires.live, (free.low, (free.few, (free.new, there)))))))
 
-pub rejoined-requires : goal.rejoined-requires
-rejoined-requires g t c =
-    let w = on_way g t (goal.at.rejoined-requires g t c).After-side_of-side in
+pub joined_and_rebuilt_if_due-requires : goal.joined_and_rebuilt_if_due-requires
+joined_and_rebuilt_if_due-requires g t c =
+    let w = on_way g t (goal.at.joined_and_rebuilt_if_due-requires g t c).After-side_of-side in
     let u = rw (c.next-next.ensures, c.by_side-near.ensures.near) at c.in_ok-near.ensures.updated.refresh in
-    subst IsTopSound (sym (back g t (goal.at.rejoined-requires g t c).After-by_side-left)) (near_sound c.side_of-side.result (fork_of c.in-Some.node) _ _ w.sound u)
+    subst IsTopSound (sym (back g t (goal.at.joined_and_rebuilt_if_due-requires g t c).After-by_side-left)) (near_sound c.side_of-side.result (fork_of c.in-Some.node) _ _ w.sound u)
 
 pub returns-clause-updated : goal.returns-clause-updated
 returns-clause-updated g t c =
     let w = on_way g t (goal.at.returns-clause-updated g t c).After-side_of-side in
     let x = ap fork_in (sym c.in-Some.is) ∙ c.in_ok-node.ensures.parts in
-    let made = subst (λ (s : Shape). IfOk c.rejoined.result (λ v. RefreshesIfDue c.spared_from-large.result s v)) (back g t (goal.at.returns-clause-updated g t c).After-by_side-left) c.rejoined.ensures.due in
-    IfOk-weaker c.rejoined.result _ _ (λ v k. put_joined _ _ _ _ _ _ _ _ _ _ _ v (fork_of c.in-Some.node) c.side_of-side.result w x c.size-size.ensures.sound c.requires.new c.requires.few c.requires.there
+    let made = subst (λ (s : Shape). IfOk c.joined_and_rebuilt_if_due.result (λ v. RefreshesIfDue c.spared_from-large.result s v)) (back g t (goal.at.returns-clause-updated g t c).After-by_side-left) c.joined_and_rebuilt_if_due.ensures.due in
+    IfOk-weaker c.joined_and_rebuilt_if_due.result _ _ (λ v k. put_joined _ _ _ _ _ _ _ _ _ _ _ v (fork_of c.in-Some.node) c.side_of-side.result w x c.size-size.ensures.sound c.requires.new c.requires.few c.requires.there
     c.spared_from-large.ensures c.next-next.ensures c.onward-below.ensures c.by_side-near.ensures.near c.in_ok-near.ensures.updated k) made
 
 pub returns-in_err-node-clause-nodes_made : goal.returns-in_err-node-clause-nodes_made
@@ -65,5 +65,5 @@ pub returns-clause-nodes_made : goal.returns-clause-nodes_made
 returns-clause-nodes_made g t c = λ all.
     let w = on_way g t (goal.at.returns-clause-nodes_made g t c).After-side_of-side in
     let b = back g t (goal.at.returns-clause-nodes_made g t c).After-by_side-left in
-    route_nodes_made _ _ _ _ _ _ _ (fork_of c.in-Some.node) c.side_of-side.result c.args.steps.now c.take_apart.new.steps c.put_below.new.steps c.rejoined.new.steps w c.next-next.ensures c.by_side-near.ensures.near c.take_apart.ensures.nodes_made c.put_below.ensures.nodes_made
-    (λ on spared. c.rejoined.ensures.nodes_made (subst (IsNotDue c.spared_from-large.result) (ap (with_near c.side_of-side.result (fork_of c.in-Some.node)) (sym (c.in_ok-near.ensures.updated.unrebuilt on)) ∙ sym b) spared)) (route_spared c.args.large _ (g.W.Ways.paths c.args.ways.now) _ _ c.spared_from-large.ensures all)
+    route_nodes_made _ _ _ _ _ _ _ (fork_of c.in-Some.node) c.side_of-side.result c.args.steps.now c.take_apart.new.steps c.put_below.new.steps c.joined_and_rebuilt_if_due.new.steps w c.next-next.ensures c.by_side-near.ensures.near c.take_apart.ensures.nodes_made c.put_below.ensures.nodes_made
+    (λ on spared. c.joined_and_rebuilt_if_due.ensures.nodes_made (subst (IsNotDue c.spared_from-large.result) (ap (with_near c.side_of-side.result (fork_of c.in-Some.node)) (sym (c.in_ok-near.ensures.updated.unrebuilt on)) ∙ sym b) spared)) (route_spared c.args.large _ (g.W.Ways.paths c.args.ways.now) _ _ c.spared_from-large.ensures all)

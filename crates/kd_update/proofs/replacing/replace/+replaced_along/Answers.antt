@@ -48,7 +48,7 @@ pub returns-clause-nodes_made : goal.returns-clause-nodes_made
 returns-clause-nodes_made g t c = λ k.
     let k' = calm g t (goal.at.returns-clause-nodes_made g t c).In_ok-child k in
     let same = c.in_ok-tree.ensures.shape ∙ ap (λ (s : Shape). with_child c.in-Some.side.now s c.args.tree) (c.in_ok-child-2.ensures.replaced.unrebuilt k'.1) in
-    omega (arith, c.replaced_along.ensures.nodes_made k'.1, c.with_child.ensures.nodes_made, c.refreshed.ensures.no_nodes_made (subst (IsNotDue c.args.large) (sym same) k'.0), c.in-Some.ensures.cases.1)
+    omega (arith, c.replaced_along.ensures.nodes_made k'.1, c.with_child.ensures.nodes_made, c.rebuilt_if_due.ensures.no_nodes_made (subst (IsNotDue c.args.large) (sym same) k'.0), c.in-Some.ensures.cases.1)
 
 pub with_child-requires : goal.with_child-requires
 with_child-requires g t c =
@@ -61,7 +61,7 @@ returns-clause-replaced g t c =
     let path = c.in-Some.ensures.cases.0 in
     let room = subst (λ (p : List Side). HasRoomAt p c.args.with c.args.tree) path c.requires.room in
     let done = subst (λ (s : Shape). IsReplaced c.args.large c.in-Some.rest.now s c.args.with c.in_ok-child-2.child) c.in_ok-child.ensures.shape c.in_ok-child-2.ensures.replaced in
-    let due = subst (λ (s : Shape). IfOk c.refreshed.result (λ u. RefreshesIfDue c.args.large s u)) c.in_ok-tree.ensures.shape c.refreshed.ensures.due in
-    IfOk-weaker c.refreshed.result _ (λ u. IsReplaced c.args.large c.args.sides.now c.args.tree c.args.with u)
+    let due = subst (λ (s : Shape). IfOk c.rebuilt_if_due.result (λ u. RefreshesIfDue c.args.large s u)) c.in_ok-tree.ensures.shape c.rebuilt_if_due.ensures.due in
+    IfOk-weaker c.rebuilt_if_due.result _ (λ u. IsReplaced c.args.large c.args.sides.now c.args.tree c.args.with u)
     (λ u k. subst (λ (p : List Side). IsReplaced c.args.large p c.args.tree c.args.with u) (sym path)
     (child_replaced c.args.large c.in-Some.side.now _ c.args.tree c.args.with c.in-Some-child_of.child.now c.in_ok-child-2.child u c.in-Some-child_of.ensures.some c.size-size.ensures.sound room done k)) due
