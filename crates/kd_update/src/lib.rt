@@ -12,7 +12,7 @@ mod watching;
 pub use kd_mark::{Watch, Watches, marked, marked_watched};
 pub use limits::{MAX_PASS_LEVELS, PASS_FROM};
 pub use points::insert::put;
-pub use points::room::roomy;
+pub use points::room::with_room;
 pub use replacing::replace::replaced;
 pub use replacing::replacement::Replaced;
 pub use replacing::settle::settled;

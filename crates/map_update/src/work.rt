@@ -74,14 +74,14 @@ impl Work {
         ensures unrebuilt { DoesPlainly large (Put number point) self result }
         ensures nodes_made { MakesFew large (Put number point) self steps.old steps.new }
     {
-        let work = self.roomy(alloc, large, steps)?;
+        let work = self.with_room(alloc, large, steps)?;
         let Work { tree, mut watches } = work;
         let tree = put_watched(alloc, tree, large, number, point, &mut watches, steps)?;
         Ok(Work { tree, watches })
     }
 
     // The work with room for one more point, and in each log for what that may add.
-    fn roomy<L: Ledger>(self, alloc: Global, large: u32, steps: &mut Steps<L>) -> Worked
+    fn with_room<L: Ledger>(self, alloc: Global, large: u32, steps: &mut Steps<L>) -> Worked
         requires draft { (next : ℕ) × IsWork large next self }
         requires few { length (contents self.tree) < MAX_NODES }
         ensures contents { IfOk result (λ w. contents w.tree ≡ contents self.tree) }

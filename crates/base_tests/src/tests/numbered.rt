@@ -5,7 +5,7 @@ ghost use Rattle.kd_tree.specs.Counter.{IsBlankOf};
 
 use crate::tests::assertions::made;
 use kd_tree::{Steps, Tree};
-use kd_update::{put, roomy, settled};
+use kd_update::{put, settled, with_room};
 use map_fold::{MAX_POINTS, NoMemory};
 use point_geom::{Corner, Cuboid, CuboidError, Point};
 use std::alloc::Global;
@@ -71,7 +71,7 @@ fn put_on<L: Ledger>(alloc: Global, map: Numbered, point: Point, steps: &mut Ste
     requires next { map.next < MAX_POINTS }
 {
     let _size = map.tree.size();
-    let tree = roomy(alloc, map.tree, steps)?;
+    let tree = with_room(alloc, map.tree, steps)?;
     let tree = put(alloc, tree, map.large, map.next, point, steps)?;
     Ok(Numbered {
         tree,

@@ -9,7 +9,7 @@ ghost use Rattle.kd_mark.specs.Update.{IsBalancedBelow};
 ghost use Rattle.kd_update.specs.Replay.{IsPerformed, IsRun};
 
 use crate::replaying::runs::{most_at_once, put_run};
-use crate::{put, roomy};
+use crate::{put, with_room};
 use kd_mark::marked;
 use kd_tree::{Scratch, Steps, Tree};
 use map_items::{NoMemory, Op};
@@ -94,7 +94,7 @@ fn performed<L: Ledger>(
     match op {
         Op::Mark { choice, tag } => marked(alloc, tree, large, choice, *tag, steps),
         Op::Put { number, point } => {
-            let tree = roomy(alloc, tree, steps)?;
+            let tree = with_room(alloc, tree, steps)?;
             put(alloc, tree, large, *number, *point, steps)
         }
     }

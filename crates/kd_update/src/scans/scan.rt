@@ -7,7 +7,7 @@ ghost use Rattle.kd_update.specs.Scan.{IsPut, MayJoin, numbers_in, put_each};
 
 use crate::points::insert::put_below;
 use crate::scans::one_pass::put_at_once;
-use crate::{MAX_PASS_LEVELS, roomy};
+use crate::{MAX_PASS_LEVELS, with_room};
 use kd_mark::Unwatched;
 use kd_tree::{Block, MAX_LEVELS, MAX_NODES, Scratch, Steps, Tree};
 use map_items::{Item, NoMemory};
@@ -144,7 +144,7 @@ fn put_one<L: Ledger>(
     ensures { IfOk result (λ t. IsPut large tree (item.now ∷ []) t) }
 {
     let _size = tree.size();
-    let tree = roomy(alloc, tree, steps)?;
+    let tree = with_room(alloc, tree, steps)?;
     let block = Block::none();
     put_below(alloc, tree, large, *item, Axis::X, &Unwatched, block, steps)
 }

@@ -60,10 +60,10 @@ loop-point-preserved g c =
           let none : i ≡ 0 = omega arith in
           let start = c.loop-point.invariant.first none in
           let same = ap (λ (w : Work). w.tree) start.0 in
-          let roomy = subst (λ (w : Work). HaveRoom w.watches) (sym start.0) room in
+          let with_room = subst (λ (w : Work). HaveRoom w.watches) (sym start.0) room in
           let is = first_point c.args.next c.loop-point.next i ps p op cut none start.1 only in (
-            plain_same c.args.large (Put c.loop-point.next p) op c.loop-point.work c.args.work c.in_ok-work.work is start.0 (c.in_ok-work.ensures.unrebuilt roomy) unrebuilt,
-            unrebuilt_nodes_made c.args.large (Put c.loop-point.next p) op c.loop-point.work.tree c.args.work.tree c.loop-point.steps c.args.steps.now c.added_one.new.steps is same start.2 (c.in_ok-work.ensures.nodes_made roomy) unrebuilt,
+            plain_same c.args.large (Put c.loop-point.next p) op c.loop-point.work c.args.work c.in_ok-work.work is start.0 (c.in_ok-work.ensures.unrebuilt with_room) unrebuilt,
+            unrebuilt_nodes_made c.args.large (Put c.loop-point.next p) op c.loop-point.work.tree c.args.work.tree c.loop-point.steps c.args.steps.now c.added_one.new.steps is same start.2 (c.in_ok-work.ensures.nodes_made with_room) unrebuilt,
           );
     }
 
@@ -77,8 +77,8 @@ returns-in_err-work-clause-nodes_made g c = λ op only room unrebuilt.
     let none : i ≡ 0 = omega (arith, below, only_point c.args.next ps op only) in
     let start = c.loop-point.invariant.first none in
     let is = first_point c.args.next c.loop-point.next i ps p op cut none start.1 only in
-    let roomy = subst (λ (w : Work). HaveRoom w.watches) (sym start.0) room in
-    unrebuilt_nodes_made c.args.large (Put c.loop-point.next p) op c.loop-point.work.tree c.args.work.tree c.loop-point.steps c.args.steps.now c.added_one.new.steps is (ap (λ (w : Work). w.tree) start.0) start.2 (c.in_err-work.ensures.nodes_made roomy) unrebuilt
+    let with_room = subst (λ (w : Work). HaveRoom w.watches) (sym start.0) room in
+    unrebuilt_nodes_made c.args.large (Put c.loop-point.next p) op c.loop-point.work.tree c.args.work.tree c.loop-point.steps c.args.steps.now c.added_one.new.steps is (ap (λ (w : Work). w.tree) start.0) start.2 (c.in_err-work.ensures.nodes_made with_room) unrebuilt
 
 pub returns-clause-unrebuilt : goal.returns-clause-unrebuilt
 returns-clause-unrebuilt g c = λ op only room unrebuilt.

@@ -36,10 +36,10 @@ loop-cuboid-preserved g c =
           let none : i ≡ 0 = omega arith in
           let start = c.loop-cuboid.invariant.first none in
           let same = ap (λ (w : Work). w.tree) start.0 in
-          let roomy = subst (λ (w : Work). HaveRoom w.watches) (sym start.0) room in
+          let with_room = subst (λ (w : Work). HaveRoom w.watches) (sym start.0) room in
           let is = ap (λ (d : Choice). Mark d c.args.tag) c.within.ensures ∙ first_box c.args.tag i cs box op cut none only in (
-            plain_same c.args.large (Mark c.within.result c.args.tag) op c.loop-cuboid.work c.args.work c.in_ok-work.work is start.0 (c.in_ok-work.ensures.unrebuilt roomy) unrebuilt,
-            unrebuilt_nodes_made c.args.large (Mark c.within.result c.args.tag) op c.loop-cuboid.work.tree c.args.work.tree c.loop-cuboid.steps c.args.steps.now c.marked.new.steps is same start.1 (c.in_ok-work.ensures.nodes_made roomy) unrebuilt,
+            plain_same c.args.large (Mark c.within.result c.args.tag) op c.loop-cuboid.work c.args.work c.in_ok-work.work is start.0 (c.in_ok-work.ensures.unrebuilt with_room) unrebuilt,
+            unrebuilt_nodes_made c.args.large (Mark c.within.result c.args.tag) op c.loop-cuboid.work.tree c.args.work.tree c.loop-cuboid.steps c.args.steps.now c.marked.new.steps is same start.1 (c.in_ok-work.ensures.nodes_made with_room) unrebuilt,
           );
     }
 
@@ -53,8 +53,8 @@ returns-in_err-work-clause-nodes_made g c = λ op only room unrebuilt.
     let none : i ≡ 0 = omega (arith, below, only_box c.args.tag cs op only) in
     let start = c.loop-cuboid.invariant.first none in
     let is = ap (λ (d : Choice). Mark d c.args.tag) c.within.ensures ∙ first_box c.args.tag i cs box op cut none only in
-    let roomy = subst (λ (w : Work). HaveRoom w.watches) (sym start.0) room in
-    unrebuilt_nodes_made c.args.large (Mark c.within.result c.args.tag) op c.loop-cuboid.work.tree c.args.work.tree c.loop-cuboid.steps c.args.steps.now c.marked.new.steps is (ap (λ (w : Work). w.tree) start.0) start.1 (c.in_err-work.ensures.nodes_made roomy) unrebuilt
+    let with_room = subst (λ (w : Work). HaveRoom w.watches) (sym start.0) room in
+    unrebuilt_nodes_made c.args.large (Mark c.within.result c.args.tag) op c.loop-cuboid.work.tree c.args.work.tree c.loop-cuboid.steps c.args.steps.now c.marked.new.steps is (ap (λ (w : Work). w.tree) start.0) start.1 (c.in_err-work.ensures.nodes_made with_room) unrebuilt
 
 pub returns-clause-unrebuilt : goal.returns-clause-unrebuilt
 returns-clause-unrebuilt g c = λ op only room unrebuilt.

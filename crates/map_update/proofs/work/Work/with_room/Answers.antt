@@ -2,7 +2,7 @@ use Rattle.std.proofs.Common.{List, sym, subst}
 use Rattle.kd_mark.specs.declared.watch.Watch.{Watch}
 use Rattle.map_update.specs.Draft.{IsDraftLeft}
 use Rattle.map_update.proofs.Working.{draft_anew}
-use Rattle.map_update.proofs.work.Work.roomy.Goals as goal
+use Rattle.map_update.proofs.work.Work.with_room.Goals as goal
 
 pub returns-clause-draft : goal.returns-clause-draft
 returns-clause-draft g c = λ next last ps d.
