@@ -1,5 +1,5 @@
 pub mod Points
-pub mod Part
+pub mod Pending
 pub mod Sides
 pub mod Inserted
 pub mod First

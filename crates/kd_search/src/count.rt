@@ -2,9 +2,9 @@
 ghost use Rattle.std.specs.Prelude.{◌≡◌, ◌≤◌, [], ◌∷◌};
 ghost use Rattle.map_fold.specs.Answers.{count};
 ghost use Rattle.kd_tree.specs.Contents.{contents};
-ghost use Rattle.kd_search.specs.Part.{items_of, nodes_of};
+ghost use Rattle.kd_search.specs.Pending.{items_of, nodes_of};
 
-use crate::part::Part;
+use crate::pending::Pending;
 use kd_tree::Tree;
 use map_items::Item;
 use point_geom::Cuboid;
@@ -13,10 +13,10 @@ use point_geom::Cuboid;
 pub fn count_in(tree: &Tree, c: &Cuboid) -> u32
     ensures { result ≡ count (contents tree.now) c.now }
 {
-    count_under(&Part::whole(tree), c)
+    count_under(&Pending::whole(tree), c)
 }
 
-fn count_under(part: &Part<'_>, c: &Cuboid) -> u32
+fn count_under(part: &Pending<'_>, c: &Cuboid) -> u32
     ensures value { result ≡ count (items_of part.now) c.now }
     ensures few { result ≤ nodes_of part.now }
 {

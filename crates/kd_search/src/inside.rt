@@ -4,12 +4,12 @@ ghost use Rattle.map_fold.specs.Answers.{inside, inside_all};
 ghost use Rattle.kd_tree.specs.Contents.{contents};
 ghost use Rattle.kd_search.specs.First.{AreFirst, AreFullTo};
 ghost use Rattle.kd_search.specs.Inserted.{insert_all};
-ghost use Rattle.kd_search.specs.Part.{items_of, nodes_of};
+ghost use Rattle.kd_search.specs.Pending.{items_of, nodes_of};
 ghost use Rattle.kd_search.specs.Query.{IsQuery};
 ghost use Rattle.kd_search.specs.Sides.{IsEitherWay};
 
 use crate::by_number::insert_by_number;
-use crate::part::{Part, PartTop};
+use crate::pending::{Pending, PendingTop};
 use kd_tree::Tree;
 use map_items::{Item, Items, NoMemory};
 use point_geom::Cuboid;
@@ -25,12 +25,12 @@ pub fn in_cuboid(alloc: Global, tree: &Tree, c: &Cuboid, most: u32) -> Result<It
     ensures found { IfOk result (λ items. items ≡ inside (contents tree.now) c.now most) }
 {
     let mut items = Vec::new(alloc);
-    add_under(&Part::whole(tree), c, most as usize, &mut items)?;
+    add_under(&Pending::whole(tree), c, most as usize, &mut items)?;
     Ok(Items::from(items))
 }
 
 fn add_under(
-    part: &Part<'_>,
+    part: &Pending<'_>,
     c: &Cuboid,
     most: usize,
     items: &mut Vec<Item>,
@@ -52,7 +52,7 @@ fn add_under(
     let Some(top) = part.top() else {
         return Ok(());
     };
-    let PartTop {
+    let PendingTop {
         item,
         left,
         right,
@@ -93,13 +93,13 @@ fn are_full_to(items: &[Item], most: usize, number: u32) -> bool
 
 #[derive(Drop)]
 struct Turn<'a> {
-    first: Part<'a>,
-    second: Part<'a>,
+    first: Pending<'a>,
+    second: Pending<'a>,
 }
 
 impl<'a> Turn<'a> {
     // The least number first: what is found there is likely to have the other left out.
-    fn of(left: Part<'a>, right: Part<'a>) -> Turn<'a>
+    fn of(left: Pending<'a>, right: Pending<'a>) -> Turn<'a>
         ensures items { IsEitherWay (items_of left.entry ++ items_of right.entry) (items_of result.first) (items_of result.second) }
         ensures nodes { nodes_of result.first + nodes_of result.second ≡ nodes_of left.entry + nodes_of right.entry }
     {

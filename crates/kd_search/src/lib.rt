@@ -6,7 +6,7 @@ mod by_number;
 mod count;
 mod inside;
 mod near;
-mod part;
+mod pending;
 mod rivals;
 mod sides;
 
@@ -15,5 +15,5 @@ pub use by_number::insert_by_number;
 pub use count::count_in;
 pub use inside::in_cuboid;
 pub use near::{Found, Query, nearest};
-pub use part::live_under;
+pub use pending::live_under;
 pub use rivals::{Rivals, rivals_in};

@@ -7,7 +7,7 @@ ghost use Rattle.kd_tree.specs.Walk.{walk};
 ghost use Rattle.kd_search.specs.Nearest.{IsBound, put_all};
 ghost use Rattle.kd_search.specs.Query.{IsQuery};
 
-use crate::part::live_under;
+use crate::pending::live_under;
 use crate::sides::Sides;
 use kd_tree::Tree;
 use map_fold::{Hit, Hits};

@@ -6,7 +6,7 @@ ghost use Rattle.kd_tree.specs.Shape.{nodes};
 ghost use Rattle.kd_tree.specs.Walk.{walk};
 ghost use Rattle.kd_search.specs.Best.{best_from, best_inside, IsBest};
 
-use crate::part::live_under;
+use crate::pending::live_under;
 use kd_tree::{MAX_NODES, Tree};
 use map_items::{Item, Tag};
 use point_geom::Cuboid;

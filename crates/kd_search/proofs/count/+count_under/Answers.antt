@@ -1,6 +1,6 @@
 use Rattle.std.proofs.Common.{sym, ap, ◌∙◌, arith, length}
 use Rattle.map_fold.specs.Answers.{count}
-use Rattle.kd_search.specs.Part.{items_of}
+use Rattle.kd_search.specs.Pending.{items_of}
 use Rattle.kd_search.proofs.Walks.{live_few}
 use Rattle.kd_search.proofs.Boxed.{inside_missed, inside_covered, count-top}
 use Rattle.kd_search.proofs.count.+count_under.Goals as goal

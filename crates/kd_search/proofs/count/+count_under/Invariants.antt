@@ -1,4 +1,4 @@
-use Rattle.kd_search.specs.Part.{nodes_of}
+use Rattle.kd_search.specs.Pending.{nodes_of}
 use Rattle.kd_search.proofs.count.+count_under.Given as goal
 
 abbrev pub decreases-count_under : goal.decreases-count_under

@@ -1,7 +1,7 @@
 use Rattle.std.proofs.Common.{sym, ◌∙◌}
 use Rattle.std.proofs.lemmas.Result.{on_ok_weaker}
 use Rattle.map_fold.specs.Answers.{inside_all}
-use Rattle.kd_search.specs.Part.{items_of}
+use Rattle.kd_search.specs.Pending.{items_of}
 use Rattle.kd_search.proofs.Boxed.{inside_missed}
 use Rattle.kd_search.proofs.First.{first_same, in_either_turn, left_behind}
 use Rattle.kd_search.proofs.inside.+add_under.Goals as goal

@@ -1,4 +1,4 @@
-use Rattle.kd_search.specs.Part.{nodes_of}
+use Rattle.kd_search.specs.Pending.{nodes_of}
 use Rattle.kd_search.proofs.inside.+add_under.Given as goal
 
 abbrev pub decreases-add_under : goal.decreases-add_under

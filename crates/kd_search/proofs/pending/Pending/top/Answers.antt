@@ -6,7 +6,7 @@ use Rattle.kd_tree.specs.Walk.{walk}
 use Rattle.kd_search.specs.Points.{AreBelow, AreAbove}
 use Rattle.kd_search.proofs.Others.{walk_distinct}
 use Rattle.kd_search.proofs.Tops.{left_below, right_above}
-use Rattle.kd_search.proofs.part.Part.top.Goals as goal
+use Rattle.kd_search.proofs.pending.Pending.top.Goals as goal
 
 pub returns-in-Some-clause-some : goal.returns-in-Some-clause-some
 returns-in-Some-clause-some c =

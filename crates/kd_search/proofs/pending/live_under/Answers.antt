@@ -4,7 +4,7 @@ use Rattle.node_labels.specs.Tallies.{applied}
 use Rattle.node_labels.specs.declared.counts.Counts.{Counts}
 use Rattle.kd_tree.proofs.Actions.{tally-composed}
 use Rattle.kd_tree.proofs.Held.{walk_live}
-use Rattle.kd_search.proofs.part.live_under.Goals as goal
+use Rattle.kd_search.proofs.pending.live_under.Goals as goal
 
 pub returns : goal.returns
 returns c =

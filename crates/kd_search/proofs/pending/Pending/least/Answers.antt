@@ -5,7 +5,7 @@ use Rattle.kd_tree.specs.Shape.{Shape, numbers}
 use Rattle.kd_tree.specs.Walk.{walk}
 use Rattle.kd_tree.proofs.Held.{walk_numbers}
 use Rattle.kd_search.specs.First.{AreFrom}
-use Rattle.kd_search.proofs.part.Part.least.Goals as goal
+use Rattle.kd_search.proofs.pending.Pending.least.Goals as goal
 
 pub returns-in-None : goal.returns-in-None
 returns-in-None c = subst (λ (t : Shape). AreFrom 4294967295 (walk c.args.self.now.pending t)) (sym (c.in-None.ensures.none.0 refl)) tt

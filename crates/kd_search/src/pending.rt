@@ -5,32 +5,32 @@ ghost use Rattle.map_items.specs.Contents.{live_items};
 ghost use Rattle.kd_tree.specs.Walk.{walk};
 ghost use Rattle.kd_search.specs.First.{AreFrom};
 ghost use Rattle.kd_search.specs.Points.{AreIn};
-ghost use Rattle.kd_search.specs.Part.{IsTopOf, items_of};
+ghost use Rattle.kd_search.specs.Pending.{IsTopOf, items_of};
 
 use kd_tree::Tree;
 use map_items::{Item, Tag};
 use point_geom::{Axis, Extent};
 
 #[derive(Drop)]
-pub(crate) struct Part<'a> {
+pub(crate) struct Pending<'a> {
     tree: &'a Tree,
     pending: Tag,
 }
 
 /// The action from above is done to the item's label, and pending for the children after the node's own.
 #[derive(Drop)]
-pub(crate) struct PartTop<'a> {
+pub(crate) struct PendingTop<'a> {
     pub(crate) item: Item,
     pub(crate) axis: Axis,
-    pub(crate) left: Part<'a>,
-    pub(crate) right: Part<'a>,
+    pub(crate) left: Pending<'a>,
+    pub(crate) right: Pending<'a>,
 }
 
-impl<'a> Part<'a> {
-    pub(crate) fn whole(tree: &'a Tree) -> Part<'a>
+impl<'a> Pending<'a> {
+    pub(crate) fn whole(tree: &'a Tree) -> Pending<'a>
         ensures { items_of result ≡ walk keep_tag tree.now }
     {
-        Part {
+        Pending {
             tree,
             pending: Tag::KEEP,
         }
@@ -61,7 +61,7 @@ impl<'a> Part<'a> {
     }
 
     /// None where no item is live.
-    pub(crate) fn top(&self) -> Option<PartTop<'a>>
+    pub(crate) fn top(&self) -> Option<PendingTop<'a>>
         ensures none { IfNone result (live_items (items_of self.now) ≡ []) }
         ensures some { IfSome result (λ t. IsTopOf self.now t) }
     {
@@ -73,14 +73,14 @@ impl<'a> Part<'a> {
             None => None,
             Some(top) => {
                 let pending = top.pending.then(self.pending);
-                Some(PartTop {
+                Some(PendingTop {
                     item: top.item.relabelled(self.pending),
                     axis: top.axis,
-                    left: Part {
+                    left: Pending {
                         tree: top.left,
                         pending,
                     },
-                    right: Part {
+                    right: Pending {
                         tree: top.right,
                         pending,
                     },
