@@ -85,14 +85,14 @@ impl Hits {
         ensures err { OnErr result (self.new ≡ self.old) }
         ensures succeeds { k ≤ 16 → IsOk result }
     {
-        let at = self.place_of(&hit);
+        let at = self.index_of(&hit);
         if at == k {
             return Ok(());
         }
         put_at(&mut self.hits, k, at, &hit)
     }
 
-    fn place_of(&self, hit: &Hit) -> usize
+    fn index_of(&self, hit: &Hit) -> usize
         ensures bound { result ≤ length self.now }
         ensures value { insert self.now result hit.now ≡ put_hit hit.now self.now }
     {

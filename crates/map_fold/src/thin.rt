@@ -78,7 +78,7 @@ fn winner(items: &[Item], cube: &Cuboid, number: u32, point: &Point) -> Item
 fn put_item(items: &mut Vec<Item>, number: u32, point: Point) -> Result<(), NoMemory>
     ensures { OnOk result (items.new.items ≡ put items.old.items number point) }
 {
-    let at = place_of(items.as_slice(), number);
+    let at = index_of(items.as_slice(), number);
     let item = Item::live(number, point);
     if at < items.len() && items[at].number == number {
         items[at] = item;
@@ -88,7 +88,7 @@ fn put_item(items: &mut Vec<Item>, number: u32, point: Point) -> Result<(), NoMe
     Ok(())
 }
 
-fn place_of(items: &[Item], number: u32) -> usize
+fn index_of(items: &[Item], number: u32) -> usize
     ensures bound { result ≤ length items.now }
     ensures value { (p : Place) → take result items.now ++ put (drop result items.now) number p ≡ put items.now number p }
     ensures first { (i : Item) (rest : List Item) → drop result items.now ≡ i ∷ rest → number ≤ i.number }

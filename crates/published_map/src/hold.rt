@@ -47,14 +47,14 @@ pub fn keep_hold<L: MapName>(holds: &mut Vec<Hold<L>>, hold: Hold<L>)
     requires { vec_len holds.old < vec_capacity holds.old }
     ensures { holds.new.items ≡ with_hold hold holds.old.items }
 {
-    match place_of(holds.as_slice(), hold.slot) {
+    match index_of(holds.as_slice(), hold.slot) {
         Some(place) => holds[place] = hold,
         None => holds.push_reserved(hold),
     }
 }
 
 // The index of the slot's hold.
-fn place_of<L: MapName>(holds: &[Hold<L>], slot: u8) -> Option<usize>
+fn index_of<L: MapName>(holds: &[Hold<L>], slot: u8) -> Option<usize>
     ensures low { IfSome result (λ i. i < length holds.now) }
     ensures taken { IfSome result (λ i. (h : HoldAt) → h.slot ≡ slot → with_hold h holds.now ≡ slice_set holds.now i h) }
     ensures free { IsNone result → (h : HoldAt) → h.slot ≡ slot → with_hold h holds.now ≡ holds.now ++ h ∷ [] }
@@ -63,6 +63,6 @@ fn place_of<L: MapName>(holds: &[Hold<L>], slot: u8) -> Option<usize>
     if slot == first.slot {
         return Some(0);
     }
-    let place = place_of(rest, slot)?;
+    let place = index_of(rest, slot)?;
     Some(place + 1)
 }

@@ -4,7 +4,7 @@ ghost use Rattle.kd_update.specs.Detached.{AreItemsOf, PartAt, part_in, part_of}
 
 use crate::MapState;
 use map_items::NoMemory;
-use rebuild_parts::{Holding, part_in, part_of, place_of};
+use rebuild_parts::{Holding, index_of, part_in, part_of};
 use std::mem;
 
 impl MapState {
@@ -34,7 +34,7 @@ impl MapState {
         requires known { AreItemsOf ticket holding self.old.state.parts }
         ensures same { self.new ≡ self.old }
     {
-        let Some(place) = place_of(self.parts.as_slice(), ticket) else {
+        let Some(place) = index_of(self.parts.as_slice(), ticket) else {
             return holding;
         };
         let part = &mut self.parts[place];

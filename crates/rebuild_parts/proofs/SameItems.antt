@@ -78,10 +78,10 @@ pub record StandsAt (i : Item) (m : List Item) (d : Item) : Type 0 where
   pub low : place < length m
   pub is : get_or m place d ≡ i
 
-place_of : (i : Item) (m : List Item) (d : Item) → Member i m → StandsAt i m d
-place_of i [] d k = absurd k
-place_of i (j ∷ m) d (inl e) = record { place = 0; low = omega arith; is = sym e }
-place_of i (j ∷ m) d (inr k) = let rest = place_of i m d k in record { place = suc rest.place; low = omega (arith, rest.low); is = rest.is }
+index_of : (i : Item) (m : List Item) (d : Item) → Member i m → StandsAt i m d
+index_of i [] d k = absurd k
+index_of i (j ∷ m) d (inl e) = record { place = 0; low = omega arith; is = sym e }
+index_of i (j ∷ m) d (inr k) = let rest = index_of i m d k in record { place = suc rest.place; low = omega (arith, rest.low); is = rest.is }
 
 rising_low : (low : ℕ) (m : List Item) (k : ℕ) (d : Item) → IsRising low m → k < length m → low ≤ (get_or m k d).number
 rising_low low [] k d r h = absurd (omega (arith, h))
@@ -106,7 +106,7 @@ pub searched : (high : ℕ) (m : List Item) (i : Item) (r : Result ℕ ℕ) → 
     → MatchResult r (λ k. (k < length m) × ((get_or m k i).number ≡ i.number)) (λ _. Member i m → ⊥)
 searched high m i (Ok k) c range equal = (range, ranked _ i.number _ (sym (equal i)))
 searched high m i (Err k) c range parted = λ is.
-    let at = place_of i m i is in
+    let at = index_of i m i is in
     let point = parted (comparisons_rise 0 m i (are_rising 0 high m c)) in
     let same : (get_or m at.place i).number ≡ i.number = ap (λ (x : Item). x.number) at.is in
     let below : at.place < k → (get_or m at.place i).number < i.number = λ lt. ranked _ i.number _ (sym (point.0 at.place i (omega arith) lt)) in

@@ -19,6 +19,6 @@ pub use fault::{Late, LogAsk, MAX_UNFORCED, StateFault, SwapFault};
 pub use holding::Holding;
 pub use job::{Job, JobLeft};
 pub use logs::{PartLog, forgotten, forgotten_for, logs_of, relog_all};
-pub use part::{Part, PartInfo, others_of, part_in, part_of, paths_of, place_of, watched};
+pub use part::{Part, PartInfo, index_of, others_of, part_in, part_of, paths_of, watched};
 pub use snapshot::{Snapshot, SnapshotLeft};
 pub use version::Version;

@@ -4,7 +4,7 @@ ghost use Rattle.kd_mark.specs.declared.watch.Watch.{Watch};
 ghost use Rattle.rebuild_parts.specs.Logs.{AddsLogs, planned_parts, relogged};
 ghost use Rattle.kd_update.specs.Detached.{AreLeft, AreOwn, PartAt, without, watches_of};
 
-use crate::part::{Part, place_of};
+use crate::part::{Part, index_of};
 use kd_mark::Watch;
 use kd_tree::Path;
 use kd_update::Watches;
@@ -124,7 +124,7 @@ fn relog(parts: &mut Vec<Part>, log: PartLog)
     ensures { parts.new.items ≡ relogged log parts.old.items }
 {
     let PartLog { ticket, log } = log;
-    let Some(place) = place_of(parts.as_slice(), ticket) else {
+    let Some(place) = index_of(parts.as_slice(), ticket) else {
         return;
     };
     match log {

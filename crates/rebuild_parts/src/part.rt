@@ -74,7 +74,7 @@ pub fn others_of(alloc: Global, parts: &[Part], ticket: u64) -> Result<Vec<Path>
     ensures { IfOk result (λ v. v.items ≡ paths (without ticket parts.now)) }
 {
     let mut paths = paths_of(alloc, parts)?;
-    let Some(place) = place_of(parts, ticket) else {
+    let Some(place) = index_of(parts, ticket) else {
         return Ok(paths);
     };
     let _path = paths.remove(place);
@@ -92,7 +92,7 @@ pub fn paths_of(alloc: Global, parts: &[Part]) -> Result<Vec<Path>, NoMemory>
 }
 
 /// The index of the part of the ticket.
-pub fn place_of(parts: &[Part], ticket: u64) -> Option<usize>
+pub fn index_of(parts: &[Part], ticket: u64) -> Option<usize>
     ensures none { IsNone result → IsNewTicket ticket parts.now }
     ensures some { IfSome result (λ i. IsPlaceOf ticket i parts.now) }
 {
@@ -100,6 +100,6 @@ pub fn place_of(parts: &[Part], ticket: u64) -> Option<usize>
     if first.ticket == ticket {
         return Some(0);
     }
-    let place = place_of(rest, ticket)?;
+    let place = index_of(rest, ticket)?;
     Some(place + 1)
 }

@@ -6,7 +6,7 @@ ghost use Rattle.scan_log.specs.Reading.{AreTooFew, first_coordinate, first_inte
 ghost use Rattle.scan_log.specs.Scripts.{IsLogCoordinate};
 
 use crate::number::{as_coordinate, as_intensity};
-use crate::piece::{count_of, place_of};
+use crate::piece::{count_of, index_of};
 use crate::{Format, LogCause};
 use log_numbers::front_number;
 use std::marker::Model;
@@ -53,7 +53,7 @@ impl<'a> Fields<'a> {
         if !self.more {
             return None;
         }
-        if let Some(end) = place_of(b' ', self.rest) {
+        if let Some(end) = index_of(b' ', self.rest) {
             let field = &self.rest[..end];
             self.rest = &self.rest[end + 1..];
             return Some(field);

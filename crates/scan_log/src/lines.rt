@@ -4,7 +4,7 @@ ghost use Rattle.std.specs.Option.{MatchOption};
 ghost use Rattle.scan_log.specs.Faults.{line_feeds};
 ghost use Rattle.scan_log.specs.Lines.{is_kept_line, kept_from, lines_of};
 
-use crate::piece::place_of;
+use crate::piece::index_of;
 use std::marker::Model;
 
 /// The remaining kept lines.
@@ -38,7 +38,7 @@ impl<'a> Lines<'a> {
     pub fn next(&mut self) -> Option<(u32, &'a [u8])>
         ensures { MatchOption result (self.old ≡ []) (λ line. self.old ≡ (line.0, line.1.now) ∷ self.new) }
     {
-        while let Some(end) = place_of(b'\n', self.rest) {
+        while let Some(end) = index_of(b'\n', self.rest) {
             let line = &self.rest[..end];
             let number = self.number;
             self.rest = &self.rest[end + 1..];

@@ -14,7 +14,7 @@ pub fn is_word(field: &[u8], word: &[u8]) -> bool
 }
 
 /// Where the byte is first.
-pub fn place_of(byte: u8, bytes: &[u8]) -> Option<usize>
+pub fn index_of(byte: u8, bytes: &[u8]) -> Option<usize>
     ensures value { result ≡ position (λ b. b == byte) bytes.now }
     ensures bound { IfSome result (λ place. place < length bytes.now) }
 {

@@ -26,8 +26,8 @@ loop-end-preserved c =
 
 pub returns-then-is_kept-2 : goal.returns-then-is_kept-2
 returns-then-is_kept-2 c =
-    sym c.loop-end.invariant.left ∙ kept_end c.loop-end.self-inside.number c.loop-end.self-inside.rest.now (sym c.place_of.ensures.value ∙ c.in_default.is) (sym c.if-is_kept-2.ensures)
+    sym c.loop-end.invariant.left ∙ kept_end c.loop-end.self-inside.number c.loop-end.self-inside.rest.now (sym c.index_of.ensures.value ∙ c.in_default.is) (sym c.if-is_kept-2.ensures)
 
 pub returns : goal.returns
 returns c =
-    sym c.loop-end.invariant.left ∙ skipped_end c.loop-end.self-inside.number c.loop-end.self-inside.rest.now (sym c.place_of.ensures.value ∙ c.in_default.is) (sym c.if-is_kept-2.ensures)
+    sym c.loop-end.invariant.left ∙ skipped_end c.loop-end.self-inside.number c.loop-end.self-inside.rest.now (sym c.index_of.ensures.value ∙ c.in_default.is) (sym c.if-is_kept-2.ensures)

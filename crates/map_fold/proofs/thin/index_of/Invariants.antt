@@ -1,7 +1,7 @@
 use Rattle.std.proofs.Common.{◌≡◌, ◌-◌, ◌≤◌, ◌++◌, length, take, drop}
 use Rattle.point_geom.specs.Place.{Place}
 use Rattle.map_items.specs.Contents.{put}
-use Rattle.map_fold.proofs.thin.place_of.Given as goal
+use Rattle.map_fold.proofs.thin.index_of.Given as goal
 
 abbrev pub invariant-loop-at : goal.invariant-loop-at
 invariant-loop-at l = record {

@@ -1,6 +1,6 @@
 use Rattle.std.proofs.Common.{[], ◌∷◌, refl, sym, ap, ◌∙◌, arith, List}
 use Rattle.kd_update.specs.Detached.{PartAt}
-use Rattle.rebuild_parts.proofs.part.+place_of.Goals as goal
+use Rattle.rebuild_parts.proofs.part.+index_of.Goals as goal
 
 pub returns-then-first-ticket-clause-some : goal.returns-then-first-ticket-clause-some
 returns-then-first-ticket-clause-some t c =
