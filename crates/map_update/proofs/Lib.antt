@@ -11,5 +11,5 @@ pub mod Firsts
 pub mod AnyOrder
 pub mod Ranks
 pub mod Entrances
-pub mod Worked
+pub mod Drafted
 pub mod Passes

@@ -15,12 +15,12 @@ use Rattle.kd_update.specs.Scan.{live_from, numbers_in}
 use Rattle.kd_mark.specs.Several.{AreWatched, IsBalancedClear}
 use Rattle.kd_mark.specs.Watch.{IsWatched}
 use Rattle.kd_update.proofs.Crossing.{logged_scan_few, scan_puts}
-use Rattle.map_update.specs.Draft.{IsDraft, IsDraftLeft, IsWorked}
+use Rattle.map_update.specs.Draft.{IsDraft, IsDraftLeft, IsDrafted}
 use Rattle.kd_update.specs.Detached.{PartAt, watch_of, watches_of}
-use Rattle.map_update.specs.declared.work.Work.{Work}
+use Rattle.map_update.specs.declared.draft.Draft.{Draft}
 use Rattle.map_update.proofs.Detached.{HaveLogRoomOf, logged}
 use Rattle.map_update.proofs.Drafts.{among_below}
-use Rattle.map_update.proofs.Worked.{still_of}
+use Rattle.map_update.proofs.Drafted.{still_of}
 use Rattle.map_update.proofs.Working.{draft_logged, paths-watched}
 
 -- parts as they are watched
@@ -34,7 +34,7 @@ room_scan n [] k = tt
 room_scan n (p ∷ ps) k = (omega (arith, k.0), room_scan n ps k.1)
 
 -- none of what is watched is in another
-pub draft_apart : (large next last : ℕ) (ps : List PartAt) (w : Work) → IsDraft large next last ps w → AreAllApart (paths_in w.watches)
+pub draft_apart : (large next last : ℕ) (ps : List PartAt) (w : Draft) → IsDraft large next last ps w → AreAllApart (paths_in w.watches)
 draft_apart large next last ps w d = subst AreAllApart (sym (ap paths_in d.watched ∙ paths-watched ps)) d.parts.apart
 
 -- points under the numbers that come next
@@ -46,7 +46,7 @@ live_from_under high next (p ∷ ps) le =
 
 -- a pass
 
-pub draft_scan : (large next last : ℕ) (is : List Item) (w : Work) (u : Shape) (vs : List Watch) (ps : List PartAt) → All (λ i. i.number < next) is → IsDraft large next last ps w
+pub draft_scan : (large next last : ℕ) (is : List Item) (w : Draft) (u : Shape) (vs : List Watch) (ps : List PartAt) → All (λ i. i.number < next) is → IsDraft large next last ps w
     → HaveRoomAtOnce (length is) w.watches → vs ≡ with_scan is w.tree w.watches
     → AreAmong (numbers u) (numbers_in is ++ numbers w.tree) → (IsBalancedClear large (paths_in w.watches) w.tree → IsBalancedClear large (paths_in w.watches) u)
     → AreWatched (λ q. IsWatched q w.tree u (logged_scan q is w.tree)) (paths_in w.watches) → IsDraftLeft large next last ps (record { tree = u; watches = vs })
@@ -58,8 +58,8 @@ draft_scan large next last is w u vs ps less d room same among balanced watched 
     (among_below next (numbers u) (numbers_in is ++ numbers w.tree) among below) balanced watched
     (λ q. logged_scan_few q is w.tree) (λ q. scan_puts (λ m. m < next) q is w.tree less)
 
-pub worked_scan : (n : ℕ) (w : Work) (u : Shape) (vs : List Watch) → 22 ≤ n → levels u ≤ levels w.tree + 22 → nodes u ≤ nodes w.tree + n → AreExtended w.watches vs → AreMore (n + 1) w.watches vs
-    → IsWorked n n w (record { tree = u; watches = vs })
+pub worked_scan : (n : ℕ) (w : Draft) (u : Shape) (vs : List Watch) → 22 ≤ n → levels u ≤ levels w.tree + 22 → nodes u ≤ nodes w.tree + n → AreExtended w.watches vs → AreMore (n + 1) w.watches vs
+    → IsDrafted n n w (record { tree = u; watches = vs })
 worked_scan n w u vs many low few more most = record {
   low = omega (arith, low, many);
   few = few;

@@ -19,13 +19,13 @@ use Rattle.kd_tree.specs.Sound.{IsSound}
 use Rattle.kd_tree.specs.Contents.{contents}
 use Rattle.kd_tree.proofs.Held.{are_contents}
 use Rattle.kd_search.specs.Best.{IsBest}
-use Rattle.map_update.specs.Draft.{IsWork}
-use Rattle.map_update.specs.declared.work.Work.{Work}
+use Rattle.map_update.specs.Draft.{IsLawfulDraft}
+use Rattle.map_update.specs.declared.draft.Draft.{Draft}
 use Rattle.kd_tree.specs.Maps.{map_of}
 use Rattle.map_update.specs.OnePoint.{IsTurnedAway}
 
 -- what a draft holds is what a map may hold
-pub draft_contents : (large next : ℕ) (w : Work) → IsSound w.tree → IsWork large next w → AreContents 0 next (contents w.tree)
+pub draft_contents : (large next : ℕ) (w : Draft) → IsSound w.tree → IsLawfulDraft large next w → AreContents 0 next (contents w.tree)
 draft_contents large next w sound d = are_contents next w.tree sound d.2.below
 
 -- a new item that comes before the best of its voxel wins
@@ -58,7 +58,7 @@ pub alone_inside : (m : List Item) (c : Bounds) (i : Item) → IsBest m c i → 
 alone_inside m c i best one = only_one i (inside_all m c) (member-filter_of (in_box c) i (live_items m) best.live best.held) one
 
 -- what is held is also what that is equal to
-pub becomes : (r : Result Work NoMemory) (xs ys : List Item) → xs ≡ ys → IfOk r (λ w. contents w.tree ≡ xs) → IfOk r (λ w. contents w.tree ≡ ys)
+pub becomes : (r : Result Draft NoMemory) (xs ys : List Item) → xs ≡ ys → IfOk r (λ w. contents w.tree ≡ xs) → IfOk r (λ w. contents w.tree ≡ ys)
 becomes (Ok w) xs ys e f = f ∙ e
 becomes (Err x) xs ys e f = tt
 

@@ -36,7 +36,7 @@ use Rattle.kd_mark.proofs.Several.{balanced_clear}
 use Rattle.kd_mark.proofs.Update.{criteria_balanced}
 use Rattle.map_update.specs.Draft.{IsDraft, IsDraftLeft}
 use Rattle.kd_update.specs.Detached.{AreLawfulParts, AreLeft, HaveLogRoom, PartAt, paths, watch_of, watches_of}
-use Rattle.map_update.specs.declared.work.Work.{Work}
+use Rattle.map_update.specs.declared.draft.Draft.{Draft}
 use Rattle.kd_update.proofs.ApartPaths.{clear_of_others, balanced_more, ones_moved}
 use Rattle.map_update.proofs.Detached.{HaveLogRoomOf, each_at, each_large, each_logged, each_more, each_same, each_without, left_itself, left_lawful, left_logged, left_none, left_trans, left_without, logged, paths-logged, room_of_two}
 use Rattle.map_update.proofs.Drafts.{among_below}
@@ -65,21 +65,21 @@ puts-watched n p t (x ∷ ps) = ap (λ (ws : List Watch). watch_of (record x { l
 
 -- where a draft is asked for
 
-pub draft_large : (large next last : ℕ) (ps : List PartAt) (w : Work) → IsDraft large next last ps w → AreLargeAt large (paths_in w.watches) w.tree
+pub draft_large : (large next last : ℕ) (ps : List PartAt) (w : Draft) → IsDraft large next last ps w → AreLargeAt large (paths_in w.watches) w.tree
 draft_large large next last ps w d =
     let named : paths_in w.watches ≡ paths ps = ap paths_in d.watched ∙ paths-watched ps in
     subst (λ (qs : List (List Side)). AreLargeAt large qs w.tree) (sym named) (each_large large next last w.tree ps d.parts.each)
 
 -- the next number isn't held
-pub draft_free : (large next last : ℕ) (ps : List PartAt) (w : Work) → IsDraft large next last ps w → times next keep_tag w.tree ≡ 0
+pub draft_free : (large next last : ℕ) (ps : List PartAt) (w : Draft) → IsDraft large next last ps w → times next keep_tag w.tree ≡ 0
 draft_free large next last ps w d = unheld next w.tree (λ n k. All-contains (λ m. m < next) (numbers w.tree) n d.below k)
 
 -- no more is held than numbers were given
-pub draft_few : (large next last : ℕ) (ps : List PartAt) (w : Work) → IsSound w.tree → IsDraft large next last ps w → length (contents w.tree) ≤ next
+pub draft_few : (large next last : ℕ) (ps : List PartAt) (w : Draft) → IsSound w.tree → IsDraft large next last ps w → length (contents w.tree) ≤ next
 draft_few large next last ps w sound d = left_few next w.tree sound (λ n k. All-contains (λ m. m < next) (numbers w.tree) n d.below k)
 
 -- more numbers were given
-pub draft_more : (large next more last : ℕ) (ps : List PartAt) (w : Work) → next ≤ more → IsDraft large next last ps w → IsDraft large more last ps w
+pub draft_more : (large next more last : ℕ) (ps : List PartAt) (w : Draft) → next ≤ more → IsDraft large next last ps w → IsDraft large more last ps w
 draft_more large next more last ps w le d = record {
   watched = d.watched;
   parts = left_lawful large next more last last w.tree w.tree ps ps (left_itself ps) d.parts (each_more large next more last last w.tree ps le (omega arith) d.parts.each);
@@ -89,7 +89,7 @@ draft_more large next more last ps w le d = record {
 
 -- operations that are logged
 
-pub draft_logged : (large next last n : ℕ) (F : List Side → List Op) (w : Work) (u : Shape) (vs : List Watch) (ps : List PartAt) → IsDraft large next last ps w → HaveLogRoomOf n ps → vs ≡ watches_of (logged F ps)
+pub draft_logged : (large next last n : ℕ) (F : List Side → List Op) (w : Draft) (u : Shape) (vs : List Watch) (ps : List PartAt) → IsDraft large next last ps w → HaveLogRoomOf n ps → vs ≡ watches_of (logged F ps)
     → All (λ n. n < next) (numbers u) → (IsBalancedClear large (paths_in w.watches) w.tree → IsBalancedClear large (paths_in w.watches) u) → AreWatched (λ q. IsWatched q w.tree u (F q)) (paths_in w.watches)
     → ((q : List Side) → length (F q) ≤ n) → ((q : List Side) → All (λ m. m < next) (numbers_put (F q))) → IsDraftLeft large next last ps (record { tree = u; watches = vs })
 draft_logged large next last n F w u vs ps d room is below balanced watched few puts =
@@ -108,7 +108,7 @@ draft_logged large next last n F w u vs ps d room is below balanced watched few 
     )
 
 -- an action in a box
-pub draft_marked : (large next last : ℕ) (c : Choice) (a : Tag) (w : Work) (u : Shape) (vs : List Watch) (ps : List PartAt) → IsDraft large next last ps w → HaveRoom w.watches → vs ≡ with_marks c a w.tree w.watches
+pub draft_marked : (large next last : ℕ) (c : Choice) (a : Tag) (w : Draft) (u : Shape) (vs : List Watch) (ps : List PartAt) → IsDraft large next last ps w → HaveRoom w.watches → vs ≡ with_marks c a w.tree w.watches
     → AreAmong (numbers u) (numbers w.tree) → (IsBalancedClear large (paths_in w.watches) w.tree → IsBalancedClear large (paths_in w.watches) u)
     → AreWatched (λ q. IsWatched q w.tree u (logged_mark c a q w.tree)) (paths_in w.watches) → IsDraftLeft large next last ps (record { tree = u; watches = vs })
 draft_marked large next last c a w u vs ps d room is among balanced watched =
@@ -119,7 +119,7 @@ below_put : (next n : ℕ) (ns ms : List ℕ) → n < next → AreAmong ns (n �
 below_put next n ns ms less among below = among_below next ns (n ∷ ms) among (All-cons (λ m. m < next) n ms less below)
 
 -- a point
-pub draft_put : (large next last n : ℕ) (p : Place) (w : Work) (u : Shape) (vs : List Watch) (ps : List PartAt) → n < next → IsDraft large next last ps w → HaveRoom w.watches → vs ≡ with_puts n p w.tree w.watches
+pub draft_put : (large next last n : ℕ) (p : Place) (w : Draft) (u : Shape) (vs : List Watch) (ps : List PartAt) → n < next → IsDraft large next last ps w → HaveRoom w.watches → vs ≡ with_puts n p w.tree w.watches
     → AreAmong (numbers u) (n ∷ numbers w.tree) → (IsBalancedClear large (paths_in w.watches) w.tree → IsBalancedClear large (paths_in w.watches) u)
     → AreWatched (λ q. IsWatched q w.tree u (logged_put n p q w.tree)) (paths_in w.watches) → IsDraftLeft large next last ps (record { tree = u; watches = vs })
 draft_put large next last n p w u vs ps less d room is among balanced watched =
@@ -127,11 +127,11 @@ draft_put large next last n p w u vs ps less d room is among balanced watched =
     (λ q. logged_put_few n p q w.tree) (λ q. put_puts (λ m. m < next) n p q w.tree less)
 
 -- what remains of what remains
-pub draft_on : (large next last : ℕ) (ps qs : List PartAt) (w : Work) → AreLeft ps qs → IsDraftLeft large next last qs w → IsDraftLeft large next last ps w
+pub draft_on : (large next last : ℕ) (ps qs : List PartAt) (w : Draft) → AreLeft ps qs → IsDraftLeft large next last qs w → IsDraftLeft large next last ps w
 draft_on large next last ps qs w k d = (d.0, left_trans ps qs d.0 k d.1, d.2)
 
 -- nothing more is watched where the whole tree was rebuilt
-pub draft_anew : (large next last : ℕ) (w : Work) (u : Shape) (ps : List PartAt) → IsDraft large next last ps w → AreAmong (numbers u) (numbers w.tree) → AllMeetCriteria 10 u → IsDraftLeft large next last ps (record { tree = u; watches = [] })
+pub draft_anew : (large next last : ℕ) (w : Draft) (u : Shape) (ps : List PartAt) → IsDraft large next last ps w → AreAmong (numbers u) (numbers w.tree) → AllMeetCriteria 10 u → IsDraftLeft large next last ps (record { tree = u; watches = [] })
 draft_anew large next last w u ps d among criteria = (
   [],
   left_none ps,
@@ -169,7 +169,7 @@ left_watches [] p back = refl
 left_watches (q ∷ front) p back = ap (λ (ws : List Watch). watch_of q ∷ ws) (left_watches front p back)
 
 -- what is known of the others and of the one that is taken out
-pub record IsWithout (large : ℕ) (ps : List PartAt) (w : Work) (gone : Watch) (ws : List Watch) : Type 0 where
+pub record IsWithout (large : ℕ) (ps : List PartAt) (w : Draft) (gone : Watch) (ws : List Watch) : Type 0 where
   pub front : List PartAt
   pub part : PartAt
   pub back : List PartAt
@@ -180,7 +180,7 @@ pub record IsWithout (large : ℕ) (ps : List PartAt) (w : Work) (gone : Watch) 
   pub clear : IsClear gone.path (paths_in ws)
   pub outside : IsBalancedClear large (gone.path ∷ paths_in ws) w.tree
 
-without_at : (large next last : ℕ) (w : Work) (front : List PartAt) (p : PartAt) (back : List PartAt) (gone : Watch) (ws : List Watch) → IsDraft large next last (front ++ p ∷ back) w
+without_at : (large next last : ℕ) (w : Draft) (front : List PartAt) (p : PartAt) (back : List PartAt) (gone : Watch) (ws : List Watch) → IsDraft large next last (front ++ p ∷ back) w
     → gone ≡ watch_of p → ws ≡ watches_of (front ++ back) → IsWithout large (front ++ p ∷ back) w gone ws
 without_at large next last w front p back gone ws d is left =
     let named : paths_in ws ≡ paths (front ++ back) = ap paths_in left ∙ paths-watched (front ++ back) in
@@ -199,7 +199,7 @@ without_at large next last w front p back gone ws d is left =
           (subst (λ (qs : List (List Side)). IsBalancedClear large (p.path ∷ qs) w.tree) (sym named) (balanced_more large (paths (front ++ p ∷ back)) (p.path ∷ paths (front ++ back)) w.tree (ones_moved front p back) d.balanced));
     }
 
-pub without_of : (large next last : ℕ) (ps : List PartAt) (w : Work) (i : ℕ) (gone : Watch) (ws : List Watch) → IsDraft large next last ps w → i < length w.watches → gone ≡ get_or w.watches i gone → ws ≡ remove w.watches i
+pub without_of : (large next last : ℕ) (ps : List PartAt) (w : Draft) (i : ℕ) (gone : Watch) (ws : List Watch) → IsDraft large next last ps w → i < length w.watches → gone ≡ get_or w.watches i gone → ws ≡ remove w.watches i
     → IsWithout large ps w gone ws
 without_of large next last ps w i gone ws d below is left =
     let many : length w.watches ≡ length ps = ap length d.watched ∙ length-map ps watch_of in
@@ -211,7 +211,7 @@ without_of large next last ps w i gone ws d below is left =
     (without_at large next last w at.front at.part at.back gone ws (subst (λ (qs : List PartAt). IsDraft large next last qs w) at.all d) one others)
 
 -- the others remain, where the subtrees at their paths are unchanged
-pub draft_without : (large next last : ℕ) (ps : List PartAt) (w : Work) (gone : Watch) (ws : List Watch) (u : Shape) → IsDraft large next last ps w → IsWithout large ps w gone ws
+pub draft_without : (large next last : ℕ) (ps : List PartAt) (w : Draft) (gone : Watch) (ws : List Watch) (u : Shape) → IsDraft large next last ps w → IsWithout large ps w gone ws
     → AreSameAt (paths_in ws) u w.tree → IsBalancedClear large (paths_in ws) u → AreAmong (numbers u) (numbers w.tree) → IsDraftLeft large next last ps (record { tree = u; watches = ws })
 draft_without large next last ps w gone ws u d k same balanced among =
     let named : paths_in ws ≡ paths (k.front ++ k.back) = ap paths_in k.left ∙ paths-watched (k.front ++ k.back) in

@@ -11,27 +11,27 @@ use Rattle.kd_mark.specs.Watches.{HaveRoom, paths_in, with_marks}
 use Rattle.kd_update.specs.Watches.{with_puts}
 use Rattle.kd_update.specs.Detached.{AreLawfulParts, AreLeft, PartAt, paths, watches_of}
 use Rattle.map_update.specs.Single.{RebuildsNothing, entered_nodes, unrebuilt}
-use Rattle.map_update.specs.declared.work.Work.{Work}
+use Rattle.map_update.specs.declared.draft.Draft.{Draft}
 use Rattle.kd_tree.specs.declared.limits.TheConstants.{MAX_LEVELS, MAX_NODES}
 use Rattle.op_logger.specs.declared.log.TheConstants.{MAX_LOGGED}
 
 -- The work watches these parts: they are lawful in its tree, which is balanced outside them, and each number is below the next one.
-pub record IsDraft (large next last : ℕ) (ps : List PartAt) (w : Work) : Type 0 where
+pub record IsDraft (large next last : ℕ) (ps : List PartAt) (w : Draft) : Type 0 where
   pub watched : w.watches ≡ watches_of ps
   pub parts : AreLawfulParts large next last w.tree ps
   pub balanced : IsBalancedClear large (paths ps) w.tree
   pub below : All (λ n. n < next) (numbers w.tree)
 
 -- it watches some parts
-abbrev pub IsWork : ℕ → ℕ → Work → Type 0
-IsWork large next w = (last : ℕ) × (ps : List PartAt) × IsDraft large next last ps w
+abbrev pub IsLawfulDraft : ℕ → ℕ → Draft → Type 0
+IsLawfulDraft large next w = (last : ℕ) × (ps : List PartAt) × IsDraft large next last ps w
 
 -- it watches what is left of these parts
-abbrev pub IsDraftLeft : ℕ → ℕ → ℕ → List PartAt → Work → Type 0
+abbrev pub IsDraftLeft : ℕ → ℕ → ℕ → List PartAt → Draft → Type 0
 IsDraftLeft large next last ps w = (qs : List PartAt) × AreLeft ps qs × IsDraft large next last qs w
 
 -- so many points may be put before the tree is full, and is rebuilt for its bounds
-pub record HasRoomFor (puts : ℕ) (w : Work) : Type 0 where
+pub record HasRoomFor (puts : ℕ) (w : Draft) : Type 0 where
   pub low : levels w.tree + puts ≤ MAX_LEVELS
   pub few : nodes w.tree + puts ≤ MAX_NODES
 
@@ -51,7 +51,7 @@ pub record IsStill (ops : ℕ) (x : Watch) (ws : List Watch) : Type 0 where
   pub few : length watch.log ≤ length x.log + 2 * ops
 
 -- The second work is the first after at most so many operations, of which so many put a point.
-pub record IsWorked (puts ops : ℕ) (v w : Work) : Type 0 where
+pub record IsDrafted (puts ops : ℕ) (v w : Draft) : Type 0 where
   pub low : levels w.tree ≤ levels v.tree + puts
   pub few : nodes w.tree ≤ nodes v.tree + puts
   -- where the tree has room, nothing is forgotten whose own log has
@@ -63,22 +63,22 @@ with_op (Mark c a) t ws = with_marks c a t ws
 with_op (Put n p) t ws = with_puts n p t ws
 
 -- the work after the operation, where nothing is rebuilt
-abbrev pub plain_work : Op → Work → Work
-plain_work op w = record { tree = unrebuilt op w.tree; watches = with_op op w.tree w.watches }
+abbrev pub plain_draft : Op → Draft → Draft
+plain_draft op w = record { tree = unrebuilt op w.tree; watches = with_op op w.tree w.watches }
 
 -- A draft stays one, of what is left of its parts, with so many points submitted after.
-abbrev pub KeepsDraft : ℕ → ℕ → ℕ → Work → Result Work NoMemory → Type 0
+abbrev pub KeepsDraft : ℕ → ℕ → ℕ → Draft → Result Draft NoMemory → Type 0
 KeepsDraft large next more v done = (last : ℕ) (ps : List PartAt) → IsDraft large next last ps v → IfOk done (IsDraftLeft large more last ps)
 
 -- Where the tree has room for so many points, what is watched stays so as long as its own log has room for so many operations,
 -- whatever room the others have.
-abbrev pub KeepsWatched : ℕ → ℕ → Work → Result Work NoMemory → Type 0
+abbrev pub KeepsWatched : ℕ → ℕ → Draft → Result Draft NoMemory → Type 0
 KeepsWatched puts ops v done = HasRoomFor puts v → (x : Watch) → Member x v.watches → HasLogRoomFor ops x → IfOk done (λ w. Member x.path (paths_in w.watches))
 
 -- The operation is done, and nothing else, where it rebuilds nothing and each log has room.
-abbrev pub DoesPlainly : ℕ → Op → Work → Result Work NoMemory → Type 0
-DoesPlainly large op v done = HaveRoom v.watches → RebuildsNothing large op v.tree → IfOk done (λ w. w ≡ plain_work op v)
+abbrev pub DoesPlainly : ℕ → Op → Draft → Result Draft NoMemory → Type 0
+DoesPlainly large op v done = HaveRoom v.watches → RebuildsNothing large op v.tree → IfOk done (λ w. w ≡ plain_draft op v)
 
 -- Then it makes at most so many nodes: the counter rises from the one number to the other.
-abbrev pub MakesFew : ℕ → Op → Work → ℕ → ℕ → Type 0
+abbrev pub MakesFew : ℕ → Op → Draft → ℕ → ℕ → Type 0
 MakesFew large op v before after = HaveRoom v.watches → RebuildsNothing large op v.tree → after ≤ before + (5 * entered_nodes op v.tree + 1)

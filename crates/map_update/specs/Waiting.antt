@@ -6,7 +6,7 @@ use Rattle.map_items.specs.declared.item.Item.{Item}
 use Rattle.map_items.specs.Contents.{AreContents, in_box}
 use Rattle.kd_tree.specs.Contents.{by_number, contents}
 use Rattle.kd_update.specs.Scan.{AreLive}
-use Rattle.map_update.specs.Draft.{IsWork}
+use Rattle.map_update.specs.Draft.{IsLawfulDraft}
 use Rattle.map_update.specs.declared.waiting.Waiting.{Waiting}
 
 -- what the tree holds and what waits, by number
@@ -18,7 +18,7 @@ pub record IsWaiting (large next : ℕ) (w : Waiting) : Type 0 where
   pub live : AreLive w.items.items
   pub held : AreContents 0 next (held_by w)
   pub given : All (λ i. i.number < next) w.items.items
-  pub work : IsWork large next w.work
+  pub work : IsLawfulDraft large next w.work
 
 -- nothing that waits is in the box
 abbrev pub NoneWaitsIn : Bounds → Waiting → Type 0

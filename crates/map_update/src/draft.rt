@@ -1,135 +1,200 @@
-//! What an update makes of a tree and of what is watched of it, operation by operation.
-ghost use Rattle.std.specs.Prelude.{◌≡◌, ◌+◌, ◌<◌, ◌≤◌, [], ◌∷◌, Some, length, IfOk};
-ghost use Rattle.point_geom.specs.Place.{Place};
-ghost use Rattle.map_items.specs.declared.op.Op.{Op};
-ghost use Rattle.map_items.specs.declared.op.Op.TheVariants.{Put};
-ghost use Rattle.map_items.specs.Contents.{put};
-ghost use Rattle.map_items.specs.Fold.{add_points, mark_boxes, points_in, step};
+//! Work on a tree beside watched subtrees. Each operation either crosses them, and is logged, or they are forgotten before.
+ghost use Rattle.std.specs.Prelude.{◌≡◌, ℕ, ◌<◌, ◌≤◌, List, Some, length, IfOk, IfSome, IsNone, ◌↔◌};
+ghost use Rattle.std.specs.List.{remove};
+ghost use Rattle.node_labels.specs.Labels.{keep_tag};
+ghost use Rattle.map_items.specs.Contents.{chosen_by, mark, put};
+ghost use Rattle.map_items.specs.declared.op.Op.TheVariants.{Mark, Put};
+ghost use Rattle.kd_tree.specs.Shape.{levels, nodes, numbers};
+ghost use Rattle.kd_tree.specs.Criteria.{AllMeetCriteria};
+ghost use Rattle.kd_mark.specs.Refresh.{AreAmong};
+ghost use Rattle.kd_tree.specs.Walk.{times};
 ghost use Rattle.kd_tree.specs.Contents.{contents};
-ghost use Rattle.kd_tree.specs.Maps.{map_of};
-ghost use Rattle.map_update.specs.Draft.{DoesPlainly, IsWork, IsWorked, KeepsDraft, KeepsWatched, MakesFew};
-ghost use Rattle.map_update.specs.OnePoint.{IsTurnedAway};
-ghost use Rattle.map_update.specs.Single.{most_ops, only_mark, only_op};
+ghost use Rattle.kd_mark.specs.Watches.{HaveRoom, paths_in};
+ghost use Rattle.map_update.specs.Draft.{AreSpared, DoesPlainly, IsDraft, IsDraftLeft, IsLawfulDraft, IsDrafted, KeepsDraft, MakesFew};
+ghost use Rattle.kd_update.specs.Detached.{PartAt};
 
-use crate::thin::thinned;
-use crate::work::{Work, Worked};
-use kd_tree::{Scratch, Steps};
-use kd_update::{PASS_FROM, live_items};
-use map_items::{Choice, Cuboids, MAX_POINTS, Points, Settings, Tag, Update};
+use kd_mark::{Watch, rebuilt};
+use kd_tree::{MAX_LEVELS, MAX_NODES, Path, Steps, Tree};
+use kd_update::{Replaced, Watches, marked_watched, put_watched, replaced};
+use map_items::{Choice, NoMemory, Tag};
 use point_geom::Point;
 use std::alloc::Global;
 use std::sync::ledger::Ledger;
 
-/// The work after the update, where `next` points were submitted before. What crosses a watched subtree is logged for
-/// it; one whose log has no room for two operations more is rebuilt where it is before, and forgotten. On an
-/// operation's way, what breaches a criterion is rebuilt if it is smaller than `large` and nothing in it is watched. On
-/// `NoMemory` the work is dropped. The time is that of the operations, by the subtrees that they meet; of a scan that
-/// of few passes over what it meets.
-pub fn changed<L: Ledger>(
-    alloc: Global,
-    work: Work,
-    settings: &Settings,
-    next: u32,
-    update: &Update,
-    scratch: &mut Scratch,
-    steps: &mut Steps<L>,
-) -> Worked
-    requires draft { IsWork settings.now.large next work }
-    requires few { next + points_in update.now ≤ MAX_POINTS }
-    ensures stepped { IfOk result (λ w. map_of w.tree (next + points_in update.now) ≡ step settings.now.voxel update.now (map_of work.tree next)) }
-    ensures draft { KeepsDraft settings.now.large next (next + points_in update.now) work result }
-    ensures kept { KeepsWatched (points_in update.now) (most_ops update.now) work result }
-    ensures unrebuilt { (op : Op) → only_op next update.now ≡ Some op → DoesPlainly settings.now.large op work result }
-    ensures nodes_made { (op : Op) → only_op next update.now ≡ Some op → MakesFew settings.now.large op work steps.old steps.new }
-    ensures turned_away { (p : Place) → update.now ≡ Update.Thin (p ∷ []) → IsTurnedAway settings.now.voxel (map_of work.tree next) p
-        → IfOk result (λ w. w.tree ≡ work.tree) }
-    ensures no_nodes_made { (p : Place) → update.now ≡ Update.Thin (p ∷ []) → IsTurnedAway settings.now.voxel (map_of work.tree next) p
-        → steps.new ≡ steps.old }
-{
-    let large = settings.large();
-    match update {
-        Update::Add(points) => added(alloc, work, large, next, points, scratch, steps),
-        Update::Thin(points) => thinned(alloc, work, settings, next, points, scratch, steps),
-        Update::Delete(boxes) => marked_each(alloc, work, large, next, boxes, Tag::DELETE, steps),
-        Update::Suspend(boxes) => marked_each(alloc, work, large, next, boxes, Tag::SUSPEND, steps),
-        Update::Restore(boxes) => marked_each(alloc, work, large, next, boxes, Tag::RESTORE, steps),
-        Update::Expire(number) => {
-            let choice = Choice::below(*number);
-            work.marked(alloc, large, &choice, Tag::DELETE, steps)
+/// The tree that an update works on, and the subtrees that are watched meanwhile.
+#[derive(Drop)]
+pub struct Draft {
+    pub tree: Tree,
+    /// None stands in another, and each is a path of the tree.
+    pub watches: Watches,
+}
+
+/// What an operation makes of the work. Where memory runs out, the work is dropped.
+pub type Drafted = Result<Draft, NoMemory>;
+
+impl Draft {
+    // The work after this action on the chosen items.
+    pub(crate) fn marked<L: Ledger>(
+        self,
+        alloc: Global,
+        large: u32,
+        choice: &Choice,
+        tag: Tag,
+        steps: &mut Steps<L>,
+    ) -> Drafted
+        requires draft { (next : ℕ) × IsLawfulDraft large next self }
+        ensures contents { IfOk result (λ w. contents w.tree ≡ mark (contents self.tree) (chosen_by choice.now) tag) }
+        ensures draft { (next : ℕ) → KeepsDraft large next next self result }
+        ensures worked { IfOk result (IsDrafted 0 1 self) }
+        ensures unrebuilt { DoesPlainly large (Mark choice.now tag) self result }
+        ensures nodes_made { MakesFew large (Mark choice.now tag) self steps.old steps.new }
+    {
+        let work = self.without_full(alloc, large, steps)?;
+        let Draft { tree, mut watches } = work;
+        let tree = marked_watched(alloc, tree, large, choice, tag, &mut watches, steps)?;
+        Ok(Draft { tree, watches })
+    }
+
+    // The work after the point was put under the number. A full tree is rebuilt before.
+    pub(crate) fn put<L: Ledger>(
+        self,
+        alloc: Global,
+        large: u32,
+        number: u32,
+        point: Point,
+        steps: &mut Steps<L>,
+    ) -> Drafted
+        requires draft { (next : ℕ) × IsLawfulDraft large next self }
+        requires few { length (contents self.tree) < MAX_NODES }
+        requires new { times number keep_tag self.tree ≡ 0 }
+        ensures contents { IfOk result (λ w. contents w.tree ≡ put (contents self.tree) number point) }
+        ensures draft { (next last : ℕ) (ps : List PartAt) → number < next → IsDraft large next last ps self
+            → IfOk result (IsDraftLeft large next last ps) }
+        ensures worked { IfOk result (IsDrafted 1 1 self) }
+        ensures unrebuilt { DoesPlainly large (Put number point) self result }
+        ensures nodes_made { MakesFew large (Put number point) self steps.old steps.new }
+    {
+        let work = self.with_room(alloc, large, steps)?;
+        let Draft { tree, mut watches } = work;
+        let tree = put_watched(alloc, tree, large, number, point, &mut watches, steps)?;
+        Ok(Draft { tree, watches })
+    }
+
+    // The work with room for one more point, and in each log for what that may add.
+    fn with_room<L: Ledger>(self, alloc: Global, large: u32, steps: &mut Steps<L>) -> Drafted
+        requires draft { (next : ℕ) × IsLawfulDraft large next self }
+        requires few { length (contents self.tree) < MAX_NODES }
+        ensures contents { IfOk result (λ w. contents w.tree ≡ contents self.tree) }
+        ensures draft { (next : ℕ) → KeepsDraft large next next self result }
+        ensures low { IfOk result (λ w. levels w.tree < MAX_LEVELS) }
+        ensures few { IfOk result (λ w. nodes w.tree < MAX_NODES) }
+        ensures lower { IfOk result (λ w. levels w.tree ≤ levels self.tree) }
+        ensures fewer { IfOk result (λ w. nodes w.tree ≤ nodes self.tree) }
+        ensures room { IfOk result (λ w. HaveRoom w.watches) }
+        ensures spared { levels self.tree < MAX_LEVELS → nodes self.tree < MAX_NODES → IfOk result (λ w. AreSpared self.watches w.watches) }
+        ensures same { levels self.tree < MAX_LEVELS → nodes self.tree < MAX_NODES → HaveRoom self.watches
+            → IfOk result (λ w. w ≡ self) }
+        ensures no_nodes_made { levels self.tree < MAX_LEVELS → nodes self.tree < MAX_NODES → HaveRoom self.watches
+            → steps.new ≡ steps.old }
+    {
+        if self.tree.levels() < MAX_LEVELS && self.tree.size() < MAX_NODES {
+            return self.without_full(alloc, large, steps);
         }
+        let Draft { tree, .. } = self;
+        let tree = rebuilt(alloc, tree, steps)?;
+        Ok(Draft {
+            tree,
+            watches: Watches::new(alloc),
+        })
+    }
+
+    // The work without the subtrees whose logs have no room for two operations: each is rebuilt where it stands, in order.
+    fn without_full<L: Ledger>(self, alloc: Global, large: u32, steps: &mut Steps<L>) -> Drafted
+        requires draft { (next : ℕ) × IsLawfulDraft large next self }
+        ensures contents { IfOk result (λ w. contents w.tree ≡ contents self.tree) }
+        ensures draft { (next : ℕ) → KeepsDraft large next next self result }
+        ensures low { IfOk result (λ w. levels w.tree ≤ levels self.tree) }
+        ensures few { IfOk result (λ w. nodes w.tree ≤ nodes self.tree) }
+        ensures room { IfOk result (λ w. HaveRoom w.watches) }
+        ensures spared { IfOk result (λ w. AreSpared self.watches w.watches) }
+        ensures same { HaveRoom self.watches → IfOk result (λ w. w ≡ self) }
+        ensures no_nodes_made { HaveRoom self.watches → steps.new ≡ steps.old }
+    {
+        let Some(place) = first_full(self.watches.as_slice()) else {
+            return Ok(self);
+        };
+        let work = self.without(alloc, large, place, steps)?;
+        work.without_full(alloc, large, steps)
+    }
+
+    // The work without the subtree that is watched at this place of the list: it is rebuilt where it stands. A rebuilt copy is no
+    // larger, so the tree has room for it, and all others stay watched.
+    fn without<L: Ledger>(
+        self,
+        alloc: Global,
+        large: u32,
+        place: usize,
+        steps: &mut Steps<L>,
+    ) -> Drafted
+        requires place { place < length self.watches }
+        requires draft { (next : ℕ) × IsLawfulDraft large next self }
+        ensures contents { IfOk result (λ w. contents w.tree ≡ contents self.tree) }
+        ensures draft { (next : ℕ) → KeepsDraft large next next self result }
+        ensures low { IfOk result (λ w. levels w.tree ≤ levels self.tree) }
+        ensures few { IfOk result (λ w. nodes w.tree ≤ nodes self.tree) }
+        ensures others { IfOk result (λ w. w.watches ≡ remove self.watches place) }
+    {
+        let Draft { tree, mut watches } = self;
+        let _levels = tree.levels();
+        let _size = tree.size();
+        let Watch { path, .. } = watches.remove(place);
+        let others = paths_of(alloc, watches.as_slice())?;
+        let Some(node) = tree.subtree_at(&path) else {
+            return Ok(Draft { tree, watches });
+        };
+        let with = rebuilt_copy(alloc, node, steps)?;
+        let (path, others) = (&path, others.as_slice());
+        let Replaced { tree, .. } = replaced(alloc, tree, large, path, with, others, steps)?;
+        Ok(Draft { tree, watches })
     }
 }
 
-fn added<L: Ledger>(
+// What is left in the tree, rebuilt beside it.
+fn rebuilt_copy<L: Ledger>(
     alloc: Global,
-    work: Work,
-    large: u32,
-    next: u32,
-    points: &Points,
-    scratch: &mut Scratch,
+    tree: &Tree,
     steps: &mut Steps<L>,
-) -> Worked
-    requires draft { IsWork large next work }
-    requires few { next + length points.now ≤ MAX_POINTS }
-    ensures stepped { IfOk result (λ w. map_of w.tree (next + length points.now) ≡ add_points points.now (map_of work.tree next)) }
-    ensures draft { KeepsDraft large next (next + length points.now) work result }
-    ensures kept { KeepsWatched (length points.now) (length points.now) work result }
-    ensures unrebuilt { (op : Op) → only_op next (Update.Add points.now) ≡ Some op → DoesPlainly large op work result }
-    ensures nodes_made { (op : Op) → only_op next (Update.Add points.now) ≡ Some op → MakesFew large op work steps.old steps.new }
+) -> Result<Tree, NoMemory>
+    ensures contents { IfOk result (λ t. contents t ≡ contents tree.now) }
+    ensures numbers { IfOk result (λ t. AreAmong (numbers t) (numbers tree.now)) }
+    ensures low { IfOk result (λ t. levels t ≤ levels tree.now) }
+    ensures few { IfOk result (λ t. nodes t ≤ nodes tree.now) }
+    ensures criteria { IfOk result (λ t. AllMeetCriteria 10 t) }
 {
-    if points.len() >= PASS_FROM {
-        let _size = work.tree.size();
-        let items = live_items(alloc, next, points.as_slice())?;
-        return work.put_items(alloc, large, items.as_slice(), scratch, steps);
-    }
-    let mut work = work;
-    let mut next = next;
-    for point in points.as_slice() {
-        work = added_one(alloc, work, large, next, *point, steps)?;
-        next += 1;
-    }
-    Ok(work)
+    let copy = tree.copy(alloc, steps)?;
+    rebuilt(alloc, copy, steps)
 }
 
-pub(crate) fn added_one<L: Ledger>(
-    alloc: Global,
-    work: Work,
-    large: u32,
-    next: u32,
-    point: Point,
-    steps: &mut Steps<L>,
-) -> Worked
-    requires draft { IsWork large next work }
-    requires few { next < MAX_POINTS }
-    ensures contents { IfOk result (λ w. contents w.tree ≡ put (contents work.tree) next point) }
-    ensures draft { KeepsDraft large next (next + 1) work result }
-    ensures worked { IfOk result (IsWorked 1 1 work) }
-    ensures unrebuilt { DoesPlainly large (Put next point) work result }
-    ensures nodes_made { MakesFew large (Put next point) work steps.old steps.new }
+// Where the first watch stands whose log has no room for two operations.
+fn first_full(watches: &[Watch]) -> Option<usize>
+    ensures none { IsNone result ↔ HaveRoom watches.now }
+    ensures some { IfSome result (λ i. i < length watches.now) }
+    ensures others { IfSome result (λ i. AreSpared watches.now (remove watches.now i)) }
 {
-    let _size = work.tree.size();
-    work.put(alloc, large, next, point, steps)
+    let (first, rest) = watches.split_first()?;
+    if first.log.room() < 2 {
+        return Some(0);
+    }
+    let place = first_full(rest)?;
+    Some(place + 1)
 }
 
-fn marked_each<L: Ledger>(
-    alloc: Global,
-    work: Work,
-    large: u32,
-    next: u32,
-    boxes: &Cuboids,
-    tag: Tag,
-    steps: &mut Steps<L>,
-) -> Worked
-    requires draft { IsWork large next work }
-    ensures stepped { IfOk result (λ w. map_of w.tree next ≡ mark_boxes tag boxes.now (map_of work.tree next)) }
-    ensures draft { KeepsDraft large next next work result }
-    ensures kept { KeepsWatched 0 (length boxes.now) work result }
-    ensures unrebuilt { (op : Op) → only_mark tag boxes.now ≡ Some op → DoesPlainly large op work result }
-    ensures nodes_made { (op : Op) → only_mark tag boxes.now ≡ Some op → MakesFew large op work steps.old steps.new }
+fn paths_of(alloc: Global, watches: &[Watch]) -> Result<Vec<Path>, NoMemory>
+    ensures { IfOk result (λ v. v.items ≡ paths_in watches.now) }
 {
-    let mut work = work;
-    for cuboid in boxes.as_slice() {
-        work = work.marked(alloc, large, &Choice::within(cuboid), tag, steps)?;
+    let mut paths = Vec::new(alloc);
+    for watch in watches {
+        paths.push(watch.path)?;
     }
-    Ok(work)
+    Ok(paths)
 }

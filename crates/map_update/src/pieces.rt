@@ -3,11 +3,11 @@ ghost use Rattle.std.specs.Prelude.{◌≡◌, ℕ, ◌<◌, ◌≤◌, List, le
 ghost use Rattle.kd_tree.specs.Contents.{contents};
 ghost use Rattle.kd_update.specs.Crossing.{HaveRoomAtOnce};
 ghost use Rattle.kd_update.specs.Scan.{MayJoin, put_each};
-ghost use Rattle.map_update.specs.Draft.{IsDraft, IsDraftLeft, IsWork, IsWorked, KeepsWatched};
+ghost use Rattle.map_update.specs.Draft.{IsDraft, IsDraftLeft, IsLawfulDraft, IsDrafted, KeepsWatched};
 ghost use Rattle.kd_update.specs.Detached.{PartAt};
 ghost use Rattle.map_update.specs.Pieces.{MayPass};
 
-use crate::work::{Work, Worked};
+use crate::draft::{Draft, Drafted};
 use kd_mark::Watch;
 use kd_tree::{MAX_NODES, Scratch, Steps};
 use kd_update::{MAX_PASS_LEVELS, PASS_FROM, put_all, put_all_watched};
@@ -15,7 +15,7 @@ use map_items::Item;
 use std::alloc::Global;
 use std::sync::ledger::Ledger;
 
-impl Work {
+impl Draft {
     // `put_all` where nothing is watched. Else a pass takes what each log has room for, and where that is little an
     // item is put alone, after full logs are forgotten.
     pub(crate) fn put_items<L: Ledger>(
@@ -25,8 +25,8 @@ impl Work {
         items: &[Item],
         scratch: &mut Scratch,
         steps: &mut Steps<L>,
-    ) -> Worked
-        requires draft { (next : ℕ) × IsWork large next self × All (λ i. i.number < next) items.now }
+    ) -> Drafted
+        requires draft { (next : ℕ) × IsLawfulDraft large next self × All (λ i. i.number < next) items.now }
         requires fit { MayJoin (contents self.tree) items.now }
         ensures contents { IfOk result (λ w. contents w.tree ≡ put_each (contents self.tree) items.now) }
         ensures draft { (next last : ℕ) (ps : List PartAt) → All (λ i. i.number < next) items.now → IsDraft large next last ps self
@@ -34,9 +34,9 @@ impl Work {
         ensures kept { KeepsWatched (length items.now) (length items.now) self result }
     {
         if self.watches.len() == 0 {
-            let Work { tree, watches } = self;
+            let Draft { tree, watches } = self;
             let tree = put_all(alloc, tree, large, items, scratch, steps)?;
-            return Ok(Work { tree, watches });
+            return Ok(Draft { tree, watches });
         }
         let mut work = self;
         let mut rest = items;
@@ -84,14 +84,14 @@ impl Work {
         piece: &[Item],
         scratch: &mut Scratch,
         steps: &mut Steps<L>,
-    ) -> Worked
-        requires draft { (next : ℕ) × IsWork large next self }
+    ) -> Drafted
+        requires draft { (next : ℕ) × IsLawfulDraft large next self }
         requires fit { MayJoin (contents self.tree) piece.now }
         requires pass { 1 < length piece.now → MayPass large (length piece.now) self }
         ensures contents { IfOk result (λ w. contents w.tree ≡ put_each (contents self.tree) piece.now) }
         ensures draft { (next last : ℕ) (ps : List PartAt) → All (λ i. i.number < next) piece.now → IsDraft large next last ps self
             → IfOk result (IsDraftLeft large next last ps) }
-        ensures worked { IfOk result (IsWorked (length piece.now) (length piece.now) self) }
+        ensures worked { IfOk result (IsDrafted (length piece.now) (length piece.now) self) }
     {
         let Some((item, others)) = piece.split_first() else {
             return Ok(self);
@@ -99,9 +99,9 @@ impl Work {
         if others.is_empty() {
             return self.put(alloc, large, item.number, item.point, steps);
         }
-        let Work { tree, mut watches } = self;
+        let Draft { tree, mut watches } = self;
         let tree = put_all_watched(alloc, tree, large, piece, &mut watches, scratch, steps)?;
-        Ok(Work { tree, watches })
+        Ok(Draft { tree, watches })
     }
 }
 

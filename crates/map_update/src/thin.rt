@@ -6,13 +6,13 @@ ghost use Rattle.map_items.specs.Contents.{in_box, mark, put, thin};
 ghost use Rattle.map_items.specs.Fold.{thin_points};
 ghost use Rattle.map_items.specs.Ops.{IsUnheld};
 ghost use Rattle.kd_tree.specs.Contents.{contents};
-ghost use Rattle.map_update.specs.Draft.{IsWork, IsWorked, KeepsDraft, KeepsWatched};
+ghost use Rattle.map_update.specs.Draft.{IsLawfulDraft, IsDrafted, KeepsDraft, KeepsWatched};
 ghost use Rattle.kd_tree.specs.Maps.{map_of};
 ghost use Rattle.map_update.specs.OnePoint.{IsTurnedAway};
 
-use crate::draft::added_one;
+use crate::draft::{Draft, Drafted};
+use crate::update::added_one;
 use crate::waiting::thinned_at_once;
-use crate::work::{Work, Worked};
 use kd_search::{Rivals, rivals_in};
 use kd_tree::{Scratch, Steps};
 use kd_update::PASS_FROM;
@@ -23,14 +23,14 @@ use std::sync::ledger::Ledger;
 
 pub(crate) fn thinned<L: Ledger>(
     alloc: Global,
-    work: Work,
+    work: Draft,
     settings: &Settings,
     next: u32,
     points: &Points,
     scratch: &mut Scratch,
     steps: &mut Steps<L>,
-) -> Worked
-    requires draft { IsWork settings.now.large next work }
+) -> Drafted
+    requires draft { IsLawfulDraft settings.now.large next work }
     requires few { next + length points.now ≤ MAX_POINTS }
     ensures stepped { IfOk result (λ w. map_of w.tree (next + length points.now) ≡ thin_points settings.now.voxel points.now (map_of work.tree next)) }
     ensures draft { KeepsDraft settings.now.large next (next + length points.now) work result }
@@ -56,17 +56,17 @@ pub(crate) fn thinned<L: Ledger>(
 // A point that changes nothing makes no node.
 fn thinned_one<L: Ledger>(
     alloc: Global,
-    work: Work,
+    work: Draft,
     settings: &Settings,
     next: u32,
     point: Point,
     steps: &mut Steps<L>,
-) -> Worked
-    requires draft { IsWork settings.now.large next work }
+) -> Drafted
+    requires draft { IsLawfulDraft settings.now.large next work }
     requires few { next < MAX_POINTS }
     ensures contents { IfOk result (λ w. contents w.tree ≡ thin settings.now.voxel (contents work.tree) next point) }
     ensures draft { KeepsDraft settings.now.large next (next + 1) work result }
-    ensures worked { IfOk result (IsWorked 1 2 work) }
+    ensures worked { IfOk result (IsDrafted 1 2 work) }
     ensures turned_away { IsTurnedAway settings.now.voxel (map_of work.tree next) point → IfOk result (λ w. w.tree ≡ work.tree) }
     ensures no_nodes_made { IsTurnedAway settings.now.voxel (map_of work.tree next) point → steps.new ≡ steps.old }
 {
@@ -89,20 +89,20 @@ fn thinned_one<L: Ledger>(
 
 fn left_alone<L: Ledger>(
     alloc: Global,
-    work: Work,
+    work: Draft,
     large: u32,
     next: u32,
     cuboid: &Cuboid,
     item: Item,
     steps: &mut Steps<L>,
-) -> Worked
-    requires draft { IsWork large next work }
+) -> Drafted
+    requires draft { IsLawfulDraft large next work }
     requires few { next < MAX_POINTS }
     requires below { item.number < next + 1 }
     requires new { IsUnheld item.number (mark (contents work.tree) (in_box cuboid.now) thin_tag) }
     ensures contents { IfOk result (λ w. contents w.tree ≡ put (mark (contents work.tree) (in_box cuboid.now) thin_tag) item.number item.point) }
     ensures draft { KeepsDraft large next (next + 1) work result }
-    ensures worked { IfOk result (IsWorked 1 2 work) }
+    ensures worked { IfOk result (IsDrafted 1 2 work) }
 {
     let work = work.marked(alloc, large, &Choice::within(cuboid), Tag::THIN, steps)?;
     let _size = work.tree.size();

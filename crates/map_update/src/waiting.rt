@@ -9,13 +9,13 @@ ghost use Rattle.map_items.specs.Fold.{thin_points};
 ghost use Rattle.map_items.specs.Ops.{IsUnheld};
 ghost use Rattle.kd_tree.specs.Contents.{AreDistinct, contents};
 ghost use Rattle.kd_search.specs.Best.{IsBest};
-ghost use Rattle.map_update.specs.Draft.{IsDraft, IsDraftLeft, IsWork, IsWorked, KeepsDraft, KeepsWatched};
+ghost use Rattle.map_update.specs.Draft.{IsDraft, IsDraftLeft, IsLawfulDraft, IsDrafted, KeepsDraft, KeepsWatched};
 ghost use Rattle.kd_tree.specs.Maps.{map_of};
 ghost use Rattle.kd_update.specs.Detached.{PartAt};
 ghost use Rattle.map_update.specs.Waiting.{NoneWaitsIn, IsJoined, IsWaiting, held_by};
 
+use crate::draft::{Draft, Drafted};
 use crate::entrants::{Entrant, firsts};
-use crate::work::{Work, Worked};
 use kd_search::{Rivals, rivals_in};
 use kd_tree::{Scratch, Steps};
 use map_items::{Choice, Item, MAX_POINTS, NoMemory, Settings, Tag};
@@ -26,7 +26,7 @@ use std::sync::ledger::Ledger;
 // A tree, and live items that it doesn't hold yet. A rejected point makes no node.
 #[derive(Drop)]
 pub(crate) struct Waiting {
-    pub(crate) work: Work,
+    pub(crate) work: Draft,
     pub(crate) items: Vec<Item>,
 }
 
@@ -34,14 +34,14 @@ pub(crate) struct Waiting {
 // searched once a voxel, and all that win are put at once, after all voxels were cleared.
 pub(crate) fn thinned_at_once<L: Ledger>(
     alloc: Global,
-    work: Work,
+    work: Draft,
     settings: &Settings,
     next: u32,
     points: &[Point],
     scratch: &mut Scratch,
     steps: &mut Steps<L>,
-) -> Worked
-    requires draft { IsWork settings.now.large next work }
+) -> Drafted
+    requires draft { IsLawfulDraft settings.now.large next work }
     requires few { next + length points.now ≤ MAX_POINTS }
     ensures stepped { IfOk result (λ w. map_of w.tree (next + length points.now) ≡ thin_points settings.now.voxel points.now (map_of work.tree next)) }
     ensures draft { KeepsDraft settings.now.large next (next + length points.now) work result }
@@ -59,9 +59,9 @@ pub(crate) fn thinned_at_once<L: Ledger>(
 }
 
 impl Waiting {
-    fn none(alloc: Global, work: Work) -> Waiting
+    fn none(alloc: Global, work: Draft) -> Waiting
         ensures held { held_by result ≡ contents work.tree }
-        ensures waiting { (large high : ℕ) → IsWork large high work → IsWaiting large high result }
+        ensures waiting { (large high : ℕ) → IsLawfulDraft large high work → IsWaiting large high result }
         ensures same { result.work ≡ work }
         ensures none { result.items.items ≡ [] }
     {
@@ -79,7 +79,7 @@ impl Waiting {
         high: u32,
         scratch: &mut Scratch,
         steps: &mut Steps<L>,
-    ) -> Worked
+    ) -> Drafted
         requires waiting { IsWaiting large high self }
         requires few { high ≤ MAX_POINTS }
         ensures held { IfOk result (λ w. contents w.tree ≡ held_by self) }
@@ -111,7 +111,7 @@ impl Waiting {
         ensures joined { IfOk result (IsJoined entrant.now.cube self) }
         ensures draft { (last : ℕ) (ps : List PartAt) → IsDraft settings.now.large high last ps self.work
             → IfOk result (λ w. IsDraftLeft settings.now.large high last ps w.work) }
-        ensures worked { IfOk result (λ w. IsWorked 0 1 self.work w.work) }
+        ensures worked { IfOk result (λ w. IsDrafted 0 1 self.work w.work) }
     {
         let large = settings.large();
         let Entrant { item: new, cube } = *entrant;
@@ -155,7 +155,7 @@ impl Waiting {
         ensures same { IfOk result (λ w. w.items.items ≡ self.items.items) }
         ensures draft { (last : ℕ) (ps : List PartAt) → IsDraft large high last ps self.work
             → IfOk result (λ w. IsDraftLeft large high last ps w.work) }
-        ensures worked { IfOk result (λ w. IsWorked 0 1 self.work w.work) }
+        ensures worked { IfOk result (λ w. IsDrafted 0 1 self.work w.work) }
     {
         let Waiting { work, items } = self;
         let _size = work.tree.size();

@@ -22,8 +22,8 @@ use Rattle.rebuild_parts.specs.Logs.{LogPlan, planned_parts}
 use Rattle.kd_update.specs.Detached.{AreInSlots, AreLawfulParts, PartAt, paths, watches_of}
 use Rattle.map_update.specs.Single.{RebuildsNothing, entered_nodes, only_op, unrebuilt}
 use Rattle.rebuild_core.specs.StateView.{IsNextOf}
-use Rattle.rebuild_core.specs.Steps.{IsDrafted, IsUnrebuiltUpdate, IsSettlePlan, IsUpdatePlan, PlannedAt, entered, plan_with}
-use Rattle.rebuild_core.specs.declared.plan.Drafted.{Drafted}
+use Rattle.rebuild_core.specs.Steps.{IsPlanDraft, IsUnrebuiltUpdate, IsSettlePlan, IsUpdatePlan, PlannedAt, entered, plan_with}
+use Rattle.rebuild_core.specs.declared.plan.PlanDraft.{PlanDraft}
 use Rattle.map_update.proofs.Detached.{left_lawful, left_none}
 use Rattle.map_update.proofs.Drafts.{among_below}
 use Rattle.rebuild_core.proofs.Histories.{entries-push, fold-entry, next_entry}
@@ -54,7 +54,7 @@ plan_nodes_made u op s z t m n new ws is same start seen k =
     λ q. let h = there q in omega (arith, h, start)
 
 -- A draft that was worked out from a lawful state makes a lawful state.
-planned_lawful : (caller : ℕ) (u : Update) (s : StateAt) (d : Drafted) → IsLawful s → 1 ≤ caller → caller ≤ 8 → length s.history < 1048576 → s.next + points_in u ≤ 4194304 → IsSound d.tree → IsDrafted u s d
+planned_lawful : (caller : ℕ) (u : Update) (s : StateAt) (d : PlanDraft) → IsLawful s → 1 ≤ caller → caller ≤ 8 → length s.history < 1048576 → s.next + points_in u ≤ 4194304 → IsSound d.tree → IsPlanDraft u s d
     → IsLawful (record s {
       tree = d.tree;
       next = s.next + points_in u;
@@ -78,8 +78,8 @@ planned_lawful caller u s d k from to short few sound made = record {
 }
 
 -- the plan of an update, with what its values are equal to
-pub planned : (caller : ℕ) (u : Update) (s z : StateAt) (d : Drafted) (next : ℕ) (ver : VersionAt) (e : Entry) → IsLawful s → 1 ≤ caller → caller ≤ 8 → length s.history < 1048576 → next ≤ 4194304 → next ≡ s.next + points_in u
-    → IsSound d.tree → IsDrafted u s d → ver ≡ record { tree = d.tree; next = next; len = length s.history + 1 } → e ≡ entry_by caller u s.history → s ≡ z
+pub planned : (caller : ℕ) (u : Update) (s z : StateAt) (d : PlanDraft) (next : ℕ) (ver : VersionAt) (e : Entry) → IsLawful s → 1 ≤ caller → caller ≤ 8 → length s.history < 1048576 → next ≤ 4194304 → next ≡ s.next + points_in u
+    → IsSound d.tree → IsPlanDraft u s d → ver ≡ record { tree = d.tree; next = next; len = length s.history + 1 } → e ≡ entry_by caller u s.history → s ≡ z
     → IsUpdatePlan caller u z (record { tree = d.tree; next = next; version = ver; entry = Some e; logs = d.logs.items })
 planned caller u s z d next ver e k from to short few asked sound made shown by is =
     let P : PlannedAt =

@@ -14,14 +14,14 @@ use Rattle.kd_mark.specs.Several.{IsBalancedClear}
 use Rattle.kd_mark.specs.Watch.{logged_mark}
 use Rattle.kd_update.specs.Watch.{logged_put}
 use Rattle.kd_mark.specs.Watches.{HaveRoom, paths_in}
-use Rattle.map_update.specs.Draft.{HasLogRoomFor, HasRoomFor, IsDraft, IsDraftLeft, plain_work, with_op}
+use Rattle.map_update.specs.Draft.{HasLogRoomFor, HasRoomFor, IsDraft, IsDraftLeft, plain_draft, with_op}
 use Rattle.rebuild_core.specs.Lawful.{IsLawful, StateAt}
 use Rattle.rebuild_parts.specs.Logs.{LogPlan, planned_parts}
 use Rattle.kd_update.specs.Detached.{AreLawfulParts, AreLeft, PartAt, paths, watch_of, watches_of}
 use Rattle.map_update.specs.Single.{most_ops, only_op, RebuildsNothing}
 use Rattle.rebuild_core.specs.Stays.{HasOwnRoom, HasTreeRoom, StaysAmong, logged_by}
 use Rattle.rebuild_core.specs.Steps.{IsUnrebuiltUpdate}
-use Rattle.map_update.specs.declared.work.Work.{Work}
+use Rattle.map_update.specs.declared.draft.Draft.{Draft}
 use Rattle.kd_update.proofs.ApartPaths.{apart_itself}
 use Rattle.map_update.proofs.Detached.{left_clear, left_logged}
 use Rattle.map_update.proofs.Working.{marks-watched, paths-watched, puts-watched, watched_room}
@@ -40,15 +40,15 @@ watched_one p (q ∷ ps) (inl is) = inl (ap watch_of is)
 watched_one p (q ∷ ps) (inr m) = inr (watched_one p ps m)
 
 -- what the work on a copy logs of one operation, the plan says of the parts
-pub plan_logged : (u : Update) (op : Op) (s z : StateAt) (t : Shape) (ws : List Watch) (new : Work) (logs : List LogPlan) → s ≡ z → t ≡ s.tree → ws ≡ watches_of s.parts
-    → (only_op s.next u ≡ Some op → HaveRoom ws → RebuildsNothing s.settings.large op t → new ≡ plain_work op (record { tree = t; watches = ws }))
+pub plan_logged : (u : Update) (op : Op) (s z : StateAt) (t : Shape) (ws : List Watch) (new : Draft) (logs : List LogPlan) → s ≡ z → t ≡ s.tree → ws ≡ watches_of s.parts
+    → (only_op s.next u ≡ Some op → HaveRoom ws → RebuildsNothing s.settings.large op t → new ≡ plain_draft op (record { tree = t; watches = ws }))
     → ((qs : List PartAt) → AreLeft s.parts qs → new.watches ≡ watches_of qs → planned_parts logs s.parts ≡ qs) → IsUnrebuiltUpdate u op z → planned_parts logs z.parts ≡ logged_by op z.tree z.parts
 plan_logged u op s z t ws new logs is same seen k plans =
     let here : IsUnrebuiltUpdate u op s → planned_parts logs s.parts ≡ logged_by op s.tree s.parts = λ q.
     let unrebuilt : RebuildsNothing s.settings.large op t = subst (RebuildsNothing s.settings.large op) (sym same) q.unrebuilt in
     let done = k q.only (subst HaveRoom (sym seen) (watched_room s.parts q.room)) unrebuilt in
     let watches : new.watches ≡ watches_of (logged_by op s.tree s.parts) =
-    ap (λ (w : Work). w.watches) done ∙ ap (λ (x : Shape). with_op op x ws) same ∙ ap (λ (xs : List Watch). with_op op s.tree xs) seen ∙ watched_by op s.tree s.parts in
+    ap (λ (w : Draft). w.watches) done ∙ ap (λ (x : Shape). with_op op x ws) same ∙ ap (λ (xs : List Watch). with_op op s.tree xs) seen ∙ watched_by op s.tree s.parts in
     plans (logged_by op s.tree s.parts) (left_by op s.tree s.parts) watches in
     subst (λ (x : StateAt). IsUnrebuiltUpdate u op x → planned_parts logs x.parts ≡ logged_by op x.tree x.parts) is here
 
@@ -94,7 +94,7 @@ part_stays p (x ∷ ps) qs (inr k) apart (inr m) there =
     ]
 
 -- the plan leaves parts of the state, and no others
-pub plan_left : (s z : StateAt) (t : Shape) (ws : List Watch) (new : Work) (logs : List LogPlan) (more : ℕ) → IsLawful s → s ≡ z → t ≡ s.tree → ws ≡ watches_of s.parts
+pub plan_left : (s z : StateAt) (t : Shape) (ws : List Watch) (new : Draft) (logs : List LogPlan) (more : ℕ) → IsLawful s → s ≡ z → t ≡ s.tree → ws ≡ watches_of s.parts
     → ((last : ℕ) (ps : List PartAt) → IsDraft s.settings.large s.next last ps (record { tree = t; watches = ws }) → IsDraftLeft s.settings.large more last ps new)
     → ((qs : List PartAt) → AreLeft s.parts qs → new.watches ≡ watches_of qs → planned_parts logs s.parts ≡ qs) → AreLeft z.parts (planned_parts logs z.parts)
 plan_left s z t ws new logs more lawful is same seen draft plans =
@@ -103,7 +103,7 @@ plan_left s z t ws new logs more lawful is same seen draft plans =
     subst (λ (x : StateAt). AreLeft x.parts (planned_parts logs x.parts)) is here
 
 -- what the work watches on stays a part in the plan
-pub plan_kept : (u : Update) (s z : StateAt) (t : Shape) (ws : List Watch) (new : Work) (logs : List LogPlan) (more : ℕ) → IsLawful s → s ≡ z → t ≡ s.tree → ws ≡ watches_of s.parts
+pub plan_kept : (u : Update) (s z : StateAt) (t : Shape) (ws : List Watch) (new : Draft) (logs : List LogPlan) (more : ℕ) → IsLawful s → s ≡ z → t ≡ s.tree → ws ≡ watches_of s.parts
     → ((last : ℕ) (ps : List PartAt) → IsDraft s.settings.large s.next last ps (record { tree = t; watches = ws }) → IsDraftLeft s.settings.large more last ps new)
     → (HasRoomFor (points_in u) (record { tree = t; watches = ws }) → (x : Watch) → Member x ws → HasLogRoomFor (most_ops u) x → Member x.path (paths_in new.watches))
     → ((qs : List PartAt) → AreLeft s.parts qs → new.watches ≡ watches_of qs → planned_parts logs s.parts ≡ qs)

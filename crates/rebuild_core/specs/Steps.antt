@@ -16,7 +16,7 @@ use Rattle.rebuild_parts.specs.Seen.{VersionAt}
 use Rattle.kd_tree.specs.Maps.{map_of}
 use Rattle.rebuild_parts.specs.Logs.{LogPlan, planned_parts}
 use Rattle.kd_update.specs.Detached.{AreLawfulParts, AreLeft, HaveLogRoom, paths}
-use Rattle.rebuild_core.specs.declared.plan.Drafted.{Drafted}
+use Rattle.rebuild_core.specs.declared.plan.PlanDraft.{PlanDraft}
 use Rattle.map_update.specs.Single.{RebuildsNothing, only_op}
 use Rattle.map_items.specs.declared.limits.TheConstants.{MAX_POINTS}
 use Rattle.rebuild_core.specs.declared.plan.TheConstants.{MAX_UPDATES}
@@ -49,7 +49,7 @@ IsFault u s (TooManyPoints next asked) = (length s.history < MAX_UPDATES) × (MA
 IsFault u s NoMemory = HasRoom u s
 
 -- The draft is the tree after the update, which is balanced outside the remaining parts, and they are lawful in it.
-pub record IsDrafted (u : Update) (s : StateAt) (d : Drafted) : Type 0 where
+pub record IsPlanDraft (u : Update) (s : StateAt) (d : PlanDraft) : Type 0 where
   pub stepped : map_of d.tree (s.next + points_in u) ≡ step s.settings.voxel u (map_of s.tree s.next)
   pub left : AreLeft s.parts (planned_parts d.logs.items s.parts)
   pub parts : AreLawfulParts s.settings.large (s.next + points_in u) s.last d.tree (planned_parts d.logs.items s.parts)

@@ -4,13 +4,13 @@ ghost use Rattle.kd_update.specs.Detached.{watches_of};
 ghost use Rattle.kd_tree.specs.Counter.{IsBlankOf};
 ghost use Rattle.rebuild_parts.specs.Logs.{planned_parts};
 ghost use Rattle.rebuild_core.specs.Outcome.{IsLeftByUpdate, MakesNodes};
-ghost use Rattle.rebuild_core.specs.Steps.{HasRoom, IsDrafted, IsFault, IsSettlePlan, IsSettleStep, IsUpdatePlan, IsUpdateStep};
+ghost use Rattle.rebuild_core.specs.Steps.{HasRoom, IsPlanDraft, IsFault, IsSettlePlan, IsSettleStep, IsUpdatePlan, IsUpdateStep};
 
 use crate::{MapState, Planned};
 use kd_tree::{Scratch, Steps, Tree};
 use kd_update::settled;
 use map_items::{Entry, MAX_POINTS, NoMemory, Update};
-use map_update::{Work, changed};
+use map_update::{Draft, changed};
 use rebuild_parts::{PartLog, StateFault, Version, forgotten, logs_of, watched};
 use std::alloc::Global;
 use std::marker::Brand;
@@ -20,7 +20,7 @@ use std::sync::ledger::{Blank, Ledger};
 pub const MAX_UPDATES: u64 = 1_048_576;
 
 #[derive(Drop)]
-struct Drafted {
+struct PlanDraft {
     tree: Tree,
     logs: Vec<PartLog>,
 }
@@ -79,7 +79,7 @@ impl MapState {
     {
         let next = self.next_after(&update)?;
         let mut scratch = self.take_scratch(alloc);
-        let draft = self.drafted(alloc, &update, &mut scratch, steps);
+        let draft = self.plan_draft(alloc, &update, &mut scratch, steps);
         self.put_scratch(scratch);
         let draft = draft?;
         let planned = self.plan_of(alloc, caller, update, next, draft, steps)?;
@@ -92,14 +92,14 @@ impl MapState {
         caller: u8,
         update: Update,
         next: u32,
-        draft: Drafted,
+        draft: PlanDraft,
         steps: &mut Steps<L>,
     ) -> Result<Planned, NoMemory>
         requires caller_from { 1 ≤ caller }
         requires caller_to { caller ≤ 8 }
         requires room { HasRoom update self.old.state }
         requires next { next ≡ self.old.state.next + points_in update }
-        requires drafted { IsDrafted update self.old.state draft }
+        requires plan_draft { IsPlanDraft update self.old.state draft }
         ensures same { self.new.state ≡ self.old.state }
         ensures planned { IfOk result (IsUpdatePlan caller update self.old.state) }
         ensures spare { OnOk result (1 ≤ self.new.spare) }
@@ -107,7 +107,7 @@ impl MapState {
         ensures logs { IfOk result (λ p. p.logs ≡ draft.logs.items) }
         ensures no_nodes_made { steps.new ≡ steps.old }
     {
-        let Drafted { tree, logs } = draft;
+        let PlanDraft { tree, logs } = draft;
         let _size = tree.size();
         let len = self.history.len() as u64;
         self.history.reserve(1)?;
@@ -146,34 +146,34 @@ impl MapState {
     }
 
     // Nodes are made in the memory of the scratch, as far as that goes.
-    fn drafted<L: Ledger>(
+    fn plan_draft<L: Ledger>(
         &self,
         alloc: Global,
         update: &Update,
         scratch: &mut Scratch,
         steps: &mut Steps<L>,
-    ) -> Result<Drafted, NoMemory>
+    ) -> Result<PlanDraft, NoMemory>
         requires few { self.now.state.next + points_in update.now ≤ MAX_POINTS }
-        ensures drafted { IfOk result (IsDrafted update.now self.now.state) }
+        ensures plan_draft { IfOk result (IsPlanDraft update.now self.now.state) }
         ensures leaves { IfOk result (λ d. IsLeftByUpdate update.now self.now.state (planned_parts d.logs.items self.now.state.parts) d.tree) }
         ensures nodes { MakesNodes update.now self.now.state steps.old steps.new }
     {
         let copy = self.copied(alloc, steps)?;
         let (settings, next) = (&self.settings, self.next);
         let work = changed(alloc, copy, settings, next, update, scratch, steps)?;
-        let Work { tree, watches } = work;
+        let Draft { tree, watches } = work;
         let logs = logs_of(alloc, self.parts.as_slice(), watches)?;
-        Ok(Drafted { tree, logs })
+        Ok(PlanDraft { tree, logs })
     }
 
-    fn copied<L: Ledger>(&self, alloc: Global, steps: &mut Steps<L>) -> Result<Work, NoMemory>
+    fn copied<L: Ledger>(&self, alloc: Global, steps: &mut Steps<L>) -> Result<Draft, NoMemory>
         ensures tree { IfOk result (λ w. w.tree ≡ self.now.state.tree) }
         ensures watches { IfOk result (λ w. w.watches ≡ watches_of self.now.state.parts) }
         ensures nodes_made { steps.new ≡ steps.old }
     {
         let tree = self.tree.copy(alloc, steps)?;
         let watches = watched(alloc, self.parts.as_slice())?;
-        Ok(Work { tree, watches })
+        Ok(Draft { tree, watches })
     }
 
     /// Rebuilds what breaches a criterion, as `settled` does, and forgets all detached subtrees.

@@ -8,7 +8,7 @@ use crate::on_tree::{tree_reply, tree_totals};
 use kd_tree::{Scratch, Steps, Tree};
 use kd_update::Watches;
 use map_items::{MAX_LARGE, MAX_POINTS, NoMemory, Settings, Update};
-use map_update::{Work, changed};
+use map_update::{Draft, changed};
 use scan_log::{Command, Reply};
 use std::alloc::Global;
 use std::marker::{Brand, Model};
@@ -16,7 +16,7 @@ use std::sync::ledger::{Blank, Ledger};
 
 /// A map whose items are in a tree that nobody else has: it keeps no version and no history, and detaches nothing.
 pub struct TreeMap {
-    work: Work,
+    work: Draft,
     next: u32,
     scratch: Scratch,
 }
@@ -25,13 +25,13 @@ impl Model for TreeMap {
     ghost use Rattle.map_items.specs.Fold.{MapAt};
     ghost use Rattle.map_items.specs.declared.limits.TheConstants.{MAX_LARGE};
     ghost use Rattle.kd_tree.specs.Maps.{map_of};
-    ghost use Rattle.map_update.specs.Draft.{IsWork};
+    ghost use Rattle.map_update.specs.Draft.{IsLawfulDraft};
 
     ghost Value = { MapAt };
 
     ghost view = { λ m. map_of m.work.tree m.next };
 
-    ghost invariant = { λ m. IsWork MAX_LARGE m.next m.work };
+    ghost invariant = { λ m. IsLawfulDraft MAX_LARGE m.next m.work };
 }
 
 // Manual `Drop`: a derived one is proved at every exit of every owner.
@@ -53,7 +53,7 @@ impl HeldMap for TreeMap {
         let tree = Tree::empty();
         let watches = Watches::new(alloc);
         TreeMap {
-            work: Work { tree, watches },
+            work: Draft { tree, watches },
             next: 0,
             scratch: Scratch::new(alloc),
         }

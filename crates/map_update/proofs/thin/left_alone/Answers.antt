@@ -6,11 +6,11 @@ use Rattle.map_items.specs.Contents.{in_box, mark, put}
 use Rattle.map_items.specs.Ops.{IsUnheld}
 use Rattle.map_items.proofs.Numbered.{mark-within}
 use Rattle.kd_tree.specs.Contents.{contents}
-use Rattle.map_update.specs.declared.work.Work.{Work}
+use Rattle.map_update.specs.declared.draft.Draft.{Draft}
 use Rattle.kd_tree.proofs.Contents.{unheld_free}
-use Rattle.map_update.specs.Draft.{IsDraftLeft, IsWorked}
+use Rattle.map_update.specs.Draft.{IsDraftLeft, IsDrafted}
 use Rattle.map_update.proofs.Working.{draft_few, draft_more, draft_on}
-use Rattle.map_update.proofs.Worked.{worked_then}
+use Rattle.map_update.proofs.Drafted.{worked_then}
 use Rattle.map_update.proofs.thin.left_alone.Goals as goal
 
 pub put-requires-clause-draft : goal.put-requires-clause-draft
@@ -41,9 +41,9 @@ pub returns-clause-contents : goal.returns-clause-contents
 returns-clause-contents g c =
     let i = c.args.item in
     let left = c.in_ok-work.ensures.contents ∙ mark-within c.within.result c.args.cuboid.now _ _ c.within.ensures in
-    IfOk-weaker c.put.result _ (λ (w : Work). contents w.tree ≡ put (mark (contents c.args.work.tree) (in_box c.args.cuboid.now) thin_tag) i.number i.point)
+    IfOk-weaker c.put.result _ (λ (w : Draft). contents w.tree ≡ put (mark (contents c.args.work.tree) (in_box c.args.cuboid.now) thin_tag) i.number i.point)
     (λ w e. e ∙ ap (λ (m : List Item). put m i.number i.point) left) c.put.ensures.contents
 
 pub returns-clause-worked : goal.returns-clause-worked
 returns-clause-worked g c =
-    IfOk-weaker c.put.result _ (IsWorked 1 2 c.args.work) (λ w k. worked_then 0 1 1 1 1 2 c.args.work c.in_ok-work.work w (omega arith) (omega arith) c.in_ok-work.ensures.worked k) c.put.ensures.worked
+    IfOk-weaker c.put.result _ (IsDrafted 1 2 c.args.work) (λ w k. worked_then 0 1 1 1 1 2 c.args.work c.in_ok-work.work w (omega arith) (omega arith) c.in_ok-work.ensures.worked k) c.put.ensures.worked

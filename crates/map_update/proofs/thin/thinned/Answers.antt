@@ -1,7 +1,7 @@
 use Rattle.std.proofs.Common.{◌≡◌, ◌∷◌, ◌+◌, ◌*◌, ◌<◌, ◌∙◌, ap, arith, drop, length, refl}
 use Rattle.map_items.proofs.Numbered.{drop-at}
 use Rattle.map_update.proofs.Detached.{left_itself, left_trans}
-use Rattle.map_update.proofs.Worked.{worked_itself, worked_kept, worked_then}
+use Rattle.map_update.proofs.Drafted.{worked_itself, worked_kept, worked_then}
 use Rattle.map_update.proofs.Winners.{only_first, turned_same}
 use Rattle.map_update.proofs.thin.thinned.Goals as goal
 

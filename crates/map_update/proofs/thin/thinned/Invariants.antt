@@ -1,7 +1,7 @@
 use Rattle.std.proofs.Common.{◌≡◌, ℕ, ◌+◌, ◌*◌, List, [], ◌∷◌, length, drop}
 use Rattle.point_geom.specs.Place.{Place}
 use Rattle.map_items.specs.Fold.{thin_points}
-use Rattle.map_update.specs.Draft.{IsDraft, IsDraftLeft, IsWorked}
+use Rattle.map_update.specs.Draft.{IsDraft, IsDraftLeft, IsDrafted}
 use Rattle.kd_tree.specs.Maps.{map_of}
 use Rattle.map_update.specs.OnePoint.{IsTurnedAway}
 use Rattle.kd_update.specs.Detached.{PartAt}
@@ -12,6 +12,6 @@ invariant-loop-point g l = record {
   draft : (last : ℕ) (ps : List PartAt) → IsDraft l.settings.large l.fn.next last ps l.fn.work → IsDraftLeft l.settings.large l.next last ps l.work;
   room : l.next + length (drop l.point-index l.points) ≡ l.fn.next + length l.points;
   rest : thin_points l.settings.voxel (drop l.point-index l.points) (map_of l.work.tree l.next) ≡ thin_points l.settings.voxel l.points (map_of l.fn.work.tree l.fn.next);
-  worked : IsWorked l.point-index (2 * l.point-index) l.fn.work l.work;
+  worked : IsDrafted l.point-index (2 * l.point-index) l.fn.work l.work;
   same : (p : Place) → l.points ≡ p ∷ [] → IsTurnedAway l.settings.voxel (map_of l.fn.work.tree l.fn.next) p → (l.work.tree ≡ l.fn.work.tree) × (l.steps ≡ l.fn.steps);
 }

@@ -13,8 +13,8 @@ use Rattle.map_update.proofs.Detached.{left_itself}
 use Rattle.map_update.proofs.Working.{draft_more}
 use Rattle.map_items.proofs.Numbered.{contents_rise, unheld_above}
 use Rattle.std.proofs.lemmas.Result.{IfOk-weaker}
-use Rattle.map_update.specs.Draft.{IsWork, IsWorked}
-use Rattle.map_update.proofs.Worked.{worked_itself, worked_more}
+use Rattle.map_update.specs.Draft.{IsLawfulDraft, IsDrafted}
+use Rattle.map_update.proofs.Drafted.{worked_itself, worked_more}
 use Rattle.map_update.proofs.Winners.{alone_inside, becomes, draft_contents, held_wins, new_wins}
 use Rattle.map_update.proofs.thin.thinned_one.Goals as goal
 
@@ -114,19 +114,19 @@ pub returns-clause-draft : goal.returns-clause-draft
 returns-clause-draft g c = rw c.large-large.ensures.value at c.left_alone-2.ensures.draft
 
 pub returns-in_default-clause-worked : goal.returns-in_default-clause-worked
-returns-in_default-clause-worked g c = IfOk-weaker c.added_one.result _ (IsWorked 1 2 c.args.work) (λ w k. worked_more 1 1 1 2 c.args.work w (omega arith) (omega arith) k) c.added_one.ensures.worked
+returns-in_default-clause-worked g c = IfOk-weaker c.added_one.result _ (IsDrafted 1 2 c.args.work) (λ w k. worked_more 1 1 1 2 c.args.work w (omega arith) (omega arith) k) c.added_one.ensures.worked
 
 pub returns-then-count-eq1-clause-worked : goal.returns-then-count-eq1-clause-worked
 returns-then-count-eq1-clause-worked g c = worked_itself 1 2 c.args.work
 
 pub added_one-requires-clause-draft : goal.added_one-requires-clause-draft
-added_one-requires-clause-draft g c = subst (λ n. IsWork n c.args.next c.args.work) (sym c.large-large.ensures.value) c.requires.draft
+added_one-requires-clause-draft g c = subst (λ n. IsLawfulDraft n c.args.next c.args.work) (sym c.large-large.ensures.value) c.requires.draft
 
 pub left_alone-requires-clause-draft : goal.left_alone-requires-clause-draft
-left_alone-requires-clause-draft g c = subst (λ n. IsWork n c.args.next c.args.work) (sym c.large-large.ensures.value) c.requires.draft
+left_alone-requires-clause-draft g c = subst (λ n. IsLawfulDraft n c.args.next c.args.work) (sym c.large-large.ensures.value) c.requires.draft
 
 pub left_alone-requires-2-clause-draft : goal.left_alone-requires-2-clause-draft
-left_alone-requires-2-clause-draft g c = subst (λ n. IsWork n c.args.next c.args.work) (sym c.large-large.ensures.value) c.requires.draft
+left_alone-requires-2-clause-draft g c = subst (λ n. IsLawfulDraft n c.args.next c.args.work) (sym c.large-large.ensures.value) c.requires.draft
 
 pub returns-in_default-clause-draft : goal.returns-in_default-clause-draft
 returns-in_default-clause-draft g c = rw c.large-large.ensures.value at c.added_one.ensures.draft

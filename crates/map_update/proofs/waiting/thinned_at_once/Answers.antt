@@ -16,8 +16,8 @@ use Rattle.kd_tree.specs.declared.path.Side.{Side}
 use Rattle.kd_mark.specs.Watches.{paths_in}
 use Rattle.map_update.specs.declared.entrants.Entrant.{Entrant}
 use Rattle.map_update.specs.declared.waiting.Waiting.{Waiting}
-use Rattle.map_update.specs.declared.work.Work.{Work}
-use Rattle.map_update.specs.Draft.{IsDraft, IsDraftLeft, IsWorked}
+use Rattle.map_update.specs.declared.draft.Draft.{Draft}
+use Rattle.map_update.specs.Draft.{IsDraft, IsDraftLeft, IsDrafted}
 use Rattle.map_update.specs.Entrants.{HaveOwnVoxels, AreEntrants, AreFirsts, thin_each}
 use Rattle.kd_tree.specs.Maps.{map_of}
 use Rattle.map_update.specs.Ranks.{HaveVoxels, items_in}
@@ -27,7 +27,7 @@ use Rattle.map_update.proofs.Entering.{entrants_after}
 use Rattle.map_update.proofs.Entrances.{none_clear, still_clear}
 use Rattle.map_update.proofs.Firsts.{firsts_enter}
 use Rattle.map_update.proofs.Detached.{left_itself}
-use Rattle.map_update.proofs.Worked.{room_left, still_left, worked_itself, worked_then}
+use Rattle.map_update.proofs.Drafted.{room_left, still_left, worked_itself, worked_then}
 use Rattle.map_update.proofs.Working.{draft_more, draft_on}
 use Rattle.map_update.proofs.waiting.thinned_at_once.Goals as goal
 
@@ -57,7 +57,7 @@ loop-entrant-init g c =
       apart = firsts.apart;
       clear = none_clear edge c.none-waiting.result (items_in es) c.none-waiting.ensures.none;
       draft = λ last ps d. subst (IsDraftLeft c.args.settings.now.large high last ps) (sym c.none-waiting.ensures.same) (ps, left_itself ps, draft_more c.args.settings.now.large next high last ps c.args.work (omega arith) d);
-      worked = subst (IsWorked 0 0 c.args.work) (sym c.none-waiting.ensures.same) (worked_itself 0 0 c.args.work);
+      worked = subst (IsDrafted 0 0 c.args.work) (sym c.none-waiting.ensures.same) (worked_itself 0 0 c.args.work);
       few = omega (arith, ap (λ (xs : List Item). length xs) c.none-waiting.ensures.none);
     }
 
@@ -133,7 +133,7 @@ returns-clause-kept g c = λ room x there own.
     let worked = c.loop-entrant.invariant.worked in
     let left = room_left 0 k m n c.args.work v.work (omega (arith, few, most, short)) worked room in
     let first = still_left 0 k n (2 * n) c.args.work v.work (omega arith) (omega (arith, most, short)) worked room x there own in
-    subst (λ (q : List Side). IfOk c.put.result (λ (u : Work). Member q (paths_in u.watches))) first.path
+    subst (λ (q : List Side). IfOk c.put.result (λ (u : Draft). Member q (paths_in u.watches))) first.path
     (c.put.ensures.kept left first.watch first.there (omega (arith, own, first.few, few, most, short)))
 
 pub returns-clause-stepped : goal.returns-clause-stepped
@@ -149,5 +149,5 @@ returns-clause-stepped g c =
     let none = drop_all c.loop-entrant.entrant-index es c.loop-entrant-test.false in
     let whole : held_by w ≡ (thin_points edge ps (map_of t next)).items =
     ap (λ (xs : List Entrant). thin_each edge (held_by w) (items_in xs)) (sym none) ∙ c.loop-entrant.invariant.rest ∙ thin_firsts edge next ps (items_in es) (contents t) c.large-large.ensures.sizes.voxel_from held firsts in
-    IfOk-weaker c.put.result _ (λ (u : Work). map_of u.tree (next + length ps) ≡ thin_points edge ps (map_of t next))
+    IfOk-weaker c.put.result _ (λ (u : Draft). map_of u.tree (next + length ps) ≡ thin_points edge ps (map_of t next))
     (λ u e. map_alike (thin_points edge ps (map_of t next)) (contents u.tree) (next + length ps) (e ∙ whole) (sym (thin_next edge ps (map_of t next)))) c.put.ensures.held

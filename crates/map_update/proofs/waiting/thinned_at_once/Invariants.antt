@@ -1,6 +1,6 @@
 use Rattle.std.proofs.Common.{◌≡◌, ◌≤◌, ℕ, List, drop, length}
 use Rattle.kd_tree.specs.Contents.{contents}
-use Rattle.map_update.specs.Draft.{IsDraft, IsDraftLeft, IsWorked}
+use Rattle.map_update.specs.Draft.{IsDraft, IsDraftLeft, IsDrafted}
 use Rattle.map_update.specs.Entrants.{HaveOwnVoxels, AreEntrants, thin_each}
 use Rattle.kd_update.specs.Detached.{PartAt}
 use Rattle.map_update.specs.Ranks.{items_in}
@@ -15,6 +15,6 @@ invariant-loop-entrant g l = let edge = l.settings.voxel in let left = items_in 
   apart : HaveOwnVoxels edge left;
   clear : AreClear edge l.waiting left;
   draft : (last : ℕ) (ps : List PartAt) → IsDraft l.settings.large l.fn.next last ps l.fn.work → IsDraftLeft l.settings.large l.high last ps l.waiting.work;
-  worked : IsWorked 0 l.entrant-index l.fn.work l.waiting.work;
+  worked : IsDrafted 0 l.entrant-index l.fn.work l.waiting.work;
   few : length l.waiting.items.items ≤ l.entrant-index;
 }

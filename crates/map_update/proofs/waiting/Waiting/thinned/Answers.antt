@@ -21,9 +21,9 @@ use Rattle.map_update.proofs.Entering.{entered_none, entered_same, winner_below,
 use Rattle.map_items.proofs.Numbered.{contents_rise}
 use Rattle.map_update.proofs.Winners.{alone_inside, held_wins, new_wins}
 use Rattle.map_update.specs.declared.waiting.Waiting.{Waiting}
-use Rattle.map_update.specs.Draft.{IsDraft, IsDraftLeft, IsWorked}
+use Rattle.map_update.specs.Draft.{IsDraft, IsDraftLeft, IsDrafted}
 use Rattle.map_update.proofs.Detached.{left_itself}
-use Rattle.map_update.proofs.Worked.{worked_itself}
+use Rattle.map_update.proofs.Drafted.{worked_itself}
 use Rattle.map_update.proofs.waiting.Waiting.thinned.Goals as goal
 
 -- an item lies in its voxel
@@ -152,8 +152,8 @@ returns-in_default-clause-draft g c = λ last ps d.
 
 pub returns-in_default-clause-worked : goal.returns-in_default-clause-worked
 returns-in_default-clause-worked g c =
-    IfOk-weaker c.with.result _ (λ (w : Waiting). IsWorked 0 1 c.args.self.work w.work)
-    (λ w same. subst (IsWorked 0 1 c.args.self.work) (sym same) (worked_itself 0 1 c.args.self.work)) c.with.ensures.work
+    IfOk-weaker c.with.result _ (λ (w : Waiting). IsDrafted 0 1 c.args.self.work w.work)
+    (λ w same. subst (IsDrafted 0 1 c.args.self.work) (sym same) (worked_itself 0 1 c.args.self.work)) c.with.ensures.work
 
 pub returns-then-comes_before-clause-draft : goal.returns-then-comes_before-clause-draft
 returns-then-comes_before-clause-draft g c = λ last ps d.
@@ -162,8 +162,8 @@ returns-then-comes_before-clause-draft g c = λ last ps d.
 
 pub returns-then-comes_before-clause-worked : goal.returns-then-comes_before-clause-worked
 returns-then-comes_before-clause-worked g c =
-    IfOk-weaker c.with-then-comes_before.result _ (λ (w : Waiting). IsWorked 0 1 c.args.self.work w.work)
-    (λ w same. subst (IsWorked 0 1 c.args.self.work) (sym same) c.in_ok-cleared.ensures.worked) c.with-then-comes_before.ensures.work
+    IfOk-weaker c.with-then-comes_before.result _ (λ (w : Waiting). IsDrafted 0 1 c.args.self.work w.work)
+    (λ w same. subst (IsDrafted 0 1 c.args.self.work) (sym same) c.in_ok-cleared.ensures.worked) c.with-then-comes_before.ensures.work
 
 pub returns-then-count-eq1-clause-draft : goal.returns-then-count-eq1-clause-draft
 returns-then-count-eq1-clause-draft g c = λ last ps d. (ps, left_itself ps, d)
@@ -178,8 +178,8 @@ returns-clause-draft g c = λ last ps d.
 
 pub returns-clause-worked : goal.returns-clause-worked
 returns-clause-worked g c =
-    IfOk-weaker c.with-2.result _ (λ (w : Waiting). IsWorked 0 1 c.args.self.work w.work)
-    (λ w same. subst (IsWorked 0 1 c.args.self.work) (sym same) c.in_ok-cleared-2.ensures.worked) c.with-2.ensures.work
+    IfOk-weaker c.with-2.result _ (λ (w : Waiting). IsDrafted 0 1 c.args.self.work w.work)
+    (λ w same. subst (IsDrafted 0 1 c.args.self.work) (sym same) c.in_ok-cleared-2.ensures.worked) c.with-2.ensures.work
 
 -- what is said of the settings' number, said of the one that is handed on
 

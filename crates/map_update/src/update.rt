@@ -1,0 +1,135 @@
+//! What an update makes of a tree and of what is watched of it, operation by operation.
+ghost use Rattle.std.specs.Prelude.{◌≡◌, ◌+◌, ◌<◌, ◌≤◌, [], ◌∷◌, Some, length, IfOk};
+ghost use Rattle.point_geom.specs.Place.{Place};
+ghost use Rattle.map_items.specs.declared.op.Op.{Op};
+ghost use Rattle.map_items.specs.declared.op.Op.TheVariants.{Put};
+ghost use Rattle.map_items.specs.Contents.{put};
+ghost use Rattle.map_items.specs.Fold.{add_points, mark_boxes, points_in, step};
+ghost use Rattle.kd_tree.specs.Contents.{contents};
+ghost use Rattle.kd_tree.specs.Maps.{map_of};
+ghost use Rattle.map_update.specs.Draft.{DoesPlainly, IsLawfulDraft, IsDrafted, KeepsDraft, KeepsWatched, MakesFew};
+ghost use Rattle.map_update.specs.OnePoint.{IsTurnedAway};
+ghost use Rattle.map_update.specs.Single.{most_ops, only_mark, only_op};
+
+use crate::draft::{Draft, Drafted};
+use crate::thin::thinned;
+use kd_tree::{Scratch, Steps};
+use kd_update::{PASS_FROM, live_items};
+use map_items::{Choice, Cuboids, MAX_POINTS, Points, Settings, Tag, Update};
+use point_geom::Point;
+use std::alloc::Global;
+use std::sync::ledger::Ledger;
+
+/// The work after the update, where `next` points were submitted before. What crosses a watched subtree is logged for
+/// it; one whose log has no room for two operations more is rebuilt where it is before, and forgotten. On an
+/// operation's way, what breaches a criterion is rebuilt if it is smaller than `large` and nothing in it is watched. On
+/// `NoMemory` the work is dropped. The time is that of the operations, by the subtrees that they meet; of a scan that
+/// of few passes over what it meets.
+pub fn changed<L: Ledger>(
+    alloc: Global,
+    work: Draft,
+    settings: &Settings,
+    next: u32,
+    update: &Update,
+    scratch: &mut Scratch,
+    steps: &mut Steps<L>,
+) -> Drafted
+    requires draft { IsLawfulDraft settings.now.large next work }
+    requires few { next + points_in update.now ≤ MAX_POINTS }
+    ensures stepped { IfOk result (λ w. map_of w.tree (next + points_in update.now) ≡ step settings.now.voxel update.now (map_of work.tree next)) }
+    ensures draft { KeepsDraft settings.now.large next (next + points_in update.now) work result }
+    ensures kept { KeepsWatched (points_in update.now) (most_ops update.now) work result }
+    ensures unrebuilt { (op : Op) → only_op next update.now ≡ Some op → DoesPlainly settings.now.large op work result }
+    ensures nodes_made { (op : Op) → only_op next update.now ≡ Some op → MakesFew settings.now.large op work steps.old steps.new }
+    ensures turned_away { (p : Place) → update.now ≡ Update.Thin (p ∷ []) → IsTurnedAway settings.now.voxel (map_of work.tree next) p
+        → IfOk result (λ w. w.tree ≡ work.tree) }
+    ensures no_nodes_made { (p : Place) → update.now ≡ Update.Thin (p ∷ []) → IsTurnedAway settings.now.voxel (map_of work.tree next) p
+        → steps.new ≡ steps.old }
+{
+    let large = settings.large();
+    match update {
+        Update::Add(points) => added(alloc, work, large, next, points, scratch, steps),
+        Update::Thin(points) => thinned(alloc, work, settings, next, points, scratch, steps),
+        Update::Delete(boxes) => marked_each(alloc, work, large, next, boxes, Tag::DELETE, steps),
+        Update::Suspend(boxes) => marked_each(alloc, work, large, next, boxes, Tag::SUSPEND, steps),
+        Update::Restore(boxes) => marked_each(alloc, work, large, next, boxes, Tag::RESTORE, steps),
+        Update::Expire(number) => {
+            let choice = Choice::below(*number);
+            work.marked(alloc, large, &choice, Tag::DELETE, steps)
+        }
+    }
+}
+
+fn added<L: Ledger>(
+    alloc: Global,
+    work: Draft,
+    large: u32,
+    next: u32,
+    points: &Points,
+    scratch: &mut Scratch,
+    steps: &mut Steps<L>,
+) -> Drafted
+    requires draft { IsLawfulDraft large next work }
+    requires few { next + length points.now ≤ MAX_POINTS }
+    ensures stepped { IfOk result (λ w. map_of w.tree (next + length points.now) ≡ add_points points.now (map_of work.tree next)) }
+    ensures draft { KeepsDraft large next (next + length points.now) work result }
+    ensures kept { KeepsWatched (length points.now) (length points.now) work result }
+    ensures unrebuilt { (op : Op) → only_op next (Update.Add points.now) ≡ Some op → DoesPlainly large op work result }
+    ensures nodes_made { (op : Op) → only_op next (Update.Add points.now) ≡ Some op → MakesFew large op work steps.old steps.new }
+{
+    if points.len() >= PASS_FROM {
+        let _size = work.tree.size();
+        let items = live_items(alloc, next, points.as_slice())?;
+        return work.put_items(alloc, large, items.as_slice(), scratch, steps);
+    }
+    let mut work = work;
+    let mut next = next;
+    for point in points.as_slice() {
+        work = added_one(alloc, work, large, next, *point, steps)?;
+        next += 1;
+    }
+    Ok(work)
+}
+
+pub(crate) fn added_one<L: Ledger>(
+    alloc: Global,
+    work: Draft,
+    large: u32,
+    next: u32,
+    point: Point,
+    steps: &mut Steps<L>,
+) -> Drafted
+    requires draft { IsLawfulDraft large next work }
+    requires few { next < MAX_POINTS }
+    ensures contents { IfOk result (λ w. contents w.tree ≡ put (contents work.tree) next point) }
+    ensures draft { KeepsDraft large next (next + 1) work result }
+    ensures worked { IfOk result (IsDrafted 1 1 work) }
+    ensures unrebuilt { DoesPlainly large (Put next point) work result }
+    ensures nodes_made { MakesFew large (Put next point) work steps.old steps.new }
+{
+    let _size = work.tree.size();
+    work.put(alloc, large, next, point, steps)
+}
+
+fn marked_each<L: Ledger>(
+    alloc: Global,
+    work: Draft,
+    large: u32,
+    next: u32,
+    boxes: &Cuboids,
+    tag: Tag,
+    steps: &mut Steps<L>,
+) -> Drafted
+    requires draft { IsLawfulDraft large next work }
+    ensures stepped { IfOk result (λ w. map_of w.tree next ≡ mark_boxes tag boxes.now (map_of work.tree next)) }
+    ensures draft { KeepsDraft large next next work result }
+    ensures kept { KeepsWatched 0 (length boxes.now) work result }
+    ensures unrebuilt { (op : Op) → only_mark tag boxes.now ≡ Some op → DoesPlainly large op work result }
+    ensures nodes_made { (op : Op) → only_mark tag boxes.now ≡ Some op → MakesFew large op work steps.old steps.new }
+{
+    let mut work = work;
+    for cuboid in boxes.as_slice() {
+        work = work.marked(alloc, large, &Choice::within(cuboid), tag, steps)?;
+    }
+    Ok(work)
+}
