@@ -45,12 +45,12 @@ impl Draft {
         requires draft { (next : ℕ) × IsLawfulDraft large next self }
         ensures contents { IfOk result (λ w. contents w.tree ≡ mark (contents self.tree) (chosen_by choice.now) tag) }
         ensures draft { (next : ℕ) → KeepsDraft large next next self result }
-        ensures worked { IfOk result (IsDrafted 0 1 self) }
+        ensures drafted { IfOk result (IsDrafted 0 1 self) }
         ensures unrebuilt { DoesPlainly large (Mark choice.now tag) self result }
         ensures nodes_made { MakesFew large (Mark choice.now tag) self steps.old steps.new }
     {
-        let work = self.without_full(alloc, large, steps)?;
-        let Draft { tree, mut watches } = work;
+        let draft = self.without_full(alloc, large, steps)?;
+        let Draft { tree, mut watches } = draft;
         let tree = marked_watched(alloc, tree, large, choice, tag, &mut watches, steps)?;
         Ok(Draft { tree, watches })
     }
@@ -70,12 +70,12 @@ impl Draft {
         ensures contents { IfOk result (λ w. contents w.tree ≡ put (contents self.tree) number point) }
         ensures draft { (next last : ℕ) (ps : List PartAt) → number < next → IsDraft large next last ps self
             → IfOk result (IsDraftLeft large next last ps) }
-        ensures worked { IfOk result (IsDrafted 1 1 self) }
+        ensures drafted { IfOk result (IsDrafted 1 1 self) }
         ensures unrebuilt { DoesPlainly large (Put number point) self result }
         ensures nodes_made { MakesFew large (Put number point) self steps.old steps.new }
     {
-        let work = self.with_room(alloc, large, steps)?;
-        let Draft { tree, mut watches } = work;
+        let draft = self.with_room(alloc, large, steps)?;
+        let Draft { tree, mut watches } = draft;
         let tree = put_watched(alloc, tree, large, number, point, &mut watches, steps)?;
         Ok(Draft { tree, watches })
     }
@@ -123,8 +123,8 @@ impl Draft {
         let Some(place) = first_full(self.watches.as_slice()) else {
             return Ok(self);
         };
-        let work = self.without(alloc, large, place, steps)?;
-        work.without_full(alloc, large, steps)
+        let draft = self.without(alloc, large, place, steps)?;
+        draft.without_full(alloc, large, steps)
     }
 
     // The work without the subtree that is watched at this place of the list: it is rebuilt where it stands. A rebuilt copy is no

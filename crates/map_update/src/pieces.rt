@@ -38,15 +38,15 @@ impl Draft {
             let tree = put_all(alloc, tree, large, items, scratch, steps)?;
             return Ok(Draft { tree, watches });
         }
-        let mut work = self;
+        let mut draft = self;
         let mut rest = items;
         while !rest.is_empty() {
-            let count = work.most_at_once(large, rest.len());
+            let count = draft.most_at_once(large, rest.len());
             let (piece, more) = rest.split_at(count);
-            work = work.put_piece(alloc, large, piece, scratch, steps)?;
+            draft = draft.put_piece(alloc, large, piece, scratch, steps)?;
             rest = more;
         }
-        Ok(work)
+        Ok(draft)
     }
 
     // A voxel adds a mark, which may be two operations, and a point to a log; and the points may add an action that is
@@ -91,7 +91,7 @@ impl Draft {
         ensures contents { IfOk result (λ w. contents w.tree ≡ put_each (contents self.tree) piece.now) }
         ensures draft { (next last : ℕ) (ps : List PartAt) → All (λ i. i.number < next) piece.now → IsDraft large next last ps self
             → IfOk result (IsDraftLeft large next last ps) }
-        ensures worked { IfOk result (IsDrafted (length piece.now) (length piece.now) self) }
+        ensures drafted { IfOk result (IsDrafted (length piece.now) (length piece.now) self) }
     {
         let Some((item, others)) = piece.split_first() else {
             return Ok(self);

@@ -23,88 +23,88 @@ use std::sync::ledger::Ledger;
 
 pub(crate) fn thinned<L: Ledger>(
     alloc: Global,
-    work: Draft,
+    draft: Draft,
     settings: &Settings,
     next: u32,
     points: &Points,
     scratch: &mut Scratch,
     steps: &mut Steps<L>,
 ) -> Drafted
-    requires draft { IsLawfulDraft settings.now.large next work }
+    requires draft { IsLawfulDraft settings.now.large next draft }
     requires few { next + length points.now ≤ MAX_POINTS }
-    ensures stepped { IfOk result (λ w. map_of w.tree (next + length points.now) ≡ thin_points settings.now.voxel points.now (map_of work.tree next)) }
-    ensures draft { KeepsDraft settings.now.large next (next + length points.now) work result }
-    ensures kept { KeepsWatched (length points.now) (2 * length points.now) work result }
-    ensures turned_away { (p : Place) → points.now ≡ p ∷ [] → IsTurnedAway settings.now.voxel (map_of work.tree next) p
-        → IfOk result (λ w. w.tree ≡ work.tree) }
-    ensures no_nodes_made { (p : Place) → points.now ≡ p ∷ [] → IsTurnedAway settings.now.voxel (map_of work.tree next) p
+    ensures stepped { IfOk result (λ w. map_of w.tree (next + length points.now) ≡ thin_points settings.now.voxel points.now (map_of draft.tree next)) }
+    ensures draft { KeepsDraft settings.now.large next (next + length points.now) draft result }
+    ensures kept { KeepsWatched (length points.now) (2 * length points.now) draft result }
+    ensures turned_away { (p : Place) → points.now ≡ p ∷ [] → IsTurnedAway settings.now.voxel (map_of draft.tree next) p
+        → IfOk result (λ w. w.tree ≡ draft.tree) }
+    ensures no_nodes_made { (p : Place) → points.now ≡ p ∷ [] → IsTurnedAway settings.now.voxel (map_of draft.tree next) p
         → steps.new ≡ steps.old }
 {
-    if points.len() >= PASS_FROM && work.may_thin_at_once(points.len()) {
+    if points.len() >= PASS_FROM && draft.may_thin_at_once(points.len()) {
         let points = points.as_slice();
-        return thinned_at_once(alloc, work, settings, next, points, scratch, steps);
+        return thinned_at_once(alloc, draft, settings, next, points, scratch, steps);
     }
-    let mut work = work;
+    let mut draft = draft;
     let mut next = next;
     for point in points.as_slice() {
-        work = thinned_one(alloc, work, settings, next, *point, steps)?;
+        draft = thinned_one(alloc, draft, settings, next, *point, steps)?;
         next += 1;
     }
-    Ok(work)
+    Ok(draft)
 }
 
 // A point that changes nothing makes no node.
 fn thinned_one<L: Ledger>(
     alloc: Global,
-    work: Draft,
+    draft: Draft,
     settings: &Settings,
     next: u32,
     point: Point,
     steps: &mut Steps<L>,
 ) -> Drafted
-    requires draft { IsLawfulDraft settings.now.large next work }
+    requires draft { IsLawfulDraft settings.now.large next draft }
     requires few { next < MAX_POINTS }
-    ensures contents { IfOk result (λ w. contents w.tree ≡ thin settings.now.voxel (contents work.tree) next point) }
-    ensures draft { KeepsDraft settings.now.large next (next + 1) work result }
-    ensures worked { IfOk result (IsDrafted 1 2 work) }
-    ensures turned_away { IsTurnedAway settings.now.voxel (map_of work.tree next) point → IfOk result (λ w. w.tree ≡ work.tree) }
-    ensures no_nodes_made { IsTurnedAway settings.now.voxel (map_of work.tree next) point → steps.new ≡ steps.old }
+    ensures contents { IfOk result (λ w. contents w.tree ≡ thin settings.now.voxel (contents draft.tree) next point) }
+    ensures draft { KeepsDraft settings.now.large next (next + 1) draft result }
+    ensures drafted { IfOk result (IsDrafted 1 2 draft) }
+    ensures turned_away { IsTurnedAway settings.now.voxel (map_of draft.tree next) point → IfOk result (λ w. w.tree ≡ draft.tree) }
+    ensures no_nodes_made { IsTurnedAway settings.now.voxel (map_of draft.tree next) point → steps.new ≡ steps.old }
 {
-    let _size = work.tree.size();
+    let _size = draft.tree.size();
     let large = settings.large();
     let cube = voxel(&point, settings.voxel());
-    let Rivals { best, count } = rivals_in(&work.tree, &cube);
+    let Rivals { best, count } = rivals_in(&draft.tree, &cube);
     let Some(held) = best else {
-        return added_one(alloc, work, large, next, point, steps);
+        return added_one(alloc, draft, large, next, point, steps);
     };
     let new = Item::live(next, point);
     if new.comes_before(&held, &cube) {
-        return left_alone(alloc, work, large, next, &cube, new, steps);
+        return left_alone(alloc, draft, large, next, &cube, new, steps);
     }
     if count == 1 {
-        return Ok(work);
+        return Ok(draft);
     }
-    left_alone(alloc, work, large, next, &cube, held, steps)
+    left_alone(alloc, draft, large, next, &cube, held, steps)
 }
 
 fn left_alone<L: Ledger>(
     alloc: Global,
-    work: Draft,
+    draft: Draft,
     large: u32,
     next: u32,
     cuboid: &Cuboid,
     item: Item,
     steps: &mut Steps<L>,
 ) -> Drafted
-    requires draft { IsLawfulDraft large next work }
+    requires draft { IsLawfulDraft large next draft }
     requires few { next < MAX_POINTS }
     requires below { item.number < next + 1 }
-    requires new { IsUnheld item.number (mark (contents work.tree) (in_box cuboid.now) thin_tag) }
-    ensures contents { IfOk result (λ w. contents w.tree ≡ put (mark (contents work.tree) (in_box cuboid.now) thin_tag) item.number item.point) }
-    ensures draft { KeepsDraft large next (next + 1) work result }
-    ensures worked { IfOk result (IsDrafted 1 2 work) }
+    requires new { IsUnheld item.number (mark (contents draft.tree) (in_box cuboid.now) thin_tag) }
+    ensures contents { IfOk result (λ w. contents w.tree ≡ put (mark (contents draft.tree) (in_box cuboid.now) thin_tag) item.number item.point) }
+    ensures draft { KeepsDraft large next (next + 1) draft result }
+    ensures drafted { IfOk result (IsDrafted 1 2 draft) }
 {
-    let work = work.marked(alloc, large, &Choice::within(cuboid), Tag::THIN, steps)?;
-    let _size = work.tree.size();
-    work.put(alloc, large, item.number, item.point, steps)
+    let draft = draft.marked(alloc, large, &Choice::within(cuboid), Tag::THIN, steps)?;
+    let _size = draft.tree.size();
+    draft.put(alloc, large, item.number, item.point, steps)
 }

@@ -27,109 +27,109 @@ use std::sync::ledger::Ledger;
 /// of few passes over what it meets.
 pub fn changed<L: Ledger>(
     alloc: Global,
-    work: Draft,
+    draft: Draft,
     settings: &Settings,
     next: u32,
     update: &Update,
     scratch: &mut Scratch,
     steps: &mut Steps<L>,
 ) -> Drafted
-    requires draft { IsLawfulDraft settings.now.large next work }
+    requires draft { IsLawfulDraft settings.now.large next draft }
     requires few { next + points_in update.now ≤ MAX_POINTS }
-    ensures stepped { IfOk result (λ w. map_of w.tree (next + points_in update.now) ≡ step settings.now.voxel update.now (map_of work.tree next)) }
-    ensures draft { KeepsDraft settings.now.large next (next + points_in update.now) work result }
-    ensures kept { KeepsWatched (points_in update.now) (most_ops update.now) work result }
-    ensures unrebuilt { (op : Op) → only_op next update.now ≡ Some op → DoesPlainly settings.now.large op work result }
-    ensures nodes_made { (op : Op) → only_op next update.now ≡ Some op → MakesFew settings.now.large op work steps.old steps.new }
-    ensures turned_away { (p : Place) → update.now ≡ Update.Thin (p ∷ []) → IsTurnedAway settings.now.voxel (map_of work.tree next) p
-        → IfOk result (λ w. w.tree ≡ work.tree) }
-    ensures no_nodes_made { (p : Place) → update.now ≡ Update.Thin (p ∷ []) → IsTurnedAway settings.now.voxel (map_of work.tree next) p
+    ensures stepped { IfOk result (λ w. map_of w.tree (next + points_in update.now) ≡ step settings.now.voxel update.now (map_of draft.tree next)) }
+    ensures draft { KeepsDraft settings.now.large next (next + points_in update.now) draft result }
+    ensures kept { KeepsWatched (points_in update.now) (most_ops update.now) draft result }
+    ensures unrebuilt { (op : Op) → only_op next update.now ≡ Some op → DoesPlainly settings.now.large op draft result }
+    ensures nodes_made { (op : Op) → only_op next update.now ≡ Some op → MakesFew settings.now.large op draft steps.old steps.new }
+    ensures turned_away { (p : Place) → update.now ≡ Update.Thin (p ∷ []) → IsTurnedAway settings.now.voxel (map_of draft.tree next) p
+        → IfOk result (λ w. w.tree ≡ draft.tree) }
+    ensures no_nodes_made { (p : Place) → update.now ≡ Update.Thin (p ∷ []) → IsTurnedAway settings.now.voxel (map_of draft.tree next) p
         → steps.new ≡ steps.old }
 {
     let large = settings.large();
     match update {
-        Update::Add(points) => added(alloc, work, large, next, points, scratch, steps),
-        Update::Thin(points) => thinned(alloc, work, settings, next, points, scratch, steps),
-        Update::Delete(boxes) => marked_each(alloc, work, large, next, boxes, Tag::DELETE, steps),
-        Update::Suspend(boxes) => marked_each(alloc, work, large, next, boxes, Tag::SUSPEND, steps),
-        Update::Restore(boxes) => marked_each(alloc, work, large, next, boxes, Tag::RESTORE, steps),
+        Update::Add(points) => added(alloc, draft, large, next, points, scratch, steps),
+        Update::Thin(points) => thinned(alloc, draft, settings, next, points, scratch, steps),
+        Update::Delete(boxes) => marked_each(alloc, draft, large, next, boxes, Tag::DELETE, steps),
+        Update::Suspend(boxes) => marked_each(alloc, draft, large, next, boxes, Tag::SUSPEND, steps),
+        Update::Restore(boxes) => marked_each(alloc, draft, large, next, boxes, Tag::RESTORE, steps),
         Update::Expire(number) => {
             let choice = Choice::below(*number);
-            work.marked(alloc, large, &choice, Tag::DELETE, steps)
+            draft.marked(alloc, large, &choice, Tag::DELETE, steps)
         }
     }
 }
 
 fn added<L: Ledger>(
     alloc: Global,
-    work: Draft,
+    draft: Draft,
     large: u32,
     next: u32,
     points: &Points,
     scratch: &mut Scratch,
     steps: &mut Steps<L>,
 ) -> Drafted
-    requires draft { IsLawfulDraft large next work }
+    requires draft { IsLawfulDraft large next draft }
     requires few { next + length points.now ≤ MAX_POINTS }
-    ensures stepped { IfOk result (λ w. map_of w.tree (next + length points.now) ≡ add_points points.now (map_of work.tree next)) }
-    ensures draft { KeepsDraft large next (next + length points.now) work result }
-    ensures kept { KeepsWatched (length points.now) (length points.now) work result }
-    ensures unrebuilt { (op : Op) → only_op next (Update.Add points.now) ≡ Some op → DoesPlainly large op work result }
-    ensures nodes_made { (op : Op) → only_op next (Update.Add points.now) ≡ Some op → MakesFew large op work steps.old steps.new }
+    ensures stepped { IfOk result (λ w. map_of w.tree (next + length points.now) ≡ add_points points.now (map_of draft.tree next)) }
+    ensures draft { KeepsDraft large next (next + length points.now) draft result }
+    ensures kept { KeepsWatched (length points.now) (length points.now) draft result }
+    ensures unrebuilt { (op : Op) → only_op next (Update.Add points.now) ≡ Some op → DoesPlainly large op draft result }
+    ensures nodes_made { (op : Op) → only_op next (Update.Add points.now) ≡ Some op → MakesFew large op draft steps.old steps.new }
 {
     if points.len() >= PASS_FROM {
-        let _size = work.tree.size();
+        let _size = draft.tree.size();
         let items = live_items(alloc, next, points.as_slice())?;
-        return work.put_items(alloc, large, items.as_slice(), scratch, steps);
+        return draft.put_items(alloc, large, items.as_slice(), scratch, steps);
     }
-    let mut work = work;
+    let mut draft = draft;
     let mut next = next;
     for point in points.as_slice() {
-        work = added_one(alloc, work, large, next, *point, steps)?;
+        draft = added_one(alloc, draft, large, next, *point, steps)?;
         next += 1;
     }
-    Ok(work)
+    Ok(draft)
 }
 
 pub(crate) fn added_one<L: Ledger>(
     alloc: Global,
-    work: Draft,
+    draft: Draft,
     large: u32,
     next: u32,
     point: Point,
     steps: &mut Steps<L>,
 ) -> Drafted
-    requires draft { IsLawfulDraft large next work }
+    requires draft { IsLawfulDraft large next draft }
     requires few { next < MAX_POINTS }
-    ensures contents { IfOk result (λ w. contents w.tree ≡ put (contents work.tree) next point) }
-    ensures draft { KeepsDraft large next (next + 1) work result }
-    ensures worked { IfOk result (IsDrafted 1 1 work) }
-    ensures unrebuilt { DoesPlainly large (Put next point) work result }
-    ensures nodes_made { MakesFew large (Put next point) work steps.old steps.new }
+    ensures contents { IfOk result (λ w. contents w.tree ≡ put (contents draft.tree) next point) }
+    ensures draft { KeepsDraft large next (next + 1) draft result }
+    ensures drafted { IfOk result (IsDrafted 1 1 draft) }
+    ensures unrebuilt { DoesPlainly large (Put next point) draft result }
+    ensures nodes_made { MakesFew large (Put next point) draft steps.old steps.new }
 {
-    let _size = work.tree.size();
-    work.put(alloc, large, next, point, steps)
+    let _size = draft.tree.size();
+    draft.put(alloc, large, next, point, steps)
 }
 
 fn marked_each<L: Ledger>(
     alloc: Global,
-    work: Draft,
+    draft: Draft,
     large: u32,
     next: u32,
     boxes: &Cuboids,
     tag: Tag,
     steps: &mut Steps<L>,
 ) -> Drafted
-    requires draft { IsLawfulDraft large next work }
-    ensures stepped { IfOk result (λ w. map_of w.tree next ≡ mark_boxes tag boxes.now (map_of work.tree next)) }
-    ensures draft { KeepsDraft large next next work result }
-    ensures kept { KeepsWatched 0 (length boxes.now) work result }
-    ensures unrebuilt { (op : Op) → only_mark tag boxes.now ≡ Some op → DoesPlainly large op work result }
-    ensures nodes_made { (op : Op) → only_mark tag boxes.now ≡ Some op → MakesFew large op work steps.old steps.new }
+    requires draft { IsLawfulDraft large next draft }
+    ensures stepped { IfOk result (λ w. map_of w.tree next ≡ mark_boxes tag boxes.now (map_of draft.tree next)) }
+    ensures draft { KeepsDraft large next next draft result }
+    ensures kept { KeepsWatched 0 (length boxes.now) draft result }
+    ensures unrebuilt { (op : Op) → only_mark tag boxes.now ≡ Some op → DoesPlainly large op draft result }
+    ensures nodes_made { (op : Op) → only_mark tag boxes.now ≡ Some op → MakesFew large op draft steps.old steps.new }
 {
-    let mut work = work;
+    let mut draft = draft;
     for cuboid in boxes.as_slice() {
-        work = work.marked(alloc, large, &Choice::within(cuboid), tag, steps)?;
+        draft = draft.marked(alloc, large, &Choice::within(cuboid), tag, steps)?;
     }
-    Ok(work)
+    Ok(draft)
 }

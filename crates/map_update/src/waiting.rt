@@ -26,7 +26,7 @@ use std::sync::ledger::Ledger;
 // A tree, and live items that it doesn't hold yet. A rejected point makes no node.
 #[derive(Drop)]
 pub(crate) struct Waiting {
-    pub(crate) work: Draft,
+    pub(crate) draft: Draft,
     pub(crate) items: Vec<Item>,
 }
 
@@ -34,24 +34,24 @@ pub(crate) struct Waiting {
 // searched once a voxel, and all that win are put at once, after all voxels were cleared.
 pub(crate) fn thinned_at_once<L: Ledger>(
     alloc: Global,
-    work: Draft,
+    draft: Draft,
     settings: &Settings,
     next: u32,
     points: &[Point],
     scratch: &mut Scratch,
     steps: &mut Steps<L>,
 ) -> Drafted
-    requires draft { IsLawfulDraft settings.now.large next work }
+    requires draft { IsLawfulDraft settings.now.large next draft }
     requires few { next + length points.now ≤ MAX_POINTS }
-    ensures stepped { IfOk result (λ w. map_of w.tree (next + length points.now) ≡ thin_points settings.now.voxel points.now (map_of work.tree next)) }
-    ensures draft { KeepsDraft settings.now.large next (next + length points.now) work result }
-    ensures kept { KeepsWatched (length points.now) (2 * length points.now) work result }
+    ensures stepped { IfOk result (λ w. map_of w.tree (next + length points.now) ≡ thin_points settings.now.voxel points.now (map_of draft.tree next)) }
+    ensures draft { KeepsDraft settings.now.large next (next + length points.now) draft result }
+    ensures kept { KeepsWatched (length points.now) (2 * length points.now) draft result }
 {
     let large = settings.large();
     let high = next + points.len() as u32;
     let entrants = firsts(alloc, settings, next, points)?;
-    let _size = work.tree.size();
-    let mut waiting = Waiting::none(alloc, work);
+    let _size = draft.tree.size();
+    let mut waiting = Waiting::none(alloc, draft);
     for entrant in entrants.as_slice() {
         waiting = waiting.thinned(alloc, settings, high, entrant, steps)?;
     }
@@ -59,15 +59,15 @@ pub(crate) fn thinned_at_once<L: Ledger>(
 }
 
 impl Waiting {
-    fn none(alloc: Global, work: Draft) -> Waiting
-        ensures held { held_by result ≡ contents work.tree }
-        ensures waiting { (large high : ℕ) → IsLawfulDraft large high work → IsWaiting large high result }
-        ensures same { result.work ≡ work }
+    fn none(alloc: Global, draft: Draft) -> Waiting
+        ensures held { held_by result ≡ contents draft.tree }
+        ensures waiting { (large high : ℕ) → IsLawfulDraft large high draft → IsWaiting large high result }
+        ensures same { result.draft ≡ draft }
         ensures none { result.items.items ≡ [] }
     {
-        let _size = work.tree.size();
+        let _size = draft.tree.size();
         Waiting {
-            work,
+            draft,
             items: Vec::new(alloc),
         }
     }
@@ -83,12 +83,12 @@ impl Waiting {
         requires waiting { IsWaiting large high self }
         requires few { high ≤ MAX_POINTS }
         ensures held { IfOk result (λ w. contents w.tree ≡ held_by self) }
-        ensures draft { KeepsDraft large high high self.work result }
-        ensures kept { KeepsWatched (length self.items.items) (length self.items.items) self.work result }
+        ensures draft { KeepsDraft large high high self.draft result }
+        ensures kept { KeepsWatched (length self.items.items) (length self.items.items) self.draft result }
     {
-        let Waiting { work, items } = self;
-        let _size = work.tree.size();
-        work.put_items(alloc, large, items.as_slice(), scratch, steps)
+        let Waiting { draft, items } = self;
+        let _size = draft.tree.size();
+        draft.put_items(alloc, large, items.as_slice(), scratch, steps)
     }
 
     // Nothing that waits lies in the entrant's voxel, so the tree alone is searched.
@@ -109,9 +109,9 @@ impl Waiting {
         ensures held { IfOk result (λ w. held_by w ≡ thin settings.now.voxel (held_by self) entrant.now.item.number entrant.now.item.point) }
         ensures waiting { IfOk result (λ w. IsWaiting settings.now.large high w) }
         ensures joined { IfOk result (IsJoined entrant.now.cube self) }
-        ensures draft { (last : ℕ) (ps : List PartAt) → IsDraft settings.now.large high last ps self.work
-            → IfOk result (λ w. IsDraftLeft settings.now.large high last ps w.work) }
-        ensures worked { IfOk result (λ w. IsDrafted 0 1 self.work w.work) }
+        ensures draft { (last : ℕ) (ps : List PartAt) → IsDraft settings.now.large high last ps self.draft
+            → IfOk result (λ w. IsDraftLeft settings.now.large high last ps w.draft) }
+        ensures drafted { IfOk result (λ w. IsDrafted 0 1 self.draft w.draft) }
     {
         let large = settings.large();
         let Entrant { item: new, cube } = *entrant;
@@ -132,12 +132,12 @@ impl Waiting {
 
     fn rivals(&self, cuboid: &Cuboid) -> Rivals
         requires clear { NoneWaitsIn cuboid.now self.now }
-        requires distinct { AreDistinct (contents self.now.work.tree ++ self.now.items.items) }
+        requires distinct { AreDistinct (contents self.now.draft.tree ++ self.now.items.items) }
         ensures none { IsNone result.best ↔ (inside_all (held_by self.now) cuboid.now ≡ []) }
         ensures best { IfSome result.best (IsBest (held_by self.now) cuboid.now) }
         ensures count { result.count ≡ count (held_by self.now) cuboid.now }
     {
-        rivals_in(&self.work.tree, cuboid)
+        rivals_in(&self.draft.tree, cuboid)
     }
 
     fn cleared<L: Ledger>(
@@ -153,15 +153,15 @@ impl Waiting {
         ensures held { IfOk result (λ w. held_by w ≡ mark (held_by self) (in_box cuboid.now) thin_tag) }
         ensures waiting { IfOk result (λ w. IsWaiting large high w) }
         ensures same { IfOk result (λ w. w.items.items ≡ self.items.items) }
-        ensures draft { (last : ℕ) (ps : List PartAt) → IsDraft large high last ps self.work
-            → IfOk result (λ w. IsDraftLeft large high last ps w.work) }
-        ensures worked { IfOk result (λ w. IsDrafted 0 1 self.work w.work) }
+        ensures draft { (last : ℕ) (ps : List PartAt) → IsDraft large high last ps self.draft
+            → IfOk result (λ w. IsDraftLeft large high last ps w.draft) }
+        ensures drafted { IfOk result (λ w. IsDrafted 0 1 self.draft w.draft) }
     {
-        let Waiting { work, items } = self;
-        let _size = work.tree.size();
+        let Waiting { draft, items } = self;
+        let _size = draft.tree.size();
         let choice = Choice::within(cuboid);
-        let work = work.marked(alloc, large, &choice, Tag::THIN, steps)?;
-        Ok(Waiting { work, items })
+        let draft = draft.marked(alloc, large, &choice, Tag::THIN, steps)?;
+        Ok(Waiting { draft, items })
     }
 
     fn with(self, large: u32, high: u32, item: Item) -> Result<Waiting, NoMemory>
@@ -172,10 +172,10 @@ impl Waiting {
         ensures held { IfOk result (λ w. held_by w ≡ put (held_by self) item.number item.point) }
         ensures waiting { IfOk result (λ w. IsWaiting large high w) }
         ensures one { IfOk result (λ w. w.items.items ≡ self.items.items ++ item ∷ []) }
-        ensures work { IfOk result (λ w. w.work ≡ self.work) }
+        ensures draft { IfOk result (λ w. w.draft ≡ self.draft) }
     {
-        let Waiting { work, mut items } = self;
+        let Waiting { draft, mut items } = self;
         items.push(item)?;
-        Ok(Waiting { work, items })
+        Ok(Waiting { draft, items })
     }
 }

@@ -10,7 +10,7 @@ loop-point-init g c = record {
   draft = λ last ps d. (ps, left_itself ps, d);
   room = refl;
   rest = refl;
-  worked = worked_itself 0 0 c.args.work;
+  drafted = worked_itself 0 0 c.args.draft;
   same = λ p one turned. (refl, refl);
 }
 
@@ -23,8 +23,8 @@ thinned_one-requires-clause-few g c =
     let shorter : length (drop i ps) ≡ length (drop (i + 1) ps) + 1 = rw cut (omega arith) in
     omega arith
 
-pub returns-in_err-work-clause-no_nodes_made : goal.returns-in_err-work-clause-no_nodes_made
-returns-in_err-work-clause-no_nodes_made g c = λ p one turned.
+pub returns-in_err-draft-clause-no_nodes_made : goal.returns-in_err-draft-clause-no_nodes_made
+returns-in_err-draft-clause-no_nodes_made g c = λ p one turned.
     let q = c.point-item.result in
     let ps = c.args.points.now in
     let i = c.loop-point.point-index in
@@ -33,7 +33,7 @@ returns-in_err-work-clause-no_nodes_made g c = λ p one turned.
     let first = only_first i ps p q cut below one in
     let start = c.loop-point.invariant.same p one turned in
     let next : c.loop-point.next ≡ c.args.next = omega (arith, c.loop-point.invariant.room, ap (λ k. length (drop k ps)) first.1) in
-    c.in_err-work.ensures.no_nodes_made (turned_same c.args.settings.now.voxel c.args.work.tree c.loop-point.work.tree c.args.next c.loop-point.next p q start.0 next first.0 turned) ∙ start.1
+    c.in_err-draft.ensures.no_nodes_made (turned_same c.args.settings.now.voxel c.args.draft.tree c.loop-point.draft.tree c.args.next c.loop-point.next p q start.0 next first.0 turned) ∙ start.1
 
 pub loop-point-preserved : goal.loop-point-preserved
 loop-point-preserved g c =
@@ -46,17 +46,17 @@ loop-point-preserved g c =
     record {
       draft = λ last ps d.
           let k = c.loop-point.invariant.draft last ps d in
-          let l = c.in_ok-work.ensures.draft last k.0 k.2 in
+          let l = c.in_ok-draft.ensures.draft last k.0 k.2 in
           (l.0, left_trans ps k.0 l.0 k.1 l.1, l.2);
       room = omega (arith, c.loop-point.invariant.room);
-      rest = rw c.in_ok-work.ensures.contents (rw cut at c.loop-point.invariant.rest);
-      worked = worked_then i (2 * i) 1 2 (i + 1) (2 * (i + 1)) c.args.work c.loop-point.work c.in_ok-work.work (omega arith) (omega arith) c.loop-point.invariant.worked c.in_ok-work.ensures.worked;
+      rest = rw c.in_ok-draft.ensures.contents (rw cut at c.loop-point.invariant.rest);
+      drafted = worked_then i (2 * i) 1 2 (i + 1) (2 * (i + 1)) c.args.draft c.loop-point.draft c.in_ok-draft.draft (omega arith) (omega arith) c.loop-point.invariant.drafted c.in_ok-draft.ensures.drafted;
       same = λ p one turned.
           let first = only_first i ps p q cut below one in
           let start = c.loop-point.invariant.same p one turned in
           let next : c.loop-point.next ≡ c.args.next = omega (arith, c.loop-point.invariant.room, ap (λ k. length (drop k ps)) first.1) in
-          let here = turned_same c.args.settings.now.voxel c.args.work.tree c.loop-point.work.tree c.args.next c.loop-point.next p q start.0 next first.0 turned in
-          (c.in_ok-work.ensures.turned_away here ∙ start.0, c.in_ok-work.ensures.no_nodes_made here ∙ start.1);
+          let here = turned_same c.args.settings.now.voxel c.args.draft.tree c.loop-point.draft.tree c.args.next c.loop-point.next p q start.0 next first.0 turned in
+          (c.in_ok-draft.ensures.turned_away here ∙ start.0, c.in_ok-draft.ensures.no_nodes_made here ∙ start.1);
     }
 
 pub returns-clause-turned_away : goal.returns-clause-turned_away
@@ -70,4 +70,4 @@ returns-clause-kept g c =
     let i = c.loop-point.point-index in
     let n = length c.args.points.now in
     let most = rw c.as_slice-point-items.ensures at c.loop-point.auto.point-index-end in
-    worked_kept i (2 * i) n (2 * n) c.args.work c.loop-point.work (omega (arith, most)) (omega (arith, most)) c.loop-point.invariant.worked
+    worked_kept i (2 * i) n (2 * n) c.args.draft c.loop-point.draft (omega (arith, most)) (omega (arith, most)) c.loop-point.invariant.drafted

@@ -9,9 +9,9 @@ use Rattle.map_update.proofs.thin.thinned.Given as goal
 
 abbrev pub invariant-loop-point : goal.invariant-loop-point
 invariant-loop-point g l = record {
-  draft : (last : ℕ) (ps : List PartAt) → IsDraft l.settings.large l.fn.next last ps l.fn.work → IsDraftLeft l.settings.large l.next last ps l.work;
+  draft : (last : ℕ) (ps : List PartAt) → IsDraft l.settings.large l.fn.next last ps l.fn.draft → IsDraftLeft l.settings.large l.next last ps l.draft;
   room : l.next + length (drop l.point-index l.points) ≡ l.fn.next + length l.points;
-  rest : thin_points l.settings.voxel (drop l.point-index l.points) (map_of l.work.tree l.next) ≡ thin_points l.settings.voxel l.points (map_of l.fn.work.tree l.fn.next);
-  worked : IsDrafted l.point-index (2 * l.point-index) l.fn.work l.work;
-  same : (p : Place) → l.points ≡ p ∷ [] → IsTurnedAway l.settings.voxel (map_of l.fn.work.tree l.fn.next) p → (l.work.tree ≡ l.fn.work.tree) × (l.steps ≡ l.fn.steps);
+  rest : thin_points l.settings.voxel (drop l.point-index l.points) (map_of l.draft.tree l.next) ≡ thin_points l.settings.voxel l.points (map_of l.fn.draft.tree l.fn.next);
+  drafted : IsDrafted l.point-index (2 * l.point-index) l.fn.draft l.draft;
+  same : (p : Place) → l.points ≡ p ∷ [] → IsTurnedAway l.settings.voxel (map_of l.fn.draft.tree l.fn.next) p → (l.draft.tree ≡ l.fn.draft.tree) × (l.steps ≡ l.fn.steps);
 }

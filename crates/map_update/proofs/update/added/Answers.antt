@@ -27,7 +27,7 @@ loop-point-init g c = record {
   draft = λ last ps d. (ps, left_itself ps, d);
   room = refl;
   rest = refl;
-  worked = worked_itself 0 0 c.args.work;
+  drafted = worked_itself 0 0 c.args.draft;
   first = λ e. (refl, refl, refl);
   second = λ e. absurd (omega (arith, e));
 }
@@ -50,11 +50,11 @@ loop-point-preserved g c =
     record {
       draft = λ last ps d.
           let k = c.loop-point.invariant.draft last ps d in
-          let l = c.in_ok-work.ensures.draft last k.0 k.2 in
+          let l = c.in_ok-draft.ensures.draft last k.0 k.2 in
           (l.0, left_trans ps k.0 l.0 k.1 l.1, l.2);
       room = omega (arith, c.loop-point.invariant.room);
-      rest = rw c.in_ok-work.ensures.contents (rw cut at c.loop-point.invariant.rest);
-      worked = worked_then i i 1 1 (i + 1) (i + 1) c.args.work c.loop-point.work c.in_ok-work.work (omega arith) (omega arith) c.loop-point.invariant.worked c.in_ok-work.ensures.worked;
+      rest = rw c.in_ok-draft.ensures.contents (rw cut at c.loop-point.invariant.rest);
+      drafted = worked_then i i 1 1 (i + 1) (i + 1) c.args.draft c.loop-point.draft c.in_ok-draft.draft (omega arith) (omega arith) c.loop-point.invariant.drafted c.in_ok-draft.ensures.drafted;
       first = λ e. absurd (omega arith);
       second = λ e op only room unrebuilt.
           let none : i ≡ 0 = omega arith in
@@ -62,13 +62,13 @@ loop-point-preserved g c =
           let same = ap (λ (w : Draft). w.tree) start.0 in
           let with_room = subst (λ (w : Draft). HaveRoom w.watches) (sym start.0) room in
           let is = first_point c.args.next c.loop-point.next i ps p op cut none start.1 only in (
-            plain_same c.args.large (Put c.loop-point.next p) op c.loop-point.work c.args.work c.in_ok-work.work is start.0 (c.in_ok-work.ensures.unrebuilt with_room) unrebuilt,
-            unrebuilt_nodes_made c.args.large (Put c.loop-point.next p) op c.loop-point.work.tree c.args.work.tree c.loop-point.steps c.args.steps.now c.added_one.new.steps is same start.2 (c.in_ok-work.ensures.nodes_made with_room) unrebuilt,
+            plain_same c.args.large (Put c.loop-point.next p) op c.loop-point.draft c.args.draft c.in_ok-draft.draft is start.0 (c.in_ok-draft.ensures.unrebuilt with_room) unrebuilt,
+            unrebuilt_nodes_made c.args.large (Put c.loop-point.next p) op c.loop-point.draft.tree c.args.draft.tree c.loop-point.steps c.args.steps.now c.added_one.new.steps is same start.2 (c.in_ok-draft.ensures.nodes_made with_room) unrebuilt,
           );
     }
 
-pub returns-in_err-work-clause-nodes_made : goal.returns-in_err-work-clause-nodes_made
-returns-in_err-work-clause-nodes_made g c = λ op only room unrebuilt.
+pub returns-in_err-draft-clause-nodes_made : goal.returns-in_err-draft-clause-nodes_made
+returns-in_err-draft-clause-nodes_made g c = λ op only room unrebuilt.
     let p = c.point-item.result in
     let ps = c.args.points.now in
     let i = c.loop-point.point-index in
@@ -78,7 +78,7 @@ returns-in_err-work-clause-nodes_made g c = λ op only room unrebuilt.
     let start = c.loop-point.invariant.first none in
     let is = first_point c.args.next c.loop-point.next i ps p op cut none start.1 only in
     let with_room = subst (λ (w : Draft). HaveRoom w.watches) (sym start.0) room in
-    unrebuilt_nodes_made c.args.large (Put c.loop-point.next p) op c.loop-point.work.tree c.args.work.tree c.loop-point.steps c.args.steps.now c.added_one.new.steps is (ap (λ (w : Draft). w.tree) start.0) start.2 (c.in_err-work.ensures.nodes_made with_room) unrebuilt
+    unrebuilt_nodes_made c.args.large (Put c.loop-point.next p) op c.loop-point.draft.tree c.args.draft.tree c.loop-point.steps c.args.steps.now c.added_one.new.steps is (ap (λ (w : Draft). w.tree) start.0) start.2 (c.in_err-draft.ensures.nodes_made with_room) unrebuilt
 
 pub returns-clause-unrebuilt : goal.returns-clause-unrebuilt
 returns-clause-unrebuilt g c = λ op only room unrebuilt.
@@ -99,12 +99,12 @@ returns-clause-kept g c =
     let i = c.loop-point.point-index in
     let n = length c.args.points.now in
     let most = rw c.as_slice-point-items.ensures at c.loop-point.auto.point-index-end in
-    worked_kept i i n n c.args.work c.loop-point.work (omega (arith, most)) (omega (arith, most)) c.loop-point.invariant.worked
+    worked_kept i i n n c.args.draft c.loop-point.draft (omega (arith, most)) (omega (arith, most)) c.loop-point.invariant.drafted
 
 pub put_items-requires-clause-fit : goal.put_items-requires-clause-fit
 put_items-requires-clause-fit g c =
     let next = c.args.next in
-    let t = c.args.work.tree in
+    let t = c.args.draft.tree in
     let d = c.requires.draft.2 in
     let same = sym (c.as_slice-then-len-ge-PASS_FROM.ensures.value ∙ c.in_ok-items.ensures.items ∙ ap (live_from next) c.as_slice.ensures) in
     let held = held_below next t c.size-size.ensures.sound (λ n k. All-contains (λ m. m < next) (numbers t) n d.below k) in
@@ -116,16 +116,16 @@ put_items-requires-clause-draft g c =
     let high = next + length c.args.points.now in
     let d = c.requires.draft in
     let same = sym (c.as_slice-then-len-ge-PASS_FROM.ensures.value ∙ c.in_ok-items.ensures.items ∙ ap (live_from next) c.as_slice.ensures) in
-    (high, (d.0, d.1, draft_more c.args.large next high d.0 d.1 c.args.work (omega arith) d.2), subst (All (λ i. i.number < high)) same (live_from_under high next c.args.points.now (omega arith)))
+    (high, (d.0, d.1, draft_more c.args.large next high d.0 d.1 c.args.draft (omega arith) d.2), subst (All (λ i. i.number < high)) same (live_from_under high next c.args.points.now (omega arith)))
 
 pub returns-then-len-ge-PASS_FROM-clause-stepped : goal.returns-then-len-ge-PASS_FROM-clause-stepped
 returns-then-len-ge-PASS_FROM-clause-stepped g c =
     let next = c.args.next in
     let ps = c.args.points.now in
-    let m = contents c.args.work.tree in
+    let m = contents c.args.draft.tree in
     let high = next + length ps in
     let same = c.as_slice-then-len-ge-PASS_FROM.ensures.value ∙ c.in_ok-items.ensures.items ∙ ap (live_from c.args.next) c.as_slice.ensures in
-    IfOk-weaker c.put_items.result _ (λ w. map_of w.tree high ≡ add_points ps (map_of c.args.work.tree next))
+    IfOk-weaker c.put_items.result _ (λ w. map_of w.tree high ≡ add_points ps (map_of c.args.draft.tree next))
     (λ w e. ap (λ (xs : List Item). let a : MapAt = record { items = xs; next = high } in a) (e ∙ ap (put_each m) same) ∙ sym (add_points-put_each next m ps)) c.put_items.ensures.contents
 
 pub returns-then-len-ge-PASS_FROM-clause-draft : goal.returns-then-len-ge-PASS_FROM-clause-draft
@@ -133,10 +133,10 @@ returns-then-len-ge-PASS_FROM-clause-draft g c = λ last ps d.
     let next = c.args.next in
     let high = next + length c.args.points.now in
     let same = sym (c.as_slice-then-len-ge-PASS_FROM.ensures.value ∙ c.in_ok-items.ensures.items ∙ ap (live_from next) c.as_slice.ensures) in
-    c.put_items.ensures.draft high last ps (subst (All (λ i. i.number < high)) same (live_from_under high next c.args.points.now (omega arith))) (draft_more c.args.large next high last ps c.args.work (omega arith) d)
+    c.put_items.ensures.draft high last ps (subst (All (λ i. i.number < high)) same (live_from_under high next c.args.points.now (omega arith))) (draft_more c.args.large next high last ps c.args.draft (omega arith) d)
 
 pub returns-then-len-ge-PASS_FROM-clause-kept : goal.returns-then-len-ge-PASS_FROM-clause-kept
 returns-then-len-ge-PASS_FROM-clause-kept g c =
     let same = c.as_slice-then-len-ge-PASS_FROM.ensures.value ∙ c.in_ok-items.ensures.items ∙ ap (live_from c.args.next) c.as_slice.ensures in
     let many = ap length same ∙ live_from-length c.args.next c.args.points.now in
-    subst (λ n. KeepsWatched n n c.args.work c.put_items.result) many c.put_items.ensures.kept
+    subst (λ n. KeepsWatched n n c.args.draft c.put_items.result) many c.put_items.ensures.kept

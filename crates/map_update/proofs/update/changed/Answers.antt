@@ -9,7 +9,7 @@ use Rattle.map_update.proofs.Drafted.{worked_kept}
 use Rattle.map_update.proofs.update.changed.Goals as goal
 
 pub added-requires-clause-draft : goal.added-requires-clause-draft
-added-requires-clause-draft g c = subst (λ n. IsLawfulDraft n c.args.next c.args.work) (sym c.large-large.ensures.value) c.requires.draft
+added-requires-clause-draft g c = subst (λ n. IsLawfulDraft n c.args.next c.args.draft) (sym c.large-large.ensures.value) c.requires.draft
 
 pub returns-in-Add : goal.returns-in-Add
 returns-in-Add g c =
@@ -71,6 +71,6 @@ returns-in-Thin-clause-no_nodes_made g c = λ p one turned. c.thinned.ensures.no
 
 pub returns-in-Expire-clause-kept : goal.returns-in-Expire-clause-kept
 returns-in-Expire-clause-kept g c =
-    let one : KeepsWatched 0 1 c.args.work c.marked.result = λ room x there own.
-    IfOk-weaker c.marked.result _ _ (λ w k. worked_kept 0 1 0 1 c.args.work w (omega arith) (omega arith) k room x there own) c.marked.ensures.worked in
-    subst (λ (u : Update). KeepsWatched (points_in u) (most_ops u) c.args.work c.marked.result) (sym c.in-Expire.is) one
+    let one : KeepsWatched 0 1 c.args.draft c.marked.result = λ room x there own.
+    IfOk-weaker c.marked.result _ _ (λ w k. worked_kept 0 1 0 1 c.args.draft w (omega arith) (omega arith) k room x there own) c.marked.ensures.drafted in
+    subst (λ (u : Update). KeepsWatched (points_in u) (most_ops u) c.args.draft c.marked.result) (sym c.in-Expire.is) one

@@ -13,7 +13,7 @@ pub loop-cuboid-init : goal.loop-cuboid-init
 loop-cuboid-init g c = record {
   draft = λ last ps d. (ps, left_itself ps, d);
   rest = refl;
-  worked = worked_itself 0 0 c.args.work;
+  drafted = worked_itself 0 0 c.args.draft;
   first = λ e. (refl, refl);
   second = λ e. absurd (omega (arith, e));
 }
@@ -27,10 +27,10 @@ loop-cuboid-preserved g c =
     record {
       draft = λ last ps d.
           let k = c.loop-cuboid.invariant.draft last ps d in
-          let l = c.in_ok-work.ensures.draft c.args.next last k.0 k.2 in
+          let l = c.in_ok-draft.ensures.draft c.args.next last k.0 k.2 in
           (l.0, left_trans ps k.0 l.0 k.1 l.1, l.2);
-      rest = rw (c.in_ok-work.ensures.contents ∙ mark-within c.within.result box _ _ c.within.ensures) (rw cut at c.loop-cuboid.invariant.rest);
-      worked = worked_then 0 i 0 1 0 (i + 1) c.args.work c.loop-cuboid.work c.in_ok-work.work (omega arith) (omega arith) c.loop-cuboid.invariant.worked c.in_ok-work.ensures.worked;
+      rest = rw (c.in_ok-draft.ensures.contents ∙ mark-within c.within.result box _ _ c.within.ensures) (rw cut at c.loop-cuboid.invariant.rest);
+      drafted = worked_then 0 i 0 1 0 (i + 1) c.args.draft c.loop-cuboid.draft c.in_ok-draft.draft (omega arith) (omega arith) c.loop-cuboid.invariant.drafted c.in_ok-draft.ensures.drafted;
       first = λ e. absurd (omega arith);
       second = λ e op only room unrebuilt.
           let none : i ≡ 0 = omega arith in
@@ -38,13 +38,13 @@ loop-cuboid-preserved g c =
           let same = ap (λ (w : Draft). w.tree) start.0 in
           let with_room = subst (λ (w : Draft). HaveRoom w.watches) (sym start.0) room in
           let is = ap (λ (d : Choice). Mark d c.args.tag) c.within.ensures ∙ first_box c.args.tag i cs box op cut none only in (
-            plain_same c.args.large (Mark c.within.result c.args.tag) op c.loop-cuboid.work c.args.work c.in_ok-work.work is start.0 (c.in_ok-work.ensures.unrebuilt with_room) unrebuilt,
-            unrebuilt_nodes_made c.args.large (Mark c.within.result c.args.tag) op c.loop-cuboid.work.tree c.args.work.tree c.loop-cuboid.steps c.args.steps.now c.marked.new.steps is same start.1 (c.in_ok-work.ensures.nodes_made with_room) unrebuilt,
+            plain_same c.args.large (Mark c.within.result c.args.tag) op c.loop-cuboid.draft c.args.draft c.in_ok-draft.draft is start.0 (c.in_ok-draft.ensures.unrebuilt with_room) unrebuilt,
+            unrebuilt_nodes_made c.args.large (Mark c.within.result c.args.tag) op c.loop-cuboid.draft.tree c.args.draft.tree c.loop-cuboid.steps c.args.steps.now c.marked.new.steps is same start.1 (c.in_ok-draft.ensures.nodes_made with_room) unrebuilt,
           );
     }
 
-pub returns-in_err-work-clause-nodes_made : goal.returns-in_err-work-clause-nodes_made
-returns-in_err-work-clause-nodes_made g c = λ op only room unrebuilt.
+pub returns-in_err-draft-clause-nodes_made : goal.returns-in_err-draft-clause-nodes_made
+returns-in_err-draft-clause-nodes_made g c = λ op only room unrebuilt.
     let box = c.cuboid-item.result in
     let cs = c.args.boxes.now in
     let i = c.loop-cuboid.cuboid-index in
@@ -54,7 +54,7 @@ returns-in_err-work-clause-nodes_made g c = λ op only room unrebuilt.
     let start = c.loop-cuboid.invariant.first none in
     let is = ap (λ (d : Choice). Mark d c.args.tag) c.within.ensures ∙ first_box c.args.tag i cs box op cut none only in
     let with_room = subst (λ (w : Draft). HaveRoom w.watches) (sym start.0) room in
-    unrebuilt_nodes_made c.args.large (Mark c.within.result c.args.tag) op c.loop-cuboid.work.tree c.args.work.tree c.loop-cuboid.steps c.args.steps.now c.marked.new.steps is (ap (λ (w : Draft). w.tree) start.0) start.1 (c.in_err-work.ensures.nodes_made with_room) unrebuilt
+    unrebuilt_nodes_made c.args.large (Mark c.within.result c.args.tag) op c.loop-cuboid.draft.tree c.args.draft.tree c.loop-cuboid.steps c.args.steps.now c.marked.new.steps is (ap (λ (w : Draft). w.tree) start.0) start.1 (c.in_err-draft.ensures.nodes_made with_room) unrebuilt
 
 pub returns-clause-unrebuilt : goal.returns-clause-unrebuilt
 returns-clause-unrebuilt g c = λ op only room unrebuilt.
@@ -74,4 +74,4 @@ pub returns-clause-kept : goal.returns-clause-kept
 returns-clause-kept g c =
     let i = c.loop-cuboid.cuboid-index in
     let most = rw c.as_slice-cuboid-items.ensures at c.loop-cuboid.auto.cuboid-index-end in
-    worked_kept 0 i 0 (length c.args.boxes.now) c.args.work c.loop-cuboid.work (omega arith) (omega (arith, most)) c.loop-cuboid.invariant.worked
+    worked_kept 0 i 0 (length c.args.boxes.now) c.args.draft c.loop-cuboid.draft (omega arith) (omega (arith, most)) c.loop-cuboid.invariant.drafted

@@ -45,19 +45,19 @@ loop-entrant-init g c =
     let edge = c.args.settings.now.voxel in
     let next = c.args.next in
     let high = next + length c.args.points.now in
-    let m = contents c.args.work.tree in
+    let m = contents c.args.draft.tree in
     let es = c.as_slice-entrant-items.result.now in
-    let held = are_contents next c.args.work.tree c.size-size.ensures.sound c.requires.draft.2.below in
+    let held = are_contents next c.args.draft.tree c.size-size.ensures.sound c.requires.draft.2.below in
     let firsts : AreFirsts edge next c.args.points.now (items_in es) = subst (λ (xs : List Entrant). AreFirsts edge next c.args.points.now (items_in xs)) (sym c.as_slice-entrant-items.ensures.value) c.in_ok-entrants.ensures.firsts in
     let ready = firsts_enter edge next c.args.points.now (items_in es) m c.large-large.ensures.sizes.voxel_from held firsts in
     record {
-      waiting = c.none-waiting.ensures.waiting c.args.settings.now.large high (let d = c.requires.draft in (d.0, d.1, draft_more c.args.settings.now.large next high d.0 d.1 c.args.work (omega arith) d.2));
+      waiting = c.none-waiting.ensures.waiting c.args.settings.now.large high (let d = c.requires.draft in (d.0, d.1, draft_more c.args.settings.now.large next high d.0 d.1 c.args.draft (omega arith) d.2));
       rest = ap (λ (xs : List Item). thin_each edge xs (items_in es)) c.none-waiting.ensures.held;
       ready = subst (λ (xs : List Item). AreEntrants high xs (items_in es)) (sym c.none-waiting.ensures.held) ready;
       apart = firsts.apart;
       clear = none_clear edge c.none-waiting.result (items_in es) c.none-waiting.ensures.none;
-      draft = λ last ps d. subst (IsDraftLeft c.args.settings.now.large high last ps) (sym c.none-waiting.ensures.same) (ps, left_itself ps, draft_more c.args.settings.now.large next high last ps c.args.work (omega arith) d);
-      worked = subst (IsDrafted 0 0 c.args.work) (sym c.none-waiting.ensures.same) (worked_itself 0 0 c.args.work);
+      draft = λ last ps d. subst (IsDraftLeft c.args.settings.now.large high last ps) (sym c.none-waiting.ensures.same) (ps, left_itself ps, draft_more c.args.settings.now.large next high last ps c.args.draft (omega arith) d);
+      drafted = subst (IsDrafted 0 0 c.args.draft) (sym c.none-waiting.ensures.same) (worked_itself 0 0 c.args.draft);
       few = omega (arith, ap (λ (xs : List Item). length xs) c.none-waiting.ensures.none);
     }
 
@@ -107,8 +107,8 @@ loop-entrant-preserved g c =
       ready = subst (λ (xs : List Item). AreEntrants high xs left) (sym c.in_ok-waiting.ensures.held) (entrants_after edge high (held_by v) e.item left c.loop-entrant.invariant.waiting.held ready);
       apart = apart.1;
       clear = still_clear edge e.item left v w c.large-large.ensures.sizes.voxel_from apart.0 (All-tail (λ (i : Item). NoneWaitsIn (voxel edge i.point) v) e.item left clear) joined;
-      draft = λ last ps d. let j = c.loop-entrant.invariant.draft last ps d in draft_on c.args.settings.now.large high last ps j.0 w.work j.1 (c.in_ok-waiting.ensures.draft last j.0 j.2);
-      worked = worked_then 0 k 0 1 0 (k + 1) c.args.work v.work w.work (omega arith) (omega arith) c.loop-entrant.invariant.worked c.in_ok-waiting.ensures.worked;
+      draft = λ last ps d. let j = c.loop-entrant.invariant.draft last ps d in draft_on c.args.settings.now.large high last ps j.0 w.draft j.1 (c.in_ok-waiting.ensures.draft last j.0 j.2);
+      drafted = worked_then 0 k 0 1 0 (k + 1) c.args.draft v.draft w.draft (omega arith) (omega arith) c.loop-entrant.invariant.drafted c.in_ok-waiting.ensures.drafted;
       few = omega (arith, c.loop-entrant.invariant.few, joined_few (voxel edge e.item.point) v w joined);
     }
 
@@ -118,7 +118,7 @@ returns-clause-draft g c = λ last ps d.
     let large = c.args.settings.now.large in
     let high = c.args.next + length c.args.points.now in
     let j = c.loop-entrant.invariant.draft last ps d in
-    IfOk-weaker c.put.result _ (IsDraftLeft large high last ps) (λ u l. draft_on large high last ps j.0 u j.1 l) (subst (λ (l : ℕ). IsDraft l high last j.0 w.work → IfOk c.put.result (IsDraftLeft l high last j.0)) c.large-large.ensures.value (c.put.ensures.draft last j.0) j.2)
+    IfOk-weaker c.put.result _ (IsDraftLeft large high last ps) (λ u l. draft_on large high last ps j.0 u j.1 l) (subst (λ (l : ℕ). IsDraft l high last j.0 w.draft → IfOk c.put.result (IsDraftLeft l high last j.0)) c.large-large.ensures.value (c.put.ensures.draft last j.0) j.2)
 
 pub returns-clause-kept : goal.returns-clause-kept
 returns-clause-kept g c = λ room x there own.
@@ -130,9 +130,9 @@ returns-clause-kept g c = λ room x there own.
     let short : length es ≤ n = omega (arith, ap (λ (xs : List Entrant). length xs) c.as_slice-entrant-items.ensures.value, c.in_ok-entrants.ensures.few) in
     let most : k ≤ length es = c.loop-entrant.auto.entrant-index-end in
     let few = c.loop-entrant.invariant.few in
-    let worked = c.loop-entrant.invariant.worked in
-    let left = room_left 0 k m n c.args.work v.work (omega (arith, few, most, short)) worked room in
-    let first = still_left 0 k n (2 * n) c.args.work v.work (omega arith) (omega (arith, most, short)) worked room x there own in
+    let drafted = c.loop-entrant.invariant.drafted in
+    let left = room_left 0 k m n c.args.draft v.draft (omega (arith, few, most, short)) drafted room in
+    let first = still_left 0 k n (2 * n) c.args.draft v.draft (omega arith) (omega (arith, most, short)) drafted room x there own in
     subst (λ (q : List Side). IfOk c.put.result (λ (u : Draft). Member q (paths_in u.watches))) first.path
     (c.put.ensures.kept left first.watch first.there (omega (arith, own, first.few, few, most, short)))
 
@@ -141,7 +141,7 @@ returns-clause-stepped g c =
     let edge = c.args.settings.now.voxel in
     let next = c.args.next in
     let ps = c.args.points.now in
-    let t = c.args.work.tree in
+    let t = c.args.draft.tree in
     let es = c.as_slice-entrant-items.result.now in
     let w = c.loop-entrant.waiting in
     let held = are_contents next t c.size-size.ensures.sound c.requires.draft.2.below in

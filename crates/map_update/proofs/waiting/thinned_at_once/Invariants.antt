@@ -10,11 +10,11 @@ use Rattle.map_update.proofs.waiting.thinned_at_once.Given as goal
 abbrev pub invariant-loop-entrant : goal.invariant-loop-entrant
 invariant-loop-entrant g l = let edge = l.settings.voxel in let left = items_in (drop l.entrant-index l.entrant-items) in record {
   waiting : IsWaiting l.settings.large l.high l.waiting;
-  rest : thin_each edge (held_by l.waiting) left ≡ thin_each edge (contents l.fn.work.tree) (items_in l.entrant-items);
+  rest : thin_each edge (held_by l.waiting) left ≡ thin_each edge (contents l.fn.draft.tree) (items_in l.entrant-items);
   ready : AreEntrants l.high (held_by l.waiting) left;
   apart : HaveOwnVoxels edge left;
   clear : AreClear edge l.waiting left;
-  draft : (last : ℕ) (ps : List PartAt) → IsDraft l.settings.large l.fn.next last ps l.fn.work → IsDraftLeft l.settings.large l.high last ps l.waiting.work;
-  worked : IsDrafted 0 l.entrant-index l.fn.work l.waiting.work;
+  draft : (last : ℕ) (ps : List PartAt) → IsDraft l.settings.large l.fn.next last ps l.fn.draft → IsDraftLeft l.settings.large l.high last ps l.waiting.draft;
+  drafted : IsDrafted 0 l.entrant-index l.fn.draft l.waiting.draft;
   few : length l.waiting.items.items ≤ l.entrant-index;
 }

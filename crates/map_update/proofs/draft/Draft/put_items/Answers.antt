@@ -21,7 +21,7 @@ loop-rest-init g c = record {
   fit = c.requires.fit;
   rest = refl;
   draft = λ next last ps below d. (below, (ps, left_itself ps, d));
-  worked = (0, omega arith, worked_itself 0 0 c.args.self);
+  drafted = (0, omega arith, worked_itself 0 0 c.args.self);
 }
 
 pub put_piece-requires-clause-draft : goal.put_piece-requires-clause-draft
@@ -32,37 +32,37 @@ put_piece-requires-clause-draft g c =
 
 pub put_piece-requires-clause-fit : goal.put_piece-requires-clause-fit
 put_piece-requires-clause-fit g c =
-    let m = contents c.loop-rest.work.tree in
+    let m = contents c.loop-rest.draft.tree in
     join_first m c.split_at.result.0.now c.split_at.result.1.now (subst (λ (xs : List Item). MayJoin m xs) c.split_at.ensures.by_index.0 c.loop-rest.invariant.fit)
 
 pub loop-rest-preserved : goal.loop-rest-preserved
 loop-rest-preserved g c =
-    let v = c.loop-rest.work in
-    let w = c.in_ok-work.work in
+    let v = c.loop-rest.draft in
+    let w = c.in_ok-draft.draft in
     let piece = c.split_at.result.0.now in
     let more = c.split_at.result.1.now in
     let cut = c.split_at.ensures.by_index.0 in
     let k = c.loop-rest.invariant in
     let n = length piece in
     record {
-      fit = join_rest v.tree w.tree piece more (subst (λ (xs : List Item). MayJoin (contents v.tree) xs) cut k.fit) c.in_ok-work.ensures.contents;
-      rest = ap (λ m. put_each m more) c.in_ok-work.ensures.contents ∙ sym (put_each-append (contents v.tree) piece more) ∙ ap (put_each (contents v.tree)) (sym cut) ∙ k.rest;
+      fit = join_rest v.tree w.tree piece more (subst (λ (xs : List Item). MayJoin (contents v.tree) xs) cut k.fit) c.in_ok-draft.ensures.contents;
+      rest = ap (λ m. put_each m more) c.in_ok-draft.ensures.contents ∙ sym (put_each-append (contents v.tree) piece more) ∙ ap (put_each (contents v.tree)) (sym cut) ∙ k.rest;
       draft = λ next last ps below d.
           let j = k.draft next last ps below d in
           let P : Item → Type 0 = λ i. i.number < next in
           let both = subst (All P) cut j.0 in
-          (all_last P piece more both, draft_on c.args.large next last ps j.1.0 w j.1.1 (c.in_ok-work.ensures.draft next last j.1.0 (all_first P piece more both) j.1.2));
-      worked = (
-        k.worked.0 + n,
-        omega (arith, k.worked.1, ap length cut, length-append piece more),
-        worked_then k.worked.0 k.worked.0 n n (k.worked.0 + n) (k.worked.0 + n) c.args.self v w (omega arith) (omega arith) k.worked.2 c.in_ok-work.ensures.worked,
+          (all_last P piece more both, draft_on c.args.large next last ps j.1.0 w j.1.1 (c.in_ok-draft.ensures.draft next last j.1.0 (all_first P piece more both) j.1.2));
+      drafted = (
+        k.drafted.0 + n,
+        omega (arith, k.drafted.1, ap length cut, length-append piece more),
+        worked_then k.drafted.0 k.drafted.0 n n (k.drafted.0 + n) (k.drafted.0 + n) c.args.self v w (omega arith) (omega arith) k.drafted.2 c.in_ok-draft.ensures.drafted,
       );
     }
 
 pub returns-clause-contents : goal.returns-clause-contents
 returns-clause-contents g c =
     let none = nil_from_length c.loop-rest.rest.now (eqb-true (length c.loop-rest.rest.now) 0 (sym c.is_empty.ensures ∙ c.loop-rest-test.false)) in
-    ap (put_each (contents c.loop-rest.work.tree)) (sym none) ∙ c.loop-rest.invariant.rest
+    ap (put_each (contents c.loop-rest.draft.tree)) (sym none) ∙ c.loop-rest.invariant.rest
 
 pub returns-clause-draft : goal.returns-clause-draft
 returns-clause-draft g c = λ next last ps below d. (c.loop-rest.invariant.draft next last ps below d).1
@@ -70,8 +70,8 @@ returns-clause-draft g c = λ next last ps below d. (c.loop-rest.invariant.draft
 pub returns-clause-kept : goal.returns-clause-kept
 returns-clause-kept g c = λ room x there own.
     let n = length c.args.items.now in
-    let k = c.loop-rest.invariant.worked in
-    worked_kept k.0 k.0 n n c.args.self c.loop-rest.work (omega (arith, k.1)) (omega (arith, k.1)) k.2 room x there own
+    let k = c.loop-rest.invariant.drafted in
+    worked_kept k.0 k.0 n n c.args.self c.loop-rest.draft (omega (arith, k.1)) (omega (arith, k.1)) k.2 room x there own
 
 pub returns-then-len-eq0-clause-draft : goal.returns-then-len-eq0-clause-draft
 returns-then-len-eq0-clause-draft g c = λ next last ps less d.

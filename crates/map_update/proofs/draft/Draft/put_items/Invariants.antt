@@ -8,11 +8,11 @@ use Rattle.map_update.proofs.draft.Draft.put_items.Given as goal
 
 abbrev pub invariant-loop-rest : goal.invariant-loop-rest
 invariant-loop-rest g l = record {
-  fit : MayJoin (contents l.work.tree) l.rest;
-  rest : put_each (contents l.work.tree) l.rest ≡ put_each (contents l.fn.self.tree) l.items;
+  fit : MayJoin (contents l.draft.tree) l.rest;
+  rest : put_each (contents l.draft.tree) l.rest ≡ put_each (contents l.fn.self.tree) l.items;
   draft : (next last : ℕ) (ps : List PartAt) → All (λ i. i.number < next) l.items → IsDraft l.large next last ps l.fn.self
-      → All (λ i. i.number < next) l.rest × IsDraftLeft l.large next last ps l.work;
-  worked : (done : ℕ) × (done + length l.rest ≡ length l.items) × IsDrafted done done l.fn.self l.work;
+      → All (λ i. i.number < next) l.rest × IsDraftLeft l.large next last ps l.draft;
+  drafted : (done : ℕ) × (done + length l.rest ≡ length l.items) × IsDrafted done done l.fn.self l.draft;
 }
 
 abbrev pub decreases-loop-rest : goal.decreases-loop-rest

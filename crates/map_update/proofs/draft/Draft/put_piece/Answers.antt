@@ -16,8 +16,8 @@ use Rattle.map_update.proofs.draft.Draft.put_piece.Goals as goal
 pub returns-in_default-clause-draft : goal.returns-in_default-clause-draft
 returns-in_default-clause-draft g c = λ next last ps below d. (ps, left_itself ps, d)
 
-pub returns-in_default-clause-worked : goal.returns-in_default-clause-worked
-returns-in_default-clause-worked g c = worked_itself (length c.args.piece.now) (length c.args.piece.now) c.args.self
+pub returns-in_default-clause-drafted : goal.returns-in_default-clause-drafted
+returns-in_default-clause-drafted g c = worked_itself (length c.args.piece.now) (length c.args.piece.now) c.args.self
 
 pub put-requires-clause-new : goal.put-requires-clause-new
 put-requires-clause-new g c =
@@ -52,8 +52,8 @@ returns-clause-draft g c = λ next last ps below d.
     let pass = c.requires.pass (omega (arith, more, ap length c.in-Some.ensures.cases.0)) in
     draft_scan c.args.large next last c.args.piece.now c.args.self c.in_ok-tree.tree c.put_all_watched.new.watches ps below d pass.room e.logged e.numbers e.balance e.watched
 
-pub returns-clause-worked : goal.returns-clause-worked
-returns-clause-worked g c =
+pub returns-clause-drafted : goal.returns-clause-drafted
+returns-clause-drafted g c =
     let e = c.in_ok-tree.ensures in
     let more = some_more (length c.in-Some.others.now) (sym c.is_empty.ensures ∙ c.if-is_empty.false) in
     let pass = c.requires.pass (omega (arith, more, ap length c.in-Some.ensures.cases.0)) in

@@ -11,7 +11,7 @@ use Rattle.map_update.proofs.waiting.Waiting.rivals.Goals as goal
 use Rattle.map_update.proofs.waiting.Waiting.rivals.Goals.{After-rivals_in}
 
 value : (c : After-rivals_in) → c.rivals_in.result.best ≡ best_inside (held_by c.args.self.now) c.args.cuboid.now
-value c = c.rivals_in.ensures.best ∙ best_clear c.args.cuboid.now c.args.self.now.work.tree c.args.self.now.items.items c.requires.clear c.requires.distinct
+value c = c.rivals_in.ensures.best ∙ best_clear c.args.cuboid.now c.args.self.now.draft.tree c.args.self.now.items.items c.requires.clear c.requires.distinct
 
 pub returns-clause-none : goal.returns-clause-none
 returns-clause-none c =
@@ -24,4 +24,4 @@ returns-clause-best c =
     subst P (sym (value c)) (best_is (held_by c.args.self.now) c.args.cuboid.now)
 
 pub returns-clause-count : goal.returns-clause-count
-returns-clause-count c = c.rivals_in.ensures.count ∙ count_clear c.args.cuboid.now c.args.self.now.work.tree c.args.self.now.items.items c.requires.clear
+returns-clause-count c = c.rivals_in.ensures.count ∙ count_clear c.args.cuboid.now c.args.self.now.draft.tree c.args.self.now.items.items c.requires.clear

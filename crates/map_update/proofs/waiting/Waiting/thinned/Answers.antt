@@ -55,7 +55,7 @@ returns-in_default-clause-joined g c =
     IfOk-weaker c.with.result _ (IsJoined c.args.entrant.now.cube c.args.self) (λ w e. inr (i, there, e)) c.with.ensures.one
 
 pub rivals-best-requires-clause-distinct : goal.rivals-best-requires-clause-distinct
-rivals-best-requires-clause-distinct g c = distinct_both c.args.high c.args.self.work.tree c.args.self.items.items c.requires.waiting.held
+rivals-best-requires-clause-distinct g c = distinct_both c.args.high c.args.self.draft.tree c.args.self.items.items c.requires.waiting.held
 
 pub with-requires-then-comes_before-clause-new : goal.with-requires-then-comes_before-clause-new
 with-requires-then-comes_before-clause-new g c =
@@ -147,39 +147,39 @@ returns-clause-held g c =
 
 pub returns-in_default-clause-draft : goal.returns-in_default-clause-draft
 returns-in_default-clause-draft g c = λ last ps d.
-    IfOk-weaker c.with.result _ (λ (w : Waiting). IsDraftLeft c.args.settings.now.large c.args.high last ps w.work)
-    (λ w same. subst (IsDraftLeft c.args.settings.now.large c.args.high last ps) (sym same) (ps, left_itself ps, d)) c.with.ensures.work
+    IfOk-weaker c.with.result _ (λ (w : Waiting). IsDraftLeft c.args.settings.now.large c.args.high last ps w.draft)
+    (λ w same. subst (IsDraftLeft c.args.settings.now.large c.args.high last ps) (sym same) (ps, left_itself ps, d)) c.with.ensures.draft
 
-pub returns-in_default-clause-worked : goal.returns-in_default-clause-worked
-returns-in_default-clause-worked g c =
-    IfOk-weaker c.with.result _ (λ (w : Waiting). IsDrafted 0 1 c.args.self.work w.work)
-    (λ w same. subst (IsDrafted 0 1 c.args.self.work) (sym same) (worked_itself 0 1 c.args.self.work)) c.with.ensures.work
+pub returns-in_default-clause-drafted : goal.returns-in_default-clause-drafted
+returns-in_default-clause-drafted g c =
+    IfOk-weaker c.with.result _ (λ (w : Waiting). IsDrafted 0 1 c.args.self.draft w.draft)
+    (λ w same. subst (IsDrafted 0 1 c.args.self.draft) (sym same) (worked_itself 0 1 c.args.self.draft)) c.with.ensures.draft
 
 pub returns-then-comes_before-clause-draft : goal.returns-then-comes_before-clause-draft
 returns-then-comes_before-clause-draft g c = λ last ps d.
-    IfOk-weaker c.with-then-comes_before.result _ (λ (w : Waiting). IsDraftLeft c.args.settings.now.large c.args.high last ps w.work)
-    (λ w same. subst (IsDraftLeft c.args.settings.now.large c.args.high last ps) (sym same) (subst (λ (l : ℕ). IsDraft l c.args.high last ps c.args.self.work → IsDraftLeft l c.args.high last ps c.in_ok-cleared.cleared.work) c.large-large.ensures.value (c.in_ok-cleared.ensures.draft last ps) d)) c.with-then-comes_before.ensures.work
+    IfOk-weaker c.with-then-comes_before.result _ (λ (w : Waiting). IsDraftLeft c.args.settings.now.large c.args.high last ps w.draft)
+    (λ w same. subst (IsDraftLeft c.args.settings.now.large c.args.high last ps) (sym same) (subst (λ (l : ℕ). IsDraft l c.args.high last ps c.args.self.draft → IsDraftLeft l c.args.high last ps c.in_ok-cleared.cleared.draft) c.large-large.ensures.value (c.in_ok-cleared.ensures.draft last ps) d)) c.with-then-comes_before.ensures.draft
 
-pub returns-then-comes_before-clause-worked : goal.returns-then-comes_before-clause-worked
-returns-then-comes_before-clause-worked g c =
-    IfOk-weaker c.with-then-comes_before.result _ (λ (w : Waiting). IsDrafted 0 1 c.args.self.work w.work)
-    (λ w same. subst (IsDrafted 0 1 c.args.self.work) (sym same) c.in_ok-cleared.ensures.worked) c.with-then-comes_before.ensures.work
+pub returns-then-comes_before-clause-drafted : goal.returns-then-comes_before-clause-drafted
+returns-then-comes_before-clause-drafted g c =
+    IfOk-weaker c.with-then-comes_before.result _ (λ (w : Waiting). IsDrafted 0 1 c.args.self.draft w.draft)
+    (λ w same. subst (IsDrafted 0 1 c.args.self.draft) (sym same) c.in_ok-cleared.ensures.drafted) c.with-then-comes_before.ensures.draft
 
 pub returns-then-count-eq1-clause-draft : goal.returns-then-count-eq1-clause-draft
 returns-then-count-eq1-clause-draft g c = λ last ps d. (ps, left_itself ps, d)
 
-pub returns-then-count-eq1-clause-worked : goal.returns-then-count-eq1-clause-worked
-returns-then-count-eq1-clause-worked g c = worked_itself 0 1 c.args.self.work
+pub returns-then-count-eq1-clause-drafted : goal.returns-then-count-eq1-clause-drafted
+returns-then-count-eq1-clause-drafted g c = worked_itself 0 1 c.args.self.draft
 
 pub returns-clause-draft : goal.returns-clause-draft
 returns-clause-draft g c = λ last ps d.
-    IfOk-weaker c.with-2.result _ (λ (w : Waiting). IsDraftLeft c.args.settings.now.large c.args.high last ps w.work)
-    (λ w same. subst (IsDraftLeft c.args.settings.now.large c.args.high last ps) (sym same) (subst (λ (l : ℕ). IsDraft l c.args.high last ps c.args.self.work → IsDraftLeft l c.args.high last ps c.in_ok-cleared-2.cleared.work) c.large-large.ensures.value (c.in_ok-cleared-2.ensures.draft last ps) d)) c.with-2.ensures.work
+    IfOk-weaker c.with-2.result _ (λ (w : Waiting). IsDraftLeft c.args.settings.now.large c.args.high last ps w.draft)
+    (λ w same. subst (IsDraftLeft c.args.settings.now.large c.args.high last ps) (sym same) (subst (λ (l : ℕ). IsDraft l c.args.high last ps c.args.self.draft → IsDraftLeft l c.args.high last ps c.in_ok-cleared-2.cleared.draft) c.large-large.ensures.value (c.in_ok-cleared-2.ensures.draft last ps) d)) c.with-2.ensures.draft
 
-pub returns-clause-worked : goal.returns-clause-worked
-returns-clause-worked g c =
-    IfOk-weaker c.with-2.result _ (λ (w : Waiting). IsDrafted 0 1 c.args.self.work w.work)
-    (λ w same. subst (IsDrafted 0 1 c.args.self.work) (sym same) c.in_ok-cleared-2.ensures.worked) c.with-2.ensures.work
+pub returns-clause-drafted : goal.returns-clause-drafted
+returns-clause-drafted g c =
+    IfOk-weaker c.with-2.result _ (λ (w : Waiting). IsDrafted 0 1 c.args.self.draft w.draft)
+    (λ w same. subst (IsDrafted 0 1 c.args.self.draft) (sym same) c.in_ok-cleared-2.ensures.drafted) c.with-2.ensures.draft
 
 -- what is said of the settings' number, said of the one that is handed on
 

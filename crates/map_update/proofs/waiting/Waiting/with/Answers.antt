@@ -15,8 +15,8 @@ use Rattle.map_update.proofs.waiting.Waiting.with.Goals as goal
 
 -- with what was pushed
 pushed : (high : ℕ) (w : Waiting) (us : List Item) (x : Item) → us ≡ w.items.items ++ x ∷ [] → AreContents 0 high (held_by w) → x.label ≡ Live → IsUnheld x.number (held_by w)
-    → both w.work.tree us ≡ put (held_by w) x.number x.point
-pushed high w us x e k live new = ap (both w.work.tree) e ∙ with_held w.work.tree w.items.items x live (distinct_both high w.work.tree w.items.items k) new
+    → both w.draft.tree us ≡ put (held_by w) x.number x.point
+pushed high w us x e k live new = ap (both w.draft.tree) e ∙ with_held w.draft.tree w.items.items x live (distinct_both high w.draft.tree w.items.items k) new
 
 pub returns-clause-held : goal.returns-clause-held
 returns-clause-held c = pushed c.args.high c.args.self c.push.new.self.items c.args.item c.in_ok-push.ensures.items c.requires.waiting.held c.requires.live c.requires.new
@@ -34,5 +34,5 @@ returns-clause-waiting c =
       live = subst AreLive last (All-append IsLive ws (x ∷ []) k.live (All-cons IsLive x [] c.requires.live (All-nil IsLive)));
       held = subst (AreContents 0 high) (sym held) (contents_put 0 high x.number (held_by c.args.self) x.point (omega arith) c.requires.below k.held);
       given = subst (All P) last (All-append P ws (x ∷ []) k.given (All-cons P x [] c.requires.below (All-nil P)));
-      work = k.work;
+      draft = k.draft;
     }
