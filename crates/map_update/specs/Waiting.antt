@@ -10,13 +10,13 @@ use Rattle.map_update.specs.Draft.{IsLawfulDraft}
 use Rattle.map_update.specs.declared.waiting.Waiting.{Waiting}
 
 -- what the tree holds and what waits, by number
-abbrev pub held_by : Waiting → List Item
-held_by w = by_number (contents w.draft.tree ++ w.items.items)
+abbrev pub contents_of : Waiting → List Item
+contents_of w = by_number (contents w.draft.tree ++ w.items.items)
 
 -- What waits is live, no number occurs twice, each is below the next one, and the tree is at work while it is watched.
 pub record IsWaiting (large next : ℕ) (w : Waiting) : Type 0 where
   pub live : AreLive w.items.items
-  pub held : AreContents 0 next (held_by w)
+  pub held : AreContents 0 next (contents_of w)
   pub given : All (λ i. i.number < next) w.items.items
   pub draft : IsLawfulDraft large next w.draft
 

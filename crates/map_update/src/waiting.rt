@@ -12,7 +12,7 @@ ghost use Rattle.kd_search.specs.Best.{IsBest};
 ghost use Rattle.map_update.specs.Draft.{IsDraft, IsDraftLeft, IsLawfulDraft, IsDrafted, KeepsDraft, KeepsWatched};
 ghost use Rattle.kd_tree.specs.Maps.{map_of};
 ghost use Rattle.kd_update.specs.Detached.{PartAt};
-ghost use Rattle.map_update.specs.Waiting.{NoneWaitsIn, IsJoined, IsWaiting, held_by};
+ghost use Rattle.map_update.specs.Waiting.{NoneWaitsIn, IsJoined, IsWaiting, contents_of};
 
 use crate::draft::{Draft, Drafted};
 use crate::entrants::{Entrant, firsts};
@@ -60,7 +60,7 @@ pub(crate) fn thinned_at_once<L: Ledger>(
 
 impl Waiting {
     fn none(alloc: Global, draft: Draft) -> Waiting
-        ensures held { held_by result ≡ contents draft.tree }
+        ensures held { contents_of result ≡ contents draft.tree }
         ensures waiting { (large high : ℕ) → IsLawfulDraft large high draft → IsWaiting large high result }
         ensures same { result.draft ≡ draft }
         ensures none { result.items.items ≡ [] }
@@ -82,7 +82,7 @@ impl Waiting {
     ) -> Drafted
         requires waiting { IsWaiting large high self }
         requires few { high ≤ MAX_POINTS }
-        ensures held { IfOk result (λ w. contents w.tree ≡ held_by self) }
+        ensures held { IfOk result (λ w. contents w.tree ≡ contents_of self) }
         ensures draft { KeepsDraft large high high self.draft result }
         ensures kept { KeepsWatched (length self.items.items) (length self.items.items) self.draft result }
     {
@@ -104,9 +104,9 @@ impl Waiting {
         requires cube { entrant.now.cube ≡ voxel settings.now.voxel entrant.now.item.point }
         requires live { entrant.now.item.label ≡ Live }
         requires below { entrant.now.item.number < high }
-        requires new { IsUnheld entrant.now.item.number (held_by self) }
+        requires new { IsUnheld entrant.now.item.number (contents_of self) }
         requires clear { NoneWaitsIn entrant.now.cube self }
-        ensures held { IfOk result (λ w. held_by w ≡ thin settings.now.voxel (held_by self) entrant.now.item.number entrant.now.item.point) }
+        ensures held { IfOk result (λ w. contents_of w ≡ thin settings.now.voxel (contents_of self) entrant.now.item.number entrant.now.item.point) }
         ensures waiting { IfOk result (λ w. IsWaiting settings.now.large high w) }
         ensures joined { IfOk result (IsJoined entrant.now.cube self) }
         ensures draft { (last : ℕ) (ps : List PartAt) → IsDraft settings.now.large high last ps self.draft
@@ -133,9 +133,9 @@ impl Waiting {
     fn rivals(&self, cuboid: &Cuboid) -> Rivals
         requires clear { NoneWaitsIn cuboid.now self.now }
         requires distinct { AreDistinct (contents self.now.draft.tree ++ self.now.items.items) }
-        ensures none { IsNone result.best ↔ (inside_all (held_by self.now) cuboid.now ≡ []) }
-        ensures best { IfSome result.best (IsBest (held_by self.now) cuboid.now) }
-        ensures count { result.count ≡ count (held_by self.now) cuboid.now }
+        ensures none { IsNone result.best ↔ (inside_all (contents_of self.now) cuboid.now ≡ []) }
+        ensures best { IfSome result.best (IsBest (contents_of self.now) cuboid.now) }
+        ensures count { result.count ≡ count (contents_of self.now) cuboid.now }
     {
         rivals_in(&self.draft.tree, cuboid)
     }
@@ -150,7 +150,7 @@ impl Waiting {
     ) -> Result<Waiting, NoMemory>
         requires waiting { IsWaiting large high self }
         requires clear { NoneWaitsIn cuboid.now self }
-        ensures held { IfOk result (λ w. held_by w ≡ mark (held_by self) (in_box cuboid.now) thin_tag) }
+        ensures held { IfOk result (λ w. contents_of w ≡ mark (contents_of self) (in_box cuboid.now) thin_tag) }
         ensures waiting { IfOk result (λ w. IsWaiting large high w) }
         ensures same { IfOk result (λ w. w.items.items ≡ self.items.items) }
         ensures draft { (last : ℕ) (ps : List PartAt) → IsDraft large high last ps self.draft
@@ -168,8 +168,8 @@ impl Waiting {
         requires waiting { IsWaiting large high self }
         requires live { item.label ≡ Live }
         requires below { item.number < high }
-        requires new { IsUnheld item.number (held_by self) }
-        ensures held { IfOk result (λ w. held_by w ≡ put (held_by self) item.number item.point) }
+        requires new { IsUnheld item.number (contents_of self) }
+        ensures held { IfOk result (λ w. contents_of w ≡ put (contents_of self) item.number item.point) }
         ensures waiting { IfOk result (λ w. IsWaiting large high w) }
         ensures one { IfOk result (λ w. w.items.items ≡ self.items.items ++ item ∷ []) }
         ensures draft { IfOk result (λ w. w.draft ≡ self.draft) }

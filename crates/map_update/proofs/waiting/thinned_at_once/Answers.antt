@@ -21,7 +21,7 @@ use Rattle.map_update.specs.Draft.{IsDraft, IsDraftLeft, IsDrafted}
 use Rattle.map_update.specs.Entrants.{HaveOwnVoxels, AreEntrants, AreFirsts, thin_each}
 use Rattle.kd_tree.specs.Maps.{map_of}
 use Rattle.map_update.specs.Ranks.{HaveVoxels, items_in}
-use Rattle.map_update.specs.Waiting.{AreClear, NoneWaitsIn, IsJoined, held_by}
+use Rattle.map_update.specs.Waiting.{AreClear, NoneWaitsIn, IsJoined, contents_of}
 use Rattle.map_update.proofs.AnyOrder.{thin_firsts}
 use Rattle.map_update.proofs.Entering.{entrants_after}
 use Rattle.map_update.proofs.Entrances.{none_clear, still_clear}
@@ -94,7 +94,7 @@ loop-entrant-preserved g c =
     let parts = cut es k e c.loop-entrant-test.true c.entrant-item.is in
     let voxels : HaveVoxels edge es = subst (HaveVoxels edge) (sym c.as_slice-entrant-items.ensures.value) c.in_ok-entrants.ensures.cubes in
     let cube = own edge es k e voxels c.loop-entrant-test.true c.entrant-item.is in
-    let ready : AreEntrants high (held_by v) (e.item ∷ left) = subst (λ (xs : List Entrant). AreEntrants high (held_by v) (items_in xs)) parts c.loop-entrant.invariant.ready in
+    let ready : AreEntrants high (contents_of v) (e.item ∷ left) = subst (λ (xs : List Entrant). AreEntrants high (contents_of v) (items_in xs)) parts c.loop-entrant.invariant.ready in
     let apart : HaveOwnVoxels edge (e.item ∷ left) = subst (λ (xs : List Entrant). HaveOwnVoxels edge (items_in xs)) parts c.loop-entrant.invariant.apart in
     let clear : AreClear edge v (e.item ∷ left) = subst (λ (xs : List Entrant). AreClear edge v (items_in xs)) parts c.loop-entrant.invariant.clear in
     let joined : IsJoined (voxel edge e.item.point) v w = subst (λ (b : Bounds). IsJoined b v w) cube c.in_ok-waiting.ensures.joined in
@@ -102,9 +102,9 @@ loop-entrant-preserved g c =
       waiting = c.in_ok-waiting.ensures.waiting;
       rest =
           ap (λ (xs : List Item). thin_each edge xs left) c.in_ok-waiting.ensures.held
-          ∙ ap (λ (xs : List Entrant). thin_each edge (held_by v) (items_in xs)) (sym parts)
+          ∙ ap (λ (xs : List Entrant). thin_each edge (contents_of v) (items_in xs)) (sym parts)
           ∙ c.loop-entrant.invariant.rest;
-      ready = subst (λ (xs : List Item). AreEntrants high xs left) (sym c.in_ok-waiting.ensures.held) (entrants_after edge high (held_by v) e.item left c.loop-entrant.invariant.waiting.held ready);
+      ready = subst (λ (xs : List Item). AreEntrants high xs left) (sym c.in_ok-waiting.ensures.held) (entrants_after edge high (contents_of v) e.item left c.loop-entrant.invariant.waiting.held ready);
       apart = apart.1;
       clear = still_clear edge e.item left v w c.large-large.ensures.sizes.voxel_from apart.0 (All-tail (λ (i : Item). NoneWaitsIn (voxel edge i.point) v) e.item left clear) joined;
       draft = λ last ps d. let j = c.loop-entrant.invariant.draft last ps d in draft_on c.args.settings.now.large high last ps j.0 w.draft j.1 (c.in_ok-waiting.ensures.draft last j.0 j.2);
@@ -147,7 +147,7 @@ returns-clause-stepped g c =
     let held = are_contents next t c.size-size.ensures.sound c.requires.draft.2.below in
     let firsts : AreFirsts edge next ps (items_in es) = subst (λ (xs : List Entrant). AreFirsts edge next ps (items_in xs)) (sym c.as_slice-entrant-items.ensures.value) c.in_ok-entrants.ensures.firsts in
     let none = drop_all c.loop-entrant.entrant-index es c.loop-entrant-test.false in
-    let whole : held_by w ≡ (thin_points edge ps (map_of t next)).items =
-    ap (λ (xs : List Entrant). thin_each edge (held_by w) (items_in xs)) (sym none) ∙ c.loop-entrant.invariant.rest ∙ thin_firsts edge next ps (items_in es) (contents t) c.large-large.ensures.sizes.voxel_from held firsts in
+    let whole : contents_of w ≡ (thin_points edge ps (map_of t next)).items =
+    ap (λ (xs : List Entrant). thin_each edge (contents_of w) (items_in xs)) (sym none) ∙ c.loop-entrant.invariant.rest ∙ thin_firsts edge next ps (items_in es) (contents t) c.large-large.ensures.sizes.voxel_from held firsts in
     IfOk-weaker c.put.result _ (λ (u : Draft). map_of u.tree (next + length ps) ≡ thin_points edge ps (map_of t next))
     (λ u e. map_alike (thin_points edge ps (map_of t next)) (contents u.tree) (next + length ps) (e ∙ whole) (sym (thin_next edge ps (map_of t next)))) c.put.ensures.held

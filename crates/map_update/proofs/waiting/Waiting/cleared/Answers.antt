@@ -3,11 +3,11 @@ use Rattle.node_labels.specs.Labels.{thin_tag}
 use Rattle.map_items.specs.Contents.{AreContents, in_box, mark}
 use Rattle.map_items.proofs.Numbered.{contents_mark, mark-within}
 use Rattle.kd_tree.proofs.Held.{are_contents}
-use Rattle.map_update.specs.Waiting.{held_by}
+use Rattle.map_update.specs.Waiting.{contents_of}
 use Rattle.map_update.proofs.Both.{both, cleared_clear}
 use Rattle.map_update.proofs.waiting.Waiting.cleared.Goals as goal
 
-held : (g : _) (c : goal.In_ok-draft g) → both c.in_ok-draft.draft.tree c.args.self.items.items ≡ mark (held_by c.args.self) (in_box c.args.cuboid.now) thin_tag
+held : (g : _) (c : goal.In_ok-draft g) → both c.in_ok-draft.draft.tree c.args.self.items.items ≡ mark (contents_of c.args.self) (in_box c.args.cuboid.now) thin_tag
 held g c =
     let t = c.args.self.draft.tree in
     let k = c.requires.waiting in
@@ -22,7 +22,7 @@ returns-clause-waiting g c =
     let high = c.args.high in
     record {
       live = k.live;
-      held = subst (AreContents 0 high) (sym (held g c)) (contents_mark 0 high (held_by c.args.self) (in_box c.args.cuboid.now) thin_tag k.held);
+      held = subst (AreContents 0 high) (sym (held g c)) (contents_mark 0 high (contents_of c.args.self) (in_box c.args.cuboid.now) thin_tag k.held);
       given = k.given;
       draft = let r = k.draft in let d = c.in_ok-draft.ensures.draft high r.0 r.1 r.2 in (r.0, d.0, d.2);
     }

@@ -5,7 +5,7 @@ use Rattle.map_items.specs.declared.item.Item.{Item}
 use Rattle.kd_tree.specs.Contents.{contents}
 use Rattle.kd_update.specs.Scan.{MayJoin, put_each}
 use Rattle.map_update.specs.Draft.{KeepsWatched}
-use Rattle.map_update.specs.Waiting.{held_by}
+use Rattle.map_update.specs.Waiting.{contents_of}
 use Rattle.map_update.specs.declared.draft.Draft.{Draft}
 use Rattle.map_update.proofs.Both.{may_join, put_held}
 use Rattle.map_update.proofs.waiting.Waiting.put.Goals as goal
@@ -25,7 +25,7 @@ pub returns-clause-held : goal.returns-clause-held
 returns-clause-held g c =
     let t = c.args.self.draft.tree in
     let k = c.requires.waiting in
-    IfOk-weaker c.put_items.result _ (λ (w : Draft). contents w.tree ≡ held_by c.args.self)
+    IfOk-weaker c.put_items.result _ (λ (w : Draft). contents w.tree ≡ contents_of c.args.self)
     (λ w e. e ∙ ap (put_each (contents t)) c.as_slice.ensures.value ∙ put_held c.args.high t c.args.self.items.items c.size-size.ensures.sound k.live k.held) c.put_items.ensures.contents
 
 pub returns-clause-draft : goal.returns-clause-draft

@@ -15,7 +15,7 @@ use Rattle.map_fold.proofs.Centre.{live_is}
 use Rattle.map_fold.proofs.Found.{member-filter}
 use Rattle.kd_search.specs.Best.{IsBest}
 use Rattle.kd_update.proofs.Grown.{live_of}
-use Rattle.map_update.specs.Waiting.{IsJoined, held_by}
+use Rattle.map_update.specs.Waiting.{IsJoined, contents_of}
 use Rattle.map_update.proofs.Both.{distinct_both}
 use Rattle.map_update.proofs.Entering.{entered_none, entered_same, winner_below, winner_new}
 use Rattle.map_items.proofs.Numbered.{contents_rise}
@@ -43,10 +43,10 @@ pub returns-in_default-clause-held : goal.returns-in_default-clause-held
 returns-in_default-clause-held g c =
     let edge = c.args.settings.now.voxel in
     let i = c.args.entrant.now.item in
-    let m = held_by c.args.self in
+    let m = contents_of c.args.self in
     let default : IsNone c.rivals-best.result.best = subst (λ (o : Option Item). IsNone o) (sym c.in_default.is) refl in
     let none : inside_all m (voxel edge i.point) ≡ [] = ap (inside_all m) (sym c.requires.cube) ∙ c.rivals-best.ensures.none.0 default in
-    IfOk-weaker c.with.result _ (λ w. held_by w ≡ thin edge m i.number i.point) (λ w e. e ∙ sym (entered_none edge c.args.high i.number m i.point c.requires.waiting.held none)) c.with.ensures.held
+    IfOk-weaker c.with.result _ (λ w. contents_of w ≡ thin edge m i.number i.point) (λ w e. e ∙ sym (entered_none edge c.args.high i.number m i.point c.requires.waiting.held none)) c.with.ensures.held
 
 pub returns-in_default-clause-joined : goal.returns-in_default-clause-joined
 returns-in_default-clause-joined g c =
@@ -61,7 +61,7 @@ pub with-requires-then-comes_before-clause-new : goal.with-requires-then-comes_b
 with-requires-then-comes_before-clause-new g c =
     let edge = c.args.settings.now.voxel in
     let i = c.args.entrant.now.item in
-    let m = held_by c.args.self in
+    let m = contents_of c.args.self in
     let cube = voxel edge i.point in
     let best = best_on m c.args.entrant.now.cube cube c.rivals-best.result.best c.in-Some.best c.requires.cube c.rivals-best.ensures.best c.in-Some.is in
     let before = first_on i c.in-Some.best c.args.entrant.now.cube cube c.comes_before.result c.requires.cube c.requires.live c.comes_before.ensures ∙ c.if-comes_before.true in
@@ -74,13 +74,13 @@ pub returns-then-comes_before-clause-held : goal.returns-then-comes_before-claus
 returns-then-comes_before-clause-held g c =
     let edge = c.args.settings.now.voxel in
     let i = c.args.entrant.now.item in
-    let m = held_by c.args.self in
+    let m = contents_of c.args.self in
     let cube = voxel edge i.point in
     let best = best_on m c.args.entrant.now.cube cube c.rivals-best.result.best c.in-Some.best c.requires.cube c.rivals-best.ensures.best c.in-Some.is in
     let before = first_on i c.in-Some.best c.args.entrant.now.cube cube c.comes_before.result c.requires.cube c.requires.live c.comes_before.ensures ∙ c.if-comes_before.true in
     let wins = new_wins edge i.number m i.point c.in-Some.best (contents_rise 0 c.args.high m c.requires.waiting.held) c.requires.new best before in
     let left = c.in_ok-cleared.ensures.held ∙ ap (λ (b : Bounds). mark m (in_box b) thin_tag) c.requires.cube in
-    IfOk-weaker c.with-then-comes_before.result _ (λ w. held_by w ≡ thin edge m i.number i.point)
+    IfOk-weaker c.with-then-comes_before.result _ (λ w. contents_of w ≡ thin edge m i.number i.point)
     (λ w e. e ∙ ap (λ (xs : List Item). put xs i.number i.point) left ∙ ap (λ (j : Item). put (mark m (in_box cube) thin_tag) j.number j.point) (sym wins)) c.with-then-comes_before.ensures.held
 
 pub returns-then-comes_before-clause-joined : goal.returns-then-comes_before-clause-joined
@@ -94,7 +94,7 @@ pub returns-then-count-eq1-clause-held : goal.returns-then-count-eq1-clause-held
 returns-then-count-eq1-clause-held g c =
     let edge = c.args.settings.now.voxel in
     let i = c.args.entrant.now.item in
-    let m = held_by c.args.self in
+    let m = contents_of c.args.self in
     let cube = voxel edge i.point in
     let best = best_on m c.args.entrant.now.cube cube c.rivals-best.result.best c.in-Some.best c.requires.cube c.rivals-best.ensures.best c.in-Some.is in
     let behind = first_on i c.in-Some.best c.args.entrant.now.cube cube c.comes_before.result c.requires.cube c.requires.live c.comes_before.ensures ∙ c.if-comes_before.false in
@@ -103,7 +103,7 @@ returns-then-count-eq1-clause-held g c =
 
 pub with-requires-2-clause-live : goal.with-requires-2-clause-live
 with-requires-2-clause-live g c =
-    let m = held_by c.args.self in
+    let m = contents_of c.args.self in
     let box = c.args.entrant.now.cube in
     let best = best_on m box box c.rivals-best.result.best c.in-Some.best refl c.rivals-best.ensures.best c.in-Some.is in
     live_is c.in-Some.best.label (member-filter (λ (i : Item). is_live i.label) c.in-Some.best m best.live).1
@@ -112,7 +112,7 @@ pub with-requires-2-clause-below : goal.with-requires-2-clause-below
 with-requires-2-clause-below g c =
     let edge = c.args.settings.now.voxel in
     let i = c.args.entrant.now.item in
-    let m = held_by c.args.self in
+    let m = contents_of c.args.self in
     let cube = voxel edge i.point in
     let best = best_on m c.args.entrant.now.cube cube c.rivals-best.result.best c.in-Some.best c.requires.cube c.rivals-best.ensures.best c.in-Some.is in
     let behind = first_on i c.in-Some.best c.args.entrant.now.cube cube c.comes_before.result c.requires.cube c.requires.live c.comes_before.ensures ∙ c.if-comes_before.false in
@@ -122,7 +122,7 @@ pub with-requires-2-clause-new : goal.with-requires-2-clause-new
 with-requires-2-clause-new g c =
     let edge = c.args.settings.now.voxel in
     let i = c.args.entrant.now.item in
-    let m = held_by c.args.self in
+    let m = contents_of c.args.self in
     let cube = voxel edge i.point in
     let best = best_on m c.args.entrant.now.cube cube c.rivals-best.result.best c.in-Some.best c.requires.cube c.rivals-best.ensures.best c.in-Some.is in
     let behind = first_on i c.in-Some.best c.args.entrant.now.cube cube c.comes_before.result c.requires.cube c.requires.live c.comes_before.ensures ∙ c.if-comes_before.false in
@@ -134,13 +134,13 @@ pub returns-clause-held : goal.returns-clause-held
 returns-clause-held g c =
     let edge = c.args.settings.now.voxel in
     let i = c.args.entrant.now.item in
-    let m = held_by c.args.self in
+    let m = contents_of c.args.self in
     let cube = voxel edge i.point in
     let old = c.in-Some.best in
     let best = best_on m c.args.entrant.now.cube cube c.rivals-best.result.best old c.requires.cube c.rivals-best.ensures.best c.in-Some.is in
     let behind = first_on i old c.args.entrant.now.cube cube c.comes_before.result c.requires.cube c.requires.live c.comes_before.ensures ∙ c.if-comes_before.false in
     let left = c.in_ok-cleared-2.ensures.held ∙ ap (λ (b : Bounds). mark m (in_box b) thin_tag) c.requires.cube in
-    IfOk-weaker c.with-2.result _ (λ w. held_by w ≡ thin edge m i.number i.point)
+    IfOk-weaker c.with-2.result _ (λ w. contents_of w ≡ thin edge m i.number i.point)
     (λ w e. e ∙ ap (λ (xs : List Item). put xs old.number old.point) left ∙ ap (λ (j : Item). put (mark m (in_box cube) thin_tag) j.number j.point) (sym (held_wins edge i.number m i.point old (contents_rise 0 c.args.high m c.requires.waiting.held) c.requires.new best behind))) c.with-2.ensures.held
 
 -- where only what waits is more
