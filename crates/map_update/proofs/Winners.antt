@@ -22,7 +22,7 @@ use Rattle.kd_search.specs.Best.{IsBest}
 use Rattle.map_update.specs.Draft.{IsLawfulDraft}
 use Rattle.map_update.specs.declared.draft.Draft.{Draft}
 use Rattle.kd_tree.specs.Maps.{map_of}
-use Rattle.map_update.specs.OnePoint.{IsTurnedAway}
+use Rattle.map_update.specs.OnePoint.{IsRejected}
 
 -- what a draft holds is what a map may hold
 pub draft_contents : (large next : ℕ) (w : Draft) → IsSound w.tree → IsLawfulDraft large next w → AreContents 0 next (contents w.tree)
@@ -63,11 +63,11 @@ becomes (Ok w) xs ys e f = f ∙ e
 becomes (Err x) xs ys e f = tt
 
 -- equal points are rejected for equal trees and numbers
-pub turned_same : (edge : ℕ) (s t : Shape) (k n : ℕ) (p q : Place) → t ≡ s → n ≡ k → q ≡ p → IsTurnedAway edge (map_of s k) p → IsTurnedAway edge (map_of t n) q
+pub turned_same : (edge : ℕ) (s t : Shape) (k n : ℕ) (p q : Place) → t ≡ s → n ≡ k → q ≡ p → IsRejected edge (map_of s k) p → IsRejected edge (map_of t n) q
 turned_same edge s t k n p q e f h turned =
-    let one : IsTurnedAway edge (map_of t k) p = subst (λ (x : Shape). IsTurnedAway edge (map_of x k) p) (sym e) turned in
-    let two : IsTurnedAway edge (map_of t n) p = subst (λ (x : ℕ). IsTurnedAway edge (map_of t x) p) (sym f) one in
-    subst (IsTurnedAway edge (map_of t n)) (sym h) two
+    let one : IsRejected edge (map_of t k) p = subst (λ (x : Shape). IsRejected edge (map_of x k) p) (sym e) turned in
+    let two : IsRejected edge (map_of t n) p = subst (λ (x : ℕ). IsRejected edge (map_of t x) p) (sym f) one in
+    subst (IsRejected edge (map_of t n)) (sym h) two
 
 -- a list of one point has no other
 pub only_first : (i : ℕ) (ps : List Place) (p q : Place) → drop i ps ≡ q ∷ drop (i + 1) ps → i < length ps → ps ≡ p ∷ [] → (q ≡ p) × (i ≡ 0)

@@ -8,7 +8,7 @@ ghost use Rattle.map_items.specs.Ops.{IsUnheld};
 ghost use Rattle.kd_tree.specs.Contents.{contents};
 ghost use Rattle.map_update.specs.Draft.{IsLawfulDraft, IsDrafted, KeepsDraft, KeepsWatched};
 ghost use Rattle.kd_tree.specs.Maps.{map_of};
-ghost use Rattle.map_update.specs.OnePoint.{IsTurnedAway};
+ghost use Rattle.map_update.specs.OnePoint.{IsRejected};
 
 use crate::draft::{Draft, Drafted};
 use crate::update::added_one;
@@ -35,9 +35,9 @@ pub(crate) fn thinned<L: Ledger>(
     ensures stepped { IfOk result (λ w. map_of w.tree (next + length points.now) ≡ thin_points settings.now.voxel points.now (map_of draft.tree next)) }
     ensures draft { KeepsDraft settings.now.large next (next + length points.now) draft result }
     ensures kept { KeepsWatched (length points.now) (2 * length points.now) draft result }
-    ensures turned_away { (p : Place) → points.now ≡ p ∷ [] → IsTurnedAway settings.now.voxel (map_of draft.tree next) p
+    ensures rejected { (p : Place) → points.now ≡ p ∷ [] → IsRejected settings.now.voxel (map_of draft.tree next) p
         → IfOk result (λ w. w.tree ≡ draft.tree) }
-    ensures no_nodes_made { (p : Place) → points.now ≡ p ∷ [] → IsTurnedAway settings.now.voxel (map_of draft.tree next) p
+    ensures no_nodes_made { (p : Place) → points.now ≡ p ∷ [] → IsRejected settings.now.voxel (map_of draft.tree next) p
         → steps.new ≡ steps.old }
 {
     if points.len() >= PASS_FROM && draft.may_thin_at_once(points.len()) {
@@ -67,8 +67,8 @@ fn thinned_one<L: Ledger>(
     ensures contents { IfOk result (λ w. contents w.tree ≡ thin settings.now.voxel (contents draft.tree) next point) }
     ensures draft { KeepsDraft settings.now.large next (next + 1) draft result }
     ensures drafted { IfOk result (IsDrafted 1 2 draft) }
-    ensures turned_away { IsTurnedAway settings.now.voxel (map_of draft.tree next) point → IfOk result (λ w. w.tree ≡ draft.tree) }
-    ensures no_nodes_made { IsTurnedAway settings.now.voxel (map_of draft.tree next) point → steps.new ≡ steps.old }
+    ensures rejected { IsRejected settings.now.voxel (map_of draft.tree next) point → IfOk result (λ w. w.tree ≡ draft.tree) }
+    ensures no_nodes_made { IsRejected settings.now.voxel (map_of draft.tree next) point → steps.new ≡ steps.old }
 {
     let _size = draft.tree.size();
     let large = settings.large();

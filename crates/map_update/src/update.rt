@@ -8,7 +8,7 @@ ghost use Rattle.map_items.specs.Fold.{add_points, mark_boxes, points_in, step};
 ghost use Rattle.kd_tree.specs.Contents.{contents};
 ghost use Rattle.kd_tree.specs.Maps.{map_of};
 ghost use Rattle.map_update.specs.Draft.{DoesPlainly, IsLawfulDraft, IsDrafted, KeepsDraft, KeepsWatched, MakesFew};
-ghost use Rattle.map_update.specs.OnePoint.{IsTurnedAway};
+ghost use Rattle.map_update.specs.OnePoint.{IsRejected};
 ghost use Rattle.map_update.specs.Single.{most_ops, only_mark, only_op};
 
 use crate::draft::{Draft, Drafted};
@@ -41,9 +41,9 @@ pub fn changed<L: Ledger>(
     ensures kept { KeepsWatched (points_in update.now) (most_ops update.now) draft result }
     ensures unrebuilt { (op : Op) → only_op next update.now ≡ Some op → DoesPlainly settings.now.large op draft result }
     ensures nodes_made { (op : Op) → only_op next update.now ≡ Some op → MakesFew settings.now.large op draft steps.old steps.new }
-    ensures turned_away { (p : Place) → update.now ≡ Update.Thin (p ∷ []) → IsTurnedAway settings.now.voxel (map_of draft.tree next) p
+    ensures rejected { (p : Place) → update.now ≡ Update.Thin (p ∷ []) → IsRejected settings.now.voxel (map_of draft.tree next) p
         → IfOk result (λ w. w.tree ≡ draft.tree) }
-    ensures no_nodes_made { (p : Place) → update.now ≡ Update.Thin (p ∷ []) → IsTurnedAway settings.now.voxel (map_of draft.tree next) p
+    ensures no_nodes_made { (p : Place) → update.now ≡ Update.Thin (p ∷ []) → IsRejected settings.now.voxel (map_of draft.tree next) p
         → steps.new ≡ steps.old }
 {
     let large = settings.large();

@@ -12,14 +12,14 @@ use Rattle.kd_tree.specs.Contents.{contents}
 use Rattle.kd_tree.proofs.Held.{are_contents}
 use Rattle.rebuild_core.specs.Lawful.{IsLawful, StateAt}
 use Rattle.kd_tree.specs.Maps.{map_of}
-use Rattle.rebuild_core.specs.OnePoint.{IsThinnedFrom, IsTurnedAwayFrom}
-use Rattle.map_update.specs.OnePoint.{IsTurnedAway}
+use Rattle.rebuild_core.specs.OnePoint.{IsThinnedFrom, IsRejectedFrom}
+use Rattle.map_update.specs.OnePoint.{IsRejected}
 
 -- what a state rejects, a copy of its tree rejects
-pub turned_copy : (s z : StateAt) (t : Shape) (p : Place) → s ≡ z → t ≡ s.tree → IsTurnedAwayFrom z p → IsTurnedAway s.settings.voxel (map_of t s.next) p
+pub turned_copy : (s z : StateAt) (t : Shape) (p : Place) → s ≡ z → t ≡ s.tree → IsRejectedFrom z p → IsRejected s.settings.voxel (map_of t s.next) p
 turned_copy s z t p is same turned =
-    let here : IsTurnedAwayFrom s p = subst (λ (x : StateAt). IsTurnedAwayFrom x p) (sym is) turned in
-    subst (λ (x : Shape). IsTurnedAway s.settings.voxel (map_of x s.next) p) (sym same) here
+    let here : IsRejectedFrom s p = subst (λ (x : StateAt). IsRejectedFrom x p) (sym is) turned in
+    subst (λ (x : Shape). IsRejected s.settings.voxel (map_of x s.next) p) (sym same) here
 
 -- a step that thins the voxel of one point does what is said of it
 pub thinned_from : (u : Update) (s z : StateAt) (copy t : Shape) (next : ℕ) (p : Place) → s ≡ z → IsLawful s → copy ≡ s.tree → map_of t next ≡ step s.settings.voxel u (map_of copy s.next) → u ≡ Thin (p ∷ [])

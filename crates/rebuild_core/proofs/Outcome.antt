@@ -11,7 +11,7 @@ use Rattle.kd_update.specs.Detached.{watches_of}
 use Rattle.rebuild_core.specs.Lawful.{StateAt}
 use Rattle.kd_tree.specs.Maps.{map_of}
 use Rattle.rebuild_parts.specs.Logs.{planned_parts}
-use Rattle.map_update.specs.OnePoint.{IsTurnedAway}
+use Rattle.map_update.specs.OnePoint.{IsRejected}
 use Rattle.rebuild_core.specs.Outcome.{IsLeftByUpdate, MakesNodes}
 use Rattle.map_update.specs.Single.{RebuildsNothing, entered_nodes, only_op}
 use Rattle.rebuild_core.specs.Steps.{PlannedAt, entered}
@@ -29,7 +29,7 @@ makes_on u s z n m k is same made = subst (λ (x : StateAt). MakesNodes u x n k)
 -- what the work on a copy promises, the plan promises of the state
 pub plan_makes : (u : Update) (s z : StateAt) (t : Shape) (m n new : ℕ) (ws : List Watch) → s ≡ z → t ≡ s.tree → m ≡ n → ws ≡ watches_of s.parts
     → ((op : Op) → only_op s.next u ≡ Some op → HaveRoom ws → RebuildsNothing s.settings.large op t → new ≤ m + (5 * entered_nodes op t + 1))
-    → ((p : Place) → u ≡ Thin (p ∷ []) → IsTurnedAway s.settings.voxel (map_of t s.next) p → new ≡ m) → MakesNodes u z n new
+    → ((p : Place) → u ≡ Thin (p ∷ []) → IsRejected s.settings.voxel (map_of t s.next) p → new ≡ m) → MakesNodes u z n new
 plan_makes u s z t m n new ws is same start seen nodes_made no_nodes_made = record {
   nodes_made = λ op. plan_nodes_made u op s z t m n new ws is same start seen (nodes_made op);
   no_nodes_made = λ p one turned. no_nodes_made p one (turned_copy s z t p is same turned) ∙ start;

@@ -7,7 +7,7 @@ use Rattle.map_items.specs.declared.update.Update.{Update}
 use Rattle.map_items.specs.declared.update.Update.TheVariants.{Thin}
 use Rattle.kd_tree.specs.Shape.{Shape}
 use Rattle.rebuild_core.specs.Lawful.{StateAt}
-use Rattle.rebuild_core.specs.OnePoint.{IsThinnedFrom, IsTurnedAwayFrom}
+use Rattle.rebuild_core.specs.OnePoint.{IsThinnedFrom, IsRejectedFrom}
 use Rattle.kd_update.specs.Detached.{AreLeft, PartAt}
 use Rattle.map_update.specs.Single.{entered_nodes, unrebuilt}
 use Rattle.rebuild_core.specs.Stays.{HasOwnRoom, HasTreeRoom, StaysAmong, logged_by}
@@ -24,11 +24,11 @@ pub record IsLeftByUpdate (u : Update) (s : StateAt) (ps : List PartAt) (t : Sha
   pub unrebuilt : (op : Op) → IsUnrebuiltUpdate u op s → t ≡ unrebuilt op s.tree
   -- where one point thins its voxel, what is left is said without the way it is made
   pub thinned : (p : Place) → u ≡ Thin (p ∷ []) → IsThinnedFrom s p t
-  pub turned_away : (p : Place) → u ≡ Thin (p ∷ []) → IsTurnedAwayFrom s p → t ≡ s.tree
+  pub rejected : (p : Place) → u ≡ Thin (p ∷ []) → IsRejectedFrom s p → t ≡ s.tree
 
 -- The update makes so many nodes: the counter rises from the one number to the other.
 pub record MakesNodes (u : Update) (s : StateAt) (before after : ℕ) : Type 0 where
   -- one operation that rebuilds nothing makes at most five for each node that it enters, and one more
   pub nodes_made : (op : Op) → IsUnrebuiltUpdate u op s → after ≤ before + (5 * entered_nodes op s.tree + 1)
   -- one point that is turned away makes none
-  pub no_nodes_made : (p : Place) → u ≡ Thin (p ∷ []) → IsTurnedAwayFrom s p → after ≡ before
+  pub no_nodes_made : (p : Place) → u ≡ Thin (p ∷ []) → IsRejectedFrom s p → after ≡ before

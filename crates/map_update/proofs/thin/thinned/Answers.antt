@@ -56,11 +56,11 @@ loop-point-preserved g c =
           let start = c.loop-point.invariant.same p one turned in
           let next : c.loop-point.next ≡ c.args.next = omega (arith, c.loop-point.invariant.room, ap (λ k. length (drop k ps)) first.1) in
           let here = turned_same c.args.settings.now.voxel c.args.draft.tree c.loop-point.draft.tree c.args.next c.loop-point.next p q start.0 next first.0 turned in
-          (c.in_ok-draft.ensures.turned_away here ∙ start.0, c.in_ok-draft.ensures.no_nodes_made here ∙ start.1);
+          (c.in_ok-draft.ensures.rejected here ∙ start.0, c.in_ok-draft.ensures.no_nodes_made here ∙ start.1);
     }
 
-pub returns-clause-turned_away : goal.returns-clause-turned_away
-returns-clause-turned_away g c = λ p one turned. (c.loop-point.invariant.same p one turned).0
+pub returns-clause-rejected : goal.returns-clause-rejected
+returns-clause-rejected g c = λ p one turned. (c.loop-point.invariant.same p one turned).0
 
 pub returns-clause-no_nodes_made : goal.returns-clause-no_nodes_made
 returns-clause-no_nodes_made g c = λ p one turned. (c.loop-point.invariant.same p one turned).1

@@ -20,7 +20,7 @@ returns-in-Add g c =
       kept = c.added.ensures.kept;
       unrebuilt = rw c.large-large.ensures.value at c.added.ensures.unrebuilt;
       nodes_made = rw c.large-large.ensures.value at c.added.ensures.nodes_made;
-      turned_away = λ p one. absurd (add_not_thin c.in-Add.points (p ∷ []) one);
+      rejected = λ p one. absurd (add_not_thin c.in-Add.points (p ∷ []) one);
       no_nodes_made = λ p one. absurd (add_not_thin c.in-Add.points (p ∷ []) one);
     })
 
@@ -33,7 +33,7 @@ returns-in-Delete g c =
       kept = c.marked_each.ensures.kept;
       unrebuilt = rw c.large-large.ensures.value at c.marked_each.ensures.unrebuilt;
       nodes_made = rw c.large-large.ensures.value at c.marked_each.ensures.nodes_made;
-      turned_away = λ p one. absurd (delete_not_thin c.in-Delete.boxes (p ∷ []) one);
+      rejected = λ p one. absurd (delete_not_thin c.in-Delete.boxes (p ∷ []) one);
       no_nodes_made = λ p one. absurd (delete_not_thin c.in-Delete.boxes (p ∷ []) one);
     })
 
@@ -46,7 +46,7 @@ returns-in-Suspend g c =
       kept = c.marked_each-in-Suspend.ensures.kept;
       unrebuilt = rw c.large-large.ensures.value at c.marked_each-in-Suspend.ensures.unrebuilt;
       nodes_made = rw c.large-large.ensures.value at c.marked_each-in-Suspend.ensures.nodes_made;
-      turned_away = λ p one. absurd (suspend_not_thin c.in-Suspend.boxes (p ∷ []) one);
+      rejected = λ p one. absurd (suspend_not_thin c.in-Suspend.boxes (p ∷ []) one);
       no_nodes_made = λ p one. absurd (suspend_not_thin c.in-Suspend.boxes (p ∷ []) one);
     })
 
@@ -59,12 +59,12 @@ returns-in-Restore g c =
       kept = c.marked_each-in-Restore.ensures.kept;
       unrebuilt = rw c.large-large.ensures.value at c.marked_each-in-Restore.ensures.unrebuilt;
       nodes_made = rw c.large-large.ensures.value at c.marked_each-in-Restore.ensures.nodes_made;
-      turned_away = λ p one. absurd (restore_not_thin c.in-Restore.boxes (p ∷ []) one);
+      rejected = λ p one. absurd (restore_not_thin c.in-Restore.boxes (p ∷ []) one);
       no_nodes_made = λ p one. absurd (restore_not_thin c.in-Restore.boxes (p ∷ []) one);
     })
 
-pub returns-in-Thin-clause-turned_away : goal.returns-in-Thin-clause-turned_away
-returns-in-Thin-clause-turned_away g c = λ p one turned. c.thinned.ensures.turned_away p (points_one c.in-Thin.points c.args.update.now p c.in-Thin.is one) turned
+pub returns-in-Thin-clause-rejected : goal.returns-in-Thin-clause-rejected
+returns-in-Thin-clause-rejected g c = λ p one turned. c.thinned.ensures.rejected p (points_one c.in-Thin.points c.args.update.now p c.in-Thin.is one) turned
 
 pub returns-in-Thin-clause-no_nodes_made : goal.returns-in-Thin-clause-no_nodes_made
 returns-in-Thin-clause-no_nodes_made g c = λ p one turned. c.thinned.ensures.no_nodes_made p (points_one c.in-Thin.points c.args.update.now p c.in-Thin.is one) turned

@@ -55,5 +55,5 @@ returns-clause-leaves g c =
       logged = λ op. plan_logged u op s z t ws new logs is same seen (work.unrebuilt op) plans;
       unrebuilt = λ op. plan_shape u op s z t new.tree ws is same seen (λ only room criteria. ap (λ (w : Draft). w.tree) (work.unrebuilt op only room criteria));
       thinned = λ p. thinned_from u s z t new.tree (s.next + points_in u) p is lawful same work.stepped;
-      turned_away = λ p one turned. work.turned_away p one (turned_copy s z t p is same turned) ∙ same ∙ ap (λ (x : StateAt). x.tree) is;
+      rejected = λ p one turned. work.rejected p one (turned_copy s z t p is same turned) ∙ same ∙ ap (λ (x : StateAt). x.tree) is;
     }
