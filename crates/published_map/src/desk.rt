@@ -17,10 +17,10 @@ impl<L: MapName> Desk for Shared<L> {
     /// On `NoMemory` the subtree may stay detached, without a job: the next call for its slot detaches it anew.
     fn detach<R: Wait>(&self, rt: &R, alloc: Global, slot: u8) -> Result<Option<Job>, NoMemory> {
         let mut locked = self.lock.lock(rt);
-        let (left, holdings) = (locked.retired.for_worker(), locked.holdings());
+        let (left, all_detached_items) = (locked.retired.for_worker(), locked.all_detached_items());
         let found = locked.detach(alloc, slot);
         MutexGuard::unlock(locked);
-        drop((left, holdings));
+        drop((left, all_detached_items));
         let Some((snapshot, mark)) = found? else {
             return Ok(None);
         };
@@ -60,11 +60,11 @@ impl<L: MapName> Shared<L> {
     fn list<R: Wait>(&self, rt: &R, job: &Job, mark: &Mark<L>)
         requires { job.now.items ≡ mark.now.items }
     {
-        let Ok(list) = job.holding() else {
+        let Ok(list) = job.detached_items() else {
             return;
         };
         let mut locked = self.lock.lock(rt);
-        let spent = locked.hold(job.ticket(), list, mark);
+        let spent = locked.keep_list(job.ticket(), list, mark);
         MutexGuard::unlock(locked);
         drop(spent);
     }
@@ -82,10 +82,10 @@ impl<L: MapName> Shared<L> {
         let locked = self.lock.lock(rt);
         let held = locked.held(built.ticket());
         MutexGuard::unlock(locked);
-        let Some((holding, mark)) = held? else {
+        let Some((detached_items, mark)) = held? else {
             return Err(Late::Stale { built });
         };
-        if !holding.is_of(&built) {
+        if !detached_items.is_of(&built) {
             return Err(Late::Stale { built });
         }
         self.swap_known(rt, alloc, built, &mark, most)
@@ -103,12 +103,12 @@ impl<L: MapName> Shared<L> {
         ensures { IfErr result (IsLateCause built most) }
     {
         let mut locked = self.lock.lock(rt);
-        let (left, holdings) = (locked.retired.for_worker(), locked.holdings());
+        let (left, all_detached_items) = (locked.retired.for_worker(), locked.all_detached_items());
         let former = locked.version();
         let done = locked.swap(rt, alloc, built, mark, most);
         let spent = locked.retire_swapped(former, done.is_ok());
         MutexGuard::unlock(locked);
-        drop((left, holdings, spent));
+        drop((left, all_detached_items, spent));
         done
     }
 }

@@ -13,7 +13,7 @@ use crate::turn::{catch_up, take_step};
 use left_right::Absorb;
 use map_items::{Entry, NoMemory, Update};
 use rebuild_core::{MapState, Planned};
-use rebuild_parts::{Holding, StateFault, Version};
+use rebuild_parts::{DetachedItems, StateFault, Version};
 use shown_versions::{MapName, MapWriter, MarkList, Shown};
 use std::alloc::Global;
 use std::marker::Model;
@@ -90,12 +90,12 @@ impl<L: MapName> Locked<L> {
     }
 
     /// Shares what the detached subtrees held: a turn that may free some drops it later.
-    pub fn holdings(&self) -> [Option<Holding>; 4] {
+    pub fn all_detached_items(&self) -> [Option<DetachedItems>; 4] {
         [
-            self.state.holding_in(1),
-            self.state.holding_in(2),
-            self.state.holding_in(3),
-            self.state.holding_in(4),
+            self.state.detached_items_in(1),
+            self.state.detached_items_in(2),
+            self.state.detached_items_in(3),
+            self.state.detached_items_in(4),
         ]
     }
 

@@ -83,7 +83,7 @@ impl<L: MapName> Shared<L> {
         // The pass may be the last that keeps its version.
         let kept = pass.kept.again().ok();
         let mut locked = self.lock.lock(rt);
-        let holdings = locked.holdings();
+        let all_detached_items = locked.all_detached_items();
         let is_newest = locked.is_newest(&pass.kept);
         let (done, spent) = locked.update(rt, alloc, pass, update);
         let kept = if is_newest {
@@ -92,17 +92,17 @@ impl<L: MapName> Shared<L> {
             locked.retired.after_pass(kept)
         };
         MutexGuard::unlock(locked);
-        drop((kept, spent, holdings));
+        drop((kept, spent, all_detached_items));
         done
     }
 
     /// Rebuilds what breaches a criterion, as `MapState::settle` does, and publishes the version.
     pub fn settle<R: Wait>(&self, rt: &R, alloc: Global) -> Result<(), NoMemory> {
         let mut locked = self.lock.lock(rt);
-        let holdings = locked.holdings();
+        let all_detached_items = locked.all_detached_items();
         let (done, spent) = locked.settle(rt, alloc);
         MutexGuard::unlock(locked);
-        drop((spent, holdings));
+        drop((spent, all_detached_items));
         done
     }
 

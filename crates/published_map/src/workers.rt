@@ -9,7 +9,7 @@ use crate::hold::{Hold, hold_of, keep_hold};
 use crate::locked::Locked;
 use map_items::{NoMemory, Ops};
 use rebuild_core::SwapOrLate;
-use rebuild_parts::{Built, Holding, Late, LogAsk, Snapshot, Version};
+use rebuild_parts::{Built, DetachedItems, Late, LogAsk, Snapshot, Version};
 use shown_versions::{MapName, Mark, Shown, ShownHistory};
 use std::alloc::Global;
 use std::sync::Wait;
@@ -52,27 +52,27 @@ impl<L: MapName> Locked<L> {
 
     /// Gives the ticket's subtree the list of what it held. Returns what is to be dropped: what it had before, or the list where
     /// nobody waits for it.
-    pub fn hold(&mut self, ticket: u64, list: Holding, mark: &Mark<L>) -> Holding
+    pub fn keep_list(&mut self, ticket: u64, list: DetachedItems, mark: &Mark<L>) -> DetachedItems
         requires { list ≡ mark.now.items }
         ensures { self.new ≡ self.old }
     {
         if !self.is_known(ticket, mark) {
             return list;
         }
-        self.state.hold(ticket, list)
+        self.state.keep_list(ticket, list)
     }
 
     /// `None` once the subtree isn't detached any more.
-    pub fn held(&self, ticket: u64) -> Result<Option<(Holding, Mark<L>)>, NoMemory>
+    pub fn held(&self, ticket: u64) -> Result<Option<(DetachedItems, Mark<L>)>, NoMemory>
         ensures { IfOk result (λ o. IfSome o (λ r. r.1.items ≡ r.0)) }
     {
         let Some(hold) = hold_of(self.holds.as_slice(), ticket) else {
             return Ok(None);
         };
-        let Some(holding) = self.state.holding(ticket)? else {
+        let Some(detached_items) = self.state.detached_items(ticket)? else {
             return Ok(None);
         };
-        Ok(Some((holding, hold.mark().again())))
+        Ok(Some((detached_items, hold.mark().again())))
     }
 
     /// Swaps in a value at most `most` operations behind that was built of what the mark is of.

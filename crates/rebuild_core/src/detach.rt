@@ -9,7 +9,7 @@ use crate::MapState;
 use kd_tree::Path;
 use map_items::{NoMemory, Ops};
 use op_logger::OpLog;
-use rebuild_parts::{Built, Holding, Job, LogAsk, Part, Snapshot, part_in, part_of, paths_of};
+use rebuild_parts::{Built, DetachedItems, Job, LogAsk, Part, Snapshot, part_in, part_of, paths_of};
 use std::alloc::Global;
 
 impl MapState {
@@ -26,13 +26,13 @@ impl MapState {
         let Ok(job) = snapshot.job(alloc) else {
             return Err(NoMemory);
         };
-        let holding = job.holding()?;
-        self.put_part(alloc, slot, path, holding)?;
+        let detached_items = job.detached_items()?;
+        self.put_part(alloc, slot, path, detached_items)?;
         Ok(Some(job))
     }
 
     /// `detach` without a list, in a time that doesn't depend on its nodes: the tree itself is handed out and kept.
-    /// `hold` can give the state the list later.
+    /// `keep_list` can give the state the list later.
     pub fn snapshot(&mut self, alloc: Global, slot: u8) -> Result<Option<Snapshot>, NoMemory>
         requires slot { IsSlot slot }
         ensures { Detaches slot self.old result self.new }
@@ -40,8 +40,8 @@ impl MapState {
         let Some((path, snapshot)) = self.detachable(alloc, slot)? else {
             return Ok(None);
         };
-        let holding = snapshot.holding()?;
-        self.put_part(alloc, slot, path, holding)?;
+        let detached_items = snapshot.detached_items()?;
+        self.put_part(alloc, slot, path, detached_items)?;
         Ok(Some(snapshot))
     }
 
@@ -60,9 +60,9 @@ impl MapState {
             return Ok(None);
         };
         let _size = node.size();
-        let holding = Holding::of(alloc, node)?;
+        let detached_items = DetachedItems::of(alloc, node)?;
         let ticket = last + 1;
-        Ok(Some((path, Snapshot::new(ticket, holding))))
+        Ok(Some((path, Snapshot::new(ticket, detached_items))))
     }
 
     fn put_part(
@@ -70,7 +70,7 @@ impl MapState {
         alloc: Global,
         slot: u8,
         path: Path,
-        held: Holding,
+        held: DetachedItems,
     ) -> Result<(), NoMemory>
         requires slot { IsSlot slot }
         requires there { IsDetachable slot self.old.state path (record { ticket = self.old.state.last + 1; items = held }) }

@@ -4,8 +4,8 @@
 
 mod desk;
 mod detach;
+mod detached_items;
 mod enter;
-mod hold;
 mod plan;
 mod planned;
 mod recycle;
@@ -17,7 +17,7 @@ pub use desk::{Desk, SwapOrLate, Swapped};
 pub use plan::MAX_UPDATES;
 pub use planned::Planned;
 pub use rebuild_parts::{
-    Built, BuiltLeft, Holding, Job, JobLeft, Late, LogAsk, MAX_UNFORCED, PartInfo, Snapshot,
+    Built, BuiltLeft, DetachedItems, Job, JobLeft, Late, LogAsk, MAX_UNFORCED, PartInfo, Snapshot,
     SnapshotLeft, StateFault, SwapFault, Version,
 };
 pub use state::MapState;

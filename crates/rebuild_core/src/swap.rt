@@ -94,7 +94,7 @@ impl MapState {
 
     /// Plans the swap of a value at most `most` operations behind, done in its own nodes where nobody else has them.
     /// One further behind is handed back with its pending operations. The caller compares the items, by
-    /// `Holding::is_of` with what `holding` returns.
+    /// `DetachedItems::is_of` with what `detached_items` returns.
     pub fn plan_swap_or_log<L: Ledger>(
         &self,
         alloc: Global,

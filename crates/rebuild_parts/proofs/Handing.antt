@@ -2,8 +2,8 @@
 use denote.Param.Send.{IsSend, IsSync, sendable}
 use Rattle.std.proofs.Crossing as std
 use Rattle.kd_tree.proofs.node.Tree.TheLaws.TheKnot as knot
-use Rattle.rebuild_parts.specs.contracts.holding.Held as held
-use Rattle.rebuild_parts.specs.contracts.holding.Holding as holding
+use Rattle.rebuild_parts.specs.contracts.detached_items.Listing as held
+use Rattle.rebuild_parts.specs.contracts.detached_items.DetachedItems as detached_items
 use Rattle.rebuild_parts.specs.contracts.part.Part as part
 use Rattle.rebuild_parts.specs.contracts.version.Version as version
 use Rattle.std.proofs.option.Option.TheSendSync as o
@@ -37,14 +37,14 @@ held_send = search crosses depth 40 fits 20000
 held_sync : IsSync (held.the_field).row
 held_sync = search crosses depth 40 fits 20000
 
-pub holding_send : IsSend holding.the_row
-holding_send = search (held_send, held_sync, crosses) depth 40 fits 20000
+pub detached_items_send : IsSend detached_items.the_row
+detached_items_send = search (held_send, held_sync, crosses) depth 40 fits 20000
 
-pub holding_sync : IsSync holding.the_row
-holding_sync = search (held_send, held_sync, crosses) depth 40 fits 20000
+pub detached_items_sync : IsSync detached_items.the_row
+detached_items_sync = search (held_send, held_sync, crosses) depth 40 fits 20000
 
 pub part_send : IsSend part.the_row
-part_send = search (holding_send, holding_sync, crosses) depth 40 fits 20000
+part_send = search (detached_items_send, detached_items_sync, crosses) depth 40 fits 20000
 
 pub part_sync : IsSync part.the_row
-part_sync = search (holding_send, holding_sync, crosses) depth 40 fits 20000
+part_sync = search (detached_items_send, detached_items_sync, crosses) depth 40 fits 20000

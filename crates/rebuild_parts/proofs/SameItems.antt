@@ -20,7 +20,7 @@ use Rattle.kd_tree.specs.Contents.{contents}
 use Rattle.kd_tree.specs.Walk.{walk}
 use Rattle.kd_tree.proofs.Held.{are_distinct, contents_kept, contents_rise, rising_rises}
 use Rattle.kd_tree.proofs.Numbered.{Above, Rises, numbered_from, numbered_in, one_item}
-use Rattle.rebuild_parts.specs.Holding.{AreAllFrom}
+use Rattle.rebuild_parts.specs.DetachedItems.{AreAllFrom}
 
 -- no test is both
 pub not_both : (b : Bool) → b ≡ true → b ≡ false → ⊥

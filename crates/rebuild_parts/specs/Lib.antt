@@ -1,5 +1,5 @@
 pub mod History
 pub mod Built
-pub mod Holding
+pub mod DetachedItems
 pub mod Seen
 pub mod Logs

@@ -11,7 +11,7 @@ ghost use Rattle.rebuild_parts.specs.Built.{AreNumbersOf, IsLawfulBuilt, IsRepla
 
 use crate::Job;
 use crate::balanced::is_balanced;
-use crate::holding::twin_by;
+use crate::detached_items::twin_by;
 use kd_mark::rebuilt;
 use kd_tree::{Steps, Tree};
 use kd_update::replayed;

@@ -5,7 +5,7 @@ ghost use Rattle.kd_tree.specs.Criteria.{AllMeetCriteria};
 ghost use Rattle.kd_tree.specs.Counter.{IsBlankOf};
 ghost use Rattle.rebuild_parts.specs.Built.{AreNumbersOf, IsBuiltOf};
 
-use crate::{Built, Holding};
+use crate::{Built, DetachedItems};
 use kd_tree::{Steps, Tree};
 use map_items::{Item, Items, MAX_POINTS, NoMemory};
 use std::alloc::Global;
@@ -64,11 +64,11 @@ impl Job {
     }
 
     /// The items once more: a pointer is copied.
-    pub fn holding(&self) -> Result<Holding, NoMemory>
+    pub fn detached_items(&self) -> Result<DetachedItems, NoMemory>
         ensures { IfOk result (λ h. h ≡ self.now.items) }
     {
         let items = Arc::try_clone(&self.items)?;
-        Ok(Holding::listed(items))
+        Ok(DetachedItems::listed(items))
     }
 
     pub(crate) fn again(&self) -> Result<Job, NoMemory>

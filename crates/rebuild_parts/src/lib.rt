@@ -4,8 +4,8 @@
 
 mod balanced;
 mod built;
+mod detached_items;
 mod fault;
-mod holding;
 mod job;
 mod logs;
 mod messages;
@@ -15,8 +15,8 @@ mod snapshot;
 mod version;
 
 pub use built::{Built, BuiltLeft, caught_up};
+pub use detached_items::DetachedItems;
 pub use fault::{Late, LogAsk, MAX_UNFORCED, StateFault, SwapFault};
-pub use holding::Holding;
 pub use job::{Job, JobLeft};
 pub use logs::{PartLog, forgotten, forgotten_for, logs_of, relog_all};
 pub use part::{Part, PartInfo, index_of, others_of, part_in, part_of, paths_of, watched};

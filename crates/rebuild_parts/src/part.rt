@@ -2,7 +2,7 @@ ghost use Rattle.std.specs.Prelude.{◌≡◌, ◌≤◌, length, IfOk, IfSome, 
 ghost use Rattle.std.specs.Option.{option_map};
 ghost use Rattle.kd_update.specs.Detached.{IsNewTicket, IsPlaceOf, part_in, part_of, paths, without, watches_of};
 
-use crate::Holding;
+use crate::DetachedItems;
 use kd_mark::Watch;
 use kd_tree::Path;
 use kd_update::Watches;
@@ -28,7 +28,7 @@ pub struct Part {
     pub path: Path,
     pub ticket: u64,
     /// What it held when it was detached.
-    pub held: Holding,
+    pub held: DetachedItems,
     /// What was done to it since.
     pub log: OpLog,
 }

@@ -3,7 +3,7 @@ ghost use Rattle.std.specs.Prelude.{◌≡◌, ◌∷◌, [], ◌↔◌, true};
 ghost use Rattle.map_items.specs.Contents.{AreContents, kept, Member};
 ghost use Rattle.kd_tree.specs.Contents.{contents};
 ghost use Rattle.kd_tree.specs.Walk.{walk};
-ghost use Rattle.rebuild_parts.specs.Holding.{AreAllFrom};
+ghost use Rattle.rebuild_parts.specs.DetachedItems.{AreAllFrom};
 
 use kd_tree::Tree;
 use map_items::{Item, Label, MAX_POINTS, Tag};

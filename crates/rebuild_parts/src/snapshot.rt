@@ -1,6 +1,6 @@
 ghost use Rattle.std.specs.Prelude.{◌≡◌, IfErr, IfOk};
 
-use crate::{Holding, Job};
+use crate::{DetachedItems, Job};
 use map_items::NoMemory;
 use std::alloc::Global;
 use std::marker::Model;
@@ -9,7 +9,7 @@ use std::marker::Model;
 #[derive(Drop)]
 pub struct Snapshot {
     ticket: u64,
-    holding: Holding,
+    detached_items: DetachedItems,
 }
 
 impl Model for Snapshot {
@@ -17,7 +17,7 @@ impl Model for Snapshot {
 
     ghost Value = { JobAt };
 
-    ghost view = { λ s. record { ticket = s.ticket; items = s.holding } };
+    ghost view = { λ s. record { ticket = s.ticket; items = s.detached_items } };
 }
 
 /// A snapshot as it was, on `NoMemory`.
@@ -28,10 +28,10 @@ pub struct SnapshotLeft {
 
 impl Snapshot {
     /// The subtree of the ticket, which held this.
-    pub fn new(ticket: u64, holding: Holding) -> Snapshot
-        ensures { result ≡ record { ticket = ticket; items = holding } }
+    pub fn new(ticket: u64, detached_items: DetachedItems) -> Snapshot
+        ensures { result ≡ record { ticket = ticket; items = detached_items } }
     {
-        Snapshot { ticket, holding }
+        Snapshot { ticket, detached_items }
     }
 
     /// The ticket of the subtree.
@@ -42,10 +42,10 @@ impl Snapshot {
     }
 
     /// What the subtree held: a pointer is copied.
-    pub fn holding(&self) -> Result<Holding, NoMemory>
+    pub fn detached_items(&self) -> Result<DetachedItems, NoMemory>
         ensures { IfOk result (λ h. h ≡ self.now.items) }
     {
-        self.holding.again()
+        self.detached_items.again()
     }
 
     /// The job of rebuilding it. n items take time in the order of n log n. On `NoMemory` the snapshot is handed back.
@@ -53,7 +53,7 @@ impl Snapshot {
         ensures job { IfOk result (λ j. j ≡ self) }
         ensures left { IfErr result (λ l. l.snapshot ≡ self) }
     {
-        match self.holding.list(alloc) {
+        match self.detached_items.list(alloc) {
             Err(_) => Err(SnapshotLeft { snapshot: self }),
             Ok(items) => Ok(Job {
                 ticket: self.ticket,

@@ -32,8 +32,8 @@ fn given_a_list(rt: &impl Abort, alloc: Global, state: &mut MapState) -> Result<
         panic!(rt; "nothing was detached");
     };
     let job = listed(rt, alloc, snapshot);
-    let list = job.holding()?;
-    let _tree = state.hold(job.ticket(), list);
+    let list = job.detached_items()?;
+    let _tree = state.keep_list(job.ticket(), list);
     Ok(job)
 }
 
@@ -53,8 +53,8 @@ fn fits(rt: &impl Abort, alloc: Global, state: &mut MapState) {
     let built = built(rt, alloc, job);
     swap_ends(rt, alloc, state, built, false, None);
     same(rt, "live points", live(state), 40);
-    let holding = made(rt, state.holding(1));
-    holds(rt, "nothing is held", holding.is_none());
+    let detached_items = made(rt, state.detached_items(1));
+    holds(rt, "nothing is held", detached_items.is_none());
 }
 
 #[test]
@@ -112,8 +112,8 @@ fn takes_its_own(rt: &impl Abort, alloc: Global, state: &mut MapState) {
 
 fn knows_its_own(rt: &impl Abort, alloc: Global, state: &MapState, own: &Built) {
     let strange = value_of_another(rt, alloc);
-    let holding = made(rt, state.holding(1));
-    let holding = found(rt, holding);
-    holds(rt, "it is of its own", holding.is_of(own));
-    holds(rt, "it is of no other", !holding.is_of(&strange));
+    let detached_items = made(rt, state.detached_items(1));
+    let detached_items = found(rt, detached_items);
+    holds(rt, "it is of its own", detached_items.is_of(own));
+    holds(rt, "it is of no other", !detached_items.is_of(&strange));
 }

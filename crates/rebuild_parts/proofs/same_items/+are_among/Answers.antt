@@ -3,7 +3,7 @@ use Rattle.map_items.specs.declared.item.Item.{Item}
 use Rattle.map_items.specs.Contents.{kept}
 use Rattle.kd_tree.specs.Walk.{walk}
 use Rattle.kd_search.proofs.Tops.{walk_top}
-use Rattle.rebuild_parts.specs.Holding.{AreAllFrom}
+use Rattle.rebuild_parts.specs.DetachedItems.{AreAllFrom}
 use Rattle.rebuild_parts.proofs.SameItems.{in_parts, not_both, parts_in}
 use Rattle.rebuild_parts.proofs.same_items.+are_among.Goals as goal
 

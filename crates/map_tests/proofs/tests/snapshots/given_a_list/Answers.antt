@@ -7,8 +7,8 @@ use Rattle.kd_update.specs.Detached.{AreItemsOf}
 use Rattle.rebuild_core.proofs.KnownItems.{items_of_job}
 use Rattle.map_tests.proofs.tests.snapshots.given_a_list.Goals as goal
 
-pub hold-tree-requires : goal.hold-tree-requires
-hold-tree-requires g c =
+pub keep_list-tree-requires : goal.keep_list-tree-requires
+keep_list-tree-requires g c =
     let old = c.args.state.now.state in
     let new = c.snapshot.new.self.state in
     let snapshot = c.in-Some.snapshot in

@@ -15,31 +15,31 @@ use std::sync::ledger::{Blank, Ledger};
 
 /// What a detached subtree held, by itself, when it was detached. Contracts see a list of items, also where it is a
 /// tree, which shares its nodes with the map's.
-pub struct Holding {
-    held: Held,
+pub struct DetachedItems {
+    held: Listing,
 }
 
 // Manual, as `Job`'s.
-impl Drop for Holding {
+impl Drop for DetachedItems {
     fn drop(self) {
-        let Holding { held: _held } = self;
+        let DetachedItems { held: _held } = self;
     }
 }
 
 #[derive(Drop)]
-enum Held {
+enum Listing {
     Unlisted(Arc<Tree>),
     Listed(Arc<Items>),
 }
 
-impl Model for Holding {
+impl Model for DetachedItems {
     ghost use Rattle.std.specs.Prelude.{List};
     ghost use Rattle.map_items.specs.declared.item.Item.{Item};
     ghost use Rattle.map_items.specs.Contents.{AreContents};
 
     ghost Value = { List Item };
 
-    ghost use Rattle.rebuild_parts.specs.Holding.{items_held};
+    ghost use Rattle.rebuild_parts.specs.DetachedItems.{items_held};
 
     ghost view = { λ h. items_held h.held };
 
@@ -48,37 +48,37 @@ impl Model for Holding {
     ghost invariant = { λ h. AreContents 0 MAX_POINTS (items_held h.held) };
 }
 
-impl Holding {
+impl DetachedItems {
     /// What the tree holds, in the same time for each tree.
-    pub fn of(alloc: Global, tree: &Tree) -> Result<Holding, NoMemory>
+    pub fn of(alloc: Global, tree: &Tree) -> Result<DetachedItems, NoMemory>
         requires { AreContents 0 MAX_POINTS (contents tree.now) }
         ensures { IfOk result (λ h. h ≡ contents tree.now) }
     {
         let twin = twin_by::<Brand>(alloc, tree, Blank::new(1))?;
         let tree = Arc::new(alloc, twin)?;
-        Ok(Holding {
-            held: Held::Unlisted(tree),
+        Ok(DetachedItems {
+            held: Listing::Unlisted(tree),
         })
     }
 
-    pub(crate) fn listed(items: Arc<Items>) -> Holding
+    pub(crate) fn listed(items: Arc<Items>) -> DetachedItems
         requires { AreContents 0 MAX_POINTS items.value }
         ensures { result ≡ items.value }
     {
-        Holding {
-            held: Held::Listed(items),
+        DetachedItems {
+            held: Listing::Listed(items),
         }
     }
 
     /// The same once more: a pointer is copied.
-    pub fn again(&self) -> Result<Holding, NoMemory>
+    pub fn again(&self) -> Result<DetachedItems, NoMemory>
         ensures { IfOk result (λ h. h ≡ self.now) }
     {
         let held = match &self.held {
-            Held::Unlisted(tree) => Held::Unlisted(Arc::try_clone(tree)?),
-            Held::Listed(items) => Held::Listed(Arc::try_clone(items)?),
+            Listing::Unlisted(tree) => Listing::Unlisted(Arc::try_clone(tree)?),
+            Listing::Listed(items) => Listing::Listed(Arc::try_clone(items)?),
         };
-        Ok(Holding { held })
+        Ok(DetachedItems { held })
     }
 
     // A tree of n items takes time in the order of n log n.
@@ -87,11 +87,11 @@ impl Holding {
         ensures lawful { AreContents 0 MAX_POINTS self.now }
     {
         match &self.held {
-            Held::Unlisted(tree) => {
+            Listing::Unlisted(tree) => {
                 let items = Arc::new(alloc, tree.flatten(alloc)?)?;
                 Ok(items)
             }
-            Held::Listed(items) => {
+            Listing::Listed(items) => {
                 let items = Arc::try_clone(items)?;
                 Ok(items)
             }
@@ -105,8 +105,8 @@ impl Holding {
     {
         let items = built.job.items.as_slice();
         match &self.held {
-            Held::Unlisted(tree) => holds(tree, items),
-            Held::Listed(list) => are_same(list.as_slice(), items),
+            Listing::Unlisted(tree) => holds(tree, items),
+            Listing::Listed(list) => are_same(list.as_slice(), items),
         }
     }
 }

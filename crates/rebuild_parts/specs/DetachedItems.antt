@@ -3,11 +3,11 @@ use Rattle.std.specs.Prelude.{List}
 use Rattle.map_items.specs.declared.item.Item.{Item}
 use Rattle.map_items.specs.Contents.{Member}
 use Rattle.kd_tree.specs.Contents.{contents}
-use Rattle.rebuild_parts.specs.declared.holding.Held.{Held}
-use Rattle.rebuild_parts.specs.declared.holding.Held.TheVariants.{Unlisted, Listed}
+use Rattle.rebuild_parts.specs.declared.detached_items.Listing.{Listing}
+use Rattle.rebuild_parts.specs.declared.detached_items.Listing.TheVariants.{Unlisted, Listed}
 
 -- the items, by number
-abbrev pub items_held : Held → List Item
+abbrev pub items_held : Listing → List Item
 items_held (Unlisted tree) = contents tree.value
 items_held (Listed items) = items.value
 
