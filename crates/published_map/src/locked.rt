@@ -9,7 +9,7 @@ ghost use Rattle.published_map.specs.Answers.{Updated};
 use crate::hold::Hold;
 use crate::pass::Pass;
 use crate::retired::Retired;
-use crate::turn::{catch_up, take_step};
+use crate::turn::{read_newest, take_step};
 use left_right::Absorb;
 use map_items::{Entry, NoMemory, Update};
 use rebuild_core::{MapState, Planned};
@@ -104,7 +104,7 @@ impl<L: MapName> Locked<L> {
         ensures pass { pass.new ≡ pass.old }
         ensures begins { IsPrefix pass.old.seen self.old.state.history }
     {
-        let _whole = catch_up(rt, self.writer.published(), &mut pass.reader);
+        let _whole = read_newest(rt, self.writer.published(), &mut pass.reader);
     }
 
     pub fn give<R: Wait>(&mut self, rt: &R, pass: &mut Pass<L>)
@@ -113,7 +113,7 @@ impl<L: MapName> Locked<L> {
         ensures seen { pass.new.seen ≡ self.old.state.history }
         ensures made { IsMade self.old.state.history pass.new }
     {
-        pass.kept = catch_up(rt, self.writer.published(), &mut pass.reader);
+        pass.kept = read_newest(rt, self.writer.published(), &mut pass.reader);
     }
 
     /// All memory is taken before the version is published.
@@ -162,7 +162,7 @@ impl<L: MapName> Locked<L> {
         let mark = take_step(rt, marks, state, writer, planned)?;
         self.book.add(&mut pass.share, 1);
         let shown = self.writer.published();
-        pass.kept = catch_up(rt, shown, &mut pass.reader);
+        pass.kept = read_newest(rt, shown, &mut pass.reader);
         pass.marks.push_reserved(place);
         Ok(mark)
     }

@@ -99,7 +99,7 @@ pub fn take_step<L: MapName, R: Wait>(
 }
 
 /// Under the lock the reader's first try gets what is published, but no clause says so.
-pub fn catch_up<L: MapName, R: Wait>(
+pub fn read_newest<L: MapName, R: Wait>(
     rt: &R,
     shown: &Shown<L>,
     reader: &mut MapReader<L>,

@@ -23,7 +23,7 @@ use Rattle.rebuild_core.specs.Lawful.{IsLawful, StateAt}
 use Rattle.rebuild_parts.specs.Logs.{LogPlan, planned_parts}
 use Rattle.kd_update.specs.Detached.{AreEachLawful, AreLawfulParts, AreLeft, PartAt, paths, without}
 use Rattle.rebuild_core.specs.Steps.{plan_with}
-use Rattle.rebuild_core.specs.Swap.{IsCaughtUp, IsLeftBySwap, IsSwapPlan}
+use Rattle.rebuild_core.specs.Swap.{IsReplayedOnto, IsLeftBySwap, IsSwapPlan}
 use Rattle.kd_update.proofs.ApartPaths.{clear_of_others, balanced_more, ones_moved}
 use Rattle.map_update.proofs.Detached.{each_large, each_same, each_without, left_lawful, left_none, left_without}
 use Rattle.rebuild_parts.proofs.OtherParts.{IsAmongOthers, part_among}
@@ -43,8 +43,8 @@ pub swap_fit : (s : StateAt) (b : BuiltAt) (p : PartAt) (t : Shape) (ops : List 
 swap_fit s b p t ops k r = subst (λ (os : List Op). Fit (contents t) os) (sym r.undone) (subst (λ (x : Shape). Fit (contents x) (undone b p)) r.tree (undone_fit s b p k r.lawful r.of))
 
 -- a value's tree that was replayed
-pub swap_caught : (large : ℕ) (b : BuiltAt) (p : PartAt) (ps : List PartAt) (t with : Shape) (ops : List Op) → IsTreeOf b p ps t ops → IsCaughtUp large (record b { tree = t }) ops with → IsCaughtUp large b (undone b p) with
-swap_caught large b p ps t with ops r k = subst (λ (os : List Op). IsCaughtUp large b os with) r.undone (subst (λ (x : Shape). IsCaughtUp large (record b { tree = x }) ops with) (sym r.tree) k)
+pub swap_caught : (large : ℕ) (b : BuiltAt) (p : PartAt) (ps : List PartAt) (t with : Shape) (ops : List Op) → IsTreeOf b p ps t ops → IsReplayedOnto large (record b { tree = t }) ops with → IsReplayedOnto large b (undone b p) with
+swap_caught large b p ps t with ops r k = subst (λ (os : List Op). IsReplayedOnto large b os with) r.undone (subst (λ (x : Shape). IsReplayedOnto large (record b { tree = x }) ops with) (sym r.tree) k)
 
 pub swap_among : (b : BuiltAt) (p : PartAt) (ps : List PartAt) (t with : Shape) (ops : List Op) → IsTreeOf b p ps t ops → AreAmong (numbers with) (numbers_put ops ++ numbers t) → AreAmong (numbers with) (numbers_put (undone b p) ++ numbers b.tree)
 swap_among b p ps t with ops r k = subst (λ (os : List Op). AreAmong (numbers with) (numbers_put os ++ numbers b.tree)) r.undone (subst (λ (x : Shape). AreAmong (numbers with) (numbers_put ops ++ numbers x)) (sym r.tree) k)
@@ -119,12 +119,12 @@ left_by_swap s b p t false ps k o criteria same balanced none one =
     subst (λ (qs : List PartAt). AreLawfulParts s.settings.large s.next s.last t qs × IsBalancedClear s.settings.large (paths qs) t) (sym (one refl))
     (left_lawful s.settings.large s.next s.next s.last s.last s.tree t s.parts (without b.ticket s.parts) left k.parts each, balanced)
 
-which_left : (s : StateAt) (b : BuiltAt) (p : PartAt) (with : Shape) (anew : Bool) (ps : List PartAt) → IsPartOf b s.parts p → IsCaughtUp s.settings.large b (undone b p) with → ((anew ≡ false) ↔ HasRoomAt p.path with s.tree)
+which_left : (s : StateAt) (b : BuiltAt) (p : PartAt) (with : Shape) (anew : Bool) (ps : List PartAt) → IsPartOf b s.parts p → IsReplayedOnto s.settings.large b (undone b p) with → ((anew ≡ false) ↔ HasRoomAt p.path with s.tree)
     → (anew ≡ true → ps ≡ []) → (anew ≡ false → ps ≡ without b.ticket s.parts) → IsLeftBySwap b s ps
 which_left s b p with true ps o held room none one = record { part = p; of = o; with = with; caught = held; left = inr ((λ r. let e = room.1 r in absurd cc), none refl) }
 which_left s b p with false ps o held room none one = record { part = p; of = o; with = with; caught = held; left = inl (room.0 refl, one refl) }
 
-pub swaps : (s : StateAt) (b : BuiltAt) (p : PartAt) (with t : Shape) (anew : Bool) (logs : List LogPlan) → IsLawful s → IsPartOf b s.parts p → IsSound t → IsCaughtUp s.settings.large b (undone b p) with
+pub swaps : (s : StateAt) (b : BuiltAt) (p : PartAt) (with t : Shape) (anew : Bool) (logs : List LogPlan) → IsLawful s → IsPartOf b s.parts p → IsSound t → IsReplayedOnto s.settings.large b (undone b p) with
     → contents t ≡ contents s.tree → All (λ n. n < s.next) (numbers t) → ((anew ≡ false) ↔ HasRoomAt p.path with s.tree) → (anew ≡ true → AllMeetCriteria 10 t) → (anew ≡ false → AreSameAt (paths (without b.ticket s.parts)) t s.tree)
     → IsBalancedClear s.settings.large (paths (without b.ticket s.parts)) t → (anew ≡ true → planned_parts logs s.parts ≡ []) → (anew ≡ false → planned_parts logs s.parts ≡ without b.ticket s.parts)
     → IsSwapPlan b s (plan_with t logs s)

@@ -43,7 +43,7 @@ IsLate b most s late_of.NoMemory = (p : PartAt) × IsPartOf b s.parts p
 
 -- The tree is the value's after these operations: each point that they put adds a level and a node at most. It is the value's own
 -- where there is none, and that is balanced.
-pub record IsCaughtUp (large : ℕ) (b : BuiltAt) (ops : List Op) (with : Shape) : Type 0 where
+pub record IsReplayedOnto (large : ℕ) (b : BuiltAt) (ops : List Op) (with : Shape) : Type 0 where
   pub held : contents with ≡ replay (contents b.tree) ops
   pub low : levels with ≤ levels b.tree + length (numbers_put ops)
   pub few : nodes with ≤ nodes b.tree + length (numbers_put ops)
@@ -55,7 +55,7 @@ pub record IsLeftBySwap (b : BuiltAt) (s : StateAt) (ps : List PartAt) : Type 0 
   pub part : PartAt
   pub of : IsPartOf b s.parts part
   pub with : Shape
-  pub caught : IsCaughtUp s.settings.large b (undone b part) with
+  pub caught : IsReplayedOnto s.settings.large b (undone b part) with
   pub left : (HasRoomAt part.path with s.tree × (ps ≡ without b.ticket s.parts)) ⊎ ((HasRoomAt part.path with s.tree → ⊥) × (ps ≡ []))
 
 -- The plan swaps the value in: what the map holds stays.

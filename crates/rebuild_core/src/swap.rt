@@ -11,7 +11,7 @@ use kd_tree::{Steps, Tree};
 use kd_update::{Replaced, replaced};
 use map_items::{NoMemory, Op, Ops};
 use rebuild_parts::{
-    Built, Late, MAX_UNFORCED, Part, SwapFault, caught_up, forgotten_for, others_of,
+    Built, Late, MAX_UNFORCED, Part, SwapFault, forgotten_for, others_of, replayed_onto,
 };
 use std::alloc::Global;
 use std::sync::ledger::Ledger;
@@ -147,7 +147,7 @@ impl MapState {
     {
         let large = self.settings.large();
         let parts = self.parts.as_slice();
-        let with = caught_up(alloc, tree, made_with, large, ops, steps)?;
+        let with = replayed_onto(alloc, tree, made_with, large, ops, steps)?;
         let others = others_of(alloc, parts, part.ticket)?;
         let tree = self.tree.copy(alloc, steps)?;
         let (path, others) = (&part.path, others.as_slice());

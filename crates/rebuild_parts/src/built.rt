@@ -204,11 +204,11 @@ fn replayed_from<L: Ledger>(
     ensures balance { IfOk result (λ t. IsBalancedBelow large t) }
 {
     let mut steps: Steps<L> = Steps::new(blank);
-    caught_up(alloc, tree, made_with, large, ops, &mut steps)
+    replayed_onto(alloc, tree, made_with, large, ops, &mut steps)
 }
 
 /// The tree after the operations, done as by `replay`. On `NoMemory` it is dropped.
-pub fn caught_up<L: Ledger>(
+pub fn replayed_onto<L: Ledger>(
     alloc: Global,
     tree: Tree,
     made_with: u32,

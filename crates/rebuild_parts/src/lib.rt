@@ -14,7 +14,7 @@ mod same_items;
 mod snapshot;
 mod version;
 
-pub use built::{Built, BuiltLeft, caught_up};
+pub use built::{Built, BuiltLeft, replayed_onto};
 pub use detached_items::DetachedItems;
 pub use fault::{Late, LogAsk, MAX_UNFORCED, StateFault, SwapFault};
 pub use job::{Job, JobLeft};

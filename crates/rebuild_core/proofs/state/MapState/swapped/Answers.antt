@@ -10,7 +10,7 @@ use Rattle.kd_mark.specs.Refresh.{AreAmong}
 use Rattle.kd_update.specs.Replace.{HasRoomAt, StandsFor}
 use Rattle.kd_mark.specs.Several.{AreLargeAt, AreSameAt, IsBalancedClear}
 use Rattle.rebuild_core.specs.Known.{undone}
-use Rattle.rebuild_core.specs.Swap.{IsCaughtUp, IsSwapPlan}
+use Rattle.rebuild_core.specs.Swap.{IsReplayedOnto, IsSwapPlan}
 use Rattle.rebuild_core.specs.Lawful.{IsLawful, Stored}
 use Rattle.rebuild_parts.specs.Logs.{planned_parts}
 use Rattle.kd_update.specs.Detached.{PartAt, paths, without}
@@ -19,8 +19,8 @@ use Rattle.rebuild_parts.proofs.OtherParts.{part_among}
 use Rattle.rebuild_core.proofs.Swapping.{below_both, swap_among, swap_below, swap_caught, swap_clear, swap_fit, swap_outside, swap_stands, swap_there, swaps}
 use Rattle.rebuild_core.proofs.state.MapState.swapped.Goals as goal
 
-pub caught_up-requires-clause-fit : goal.caught_up-requires-clause-fit
-caught_up-requires-clause-fit g c =
+pub replayed_onto-requires-clause-fit : goal.replayed_onto-requires-clause-fit
+replayed_onto-requires-clause-fit g c =
     let lawful = subst (λ (x : Stored). IsLawful x.state) c.self.view_is c.self.invariant.0 in swap_fit c.args.self.now.state c.requires.of.0 c.args.part.now c.args.tree c.args.ops.now lawful c.requires.of.1
 
 pub replaced-requires-clause-stands : goal.replaced-requires-clause-stands
@@ -82,8 +82,8 @@ returns-clause-planned g c = λ b r.
     let t = c.in_ok-tree-2.field-0.tree in
     let anew = c.in_ok-tree-2.field-0.anew in
     let e = c.in_ok-with.ensures in
-    let mine : IsCaughtUp c.large-large.result (record b { tree = c.args.tree }) c.args.ops.now with = record { held = e.contents; low = e.low; few = e.few; same = e.same } in
-    let caught : IsCaughtUp s.settings.large b (undone b p) with = swap_caught s.settings.large b p s.parts c.args.tree with c.args.ops.now r (subst (λ n. IsCaughtUp n (record b { tree = c.args.tree }) c.args.ops.now with) large mine) in
+    let mine : IsReplayedOnto c.large-large.result (record b { tree = c.args.tree }) c.args.ops.now with = record { held = e.contents; low = e.low; few = e.few; same = e.same } in
+    let caught : IsReplayedOnto s.settings.large b (undone b p) with = swap_caught s.settings.large b p s.parts c.args.tree with c.args.ops.now r (subst (λ n. IsReplayedOnto n (record b { tree = c.args.tree }) c.args.ops.now with) large mine) in
     let among = swap_among b p s.parts c.args.tree with c.args.ops.now r e.numbers in
     let below : All (λ n. n < s.next) (numbers with) = swap_below s b p with lawful r.lawful r.of among in
     let from : AreAmong (numbers t) (numbers with ++ numbers s.tree) = subst (λ (x : Shape). AreAmong (numbers t) (numbers with ++ numbers x)) tree c.in_ok-tree-2.ensures.numbers in

@@ -7,7 +7,7 @@ use Rattle.kd_tree.specs.Shape.{levels, nodes, numbers}
 use Rattle.kd_tree.specs.Contents.{contents}
 use Rattle.kd_mark.specs.Refresh.{AreAmong}
 use Rattle.rebuild_parts.proofs.Replaying.{among_after}
-use Rattle.rebuild_parts.proofs.built.caught_up.Goals as goal
+use Rattle.rebuild_parts.proofs.built.replayed_onto.Goals as goal
 
 pub returns-then-is_empty-clause-numbers : goal.returns-then-is_empty-clause-numbers
 returns-then-is_empty-clause-numbers g c = λ n k. Contains-append_right (numbers_put c.args.ops.now) (numbers c.args.tree) n (c.in_ok-tree.ensures.numbers n k)

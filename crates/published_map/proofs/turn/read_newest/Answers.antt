@@ -1,6 +1,6 @@
 use Rattle.std.proofs.Common.{sym, ap, ◌∙◌}
 use Rattle.published_map.proofs.Hearing.{caught}
-use Rattle.published_map.proofs.turn.catch_up.Goals as goal
+use Rattle.published_map.proofs.turn.read_newest.Goals as goal
 
 pub returns-then-is_same-clause-same : goal.returns-then-is_same-clause-same
 returns-then-is_same-clause-same g l =

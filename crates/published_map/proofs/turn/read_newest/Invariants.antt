@@ -1,6 +1,6 @@
 use mathlib.Core.List.{IsPrefix}
 use Rattle.left_right.specs.Sides.{view}
-use Rattle.published_map.proofs.turn.catch_up.Given as goal
+use Rattle.published_map.proofs.turn.read_newest.Given as goal
 
 abbrev pub invariant-loop : goal.invariant-loop
 invariant-loop g l = record {
