@@ -3,7 +3,7 @@ ghost use Rattle.std.specs.Prelude.{◌≡◌, ◌+◌, ◌-◌, ◌<◌, ◌≤
 ghost use Rattle.op_logger.specs.declared.fault.PushFault.TheVariants.{Full};
 
 use crate::PushFault;
-use crate::block::{Block, add_after, again_all, begin_with, cut_blocks};
+use crate::block::{Block, add_after, begin_with, cut_blocks, try_clone_all};
 use map_items::{NoMemory, Op};
 use std::alloc::{AllocError, Global};
 use std::marker::Model;
@@ -92,7 +92,7 @@ impl OpLog {
     pub fn copy(&self, alloc: Global) -> Result<OpLog, NoMemory>
         ensures { IfOk result (λ log. log ≡ self.now) }
     {
-        let blocks = again_all(alloc, self.blocks.as_slice())?;
+        let blocks = try_clone_all(alloc, self.blocks.as_slice())?;
         let tail = Vec::from_slice(alloc, self.tail.as_slice())?;
         Ok(OpLog {
             alloc,

@@ -72,8 +72,8 @@ impl<L: MapName> Shared<L> {
     fn swap_copy<R: Wait>(&self, rt: &R, alloc: Global, built: &Built, most: u32) -> SwapOrLate
         ensures { IfErr result (IsLateCause built.now most) }
     {
-        let twin = built.again(alloc)?;
-        self.swap_within(rt, alloc, twin, most)
+        let copy = built.try_clone(alloc)?;
+        self.swap_within(rt, alloc, copy, most)
     }
 
     fn swap_within<R: Wait>(&self, rt: &R, alloc: Global, built: Built, most: u32) -> SwapOrLate

@@ -81,7 +81,7 @@ impl<L: MapName> Shared<L> {
         ensures { Updated L.voxel result pass.old pass.new update }
     {
         // The pass may be the last that keeps its version.
-        let kept = pass.kept.again().ok();
+        let kept = pass.kept.try_clone().ok();
         let mut locked = self.lock.lock(rt);
         let all_detached_items = locked.all_detached_items();
         let is_newest = locked.is_newest(&pass.kept);

@@ -29,7 +29,7 @@ pub fn opened_pair<L: MapName>(
     ensures known { IfOk result (λ w. view w.desk.place ≡ []) }
 {
     let first = opening(state, marks)?;
-    let second = first.again()?;
+    let second = first.try_clone()?;
     Ok(make_pair(alloc, first, second, callers as usize)?)
 }
 
@@ -62,7 +62,7 @@ fn made_pass<L: MapName>(
     ensures { IfOk result (λ p. p ≡ seen_by_new caller) }
 {
     let reader = place_reader(writer)?;
-    let kept = writer.published().again()?;
+    let kept = writer.published().try_clone()?;
     Ok(Pass::new(alloc, caller, reader, kept, share))
 }
 

@@ -35,7 +35,7 @@ impl<L: MapName> Locked<L> {
         let Some(mark) = Mark::of(&mut self.marks, &ShownHistory::of_subtree(&snapshot)) else {
             return Err(NoMemory);
         };
-        let hold = Hold::new(slot, snapshot.ticket(), mark.again());
+        let hold = Hold::new(slot, snapshot.ticket(), mark.share());
         keep_hold(&mut self.holds, hold);
         Ok(Some((snapshot, mark)))
     }
@@ -72,7 +72,7 @@ impl<L: MapName> Locked<L> {
         let Some(detached_items) = self.state.detached_items(ticket)? else {
             return Ok(None);
         };
-        Ok(Some((detached_items, hold.mark().again())))
+        Ok(Some((detached_items, hold.mark().share())))
     }
 
     /// Swaps in a value at most `most` operations behind that was built of what the mark is of.

@@ -16,7 +16,7 @@ impl MapState {
         let Some(part) = part_of(self.parts.as_slice(), ticket) else {
             return Ok(None);
         };
-        let detached_items = part.held.again()?;
+        let detached_items = part.held.try_clone()?;
         Ok(Some(detached_items))
     }
 
@@ -25,7 +25,7 @@ impl MapState {
         ensures { IfSome result (λ h. (p : PartAt) × (part_in slot self.now.state.parts ≡ Some p) × (h ≡ p.items)) }
     {
         let part = part_in(self.parts.as_slice(), slot)?;
-        part.held.again().ok()
+        part.held.try_clone().ok()
     }
 
     /// Keeps this list of what the ticket's subtree held, and returns the tree that was kept. Without such a subtree

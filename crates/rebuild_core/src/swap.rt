@@ -87,8 +87,8 @@ impl MapState {
             return Err(SwapFault::Behind { left });
         }
         let ops = part.log.after(alloc, done)?;
-        let twin = built.tree().copy(alloc, steps)?;
-        let planned = self.swapped(alloc, part, twin, built.large(), ops.as_slice(), steps)?;
+        let copy = built.tree().copy(alloc, steps)?;
+        let planned = self.swapped(alloc, part, copy, built.large(), ops.as_slice(), steps)?;
         Ok(planned)
     }
 

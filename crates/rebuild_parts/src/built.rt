@@ -11,7 +11,7 @@ ghost use Rattle.rebuild_parts.specs.Built.{AreNumbersOf, IsLawfulBuilt, IsRepla
 
 use crate::Job;
 use crate::balanced::is_balanced;
-use crate::detached_items::twin_by;
+use crate::detached_items::copied_by;
 use kd_mark::rebuilt;
 use kd_tree::{Steps, Tree};
 use kd_update::replayed;
@@ -131,13 +131,13 @@ impl Built {
     }
 
     /// The same value once more, sharing its list and nodes. The operations are copied.
-    pub fn again(&self, alloc: Global) -> Result<Built, NoMemory>
+    pub fn try_clone(&self, alloc: Global) -> Result<Built, NoMemory>
         ensures { IfOk result (λ b. b ≡ self.now) }
     {
-        let job = self.job.again()?;
+        let job = self.job.try_clone()?;
         let mut done = Vec::new(alloc);
         done.extend_from_slice(self.done.as_slice())?;
-        let tree = twin_by::<Brand>(alloc, &self.tree, Blank::new(1))?;
+        let tree = copied_by::<Brand>(alloc, &self.tree, Blank::new(1))?;
         Ok(Built {
             job,
             done,
@@ -155,10 +155,10 @@ impl Built {
         ensures balance { IfOk result (λ b. IsBalancedBelow large b.tree) }
         ensures left { IfErr result (λ l. l.built ≡ self) }
     {
-        let Ok(twin) = self.again(alloc) else {
+        let Ok(copy) = self.try_clone(alloc) else {
             return Err(BuiltLeft { built: self });
         };
-        let Ok(built) = twin.replay_in_place(alloc, large, ops) else {
+        let Ok(built) = copy.replay_in_place(alloc, large, ops) else {
             return Err(BuiltLeft { built: self });
         };
         Ok(built)

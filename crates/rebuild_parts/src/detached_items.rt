@@ -54,8 +54,8 @@ impl DetachedItems {
         requires { AreContents 0 MAX_POINTS (contents tree.now) }
         ensures { IfOk result (λ h. h ≡ contents tree.now) }
     {
-        let twin = twin_by::<Brand>(alloc, tree, Blank::new(1))?;
-        let tree = Arc::new(alloc, twin)?;
+        let copy = copied_by::<Brand>(alloc, tree, Blank::new(1))?;
+        let tree = Arc::new(alloc, copy)?;
         Ok(DetachedItems {
             held: Listing::Unlisted(tree),
         })
@@ -71,7 +71,7 @@ impl DetachedItems {
     }
 
     /// The same once more: a pointer is copied.
-    pub fn again(&self) -> Result<DetachedItems, NoMemory>
+    pub fn try_clone(&self) -> Result<DetachedItems, NoMemory>
         ensures { IfOk result (λ h. h ≡ self.now) }
     {
         let held = match &self.held {
@@ -111,7 +111,7 @@ impl DetachedItems {
     }
 }
 
-pub(crate) fn twin_by<L: Ledger>(alloc: Global, tree: &Tree, blank: Blank) -> Result<Tree, NoMemory>
+pub(crate) fn copied_by<L: Ledger>(alloc: Global, tree: &Tree, blank: Blank) -> Result<Tree, NoMemory>
     requires blank { IsBlankOf L.name L.parts blank }
     ensures { IfOk result (λ t. t ≡ tree.now) }
 {

@@ -71,7 +71,7 @@ impl Job {
         Ok(DetachedItems::listed(items))
     }
 
-    pub(crate) fn again(&self) -> Result<Job, NoMemory>
+    pub(crate) fn try_clone(&self) -> Result<Job, NoMemory>
         ensures { IfOk result (λ j. j ≡ self.now) }
     {
         let items = Arc::try_clone(&self.items)?;

@@ -45,7 +45,7 @@ impl Snapshot {
     pub fn detached_items(&self) -> Result<DetachedItems, NoMemory>
         ensures { IfOk result (λ h. h ≡ self.now.items) }
     {
-        self.detached_items.again()
+        self.detached_items.try_clone()
     }
 
     /// The job of rebuilding it. n items take time in the order of n log n. On `NoMemory` the snapshot is handed back.

@@ -58,7 +58,7 @@ fn enter<L: MapName>(reader: MapReader<L>) -> (MapReader<L>, Option<Shown<L>>)
 {
     match reader.enter_as::<Enters>() {
         Ok(reading) => {
-            let shown = reading.get().again().ok();
+            let shown = reading.get().try_clone().ok();
             (reading.leave(), shown)
         }
         Err(reader) => (reader, None),

@@ -139,7 +139,7 @@ impl<L: MapName> Mark<L> {
         })
     }
 
-    pub fn again(&self) -> Mark<L>
+    pub fn share(&self) -> Mark<L>
         ensures { result ≡ self.now }
     {
         Mark {

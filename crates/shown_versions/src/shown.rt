@@ -48,13 +48,13 @@ impl<L: MapName> Shown<L> {
     }
 
     /// Shares the version.
-    pub fn again(&self) -> Result<Shown<L>, AllocError>
+    pub fn try_clone(&self) -> Result<Shown<L>, AllocError>
         ensures { IfOk result (λ s. s ≡ self.now) }
     {
         let version = Arc::try_clone(&self.version)?;
         Ok(Shown {
             version,
-            mark: self.mark.again(),
+            mark: self.mark.share(),
         })
     }
 
@@ -81,7 +81,7 @@ impl<L: MapName> Absorb<Shown<L>> for Shown<L> {
     ghost applied = { λ _ s. s };
 
     fn absorb_first(&mut self, operation: &Shown<L>, _other: &Shown<L>) -> Result<(), AllocError> {
-        *self = operation.again()?;
+        *self = operation.try_clone()?;
         Ok(())
     }
 

@@ -25,7 +25,7 @@ invariant_of-self-2 g c =
     let holds = true_detached c.args.slot s c.in-Some.snapshot t _ _ d i.3 c.reserve.ensures.items in
     let hold : HoldAt = c.new-hold.result in
     let ticket = ap (λ (h : HoldAt). h.ticket) c.new-hold.ensures ∙ c.ticket.ensures in
-    let items = ap (λ (h : HoldAt). h.items) c.new-hold.ensures ∙ ap (λ page. page.items) (c.again.ensures ∙ (c.in-Some-of.ensures.mark ∙ c.of_subtree.ensures)) in
+    let items = ap (λ (h : HoldAt). h.items) c.new-hold.ensures ∙ ap (λ page. page.items) (c.share.ensures ∙ (c.in-Some-of.ensures.mark ∙ c.of_subtree.ensures)) in
     let new = true_new c.args.slot s c.in-Some.snapshot t hold c.history-history.ensures.lawful d ticket items in (
       c.of-2.ensures.same ∙ i.0,
       ap (λ (x : StateAt). x.settings.voxel) d.state ∙ i.1,

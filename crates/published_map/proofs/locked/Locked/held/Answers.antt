@@ -15,4 +15,4 @@ returns g c =
     let known = true_found s c.args.ticket _ c.in-Some.hold.now found c.self.invariant.3 in
     let part = subst (λ (o : Option (List Item)). IfSome o (λ h. (p : PartAt) × (part_of c.args.ticket s.parts ≡ Some p) × (h ≡ p.items))) c.in-Some-2.is c.in_ok-detached_items.ensures.some in
     let items = known_part c.args.ticket c.in-Some.hold.now.items part.0 s.parts known part.1 in
-    ap (λ page. page.items) c.again.ensures ∙ (c.mark.ensures ∙ sym (part.2 ∙ items))
+    ap (λ page. page.items) c.share.ensures ∙ (c.mark.ensures ∙ sym (part.2 ∙ items))

@@ -31,8 +31,8 @@ returns-in_err-ops-clause-refused g c =
     ) in
     out_of c.from_residual.result (IsSwapFault c.args.built.now c.args.force c.args.self.now.state) c.from_residual.ensures.1 may
 
-pub returns-in_err-twin-clause-refused : goal.returns-in_err-twin-clause-refused
-returns-in_err-twin-clause-refused g c =
+pub returns-in_err-copy-clause-refused : goal.returns-in_err-copy-clause-refused
+returns-in_err-copy-clause-refused g c =
     let left =
     left_is c.args.built.now c.in-Some.part.now c.len.result (length c.done.result.now) c.part.inside.log c.done.result.now c.len.ensures.value (ap (λ (p : PartAt). p.log) c.part.view_is) refl c.done.ensures.value in
     let may : MaySwap c.args.built.now c.args.force c.args.self.now.state = (
@@ -43,7 +43,7 @@ returns-in_err-twin-clause-refused g c =
         | else-not-force-via-else-not-force w ↦ absurd (not_both c.args.force w.if-not-force.false unforced)
       ],
     ) in
-    out_of c.from_residual-in_err-twin.result (IsSwapFault c.args.built.now c.args.force c.args.self.now.state) c.from_residual-in_err-twin.ensures.1 may
+    out_of c.from_residual-in_err-copy.result (IsSwapFault c.args.built.now c.args.force c.args.self.now.state) c.from_residual-in_err-copy.ensures.1 may
 
 pub returns-in_err-planned-clause-refused : goal.returns-in_err-planned-clause-refused
 returns-in_err-planned-clause-refused g c =

@@ -1,4 +1,4 @@
 use Rattle.rebuild_parts.proofs.detached_items.DetachedItems.of.Given as goal
 
-abbrev pub ghosts-twin_by : goal.ghosts-twin_by
-ghosts-twin_by a = record { name = a.blank.name; parts = a.blank.parts }
+abbrev pub ghosts-copied_by : goal.ghosts-copied_by
+ghosts-copied_by a = record { name = a.blank.name; parts = a.blank.parts }

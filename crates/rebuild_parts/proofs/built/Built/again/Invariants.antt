@@ -1,4 +1,0 @@
-use Rattle.rebuild_parts.proofs.built.Built.again.Given as goal
-
-abbrev pub ghosts-twin_by : goal.ghosts-twin_by
-ghosts-twin_by a = record { name = a.blank.name; parts = a.blank.parts }
