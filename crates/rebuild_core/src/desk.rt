@@ -30,7 +30,7 @@ pub trait Desk {
 
     /// Swaps as `MapState::swap` does. A refused value comes back as it was.
     fn swap<R: Wait>(&self, rt: &R, alloc: Global, built: Built, force: bool) -> Swapped
-        ensures left { IfErr result (λ l. l.built ≡ built) }
+        ensures handed_back { IfErr result (λ l. l.built ≡ built) }
         ensures refused { IfErr result (λ l. IsSwapCause built force l.fault) };
 
     /// Swaps as `MapState::plan_swap_or_log` does. A stale value, or one more than `_most` operations behind, comes

@@ -44,7 +44,7 @@ impl MapState {
         ensures refused { IfErr result (λ l. IsSwapFault built force self.old.state l.fault) }
         ensures same { OnErr result (self.new.state ≡ self.old.state) }
         ensures spare { self.new.spare ≡ self.old.spare }
-        ensures left { IfErr result (λ l. l.built ≡ built) }
+        ensures handed_back { IfErr result (λ l. l.built ≡ built) }
 
         ensures unrebuilt { OnOk result (IsLeftUnrebuilt built self.old.state self.new.state.tree) }
         // On errors too.

@@ -103,7 +103,7 @@ impl MapState {
 
         ensures refused { IfErr result (λ l. IsSwapFault built force self.old.state l.fault) }
         ensures same { OnErr result (self.new.state ≡ self.old.state) }
-        ensures left { IfErr result (λ l. l.built ≡ built) }
+        ensures handed_back { IfErr result (λ l. l.built ≡ built) }
     {
         self.swap_by::<Brand>(alloc, built, force, Blank::new(1))
     }
@@ -121,7 +121,7 @@ impl MapState {
 
         ensures refused { IfErr result (λ l. IsSwapFault built force self.old.state l.fault) }
         ensures same { OnErr result (self.new.state ≡ self.old.state) }
-        ensures left { IfErr result (λ l. l.built ≡ built) }
+        ensures handed_back { IfErr result (λ l. l.built ≡ built) }
     {
         let mut steps: Steps<L> = Steps::new(blank);
         self.swap(alloc, built, force, &mut steps)

@@ -153,7 +153,7 @@ impl Built {
         ensures replayed { IfOk result (IsReplayOf self ops.now) }
         ensures large { IfOk result (λ b. b.large ≡ large) }
         ensures balance { IfOk result (λ b. IsBalancedBelow large b.tree) }
-        ensures left { IfErr result (λ l. l.built ≡ self) }
+        ensures handed_back { IfErr result (λ l. l.built ≡ self) }
     {
         let Ok(copy) = self.try_clone(alloc) else {
             return Err(BuiltLeft { built: self });

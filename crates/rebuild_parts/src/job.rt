@@ -86,7 +86,7 @@ impl Job {
     pub fn build(self, alloc: Global, large: u32) -> Result<Built, JobLeft>
         ensures built { IfOk result (IsBuiltOf self) }
         ensures large { IfOk result (λ b. b.large ≡ large) }
-        ensures left { IfErr result (λ l. l.job ≡ self) }
+        ensures handed_back { IfErr result (λ l. l.job ≡ self) }
     {
         match self.tree_by::<Brand>(alloc, Blank::new(1)) {
             Err(_) => Err(JobLeft { job: self }),

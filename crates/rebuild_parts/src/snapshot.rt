@@ -51,7 +51,7 @@ impl Snapshot {
     /// The job of rebuilding it. n items take time in the order of n log n. On `NoMemory` the snapshot is handed back.
     pub fn job(self, alloc: Global) -> Result<Job, SnapshotLeft>
         ensures job { IfOk result (λ j. j ≡ self) }
-        ensures left { IfErr result (λ l. l.snapshot ≡ self) }
+        ensures handed_back { IfErr result (λ l. l.snapshot ≡ self) }
     {
         match self.detached_items.list(alloc) {
             Err(_) => Err(SnapshotLeft { snapshot: self }),

@@ -78,7 +78,7 @@ impl Counted {
 
     fn swap(&mut self, alloc: Global, built: Built, force: bool) -> Swapped
         ensures swapped { OnOk result (IsSwapStep built self.old.state.state self.new.state.state) }
-        ensures left { IfErr result (λ l. l.built ≡ built) }
+        ensures handed_back { IfErr result (λ l. l.built ≡ built) }
         ensures refused { IfErr result (λ l. IsSwapCause built force l.fault) }
         ensures same { OnErr result (self.new.state.state ≡ self.old.state.state) }
     {

@@ -206,7 +206,7 @@ impl Busy {
         force: bool,
     ) -> Result<(), SwapLeft>
         requires blank { IsBlankOf L.name L.parts blank }
-        ensures left { IfErr result (λ l. l.built ≡ built) }
+        ensures handed_back { IfErr result (λ l. l.built ≡ built) }
         ensures refused { IfErr result (λ l. IsSwapCause built force l.fault) }
     {
         let mut steps: Steps<L> = Steps::new(blank);

@@ -21,5 +21,5 @@ returns-in-Ok-missed-clause-left c _ =
     let e : DoneAt = record { built = c.in-Err.field-0.built; left = c.in-Ok-missed.left; large = c.in-Built.field-0.large } in
     let map : c.args.content.now ≡ content.Map s = c.in-Map.is ∙ ap content.Map (sym c.kept.view_is) in
     let value : c.args.value.now ≡ content.Built d = sym c.replace.ensures.value ∙ (sym c.other.view_is ∙ rw c.in-Built.is refl) in
-    let after : IsLogAfter d.built s e.left = rw c.in-Err.ensures.left at (rw c.in-Err.ensures.same at c.in-Ok-missed.ensures.missed) in
-    left_in c.args.content.now c.args.value.now s d e map value after c.in-Err.ensures.left refl
+    let after : IsLogAfter d.built s e.left = rw c.in-Err.ensures.handed_back at (rw c.in-Err.ensures.same at c.in-Ok-missed.ensures.missed) in
+    left_in c.args.content.now c.args.value.now s d e map value after c.in-Err.ensures.handed_back refl
