@@ -55,7 +55,7 @@ use Rattle.shown_versions.proofs.mark.MarkRule.TheSendSync as s39
 use Rattle.shown_versions.proofs.mark.Mark.TheSendSync as s40
 use Rattle.shown_versions.proofs.mark.MarkList.TheSendSync as s41
 use Rattle.shown_versions.proofs.rule.Follows.TheSendSync as s42
-use Rattle.published_map.proofs.hold.Hold.TheSendSync as s43
+use Rattle.published_map.proofs.marked_subtree.MarkedSubtree.TheSendSync as s43
 
 ruleset all = (sendable, std.crosses, knot.crosses, s0.the_field_send, s0.the_field_sync, s0.the_send, s0.the_sync, s1.the_send, s1.the_sync, s2.the_send, s3.the_send, s3.the_sync, s4.the_send, s5.the_send, s6.the_field_send, s6.the_field_sync, s6.the_send, s6.the_sync, s7.the_field_send, s7.the_field_sync, s7.the_send, s7.the_sync, s8.the_field_send, s8.the_field_sync, s8.the_send, s8.the_sync, s9.the_send, s9.the_sync, s10.the_send, s10.the_sync, s11.the_field_send, s11.the_field_sync, s11.the_send, s11.the_sync, s12.the_field_send, s12.the_field_sync, s12.the_send, s12.the_sync, s13.the_field_send, s13.the_field_sync, s13.the_send, s13.the_sync, s14.the_field_send, s14.the_field_sync, s14.the_send, s14.the_sync, s15.the_field_send, s15.the_field_sync, s15.the_send, s15.the_sync, s16.the_field_send, s16.the_send, s17.the_send, s18.the_send, s18.the_sync, s19.the_field_send, s19.the_field_sync, s19.the_send, s19.the_sync, s20.the_field_send, s20.the_send, s21.the_field_send, s21.the_send, s22.the_send, s22.the_sync, s23.the_send, s23.the_sync, s24.the_field_send, s24.the_field_sync, s24.the_send, s24.the_sync, s25.the_field_send, s25.the_field_sync, s25.the_send, s25.the_sync, s26.the_field_send, s26.the_field_sync, s26.the_send, s26.the_sync, s27.the_send, s27.the_sync, s28.the_send, s28.the_sync, s29.the_field_send, s29.the_field_sync, s29.the_send, s29.the_sync, s30.the_field_send, s30.the_field_sync, s30.the_send, s30.the_sync, s31.the_field_send, s31.the_field_sync, s31.the_send, s31.the_sync, s32.the_field_send, s32.the_field_sync, s32.the_send, s32.the_sync, s33.the_send, s33.the_sync, s34.the_field_send, s34.the_field_sync, s34.the_send, s34.the_sync, s35.the_field_send, s35.the_field_sync, s35.the_send, s35.the_sync, s36.the_send, s36.the_sync, s37.the_send, s37.the_sync, s38.the_send, s38.the_sync, s39.the_field_send, s39.the_field_sync, s39.the_send, s39.the_sync, s40.the_send, s40.the_sync, s41.the_send, s41.the_sync, s42.the_field_send, s42.the_field_sync, s42.the_send, s42.the_sync, s43.the_send, s43.the_sync)
 

@@ -1,6 +1,6 @@
 pub mod Answers
 pub mod Turns
 pub mod Held
-pub mod Holds
+pub mod MarkedSubtrees
 pub mod Late
 pub mod Ends

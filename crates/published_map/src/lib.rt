@@ -6,8 +6,8 @@
 
 mod desk;
 mod ended;
-mod hold;
 mod locked;
+mod marked_subtree;
 mod meet;
 mod opened;
 mod pass;

@@ -6,7 +6,7 @@ ghost use Rattle.rebuild_core.specs.Steps.{IsFault, entered};
 ghost use Rattle.shown_versions.specs.Marks.{Added, Grown, IsMade};
 ghost use Rattle.published_map.specs.Answers.{Updated};
 
-use crate::hold::Hold;
+use crate::marked_subtree::MarkedSubtree;
 use crate::pass::Pass;
 use crate::retired::Retired;
 use crate::turn::{read_newest, take_step};
@@ -33,7 +33,7 @@ where
     pub(crate) audit_share: Share<L>,
     pub(crate) retired: Retired<L>,
     // The last of each slot.
-    pub(crate) holds: Vec<Hold<L>>,
+    pub(crate) marked: Vec<MarkedSubtree<L>>,
 }
 
 impl<L: MapName> Model for Locked<L>
@@ -44,7 +44,7 @@ where
     ghost use Rattle.left_right.specs.Sides.{view as seat_view};
     ghost use Rattle.rebuild_core.specs.Lawful.{Stored};
     ghost use Rattle.published_map.specs.Held.{IsWhole};
-    ghost use Rattle.published_map.specs.Holds.{AreTrueOf};
+    ghost use Rattle.published_map.specs.MarkedSubtrees.{AreTrueOf};
 
     ghost Value = { Stored };
 
@@ -55,7 +55,7 @@ where
 
     ghost view = { λ s. s.state };
 
-    ghost invariant = { λ s. (s.marks ≡ L.marks) × (s.state.state.settings.voxel ≡ L.voxel) × IsWhole (seat_view s.writer.desk.place) s.writer.desk.shown.value s.state.state.history s.book.total s.audit_share.parts s.audit_share.amount × AreTrueOf s.state.state s.holds.items };
+    ghost invariant = { λ s. (s.marks ≡ L.marks) × (s.state.state.settings.voxel ≡ L.voxel) × IsWhole (seat_view s.writer.desk.place) s.writer.desk.shown.value s.state.state.history s.book.total s.audit_share.parts s.audit_share.amount × AreTrueOf s.state.state s.marked.items };
 }
 
 impl<L: MapName> Locked<L> {
@@ -206,7 +206,7 @@ impl<L: MapName> Locked<L> {
             book: _book,
             audit_share: _audit_share,
             retired: _retired,
-            holds: _holds,
+            marked: _marked,
         } = self;
         writer.take(rt);
         let _history = state.history();

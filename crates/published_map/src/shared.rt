@@ -58,7 +58,7 @@ impl<L: MapName> Shared<L> {
                     book,
                     audit_share,
                     retired: Retired::new(),
-                    holds: Vec::new(alloc),
+                    marked: Vec::new(alloc),
                 });
                 Ok((Shared { lock }, passes))
             }

@@ -5,8 +5,8 @@ ghost use Rattle.rebuild_core.specs.Desk.{IsAskCause};
 ghost use Rattle.kd_update.specs.Detached.{AreItemsOf};
 ghost use Rattle.published_map.specs.Late.{IsLateCause};
 
-use crate::hold::{Hold, hold_of, keep_hold};
 use crate::locked::Locked;
+use crate::marked_subtree::{MarkedSubtree, keep_marked_subtree, marked_subtree_of};
 use map_items::{NoMemory, Ops};
 use rebuild_core::SwapOrLate;
 use rebuild_parts::{Built, DetachedItems, Late, LogAsk, Snapshot, Version};
@@ -28,15 +28,15 @@ impl<L: MapName> Locked<L> {
         ensures mark { IfOk result (λ o. IfSome o (λ r. r.1.items ≡ r.0.items)) }
     {
         let _history = self.state.history();
-        self.holds.reserve(1)?;
+        self.marked.reserve(1)?;
         let Some(snapshot) = self.state.snapshot(alloc, slot)? else {
             return Ok(None);
         };
         let Some(mark) = Mark::of(&mut self.marks, &ShownHistory::of_subtree(&snapshot)) else {
             return Err(NoMemory);
         };
-        let hold = Hold::new(slot, snapshot.ticket(), mark.share());
-        keep_hold(&mut self.holds, hold);
+        let subtree = MarkedSubtree::new(slot, snapshot.ticket(), mark.share());
+        keep_marked_subtree(&mut self.marked, subtree);
         Ok(Some((snapshot, mark)))
     }
 
@@ -44,9 +44,9 @@ impl<L: MapName> Locked<L> {
     fn is_known(&self, ticket: u64, mark: &Mark<L>) -> bool
         ensures { result ≡ true → AreItemsOf ticket mark.now.items self.now.state.parts }
     {
-        match hold_of(self.holds.as_slice(), ticket) {
+        match marked_subtree_of(self.marked.as_slice(), ticket) {
             None => false,
-            Some(hold) => hold.mark().is_same(mark),
+            Some(subtree) => subtree.mark().is_same(mark),
         }
     }
 
@@ -66,13 +66,13 @@ impl<L: MapName> Locked<L> {
     pub fn held(&self, ticket: u64) -> Result<Option<(DetachedItems, Mark<L>)>, NoMemory>
         ensures { IfOk result (λ o. IfSome o (λ r. r.1.items ≡ r.0)) }
     {
-        let Some(hold) = hold_of(self.holds.as_slice(), ticket) else {
+        let Some(subtree) = marked_subtree_of(self.marked.as_slice(), ticket) else {
             return Ok(None);
         };
         let Some(detached_items) = self.state.detached_items(ticket)? else {
             return Ok(None);
         };
-        Ok(Some((detached_items, hold.mark().share())))
+        Ok(Some((detached_items, subtree.mark().share())))
     }
 
     /// Swaps in a value at most `most` operations behind that was built of what the mark is of.

@@ -1,5 +1,0 @@
-use Rattle.std.proofs.Common.{length}
-use Rattle.published_map.proofs.hold.+index_of.Given as goal
-
-abbrev pub decreases-index_of : goal.decreases-index_of
-decreases-index_of g l = length l.holds.now
