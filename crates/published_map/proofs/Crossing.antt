@@ -7,8 +7,8 @@ use Rattle.core.specs.declared.ledger.Ledger as ledger
 use Rattle.shown_versions.specs.declared.name.MapName as name
 use Rattle.rebuild_core.proofs.Crossing.{state_send}
 use Rattle.rebuild_parts.proofs.Handing.{version_send, version_sync}
-use Rattle.shown_versions.specs.contracts.shown.Shown as shown
-use Rattle.shown_versions.specs.contracts.shown.ShownAbsorb.TheImpl as absorb
+use Rattle.shown_versions.specs.contracts.published.Published as shown
+use Rattle.shown_versions.specs.contracts.published.PublishedAbsorb.TheImpl as absorb
 use Rattle.published_map.specs.contracts.locked.Locked as locked
 use Rattle.published_map.specs.contracts.shared.Shared as shared
 use Rattle.published_map.specs.contracts.pass.Pass as pass

@@ -14,7 +14,7 @@ use left_right::Absorb;
 use map_items::{Entry, NoMemory, Update};
 use rebuild_core::{MapState, Planned};
 use rebuild_parts::{DetachedItems, StateFault, Version};
-use shown_versions::{MapName, MapWriter, MarkList, Shown};
+use shown_versions::{MapName, MapWriter, MarkList, Published};
 use std::alloc::Global;
 use std::marker::Model;
 use std::sync::ledger::{Book, Share};
@@ -23,7 +23,7 @@ use std::sync::{Arc, Wait};
 /// The state, the writer's place, the marks and the book of all updates. Contracts see the state.
 pub struct Locked<L: MapName>
 where
-    Shown<L>: Absorb<Shown<L>, State = [Entry; 0]>,
+    Published<L>: Absorb<Published<L>, State = [Entry; 0]>,
 {
     pub(crate) state: MapState,
     pub(crate) writer: MapWriter<L>,
@@ -38,7 +38,7 @@ where
 
 impl<L: MapName> Model for Locked<L>
 where
-    Shown<L>: Absorb<Shown<L>, State = [Entry; 0]>,
+    Published<L>: Absorb<Published<L>, State = [Entry; 0]>,
 {
     ghost use Rattle.std.specs.Prelude.{◌≡◌};
     ghost use Rattle.left_right.specs.Sides.{view as seat_view};
@@ -85,7 +85,7 @@ impl<L: MapName> Locked<L> {
         }
     }
 
-    pub fn is_newest(&self, kept: &Shown<L>) -> bool {
+    pub fn is_newest(&self, kept: &Published<L>) -> bool {
         self.writer.published().mark().is_same(kept.mark())
     }
 

@@ -10,7 +10,7 @@ use map_fold::{BoxReply, NearReply};
 use map_items::{MAX_FOUND, NoMemory};
 use point_geom::{Cuboid, Point};
 use rebuild_parts::Version;
-use shown_versions::{MapName, MapReader, Shown, look};
+use shown_versions::{MapName, MapReader, Published, read_latest};
 use std::alloc::Global;
 use std::marker::Model;
 use std::sync::ledger::Share;
@@ -20,7 +20,7 @@ use std::sync::ledger::Share;
 pub struct Pass<L: MapName> {
     pub(crate) caller: u8,
     pub(crate) reader: MapReader<L>,
-    pub(crate) kept: Shown<L>,
+    pub(crate) kept: Published<L>,
     // The indices of its updates in the history.
     pub(crate) marks: Vec<u64>,
     pub(crate) share: Share<L>,
@@ -56,7 +56,7 @@ impl<L: MapName> Pass<L> {
         alloc: Global,
         caller: u8,
         reader: MapReader<L>,
-        kept: Shown<L>,
+        kept: Published<L>,
         share: Share<L>,
     ) -> Pass<L>
         requires caller_from { 1 ≤ caller }
@@ -102,7 +102,7 @@ impl<L: MapName> Pass<L> {
     pub fn renew(&mut self)
         ensures { Grown self.old self.new }
     {
-        if let Some(shown) = look(&mut self.reader) {
+        if let Some(shown) = read_latest(&mut self.reader) {
             self.kept = shown;
         }
     }

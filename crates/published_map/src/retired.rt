@@ -7,14 +7,14 @@ use left_right::Absorb;
 use map_items::Entry;
 use rebuild_core::MapState;
 use rebuild_parts::Version;
-use shown_versions::{MapName, Shown};
+use shown_versions::{MapName, Published};
 use std::sync::Arc;
 
 /// Versions that wait to be freed. What a call returns is to be dropped once the lock is given back.
 #[derive(Drop)]
 pub struct Retired<L: MapName>
 where
-    Shown<L>: Absorb<Shown<L>, State = [Entry; 0]>,
+    Published<L>: Absorb<Published<L>, State = [Entry; 0]>,
 {
     // The version before the published one: the next step writes over its other copy, on the writer's side, and would free it under
     // the lock.
@@ -26,7 +26,7 @@ where
     replaced: Option<Arc<Version>>,
     // What a pass kept before its update, unless that was the newest version. After several swaps it may hold what the first took
     // out.
-    kept: Option<Shown<L>>,
+    kept: Option<Published<L>>,
 }
 
 impl<L: MapName> Retired<L> {
@@ -79,11 +79,11 @@ impl<L: MapName> Retired<L> {
         }
     }
 
-    pub fn after_pass(&mut self, kept: Option<Shown<L>>) -> Option<Shown<L>> {
+    pub fn after_pass(&mut self, kept: Option<Published<L>>) -> Option<Published<L>> {
         replace(&mut self.kept, kept)
     }
 
-    pub fn for_worker(&mut self) -> (Option<Arc<Version>>, Option<Shown<L>>) {
+    pub fn for_worker(&mut self) -> (Option<Arc<Version>>, Option<Published<L>>) {
         (self.replaced.take(), self.kept.take())
     }
 }

@@ -7,7 +7,7 @@ use crate::pass::Pass;
 use map_items::NoMemory;
 use rebuild_core::MapState;
 use shown_versions::{
-    MapName, MapWriter, Mark, MarkList, Shown, ShownHistory, make_pair, place_reader,
+    MapName, MapWriter, Mark, MarkList, Page, Published, make_pair, place_reader,
 };
 use std::alloc::Global;
 use std::sync::Arc;
@@ -33,7 +33,7 @@ pub fn opened_pair<L: MapName>(
     Ok(make_pair(alloc, first, second, callers as usize)?)
 }
 
-fn opening<L: MapName>(state: &MapState, marks: &mut MarkList) -> Result<Shown<L>, NoMemory>
+fn opening<L: MapName>(state: &MapState, marks: &mut MarkList) -> Result<Published<L>, NoMemory>
     requires marks { marks.old ≡ L.marks }
     requires empty { state.now.state.history ≡ [] }
     requires voxel { state.now.state.settings.voxel ≡ L.voxel }
@@ -42,10 +42,10 @@ fn opening<L: MapName>(state: &MapState, marks: &mut MarkList) -> Result<Shown<L
 {
     let _history = state.history();
     let version = Arc::try_clone(state.version())?;
-    let Some(mark) = Mark::of(marks, &ShownHistory::of(state.told(), &None)) else {
+    let Some(mark) = Mark::of(marks, &Page::of(state.told(), &None)) else {
         return Err(NoMemory);
     };
-    Ok(Shown::new(version, mark))
+    Ok(Published::new(version, mark))
 }
 
 fn made_pass<L: MapName>(

@@ -10,7 +10,7 @@ ghost use Rattle.published_map.specs.Turns.{history_after};
 use map_items::NoMemory;
 use rebuild_core::{MapState, Planned};
 use shown_versions::{
-    MapName, MapReader, MapWriter, Mark, MarkList, Shown, ShownHistory, look, show,
+    MapName, MapReader, MapWriter, Mark, MarkList, Page, Published, publish, read_latest,
 };
 use std::sync::{Arc, Wait};
 
@@ -18,7 +18,7 @@ fn shown_by<L: MapName>(
     marks: &mut MarkList,
     state: &MapState,
     planned: &Planned,
-) -> Result<Shown<L>, NoMemory>
+) -> Result<Published<L>, NoMemory>
     requires marks { marks.old ≡ L.marks }
     requires voxel { state.now.state.settings.voxel ≡ L.voxel }
     requires lawful { IsLawful (entered planned.now state.now.state) }
@@ -26,18 +26,18 @@ fn shown_by<L: MapName>(
     ensures shown { IfOk result (λ s. s ≡ history_after planned.now state.now.state) }
 {
     let version = Arc::try_clone(planned.version())?;
-    let Some(mark) = Mark::of(marks, &ShownHistory::of(state.told(), planned.entry())) else {
+    let Some(mark) = Mark::of(marks, &Page::of(state.told(), planned.entry())) else {
         return Err(NoMemory);
     };
-    Ok(Shown::new(version, mark))
+    Ok(Published::new(version, mark))
 }
 
-fn show_step<L: MapName, R: Wait>(
+fn publish_step<L: MapName, R: Wait>(
     rt: &R,
     state: &mut MapState,
     writer: &mut MapWriter<L>,
     planned: Planned,
-    shown: Shown<L>,
+    shown: Published<L>,
 ) -> Result<u64, NoMemory>
     requires at { IsPublishedAs (view writer.old.desk.place) writer.old.desk.shown.value state.old.state.history }
     requires lawful { IsLawful (entered planned state.old.state) }
@@ -49,14 +49,14 @@ fn show_step<L: MapName, R: Wait>(
 
     ensures same { OnErr result (state.new.state ≡ state.old.state) }
 {
-    publish(rt, writer, shown)?;
+    publish_version(rt, writer, shown)?;
     Ok(state.enter_step(planned))
 }
 
-fn publish<L: MapName, R: Wait>(
+fn publish_version<L: MapName, R: Wait>(
     rt: &R,
     writer: &mut MapWriter<L>,
-    shown: Shown<L>,
+    shown: Published<L>,
 ) -> Result<(), NoMemory>
     requires known { view writer.old.desk.place ≡ writer.old.desk.shown.value }
     requires longer { IsPrefix writer.old.desk.shown.value shown }
@@ -68,7 +68,7 @@ fn publish<L: MapName, R: Wait>(
     let Ok(()) = writer.append(shown) else {
         return Err(NoMemory);
     };
-    let Ok(()) = show(writer, rt) else {
+    let Ok(()) = publish(writer, rt) else {
         return Err(NoMemory);
     };
     Ok(())
@@ -95,21 +95,21 @@ pub fn take_step<L: MapName, R: Wait>(
     ensures same { OnErr result (state.new.state ≡ state.old.state) }
 {
     let shown = shown_by::<L>(marks, state, &planned)?;
-    show_step(rt, state, writer, planned, shown)
+    publish_step(rt, state, writer, planned, shown)
 }
 
 /// Under the lock the reader's first try gets what is published, but no clause says so.
 pub fn read_newest<L: MapName, R: Wait>(
     rt: &R,
-    shown: &Shown<L>,
+    shown: &Published<L>,
     reader: &mut MapReader<L>,
-) -> Shown<L>
+) -> Published<L>
     ensures same { result ≡ shown.now }
     ensures at { view reader.new.place ≡ shown.now }
     ensures begins { IsPrefix (view reader.old.place) shown.now }
 {
     for _ in rt.forever() {
-        if let Some(found) = look(reader) {
+        if let Some(found) = read_latest(reader) {
             if found.mark().is_same(shown.mark()) {
                 return found;
             }

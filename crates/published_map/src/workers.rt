@@ -10,7 +10,7 @@ use crate::marked_subtree::{MarkedSubtree, keep_marked_subtree, marked_subtree_o
 use map_items::{NoMemory, Ops};
 use rebuild_core::SwapOrLate;
 use rebuild_parts::{Built, DetachedItems, Late, LogAsk, Snapshot, Version};
-use shown_versions::{MapName, Mark, Shown, ShownHistory};
+use shown_versions::{MapName, Mark, Page, Published};
 use std::alloc::Global;
 use std::sync::Wait;
 
@@ -32,7 +32,7 @@ impl<L: MapName> Locked<L> {
         let Some(snapshot) = self.state.snapshot(alloc, slot)? else {
             return Ok(None);
         };
-        let Some(mark) = Mark::of(&mut self.marks, &ShownHistory::of_subtree(&snapshot)) else {
+        let Some(mark) = Mark::of(&mut self.marks, &Page::of_subtree(&snapshot)) else {
             return Err(NoMemory);
         };
         let subtree = MarkedSubtree::new(slot, snapshot.ticket(), mark.share());

@@ -5,10 +5,10 @@ use Rattle.std.proofs.lemmas.Bool.Decides.{nat_tests}
 use mathlib.Core.List.{IsPrefix}
 use prog.Atomic.{either}
 use Rattle.logbook.specs.Pages.{Cell, cell, keeps, no_nib, step, Moves, Goes}
-use Rattle.shown_versions.specs.Book.{Page, IsBookOf, Adds}
+use Rattle.shown_versions.specs.Book.{PageAt, IsBookOf, Adds}
 
 abbrev Log : Type 0
-Log = List Page
+Log = List PageAt
 
 -- a prefix as long as the whole is the whole
 prefix_whole : {A : Type 0} (xs ys : List A) → IsPrefix xs ys → length ys ≤ length xs → xs ≡ ys
@@ -34,7 +34,7 @@ shown log = []
 abbrev pub moved : Log → Log → ℕ → Type 0
 moved xs ys n = Unit {0}
 
-adds_goes : (log v : Log) (e : Page) (old : ℕ) → length v ≡ old → IsPrefix v log → (b : Bool) → (length log == old) ≡ b
+adds_goes : (log v : Log) (e : PageAt) (old : ℕ) → length v ≡ old → IsPrefix v log → (b : Bool) → (length log == old) ≡ b
     → Goes IsBookOf shown moved 0 (v, (no_nib, None)) (λ n. either (n == old) (old + 1) n) (Adds (step 0 old (old + 1) e) (v, (no_nib, None))) ((length log, true) ∷ (0, true) ∷ []) log
 adds_goes log v e old len pre true is =
     let here : length log ≡ old = grind (arith, nat_tests) in
@@ -61,7 +61,7 @@ adds_goes log v e old len pre false is =
     )
 
 -- whatever the book is, the exchange adds the page to all that was seen, or finds that there are more
-pub adds_moves : (v : Log) (e : Page) (old : ℕ) → length v ≡ old
+pub adds_moves : (v : Log) (e : PageAt) (old : ℕ) → length v ≡ old
     → Moves IsBookOf shown moved 0 (v, (no_nib, None)) (λ n. either (n == old) (old + 1) n) (Adds (step 0 old (old + 1) e) (v, (no_nib, None)))
 adds_moves v e old len cs log kept pre away =
     let P : List Cell → Type 0 = λ c. (0 < length c) × ((cell c 0).1 ≡ true) × Goes IsBookOf shown moved 0 (v, (no_nib, None)) (λ n. either (n == old) (old + 1) n) (Adds (step 0 old (old + 1) e) (v, (no_nib, None))) c log in

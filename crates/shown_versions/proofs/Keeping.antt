@@ -6,7 +6,7 @@ use lib.ListN.{get_elem?}
 use Rattle.crossbeam_utils.specs.Register.{Admits, Turns, TurnsAt}
 use Rattle.atomic_table.proofs.Lists.{at_set, at_snoc}
 use Rattle.map_items.specs.declared.entry.Entry.{Entry}
-use Rattle.shown_versions.specs.Rules.{Keeps, Published, Entered}
+use Rattle.shown_versions.specs.Rules.{Keeps, PublishStep, EnterStep}
 use Rattle.shown_versions.proofs.Prefixes.{prefix_self, prefix_trans}
 
 keeps_set : (h : List Entry) (views : List (List Entry)) (seat : ℕ) (w : List Entry) → Keeps h views → IsPrefix w h → Keeps h (set views seat w)
@@ -24,9 +24,9 @@ makes x j u e = keeps_snoc x [] [] (λ j u e. absurd cc) (x, refl) j u e
 pub admits : Admits Keeps []
 admits x views k = keeps_snoc x views [] k (x, refl)
 
-pub publishes : (seat : ℕ) (v x y : List Entry) → IsPrefix x y → TurnsAt Keeps seat v x y Published
+pub publishes : (seat : ℕ) (v x y : List Entry) → IsPrefix x y → TurnsAt Keeps seat v x y PublishStep
 publishes seat v x y up views k at =
     (y, keeps_set y views seat y (λ j u e. prefix_trans u x y (k j u e) up) (prefix_self y), refl)
 
-pub enters : (seat : ℕ) (v : List Entry) → Turns Keeps seat v (λ x. x) Entered
+pub enters : (seat : ℕ) (v : List Entry) → Turns Keeps seat v (λ x. x) EnterStep
 enters seat v x views k at = (x, keeps_set x views seat x k (prefix_self x), (k seat v at, refl))

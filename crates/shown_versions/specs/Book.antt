@@ -5,7 +5,7 @@ use Rattle.map_items.specs.declared.entry.Entry.{Entry}
 use Rattle.map_items.specs.declared.item.Item.{Item}
 
 -- what a mark is of: a version, which has a history, or a detached subtree, which held items. Either leaves the other list empty.
-pub record Page : Type 0 where
+pub record PageAt : Type 0 where
   pub history : List Entry
   pub items : List Item
 
@@ -15,7 +15,7 @@ told f None = []
 told f (Some x) = f x
 
 -- the first word is the number of entries. A book has two words, of which this one leaves the second at 0
-abbrev pub IsBookOf : List Cell → List Page → Type 0
+abbrev pub IsBookOf : List Cell → List PageAt → Type 0
 IsBookOf cells log = cells ≡ (length log, true) ∷ (0, true) ∷ []
 
 -- the name of the book's first word
@@ -23,13 +23,13 @@ abbrev pub book_name : Book → Named
 book_name b = record { tracked = true; key = 0; book = b }
 
 -- the page was added to all that had been seen; or there were more, and they were seen
-abbrev pub Adds : Step Page → View Page ℕ → ℕ → View Page ℕ → Type 0
+abbrev pub Adds : Step PageAt → View PageAt ℕ → ℕ → View PageAt ℕ → Type 0
 Adds s v found w = MatchBool (found == s.old) (w.0 ≡ v.0 ++ s.ask ∷ []) (length w.0 ≡ found)
 
 -- a page of no entries and no items; the last page where there is none
-abbrev pub blank : Page
+abbrev pub blank : PageAt
 blank = record { history = []; items = [] }
 
 -- the page that was added last
-abbrev pub last_of : List Page → Page
+abbrev pub last_of : List PageAt → PageAt
 last_of log = fold (λ _ page. page) blank log

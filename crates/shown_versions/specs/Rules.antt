@@ -10,12 +10,12 @@ abbrev pub Keeps : List Entry → List (List Entry) → Type 0
 Keeps x views = (seat : ℕ) (v : List Entry) → get_elem? views seat ≡ some v → IsPrefix v x
 
 -- the writer knows what it published
-abbrev pub Published : List Entry → List Entry → List Entry → List Entry → Type 0
-Published v x y w = w ≡ y
+abbrev pub PublishStep : List Entry → List Entry → List Entry → List Entry → Type 0
+PublishStep v x y w = w ≡ y
 
 -- the reader knows what it gets, which begins with what it knew
-abbrev pub Entered : List Entry → List Entry → List Entry → List Entry → Type 0
-Entered v x y w = IsPrefix v x × (w ≡ x)
+abbrev pub EnterStep : List Entry → List Entry → List Entry → List Entry → Type 0
+EnterStep v x y w = IsPrefix v x × (w ≡ x)
 
 -- the writer knows this history, and it is what is published
 abbrev pub IsPublishedAs : List Entry → List Entry → List Entry → Type 0

@@ -2,15 +2,15 @@
 //! turns, or who holds a version.
 #![tactic(auto)]
 
-mod kinds;
 mod mark;
 mod name;
+mod page;
+mod published;
 mod rule;
-mod shown;
-mod story;
+mod steps;
 
-pub use kinds::{MapReader, MapWriter, look, make_pair, place_reader, show};
 pub use mark::{Mark, MarkList};
 pub use name::MapName;
-pub use shown::Shown;
-pub use story::ShownHistory;
+pub use page::Page;
+pub use published::Published;
+pub use steps::{MapReader, MapWriter, make_pair, place_reader, publish, read_latest};

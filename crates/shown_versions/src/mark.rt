@@ -2,7 +2,7 @@
 ghost use Rattle.std.specs.Prelude.{◌≡◌, true, IfSome};
 
 use crate::name::MapName;
-use crate::story::ShownHistory;
+use crate::page::Page;
 use logbook::{Gain, Offer, Plain, Play, Rule, Seen, Start, Word};
 use std::marker::{Model, PhantomData};
 
@@ -11,7 +11,7 @@ const MOST_MARKS: u64 = 1 << 62;
 /// The first word of a book is the number of its pages. A page is what a mark is of.
 pub struct MarkRule;
 
-impl Rule<ShownHistory, u64> for MarkRule {
+impl Rule<Page, u64> for MarkRule {
     ghost use Rattle.std.specs.Prelude.{[]};
     ghost use base.Fml.{ftrue};
     ghost use Rattle.shown_versions.specs.Book.{IsBookOf};
@@ -31,7 +31,7 @@ impl Rule<ShownHistory, u64> for MarkRule {
 
 pub struct NoTrade;
 
-impl Gain<ShownHistory, u64> for NoTrade {
+impl Gain<Page, u64> for NoTrade {
     ghost use base.Fml.{ftrue};
 
     ghost after = { λ names about answer. ftrue };
@@ -39,26 +39,26 @@ impl Gain<ShownHistory, u64> for NoTrade {
 
 pub struct Append;
 
-impl Play<ShownHistory, u64> for Append {
+impl Play<Page, u64> for Append {
     ghost use Rattle.shown_versions.specs.Book.{Adds};
 
     ghost then = { Adds };
 }
 
-impl Plain<ShownHistory, ShownHistory, u64> for Append {
+impl Plain<Page, Page, u64> for Append {
     ghost use Rattle.std.specs.Prelude.{None};
 
-    ghost ask = { λ story. story };
+    ghost ask = { λ page. page };
 
-    ghost state = { λ story. None };
+    ghost state = { λ page. None };
 }
 
 /// All marks of one map. Contracts see their book.
 #[derive(Drop)]
 pub struct MarkList {
-    word: Word<ShownHistory, u64, MarkRule>,
+    word: Word<Page, u64, MarkRule>,
     number: u64,
-    seen: Seen<ShownHistory, u64, MarkRule>,
+    seen: Seen<Page, u64, MarkRule>,
 }
 
 impl Model for MarkList {
@@ -88,15 +88,15 @@ impl MarkList {
 #[derive(Drop)]
 pub struct Mark<L: MapName> {
     number: u64,
-    seen: Seen<ShownHistory, u64, MarkRule>,
+    seen: Seen<Page, u64, MarkRule>,
     name: PhantomData<L>,
 }
 
 impl<L: MapName> Model for Mark<L> {
     ghost use Rattle.std.specs.Prelude.{◌≡◌, length};
-    ghost use Rattle.shown_versions.specs.Book.{Page, last_of};
+    ghost use Rattle.shown_versions.specs.Book.{PageAt, last_of};
 
-    ghost Value = { Page };
+    ghost Value = { PageAt };
 
     ghost view = { λ m. last_of m.seen.log };
 
@@ -105,17 +105,17 @@ impl<L: MapName> Model for Mark<L> {
 
 impl<L: MapName> Mark<L> {
     /// `None` past 2^62 numbers, or where another step came between, which the lock excludes though no clause says so.
-    pub fn of(marks: &mut MarkList, story: &ShownHistory) -> Option<Mark<L>>
+    pub fn of(marks: &mut MarkList, page: &Page) -> Option<Mark<L>>
         requires { marks.old ≡ L.marks }
         ensures same { marks.new ≡ marks.old }
-        ensures mark { IfSome result (λ m. m ≡ story.now) }
+        ensures mark { IfSome result (λ m. m ≡ page.now) }
     {
         if marks.number >= MOST_MARKS {
             return None;
         }
-        let mut offer: Offer<ShownHistory, u64, MarkRule, NoTrade> = marks
+        let mut offer: Offer<Page, u64, MarkRule, NoTrade> = marks
             .seen
-            .plain::<NoTrade, ShownHistory, Append>(story);
+            .plain::<NoTrade, Page, Append>(page);
         let mut pen = marks.seen.no_pen();
         let number = marks.number;
         let found = marks

@@ -1,6 +1,6 @@
 //! The rule of the published version.
 use crate::name::MapName;
-use crate::shown::Shown;
+use crate::published::Published;
 use crossbeam_utils::rule::{Outcome, Protocol};
 use map_items::Entry;
 use std::collections::LinkedList;
@@ -8,7 +8,7 @@ use std::collections::LinkedList;
 /// The published history begins with each list that a place knows.
 pub struct Follows;
 
-impl<L: MapName> Protocol<Shown<L>, LinkedList<Entry>> for Follows {
+impl<L: MapName> Protocol<Published<L>, LinkedList<Entry>> for Follows {
     ghost use Rattle.std.specs.Prelude.{[]};
     ghost use Rattle.shown_versions.specs.Rules.{Keeps};
 
@@ -19,16 +19,16 @@ impl<L: MapName> Protocol<Shown<L>, LinkedList<Entry>> for Follows {
 
 pub struct Publishes;
 
-impl<L: MapName> Outcome<Shown<L>, LinkedList<Entry>> for Publishes {
-    ghost use Rattle.shown_versions.specs.Rules.{Published};
+impl<L: MapName> Outcome<Published<L>, LinkedList<Entry>> for Publishes {
+    ghost use Rattle.shown_versions.specs.Rules.{PublishStep};
 
-    ghost then = { Published };
+    ghost then = { PublishStep };
 }
 
 pub struct Enters;
 
-impl<L: MapName> Outcome<Shown<L>, LinkedList<Entry>> for Enters {
-    ghost use Rattle.shown_versions.specs.Rules.{Entered};
+impl<L: MapName> Outcome<Published<L>, LinkedList<Entry>> for Enters {
+    ghost use Rattle.shown_versions.specs.Rules.{EnterStep};
 
-    ghost then = { Entered };
+    ghost then = { EnterStep };
 }

@@ -12,5 +12,5 @@ compare_exchange-found-requires g c =
       book,
       pen.0 ∙ book,
       offer.0,
-      rw (ap (λ w. w.key) h, pen.1, offer.1, offer.3) (adds_moves c.marks.inside.seen.log c.args.story.now c.marks.inside.number (sym c.marks.invariant.1)),
+      rw (ap (λ w. w.key) h, pen.1, offer.1, offer.3) (adds_moves c.marks.inside.seen.log c.args.page.now c.marks.inside.number (sym c.marks.invariant.1)),
     )

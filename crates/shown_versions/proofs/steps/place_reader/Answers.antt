@@ -1,5 +1,5 @@
 use Rattle.shown_versions.proofs.Keeping.{admits}
-use Rattle.shown_versions.proofs.kinds.place_reader.Goals as goal
+use Rattle.shown_versions.proofs.steps.place_reader.Goals as goal
 
 pub reader-requires : goal.reader-requires
 reader-requires g c = admits

@@ -2,7 +2,7 @@ use Rattle.std.proofs.Common.{List, sym, subst}
 use mathlib.Core.List.{IsPrefix}
 use Rattle.map_items.specs.declared.entry.Entry.{Entry}
 use Rattle.shown_versions.proofs.Keeping.{publishes}
-use Rattle.shown_versions.proofs.kinds.publish.Goals as goal
+use Rattle.shown_versions.proofs.steps.published_by_rule.Goals as goal
 
 pub publish_as-requires : goal.publish_as-requires
 publish_as-requires g c next is =

@@ -1,10 +1,10 @@
 use Rattle.std.proofs.Common.{◌≡◌, ◌++◌, sym, ap, ◌∙◌}
 use Rattle.left_right.specs.Sides.{view}
 use Rattle.published_map.proofs.Pending.{grows_by}
-use Rattle.published_map.proofs.turn.publish.Goals as goal
+use Rattle.published_map.proofs.turn.publish_version.Goals as goal
 
-pub show-requires : goal.show-requires
-show-requires g c =
+pub publish-requires : goal.publish-requires
+publish-requires g c =
     let e = c.append.ensures.desk in
     let same : c.append.new.self.desk.shown.value ≡ c.args.writer.now.desk.shown.value = ap (λ d. d.shown.value) e in
     let more = c.requires.longer.0 in

@@ -12,12 +12,12 @@ use std::marker::Model;
 use std::sync::Arc;
 
 /// A version with its mark. Contracts see its history.
-pub struct Shown<L: MapName> {
+pub struct Published<L: MapName> {
     version: Arc<Version>,
     mark: Mark<L>,
 }
 
-impl<L: MapName> Model for Shown<L> {
+impl<L: MapName> Model for Published<L> {
     ghost use Rattle.std.specs.Prelude.{List};
     ghost use Rattle.map_items.specs.declared.entry.Entry.{Entry};
     ghost use Rattle.shown_versions.specs.Versions.{IsVersionOf};
@@ -30,29 +30,29 @@ impl<L: MapName> Model for Shown<L> {
 }
 
 // Manual `Drop`: a derived one is proved at every exit of every owner.
-impl<L: MapName> Drop for Shown<L> {
+impl<L: MapName> Drop for Published<L> {
     fn drop(self) {
-        let Shown {
+        let Published {
             version: _version,
             mark: _mark,
         } = self;
     }
 }
 
-impl<L: MapName> Shown<L> {
-    pub fn new(version: Arc<Version>, mark: Mark<L>) -> Shown<L>
+impl<L: MapName> Published<L> {
+    pub fn new(version: Arc<Version>, mark: Mark<L>) -> Published<L>
         requires { IsVersionOf L.voxel mark.history version.value }
         ensures { result ≡ mark.history }
     {
-        Shown { version, mark }
+        Published { version, mark }
     }
 
     /// Shares the version.
-    pub fn try_clone(&self) -> Result<Shown<L>, AllocError>
+    pub fn try_clone(&self) -> Result<Published<L>, AllocError>
         ensures { IfOk result (λ s. s ≡ self.now) }
     {
         let version = Arc::try_clone(&self.version)?;
-        Ok(Shown {
+        Ok(Published {
             version,
             mark: self.mark.share(),
         })
@@ -72,7 +72,7 @@ impl<L: MapName> Shown<L> {
 }
 
 /// The one operation is to become another version, so the last pending one counts.
-impl<L: MapName> Absorb<Shown<L>> for Shown<L> {
+impl<L: MapName> Absorb<Published<L>> for Published<L> {
     // A clause reads an array as a list, of any length.
     type State = [Entry; 0];
 
@@ -80,12 +80,12 @@ impl<L: MapName> Absorb<Shown<L>> for Shown<L> {
 
     ghost applied = { λ _ s. s };
 
-    fn absorb_first(&mut self, operation: &Shown<L>, _other: &Shown<L>) -> Result<(), AllocError> {
+    fn absorb_first(&mut self, operation: &Published<L>, _other: &Published<L>) -> Result<(), AllocError> {
         *self = operation.try_clone()?;
         Ok(())
     }
 
-    fn absorb_second(&mut self, operation: Shown<L>, _other: &Shown<L>) -> Result<(), Shown<L>> {
+    fn absorb_second(&mut self, operation: Published<L>, _other: &Published<L>) -> Result<(), Published<L>> {
         *self = operation;
         Ok(())
     }
