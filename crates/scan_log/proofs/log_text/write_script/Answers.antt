@@ -7,7 +7,7 @@ use Rattle.scan_log.specs.Scripts.{ScriptAt}
 use Rattle.scan_log.specs.Spelling.{header_fields}
 use Rattle.scan_log.specs.Written.{script_text, written_line, command_text}
 use Rattle.scan_log.proofs.WrittenScripts.{script_spelled, script_lines}
-use Rattle.scan_log.proofs.writing.write_script.Goals as goal
+use Rattle.scan_log.proofs.log_text.write_script.Goals as goal
 
 -- the header's line and the commands' lines are the script's text
 whole : (none first all : List ℕ) (format : Format) (sizes : Sizes) (cs : List Command) (s : ScriptAt)

@@ -4,7 +4,7 @@ use Rattle.std.proofs.lemmas.List.{append-nil}
 use Rattle.std.proofs.lemmas.Result.{on_ok_weaker}
 use Rattle.scan_log.specs.Formats.{version_field}
 use Rattle.scan_log.specs.Transcript.{spaced}
-use Rattle.scan_log.proofs.writing.put_header.Goals as goal
+use Rattle.scan_log.proofs.log_text.put_header.Goals as goal
 
 -- what was put, piece by piece, is the line
 line : (old first a x b y end : List ℕ) →

@@ -5,7 +5,7 @@ use Rattle.point_geom.specs.Place.{Place}
 use Rattle.scan_log.specs.Spelling.{caller_field, point_fields}
 use Rattle.scan_log.specs.Transcript.{all_spaced, point_text, spaced}
 use Rattle.scan_log.proofs.WrittenLines.{spaced_places}
-use Rattle.scan_log.proofs.writing.put_nears.Goals as goal
+use Rattle.scan_log.proofs.log_text.put_nears.Goals as goal
 
 -- the head and the places, piece by piece, are the line
 line : (old head caller word k : List ℕ) (ps : List Place) → head ≡ old ++ (caller ++ word ++ k)

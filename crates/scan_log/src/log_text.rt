@@ -7,7 +7,7 @@ ghost use Rattle.scan_log.specs.Spelling.{Spells, box_fields, caller_field, comm
 ghost use Rattle.scan_log.specs.Transcript.{all_spaced, spaced};
 ghost use Rattle.scan_log.specs.Written.{command_text, corner_text, cuboid_text, joined_fields, written_line, script_text};
 
-use crate::putting::{
+use crate::append::{
     Listed, put, put_all, put_caller, put_head, put_named, put_point, put_spaced, put_three,
     put_word,
 };

@@ -5,7 +5,7 @@ ghost use Rattle.std.specs.Option.{option_copied};
 ghost use Rattle.scan_log.specs.Spelling.{caller_field};
 ghost use Rattle.scan_log.specs.Transcript.{clusters_text, done_text, items_text, reply_text, spaced, totals_text};
 
-use crate::putting::{Listed, put, put_all, put_head, put_named, put_spaced};
+use crate::append::{Listed, put, put_all, put_head, put_named, put_spaced};
 use crate::{Command, Format, Reply};
 use map_fold::{BoxReply, ClusterReply, Group, Hit, Hits, NearReply, NearsReply};
 use map_items::{Item, NoMemory};

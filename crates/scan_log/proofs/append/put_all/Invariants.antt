@@ -1,6 +1,6 @@
 use Rattle.std.proofs.Common.{◌≡◌, ◌++◌, take}
 use Rattle.std.specs.List.{flat_map}
-use Rattle.scan_log.proofs.putting.put_all.Given as goal
+use Rattle.scan_log.proofs.append.put_all.Given as goal
 
 abbrev pub invariant-loop-item : goal.invariant-loop-item
 invariant-loop-item g l = l.out.items ≡ l.fn.out.items ++ flat_map (g.T.Listed.text l.format) (take l.item-index l.items)

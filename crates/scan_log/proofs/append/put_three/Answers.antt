@@ -4,7 +4,7 @@ use Rattle.std.proofs.lemmas.Int.{to_z-of_z}
 use Rattle.std.proofs.lemmas.List.{append-nil}
 use Rattle.std.proofs.lemmas.Result.{on_ok_weaker}
 use Rattle.scan_log.specs.Transcript.{all_spaced, spaced}
-use Rattle.scan_log.proofs.putting.put_three.Goals as goal
+use Rattle.scan_log.proofs.append.put_three.Goals as goal
 
 -- three numbers, one by one, are all
 line : (old x y z first second last : List ℕ) → first ≡ old ++ spaced x → second ≡ first ++ spaced y → last ≡ second ++ spaced z → last ≡ old ++ all_spaced (x ∷ y ∷ z ∷ [])
