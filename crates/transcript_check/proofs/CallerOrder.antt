@@ -11,7 +11,7 @@ use Rattle.scan_log.specs.Legal.{IsLater, AllFollow, AreInOrder}
 use Rattle.scan_log.specs.Plain.{IsPlain}
 use Rattle.scan_log.specs.Scripts.{IsCaller}
 use Rattle.scan_log.proofs.Whose.{concerns_for, follows_later, for_concerns, later_le, later_less, plain_caller}
-use Rattle.transcript_check.specs.Told.{is_late, InOrderBehind, AreCallersInOrder}
+use Rattle.transcript_check.specs.MarkedLines.{is_late, InOrderBehind, AreCallersInOrder}
 
 -- each command that concerns the caller is late enough
 abbrev AllLate : ℕ → Option ℕ → List Command → List ℕ → Type 0

@@ -8,7 +8,7 @@ use Rattle.scan_log.specs.declared.command.Command.{Command}
 use Rattle.scan_log.specs.Commands.{command_update}
 use Rattle.scan_log.specs.Scripts.{points_of}
 use Rattle.scan_log.specs.Transcript.{marked_updates, put_if, put_update, history}
-use Rattle.transcript_check.specs.Told.{points_in_all, changes_of, updates_of}
+use Rattle.transcript_check.specs.MarkedLines.{points_in_all, changes_of, updates_of}
 use Rattle.transcript_check.specs.declared.order.Marked.{Marked}
 
 pub fold_from-append : (voxel : ℕ) (us vs : List Update) (m : MapAt) → fold_from voxel (us ++ vs) m ≡ fold_from voxel vs (fold_from voxel us m)

@@ -8,7 +8,7 @@ use Rattle.scan_log.specs.Commands.{command_update, updates_made}
 use Rattle.scan_log.specs.declared.command.Command.{Command}
 use Rattle.scan_log.specs.Legal.{IsLegal, numbers_from}
 use Rattle.scan_log.specs.Transcript.{marked_updates, put_if, put_update, updates_in}
-use Rattle.transcript_check.specs.Told.{updates_of}
+use Rattle.transcript_check.specs.MarkedLines.{updates_of}
 use Rattle.transcript_check.specs.declared.order.Marked.{Marked}
 
 length-put_update : (m : ℕ) (u : Update) (hs : List (ℕ × Update)) → length (put_update m u hs) ≡ suc (length hs)

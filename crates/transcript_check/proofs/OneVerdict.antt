@@ -19,8 +19,8 @@ use Rattle.transcript_check.specs.Verdicts.{joined_lines, reply_lines, script_li
 use Rattle.transcript_check.specs.declared.verdict.Verdict.{Verdict}
 use Rattle.transcript_check.specs.declared.verdict.Verdict.TheVariants.{Legal, Unspelled, Marks, Differs}
 use Rattle.transcript_check.proofs.ReadLines.{length-heads, spell_long}
-use Rattle.transcript_check.specs.Told.{lines_told, lines_under, marks_of}
-use Rattle.transcript_check.specs.declared.lines.Told.{Told}
+use Rattle.transcript_check.specs.MarkedLines.{line_texts, lines_under, marks_of}
+use Rattle.transcript_check.specs.declared.lines.MarkedLine.{MarkedLine}
 use Rattle.scan_log.proofs.Whose.{updates_few}
 use Rattle.transcript_check.proofs.Replays.{length-reply_lines}
 use Rattle.std.proofs.lemmas.Bool.{cases_order}
@@ -153,9 +153,9 @@ unspelled_place cs out j u =
     let long = spell_long (take (length u.lines) (heads cs)) u.lines u.marks u.before in
     omega (arith, long.0, u.place, length-take (length u.lines) (heads cs), length-heads cs)
 
-pub told_long : (cs : List Command) (told : List Told) → SpellMarks (heads cs) (lines_told told) (marks_of told) → length told ≡ length cs + 1
-told_long cs told spelled =
-    sym (length-map told (λ (t : Told). t.line.now)) ∙ (spell_long (heads cs) (lines_told told) (marks_of told) spelled).0 ∙ length-heads cs
+pub marked_long : (cs : List Command) (marked_lines : List MarkedLine) → SpellMarks (heads cs) (line_texts marked_lines) (marks_of marked_lines) → length marked_lines ≡ length cs + 1
+marked_long cs marked_lines spelled =
+    sym (length-map marked_lines (λ (t : MarkedLine). t.line.now)) ∙ (spell_long (heads cs) (line_texts marked_lines) (marks_of marked_lines) spelled).0 ∙ length-heads cs
 
 -- the line that is another isn't past the end
 other_within : (right lines : List (List ℕ)) (j : ℕ) → length right ≡ length lines → IsFirstOther right lines j → j ≤ length lines
@@ -167,13 +167,13 @@ other_within right lines j long o = elim (cases_order o.before (length lines)) [
     past : length lines ≤ o.before → ⊥
     past h = o.other (slice_get_past lines o.before h ∙ sym (slice_get_past right o.before (omega arith)))
 
-pub other_few : (s : ScriptAt) (told : List Told) (j : ℕ) → IsPlainScript s → length told ≡ length s.commands + 1
-    → IsFirstOther (lines_under s (marks_of told)) (lines_told told) j → j ≤ 65537
-other_few s told j script many o =
-    let lines = length-map told (λ (t : Told). t.line.now) in
-    let marks = length-map told (λ (t : Told). t.mark) in
-    let right = length-reply_lines s.format s.sizes.voxel (history s.commands (marks_of told)) s.commands (marks_of told) (marks ∙ many) in
-    omega (arith, other_within (lines_under s (marks_of told)) (lines_told told) j (right ∙ sym (lines ∙ many)) o, lines, many, script.few)
+pub other_few : (s : ScriptAt) (marked_lines : List MarkedLine) (j : ℕ) → IsPlainScript s → length marked_lines ≡ length s.commands + 1
+    → IsFirstOther (lines_under s (marks_of marked_lines)) (line_texts marked_lines) j → j ≤ 65537
+other_few s marked_lines j script many o =
+    let lines = length-map marked_lines (λ (t : MarkedLine). t.line.now) in
+    let marks = length-map marked_lines (λ (t : MarkedLine). t.mark) in
+    let right = length-reply_lines s.format s.sizes.voxel (history s.commands (marks_of marked_lines)) s.commands (marks_of marked_lines) (marks ∙ many) in
+    omega (arith, other_within (lines_under s (marks_of marked_lines)) (line_texts marked_lines) j (right ∙ sym (lines ∙ many)) o, lines, many, script.few)
 
 -- a transcript with a line that isn't its reply's isn't legal
 legal_no_other : (s : ScriptAt) (out : List ℕ) (lines : List (List ℕ)) (marks : List ℕ) (j : ℕ) → IsScript s → AreLegalLines s out → out ≡ joined_lines lines → SpellMarks (heads s.commands) lines marks
@@ -269,25 +269,25 @@ legal_verdict s out v script is = (
 )
 
 -- the verdicts on all lines, by what was found of the script without its poses
-pub illegal_verdict : (s : ScriptAt) (told : List Told) → SpellMarks (heads s.commands) (lines_told told) (marks_of told) → (IsLegal (plain s.commands) (marks_of told) → ⊥)
-    → IsVerdict s (joined_lines (lines_told told)) Marks
-illegal_verdict s told spelled never = record { lines = lines_told told; marks = marks_of told; cut = refl; spelled = spelled; holds = never }
+pub illegal_verdict : (s : ScriptAt) (marked_lines : List MarkedLine) → SpellMarks (heads s.commands) (line_texts marked_lines) (marks_of marked_lines) → (IsLegal (plain s.commands) (marks_of marked_lines) → ⊥)
+    → IsVerdict s (joined_lines (line_texts marked_lines)) Marks
+illegal_verdict s marked_lines spelled never = record { lines = line_texts marked_lines; marks = marks_of marked_lines; cut = refl; spelled = spelled; holds = never }
 
-pub other_verdict : (s : ScriptAt) (told : List Told) (j : ℕ) → SpellMarks (heads s.commands) (lines_told told) (marks_of told) → IsLegal (plain s.commands) (marks_of told)
-    → IsFirstOther (lines_under (plain_script s) (marks_of told)) (lines_told told) j → IsVerdict s (joined_lines (lines_told told)) (Differs j)
-other_verdict s told j spelled legal other =
-    record { lines = lines_told told; marks = marks_of told; cut = refl; spelled = spelled; holds = (legal, rw (plain_lines s (marks_of told)) at other) }
+pub other_verdict : (s : ScriptAt) (marked_lines : List MarkedLine) (j : ℕ) → SpellMarks (heads s.commands) (line_texts marked_lines) (marks_of marked_lines) → IsLegal (plain s.commands) (marks_of marked_lines)
+    → IsFirstOther (lines_under (plain_script s) (marks_of marked_lines)) (line_texts marked_lines) j → IsVerdict s (joined_lines (line_texts marked_lines)) (Differs j)
+other_verdict s marked_lines j spelled legal other =
+    record { lines = line_texts marked_lines; marks = marks_of marked_lines; cut = refl; spelled = spelled; holds = (legal, rw (plain_lines s (marks_of marked_lines)) at other) }
 
-pub whole_verdict : (s : ScriptAt) (told : List Told) → SpellMarks (heads s.commands) (lines_told told) (marks_of told) → IsLegal (plain s.commands) (marks_of told)
-    → lines_told told ≡ lines_under (plain_script s) (marks_of told) → IsVerdict s (joined_lines (lines_told told)) Legal
-whole_verdict s told spelled legal same = record {
-  lines = lines_told told;
-  marks = marks_of told;
+pub whole_verdict : (s : ScriptAt) (marked_lines : List MarkedLine) → SpellMarks (heads s.commands) (line_texts marked_lines) (marks_of marked_lines) → IsLegal (plain s.commands) (marks_of marked_lines)
+    → line_texts marked_lines ≡ lines_under (plain_script s) (marks_of marked_lines) → IsVerdict s (joined_lines (line_texts marked_lines)) Legal
+whole_verdict s marked_lines spelled legal same = record {
+  lines = line_texts marked_lines;
+  marks = marks_of marked_lines;
   cut = refl;
   spelled = spelled;
-  holds = (legal, same_text s (joined_lines (lines_told told)) (lines_told told) (marks_of told) refl (same ∙ plain_lines s (marks_of told)));
+  holds = (legal, same_text s (joined_lines (line_texts marked_lines)) (line_texts marked_lines) (marks_of marked_lines) refl (same ∙ plain_lines s (marks_of marked_lines)));
 }
 
 -- there is a line for each command without poses, and one for the end
-pub told_plain : (s : ScriptAt) (told : List Told) → SpellMarks (heads s.commands) (lines_told told) (marks_of told) → length told ≡ length (plain s.commands) + 1
-told_plain s told spelled = told_long s.commands told spelled ∙ omega (arith, plain_long s)
+pub marked_plain : (s : ScriptAt) (marked_lines : List MarkedLine) → SpellMarks (heads s.commands) (line_texts marked_lines) (marks_of marked_lines) → length marked_lines ≡ length (plain s.commands) + 1
+marked_plain s marked_lines spelled = marked_long s.commands marked_lines spelled ∙ omega (arith, plain_long s)

@@ -5,8 +5,8 @@ use Rattle.std.proofs.lemmas.List.Concat.{flat_map-append}
 use Rattle.scan_log.specs.declared.command.Command.{Command}
 use Rattle.transcript_check.specs.Heads.{head, heads, IsMarked, SpellMarks}
 use Rattle.transcript_check.specs.Verdicts.{joined_lines, IsUnspelled}
-use Rattle.transcript_check.specs.Told.{lines_told, marks_of}
-use Rattle.transcript_check.specs.declared.lines.Told.{Told}
+use Rattle.transcript_check.specs.MarkedLines.{line_texts, marks_of}
+use Rattle.transcript_check.specs.declared.lines.MarkedLine.{MarkedLine}
 
 pub length-heads : (cs : List Command) → length (heads cs) ≡ length cs + 1
 length-heads [] = refl
@@ -52,20 +52,20 @@ spell_long (d ∷ cs) (l ∷ lines) [] s = absurd s
 spell_long (d ∷ cs) (l ∷ lines) (n ∷ marks) s = let r = spell_long cs lines marks s.1 in (ap suc r.0, ap suc r.1)
 
 -- how far the lines were read
-pub record AreRead (cs : List Command) (out : List ℕ) (k : ℕ) (told : List Told) (rest : List ℕ) : Type 0 where
+pub record AreRead (cs : List Command) (out : List ℕ) (k : ℕ) (marked_lines : List MarkedLine) (rest : List ℕ) : Type 0 where
   pub within : k ≤ length cs + 1
-  pub long : length told ≡ k
-  pub cut : out ≡ joined_lines (lines_told told) ++ rest
-  pub before : SpellMarks (take k (heads cs)) (lines_told told) (marks_of told)
+  pub long : length marked_lines ≡ k
+  pub cut : out ≡ joined_lines (line_texts marked_lines) ++ rest
+  pub before : SpellMarks (take k (heads cs)) (line_texts marked_lines) (marks_of marked_lines)
 
 -- the next line isn't there or spells no mark
-pub unspelled_at : (cs : List Command) (out : List ℕ) (k : ℕ) (told : List Told) (rest : List ℕ) → AreRead cs out k told rest → k ≤ length cs
+pub unspelled_at : (cs : List Command) (out : List ℕ) (k : ℕ) (marked_lines : List MarkedLine) (rest : List ℕ) → AreRead cs out k marked_lines rest → k ≤ length cs
     → ((line behind : List ℕ) (m : ℕ) → rest ≡ line ++ behind → IsMarked (head (slice_get cs k)) line m → ⊥) → IsUnspelled (heads cs) out (k + 1)
-unspelled_at cs out k told rest read low never =
-    let long : length (lines_told told) ≡ k = length-map told (λ (t : Told). t.line.now) ∙ read.long in
+unspelled_at cs out k marked_lines rest read low never =
+    let long : length (line_texts marked_lines) ≡ k = length-map marked_lines (λ (t : MarkedLine). t.line.now) ∙ read.long in
     record {
-      lines = lines_told told;
-      marks = marks_of told;
+      lines = line_texts marked_lines;
+      marks = marks_of marked_lines;
       rest = rest;
       place = ap (λ n. n + 1) (sym long);
       cut = read.cut;
@@ -74,14 +74,14 @@ unspelled_at cs out k told rest read low never =
     }
 
 -- after all lines bytes remain
-pub unspelled_past : (cs : List Command) (out : List ℕ) (k : ℕ) (told : List Told) (rest : List ℕ) → AreRead cs out k told rest → length cs + 1 ≤ k
+pub unspelled_past : (cs : List Command) (out : List ℕ) (k : ℕ) (marked_lines : List MarkedLine) (rest : List ℕ) → AreRead cs out k marked_lines rest → length cs + 1 ≤ k
     → 0 < length rest → IsUnspelled (heads cs) out (k + 1)
-unspelled_past cs out k told rest read high some =
-    let long : length (lines_told told) ≡ k = length-map told (λ (t : Told). t.line.now) ∙ read.long in
+unspelled_past cs out k marked_lines rest read high some =
+    let long : length (line_texts marked_lines) ≡ k = length-map marked_lines (λ (t : MarkedLine). t.line.now) ∙ read.long in
     let none : drop k (heads cs) ≡ [] = drop_all k (heads cs) (omega (arith, length-heads cs)) in
     record {
-      lines = lines_told told;
-      marks = marks_of told;
+      lines = line_texts marked_lines;
+      marks = marks_of marked_lines;
       rest = rest;
       place = ap (λ n. n + 1) (sym long);
       cut = read.cut;
@@ -90,25 +90,25 @@ unspelled_past cs out k told rest read high some =
     }
 
 -- all lines were read
-pub all_read : (cs : List Command) (out : List ℕ) (k : ℕ) (told : List Told) (rest : List ℕ) → AreRead cs out k told rest → length cs + 1 ≤ k → length rest ≡ 0
-    → (out ≡ joined_lines (lines_told told)) × SpellMarks (heads cs) (lines_told told) (marks_of told)
-all_read cs out k told [] read high none =
+pub all_read : (cs : List Command) (out : List ℕ) (k : ℕ) (marked_lines : List MarkedLine) (rest : List ℕ) → AreRead cs out k marked_lines rest → length cs + 1 ≤ k → length rest ≡ 0
+    → (out ≡ joined_lines (line_texts marked_lines)) × SpellMarks (heads cs) (line_texts marked_lines) (marks_of marked_lines)
+all_read cs out k marked_lines [] read high none =
     let all : take k (heads cs) ≡ heads cs = take_all k (heads cs) (omega (arith, length-heads cs)) in
-    (read.cut ∙ append-nil (joined_lines (lines_told told)), rw all at read.before)
-all_read cs out k told (b ∷ rest) read high none = absurd (omega arith)
+    (read.cut ∙ append-nil (joined_lines (line_texts marked_lines)), rw all at read.before)
+all_read cs out k marked_lines (b ∷ rest) read high none = absurd (omega arith)
 
 -- one more line was read
-pub read_more : (cs : List Command) (out : List ℕ) (k : ℕ) (told all : List Told) (next : Told) (rest left : List ℕ) → AreRead cs out k told rest → k ≤ length cs
-    → all ≡ told ++ next ∷ [] → rest ≡ next.line.now ++ left → IsMarked (head (slice_get cs k)) next.line.now next.mark → AreRead cs out (k + 1) all left
-read_more cs out k told all next rest left read low grown front is =
-    let lines : lines_told all ≡ lines_told told ++ next.line.now ∷ [] = ap lines_told grown ∙ map_push (λ (t : Told). t.line.now) told next in
-    let marks : marks_of all ≡ marks_of told ++ next.mark ∷ [] = ap marks_of grown ∙ map_push (λ (t : Told). t.mark) told next in
-    let joins : joined_lines (lines_told told ++ next.line.now ∷ []) ≡ joined_lines (lines_told told) ++ next.line.now =
-    flat_map-append (λ (l : List ℕ). l) (lines_told told) (next.line.now ∷ []) ∙ ap (λ ys. joined_lines (lines_told told) ++ ys) (append-nil next.line.now) in
+pub read_more : (cs : List Command) (out : List ℕ) (k : ℕ) (marked_lines all : List MarkedLine) (next : MarkedLine) (rest left : List ℕ) → AreRead cs out k marked_lines rest → k ≤ length cs
+    → all ≡ marked_lines ++ next ∷ [] → rest ≡ next.line.now ++ left → IsMarked (head (slice_get cs k)) next.line.now next.mark → AreRead cs out (k + 1) all left
+read_more cs out k marked_lines all next rest left read low grown front is =
+    let lines : line_texts all ≡ line_texts marked_lines ++ next.line.now ∷ [] = ap line_texts grown ∙ map_push (λ (t : MarkedLine). t.line.now) marked_lines next in
+    let marks : marks_of all ≡ marks_of marked_lines ++ next.mark ∷ [] = ap marks_of grown ∙ map_push (λ (t : MarkedLine). t.mark) marked_lines next in
+    let joins : joined_lines (line_texts marked_lines ++ next.line.now ∷ []) ≡ joined_lines (line_texts marked_lines) ++ next.line.now =
+    flat_map-append (λ (l : List ℕ). l) (line_texts marked_lines) (next.line.now ∷ []) ∙ ap (λ ys. joined_lines (line_texts marked_lines) ++ ys) (append-nil next.line.now) in
     record {
       within = omega arith;
-      long = ap length grown ∙ omega (arith, length-append told (next ∷ []), read.long);
-      cut = read.cut ∙ ap (λ ys. joined_lines (lines_told told) ++ ys) front ∙ sym (append_assoc (joined_lines (lines_told told)) next.line.now left)
+      long = ap length grown ∙ omega (arith, length-append marked_lines (next ∷ []), read.long);
+      cut = read.cut ∙ ap (λ ys. joined_lines (line_texts marked_lines) ++ ys) front ∙ sym (append_assoc (joined_lines (line_texts marked_lines)) next.line.now left)
           ∙ ap (λ ys. ys ++ left) (sym joins) ∙ ap (λ (ls : List (List ℕ)). joined_lines ls ++ left) (sym lines);
-      before = rw (heads_take cs k low, lines, marks) (spell_more (take k (heads cs)) (lines_told told) (marks_of told) (head (slice_get cs k)) next.line.now next.mark read.before is);
+      before = rw (heads_take cs k low, lines, marks) (spell_more (take k (heads cs)) (line_texts marked_lines) (marks_of marked_lines) (head (slice_get cs k)) next.line.now next.mark read.before is);
     }

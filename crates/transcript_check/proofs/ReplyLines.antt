@@ -19,7 +19,7 @@ use Rattle.scan_log.specs.Poses.{plain_from, plain_command, regions_after}
 use Rattle.scan_log.specs.Spelling.{caller_field}
 use Rattle.scan_log.specs.Transcript.{counts_text, hit_text, list_text, item_text, items_text, group_text, spaced, held_at, reply_text, replies_from, lines_text}
 use Rattle.transcript_check.specs.Heads.{head, heads, IsMarked, SpellMarks}
-use Rattle.transcript_check.specs.Told.{reply_at}
+use Rattle.transcript_check.specs.MarkedLines.{reply_at}
 use Rattle.transcript_check.specs.Verdicts.{joined_lines, reply_lines}
 use Rattle.scan_log.proofs.Plains.{reply_plain}
 use Rattle.transcript_check.proofs.Plain.{ArePlain, IsCutOff, plain_test, plain-append, plain_decimal, plain_spaced, plain_hits, plain_lists, plain_items, plain_groups, plain_caller, field_decimal}

@@ -14,7 +14,7 @@ use Rattle.scan_log.specs.declared.command.Command.{Command}
 use Rattle.scan_log.specs.declared.command.Command.TheVariants.{Change}
 use Rattle.scan_log.proofs.Whose.{makes_none}
 use Rattle.scan_log.specs.Transcript.{marked_updates, put_if, put_update}
-use Rattle.transcript_check.specs.Told.{updates_of}
+use Rattle.transcript_check.specs.MarkedLines.{updates_of}
 use Rattle.transcript_check.specs.declared.order.Marked.{Marked}
 
 abbrev pub first_if : ℕ → Option Update → List (ℕ × Update) → List (ℕ × Update)

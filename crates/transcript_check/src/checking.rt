@@ -3,12 +3,12 @@ ghost use Rattle.std.specs.Prelude.{◌≡◌, ◌+◌, ◌≤◌, ◌↔◌, If
 ghost use Rattle.scan_log.specs.Legal.{AreLegalLines};
 ghost use Rattle.transcript_check.specs.declared.verdict.Verdict.{Verdict};
 ghost use Rattle.transcript_check.specs.Heads.{SpellMarks, heads};
-ghost use Rattle.transcript_check.specs.Told.{lines_told, marks_of};
+ghost use Rattle.transcript_check.specs.MarkedLines.{line_texts, marks_of};
 ghost use Rattle.transcript_check.specs.Verdicts.{IsVerdict, joined_lines};
 
 use crate::held_map::HeldMap;
 use crate::legality::are_legal;
-use crate::lines::{Stop, Told, told_lines};
+use crate::lines::{LineFault, MarkedLine, read_marked_lines};
 use crate::order::updates_by_mark;
 use crate::replaying::first_other;
 use crate::tree_map::TreeMap;
@@ -55,12 +55,12 @@ fn check_on<M: HeldMap>(
 
     ensures legal { IfOk result (λ v. (v ≡ Verdict.Legal) ↔ AreLegalLines script.now transcript.now) }
 {
-    match told_lines(alloc, script.commands(), transcript) {
-        Ok(told) => verdict_on::<M>(alloc, script, told.as_slice()),
-        Err(Stop::Unspelled { before }) => Ok(Verdict::Unspelled {
+    match read_marked_lines(alloc, script.commands(), transcript) {
+        Ok(marked_lines) => verdict_on::<M>(alloc, script, marked_lines.as_slice()),
+        Err(LineFault::Unspelled { before }) => Ok(Verdict::Unspelled {
             line: number_of(before),
         }),
-        Err(Stop::NoMemory) => Err(NoMemory),
+        Err(LineFault::NoMemory) => Err(NoMemory),
     }
 }
 
@@ -68,18 +68,18 @@ fn check_on<M: HeldMap>(
 fn verdict_on<M: HeldMap>(
     alloc: Global,
     script: &Script,
-    told: &[Told],
+    marked_lines: &[MarkedLine],
 ) -> Result<Verdict, NoMemory>
-    requires { SpellMarks (heads script.now.commands) (lines_told told.now) (marks_of told.now) }
-    ensures { IfOk result (IsVerdict script.now (joined_lines (lines_told told.now))) }
+    requires { SpellMarks (heads script.now.commands) (line_texts marked_lines.now) (marks_of marked_lines.now) }
+    ensures { IfOk result (IsVerdict script.now (joined_lines (line_texts marked_lines.now))) }
 {
     let plain = PlainScript::copied(alloc, script)?;
     let commands = plain.commands();
-    let updates = updates_by_mark(alloc, commands, told)?;
-    if !are_legal(commands, told, updates.as_slice()) {
+    let updates = updates_by_mark(alloc, commands, marked_lines)?;
+    if !are_legal(commands, marked_lines, updates.as_slice()) {
         return Ok(Verdict::Marks);
     }
-    match first_other::<M>(alloc, &plain, told, updates.as_slice())? {
+    match first_other::<M>(alloc, &plain, marked_lines, updates.as_slice())? {
         Some(place) => Ok(Verdict::Differs {
             line: number_of(place),
         }),

@@ -3,7 +3,7 @@ ghost use Rattle.std.specs.Prelude.{◌≡◌, ◌+◌, ◌≤◌, IfOk};
 ghost use Rattle.std.specs.Option.{ForSome, option_copied};
 ghost use Rattle.map_items.specs.Fold.{no_points, points_in, step};
 ghost use Rattle.scan_log.specs.Plain.{IsPlain};
-ghost use Rattle.transcript_check.specs.Told.{reply_at};
+ghost use Rattle.transcript_check.specs.MarkedLines.{reply_at};
 
 use map_items::{MAX_POINTS, NoMemory, Settings, Update};
 use scan_log::{Command, Reply};

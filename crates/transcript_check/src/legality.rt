@@ -6,36 +6,36 @@ ghost use Rattle.scan_log.specs.Commands.{is_for};
 ghost use Rattle.scan_log.specs.Legal.{AreInOrder, IsLegal, numbers_from};
 ghost use Rattle.scan_log.specs.Plain.{IsPlain};
 ghost use Rattle.scan_log.specs.Transcript.{marked_updates};
-ghost use Rattle.transcript_check.specs.Told.{AreCallersInOrder, is_late, marks_of, updates_of};
+ghost use Rattle.transcript_check.specs.MarkedLines.{AreCallersInOrder, is_late, marks_of, updates_of};
 
-use crate::lines::Told;
+use crate::lines::MarkedLine;
 use crate::order::Marked;
 use scan_log::Command;
 
 /// Whether the marks are legal for these commands; `updates` are in the order of their marks.
-pub fn are_legal(commands: &[Command], told: &[Told], updates: &[Marked]) -> bool
+pub fn are_legal(commands: &[Command], marked_lines: &[MarkedLine], updates: &[Marked]) -> bool
     requires good { AllByRecursion IsPlain commands.now }
-    requires many { length told.now ≡ length commands.now + 1 }
-    requires updates { updates_of updates.now ≡ marked_updates commands.now (marks_of told.now) }
-    ensures { Decides result (IsLegal commands.now (marks_of told.now)) }
+    requires many { length marked_lines.now ≡ length commands.now + 1 }
+    requires updates { updates_of updates.now ≡ marked_updates commands.now (marks_of marked_lines.now) }
+    ensures { Decides result (IsLegal commands.now (marks_of marked_lines.now)) }
 {
     let last = updates.len();
     if !are_counted(updates) {
         return false;
     }
-    if !are_in_order(commands, told) {
+    if !are_in_order(commands, marked_lines) {
         return false;
     }
-    if !none_above(told, last) {
+    if !none_above(marked_lines, last) {
         return false;
     }
-    told[commands.len()].mark as usize == last
+    marked_lines[commands.len()].mark as usize == last
 }
 
-fn none_above(told: &[Told], last: usize) -> bool
-    ensures { Decides result (AllByRecursion (λ m. m ≤ last) (marks_of told.now)) }
+fn none_above(marked_lines: &[MarkedLine], last: usize) -> bool
+    ensures { Decides result (AllByRecursion (λ m. m ≤ last) (marks_of marked_lines.now)) }
 {
-    for line in told {
+    for line in marked_lines {
         if line.mark as usize > last {
             return false;
         }
@@ -55,13 +55,13 @@ fn are_counted(updates: &[Marked]) -> bool
     true
 }
 
-fn are_in_order(commands: &[Command], told: &[Told]) -> bool
+fn are_in_order(commands: &[Command], marked_lines: &[MarkedLine]) -> bool
     requires good { AllByRecursion IsPlain commands.now }
-    requires many { length told.now ≡ length commands.now + 1 }
-    ensures { Decides result (AreInOrder commands.now (marks_of told.now)) }
+    requires many { length marked_lines.now ≡ length commands.now + 1 }
+    ensures { Decides result (AreInOrder commands.now (marks_of marked_lines.now)) }
 {
     for caller in 1..9 {
-        if !is_in_order(caller, commands, told) {
+        if !is_in_order(caller, commands, marked_lines) {
             return false;
         }
     }
@@ -69,14 +69,14 @@ fn are_in_order(commands: &[Command], told: &[Told]) -> bool
 }
 
 // Whether the marks of this caller's commands and of the barriers are in order.
-fn is_in_order(caller: u8, commands: &[Command], told: &[Told]) -> bool
-    requires { length told.now ≡ length commands.now + 1 }
-    ensures { Decides result (AreCallersInOrder caller commands.now (marks_of told.now)) }
+fn is_in_order(caller: u8, commands: &[Command], marked_lines: &[MarkedLine]) -> bool
+    requires { length marked_lines.now ≡ length commands.now + 1 }
+    ensures { Decides result (AreCallersInOrder caller commands.now (marks_of marked_lines.now)) }
 {
     let mut floor = None;
     for place in 0..commands.len() {
         let command = &commands[place];
-        let mark = told[place].mark;
+        let mark = marked_lines[place].mark;
         if is_for(caller, command) {
             if !is_late(floor, command, mark) {
                 return false;

@@ -3,8 +3,8 @@ ghost use Rattle.std.specs.Prelude.{◌≡◌, ◌≤◌, ℕ, List, ◌++◌, d
 ghost use Rattle.std.specs.Option.{option_copied};
 ghost use Rattle.transcript_check.specs.Heads.{head, heads, SpellMarks, IsMarked};
 ghost use Rattle.transcript_check.specs.Verdicts.{joined_lines};
-ghost use Rattle.transcript_check.specs.Told.{lines_told, marks_of, WasUnspelled};
-ghost use Rattle.transcript_check.specs.declared.lines.Stop.TheVariants as stop;
+ghost use Rattle.transcript_check.specs.MarkedLines.{line_texts, marks_of, WasUnspelled};
+ghost use Rattle.transcript_check.specs.declared.lines.LineFault.TheVariants as stop;
 
 use crate::heads::mark_in;
 use map_items::NoMemory;
@@ -13,7 +13,7 @@ use scan_log::Command;
 use std::alloc::{AllocFailed, Global};
 
 #[derive(Clone, Copy)]
-pub struct Told<'a> {
+pub struct MarkedLine<'a> {
     pub mark: u32,
     /// With its line feed.
     pub line: &'a [u8],
@@ -21,7 +21,7 @@ pub struct Told<'a> {
 
 /// Why not all lines were read.
 #[derive(Clone, Copy, Debug, PartialEq, Eq)]
-pub enum Stop {
+pub enum LineFault {
     /// A line is missing or spells no mark, or there is one line too many.
     Unspelled {
         /// How many lines are before it.
@@ -30,37 +30,37 @@ pub enum Stop {
     NoMemory,
 }
 
-impl<T: Drop> From<AllocFailed<T>> for Stop {
+impl<T: Drop> From<AllocFailed<T>> for LineFault {
     ghost from_gives = { λ _ e. e ≡ stop.NoMemory };
 
-    fn from(_failed: AllocFailed<T>) -> Stop {
-        Stop::NoMemory
+    fn from(_failed: AllocFailed<T>) -> LineFault {
+        LineFault::NoMemory
     }
 }
 
 /// Each line of the commands' replies, with its mark.
-pub fn told_lines<'a>(
+pub fn read_marked_lines<'a>(
     alloc: Global,
     commands: &[Command],
     transcript: &'a [u8],
-) -> Result<Vec<Told<'a>>, Stop>
-    ensures all { IfOk result (λ told. transcript.now ≡ joined_lines (lines_told told.items)) }
-    ensures marks { IfOk result (λ told. SpellMarks (heads commands.now) (lines_told told.items) (marks_of told.items)) }
+) -> Result<Vec<MarkedLine<'a>>, LineFault>
+    ensures all { IfOk result (λ marked_lines. transcript.now ≡ joined_lines (line_texts marked_lines.items)) }
+    ensures marks { IfOk result (λ marked_lines. SpellMarks (heads commands.now) (line_texts marked_lines.items) (marks_of marked_lines.items)) }
     ensures stopped { IfErr result (WasUnspelled commands.now transcript.now) }
 {
-    let mut told = Vec::new(alloc);
+    let mut marked_lines = Vec::new(alloc);
     let mut rest = transcript;
     for place in 0..commands.len() + 1 {
-        let Some(next) = first_told(command_at(commands, place), rest) else {
-            return Err(Stop::Unspelled { before: place });
+        let Some(next) = first_marked_line(command_at(commands, place), rest) else {
+            return Err(LineFault::Unspelled { before: place });
         };
-        told.push(next)?;
+        marked_lines.push(next)?;
         rest = behind(rest, next.line.len());
     }
     if rest.is_empty() {
-        Ok(told)
+        Ok(marked_lines)
     } else {
-        Err(Stop::Unspelled { before: told.len() })
+        Err(LineFault::Unspelled { before: marked_lines.len() })
     }
 }
 
@@ -72,15 +72,15 @@ pub fn command_at(commands: &[Command], place: usize) -> Option<&Command>
 }
 
 /// `None` where the first line is missing or spells no mark.
-fn first_told<'a>(command: Option<&Command>, bytes: &'a [u8]) -> Option<Told<'a>>
-    ensures told { IfSome result (λ t. IsMarked (head (option_copied command.entry)) t.line.now t.mark) }
+fn first_marked_line<'a>(command: Option<&Command>, bytes: &'a [u8]) -> Option<MarkedLine<'a>>
+    ensures marked { IfSome result (λ t. IsMarked (head (option_copied command.entry)) t.line.now t.mark) }
     ensures front { IfSome result (λ t. bytes.now ≡ t.line.now ++ drop (length t.line.now) bytes.now) }
     ensures within { IfSome result (λ t. length t.line.now ≤ length bytes.now) }
     ensures none { IfNone result ((line behind : List ℕ) (m : ℕ) → bytes.now ≡ line ++ behind → IsMarked (head (option_copied command.entry)) line m → ⊥) }
 {
     let end = memchr(b'\n', bytes)?;
     let mark = mark_in(command, &bytes[..end])?;
-    Some(Told {
+    Some(MarkedLine {
         mark,
         line: &bytes[..end + 1],
     })

@@ -3,7 +3,7 @@ ghost use Rattle.std.specs.Prelude.{◌≡◌, ◌≤◌, IfOk, Some, None};
 ghost use Rattle.map_fold.specs.Answers.{nears};
 ghost use Rattle.kd_search.specs.Query.{IsQuery};
 ghost use Rattle.scan_log.specs.Plain.{IsPlain};
-ghost use Rattle.transcript_check.specs.Told.{reply_at};
+ghost use Rattle.transcript_check.specs.MarkedLines.{reply_at};
 
 use crate::held_map::HeldMap;
 use crate::neighbours::{ball_reply, tree_of};

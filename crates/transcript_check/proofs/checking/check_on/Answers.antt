@@ -2,9 +2,9 @@ use Rattle.std.proofs.Common.{◌≡◌, ℕ, ◌+◌, List, ap, subst, sym, ◌
 use Rattle.std.specs.Prelude.{◌↔◌}
 use Rattle.std.proofs.lemmas.Result.{IfOk-weaker}
 use Rattle.scan_log.specs.Legal.{AreLegalLines}
-use Rattle.transcript_check.specs.Told.{lines_told}
+use Rattle.transcript_check.specs.MarkedLines.{line_texts}
 use Rattle.transcript_check.specs.Verdicts.{IsVerdict, joined_lines}
-use Rattle.transcript_check.specs.declared.lines.Told.{Told}
+use Rattle.transcript_check.specs.declared.lines.MarkedLine.{MarkedLine}
 use Rattle.transcript_check.specs.declared.verdict.Verdict.{Verdict}
 use Rattle.transcript_check.specs.declared.verdict.Verdict.TheVariants.{Legal, Unspelled}
 use Rattle.transcript_check.proofs.OneVerdict.{legal_verdict, one_verdict, unspelled_place}
@@ -20,7 +20,7 @@ pub returns-in-Ok-clause-only : goal.returns-in-Ok-clause-only
 returns-in-Ok-clause-only g c =
     let s = c.args.script.now in
     let out = c.args.transcript.now in
-    let cut : joined_lines (lines_told c.as_slice.result.now) ≡ out = ap (λ (ls : List Told). joined_lines (lines_told ls)) c.as_slice.ensures.value ∙ sym c.in-Ok.ensures.all in
+    let cut : joined_lines (line_texts c.as_slice.result.now) ≡ out = ap (λ (ls : List MarkedLine). joined_lines (line_texts ls)) c.as_slice.ensures.value ∙ sym c.in-Ok.ensures.all in
     IfOk-weaker c.verdict_on.result _ (λ v. (w : Verdict) → IsVerdict s out w → w ≡ v)
     (λ v is w h. one_verdict s out v w c.commands.ensures.limits (subst (λ (o : List ℕ). IsVerdict s o v) cut is) h) c.verdict_on.ensures
 
@@ -28,7 +28,7 @@ pub returns-in-Ok-clause-legal : goal.returns-in-Ok-clause-legal
 returns-in-Ok-clause-legal g c =
     let s = c.args.script.now in
     let out = c.args.transcript.now in
-    let cut : joined_lines (lines_told c.as_slice.result.now) ≡ out = ap (λ (ls : List Told). joined_lines (lines_told ls)) c.as_slice.ensures.value ∙ sym c.in-Ok.ensures.all in
+    let cut : joined_lines (line_texts c.as_slice.result.now) ≡ out = ap (λ (ls : List MarkedLine). joined_lines (line_texts ls)) c.as_slice.ensures.value ∙ sym c.in-Ok.ensures.all in
     IfOk-weaker c.verdict_on.result _ (λ v. (v ≡ Legal) ↔ AreLegalLines s out)
     (λ v is. legal_verdict s out v c.commands.ensures.limits (subst (λ (o : List ℕ). IsVerdict s o v) cut is)) c.verdict_on.ensures
 

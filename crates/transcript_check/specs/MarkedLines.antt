@@ -10,21 +10,21 @@ use Rattle.scan_log.specs.declared.command.Command.{Command}
 use Rattle.scan_log.specs.declared.reply.Reply.{Reply}
 use Rattle.scan_log.specs.Scripts.{ScriptAt}
 use Rattle.scan_log.specs.Transcript.{replies, reply_on, totals_on}
-use Rattle.transcript_check.specs.declared.lines.Told.{Told}
-use Rattle.transcript_check.specs.declared.lines.Stop.{Stop}
-use Rattle.transcript_check.specs.declared.lines.Stop.TheVariants.{Unspelled, NoMemory}
+use Rattle.transcript_check.specs.declared.lines.MarkedLine.{MarkedLine}
+use Rattle.transcript_check.specs.declared.lines.LineFault.{LineFault}
+use Rattle.transcript_check.specs.declared.lines.LineFault.TheVariants.{Unspelled, NoMemory}
 use Rattle.transcript_check.specs.declared.order.Marked.{Marked}
 use Rattle.transcript_check.specs.declared.order.Placed.{Placed}
 use Rattle.transcript_check.specs.Heads.{heads}
 use Rattle.transcript_check.specs.Verdicts.{IsUnspelled, reply_lines}
 
 -- the marks of the lines, in the lines' order
-abbrev pub marks_of : List Told → List ℕ
-marks_of told = map (λ t. t.mark) told
+abbrev pub marks_of : List MarkedLine → List ℕ
+marks_of marked_lines = map (λ t. t.mark) marked_lines
 
 -- the lines' own bytes, each with its line feed
-abbrev pub lines_told : List Told → List (List ℕ)
-lines_told told = map (λ t. t.line.now) told
+abbrev pub line_texts : List MarkedLine → List (List ℕ)
+line_texts marked_lines = map (λ t. t.line.now) marked_lines
 
 -- the updates with their marks, in their order
 abbrev pub updates_of : List Marked → List (ℕ × Update)
@@ -39,7 +39,7 @@ abbrev pub IsPlaced : List ℕ → Placed → Type 0
 IsPlaced marks p = slice_get marks p.place ≡ Some p.mark
 
 -- why not all lines were read
-abbrev pub WasUnspelled : List Command → List ℕ → Stop → Type 0
+abbrev pub WasUnspelled : List Command → List ℕ → LineFault → Type 0
 WasUnspelled cs out (Unspelled before) = IsUnspelled (heads cs) out (before + 1)
 WasUnspelled cs out NoMemory = Unit {0}
 
