@@ -86,7 +86,7 @@ fn question(caller: u8, scan: u32, within: Option<u64>) -> Command
     requires scan { scan < 200 }
     requires within { ForSome within (λ r. r ≤ 4000000000) }
     ensures value { result ≡ Command.Near caller 5 (robot scan) within }
-    ensures good { IsCommand One result }
+    ensures lawful { IsCommand One result }
 {
     let point = point_at(1_000 * scan as i64, 0, 0);
     Command::Near {
@@ -123,7 +123,7 @@ fn push_deletions(alloc: Global, script: &mut Script, scan: u32) -> Result<(), N
 fn behind(scan: u32) -> Cuboid
     requires { scan < 200 }
     ensures value { result ≡ box_behind scan }
-    ensures good { IsCallerBox One result }
+    ensures lawful { IsCallerBox One result }
 {
     let x = 1_000 * scan as i64;
     let lo = Corner {
@@ -144,7 +144,7 @@ fn behind(scan: u32) -> Cuboid
 
 fn push(script: &mut Script, command: Command) -> Result<(), NoMemory>
     requires format { script.old.format ≡ One }
-    requires good { IsCommand One command }
+    requires lawful { IsCommand One command }
     requires commands { length script.old.commands < MAX_COMMANDS }
     requires room { points_of script.old.commands + submitted command ≤ MAX_POINTS }
     requires hits { hits_of script.old.commands ≤ 256 * length script.old.commands }

@@ -26,7 +26,7 @@ pub trait HeldMap: Drop {
 
     /// The reply with this mark, to the end where there is no command.
     fn reply(&self, alloc: Global, command: Option<&Command>, mark: u64) -> Result<Reply, NoMemory>
-        requires good { ForSome (option_copied command) IsPlain }
+        requires plain { ForSome (option_copied command) IsPlain }
         requires points { (holds self.now).next ≤ MAX_POINTS }
         ensures { IfOk result (λ r. r ≡ reply_at (holds self.now).items (option_copied command.entry) mark) };
 }

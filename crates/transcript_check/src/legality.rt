@@ -14,7 +14,7 @@ use scan_log::Command;
 
 /// Whether the marks are legal for these commands; `updates` are in the order of their marks.
 pub fn are_legal(commands: &[Command], marked_lines: &[MarkedLine], updates: &[Marked]) -> bool
-    requires good { AllByRecursion IsPlain commands.now }
+    requires plain { AllByRecursion IsPlain commands.now }
     requires many { length marked_lines.now ≡ length commands.now + 1 }
     requires updates { updates_of updates.now ≡ marked_updates commands.now (marks_of marked_lines.now) }
     ensures { Decides result (IsLegal commands.now (marks_of marked_lines.now)) }
@@ -56,7 +56,7 @@ fn are_counted(updates: &[Marked]) -> bool
 }
 
 fn are_in_order(commands: &[Command], marked_lines: &[MarkedLine]) -> bool
-    requires good { AllByRecursion IsPlain commands.now }
+    requires plain { AllByRecursion IsPlain commands.now }
     requires many { length marked_lines.now ≡ length commands.now + 1 }
     ensures { Decides result (AreInOrder commands.now (marks_of marked_lines.now)) }
 {

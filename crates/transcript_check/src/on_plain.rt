@@ -44,7 +44,7 @@ impl HeldMap for PlainMap {
 }
 
 fn answer_to(alloc: Global, map: &PlainMap, command: &Command, mark: u64) -> Result<Reply, NoMemory>
-    requires good { IsPlain command.now }
+    requires plain { IsPlain command.now }
     requires points { map.now.next ≤ MAX_POINTS }
     ensures { IfOk result (λ r. r ≡ reply_at map.now.items (Some command.now) mark) }
 {

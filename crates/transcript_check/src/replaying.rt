@@ -78,7 +78,7 @@ fn is_right_line<M: HeldMap>(
     command: Option<&Command>,
     marked_line: &MarkedLine,
 ) -> Result<bool, NoMemory>
-    requires good { ForSome (option_copied command) IsPlain }
+    requires plain { ForSome (option_copied command) IsPlain }
     requires points { (M.holds map.now).next ≤ MAX_POINTS }
     ensures { IfOk result (λ same. Decides same (marked_line.now.line.now ≡ reply_text format (option_copied command.entry) (reply_at (M.holds map.now).items (option_copied command.entry) marked_line.now.mark))) }
 {

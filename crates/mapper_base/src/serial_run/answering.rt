@@ -14,7 +14,7 @@ use std::alloc::Global;
 
 /// Runs the command. A barrier settles the map.
 pub fn answer(alloc: Global, state: &mut MapState, command: &Command) -> Result<Reply, NoMemory>
-    requires good { IsPlain command.now }
+    requires plain { IsPlain command.now }
     requires updates { length state.old.state.history < MAX_UPDATES }
     requires points { state.old.state.next + submitted command.now ≤ MAX_POINTS }
     ensures follows { OnOk result (Follows command.now state.old.state state.new.state) }

@@ -52,7 +52,7 @@ fn query<L: MapName, R: Threads + Sync>(
     pass: &mut Pass<L>,
     command: &Command,
 ) -> Result<Option<Reply>, NoMemory>
-    requires good { IsPlain command.now }
+    requires plain { IsPlain command.now }
     requires unchanging { command_update command.now ≡ None }
     ensures { IfOk result (λ r. Tried L.voxel command.now pass.old pass.new r) }
 {
@@ -92,7 +92,7 @@ fn answer<L: MapName, R: Threads + Wait + Sync>(
     command: &Command,
 ) -> Result<Option<Reply>, NoMemory>
     requires own { is_by pass.old.caller command.now ≡ true }
-    requires good { IsPlain command.now }
+    requires plain { IsPlain command.now }
     ensures { IfOk result (λ r. Tried L.voxel command.now pass.old pass.new r) }
 {
     match command {
@@ -111,7 +111,7 @@ pub fn run_own<L: MapName, G: Gate, R: Threads + Wait + Sync>(
     commands: &[Command],
     pass: Pass<L>,
 ) -> Result<(Pass<L>, Queue), NoMemory>
-    requires good { AllByRecursion IsPlain commands.now }
+    requires plain { AllByRecursion IsPlain commands.now }
     requires commands { signals.now.from + length commands.now ≤ MAX_COMMANDS }
     ensures { IfOk result (λ r. Turned L.voxel commands.now pass r.0 r.1) }
 {
@@ -128,7 +128,7 @@ fn told_own<L: MapName, G: Gate, R: Threads + Wait + Sync>(
     commands: &[Command],
     pass: &mut Pass<L>,
 ) -> Result<Queue, NoMemory>
-    requires good { AllByRecursion IsPlain commands.now }
+    requires plain { AllByRecursion IsPlain commands.now }
     requires commands { signals.now.from + length commands.now ≤ MAX_COMMANDS }
     ensures { IfOk result (λ rs. Turned L.voxel commands.now pass.old pass.new rs) }
 {

@@ -35,7 +35,7 @@ fn run_each<L: MapName + Send + Sync, G: Gate + Sync, R: Threads + Wait + Sync>(
     commands: &[Command],
     passes: Vec<Pass<L>>,
 ) -> Result<Vec<Turn<L>>, NoMemory>
-    requires good { AllByRecursion IsPlain commands.now }
+    requires plain { AllByRecursion IsPlain commands.now }
     requires commands { signals.now.from + length commands.now ≤ MAX_COMMANDS }
     ensures { IfOk result (λ v. AllTurned L.voxel commands.now passes.items v.items) }
 {
@@ -115,7 +115,7 @@ pub fn phase<L: MapName + Send + Sync, G: Gate + Sync, R: Threads + Wait + Sync>
 ) -> Result<Vec<Pass<L>>, NoMemory>
     requires from_to { from ≤ to }
     requires to_end { to ≤ length commands.now }
-    requires good { AllByRecursion IsPlain commands.now }
+    requires plain { AllByRecursion IsPlain commands.now }
     requires commands { length commands.now ≤ MAX_COMMANDS }
     requires room { points_of commands.now ≤ MAX_POINTS }
     requires all { length passes.items ≡ L.callers }

@@ -22,7 +22,7 @@ pub fn run_commands<L: MapName + Send + Sync, G: Gate + Sync, R: Threads + Wait 
     commands: &[Command],
     passes: Vec<Pass<L>>,
 ) -> Result<(Vec<Pass<L>>, Replies), NoMemory>
-    requires good { AllByRecursion IsPlain commands.now }
+    requires plain { AllByRecursion IsPlain commands.now }
     requires commands { length commands.now ≤ MAX_COMMANDS }
     requires room { points_of commands.now ≤ MAX_POINTS }
     requires named { AllByRecursion (HasCaller L.callers) commands.now }

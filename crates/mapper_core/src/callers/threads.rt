@@ -33,7 +33,7 @@ fn beside_second<L: MapName + Send + Sync, G: Gate + Sync, R: Threads + Wait + S
     script: &PlainScript,
     passes: Vec<Pass<L>>,
 ) -> Run<L>
-    requires good { IsPlainScript script.now }
+    requires plain { IsPlainScript script.now }
     requires large_from { MIN_LARGE ≤ post.large }
     requires large_to { post.large ≤ MAX_LARGE }
     requires ready { CanRun L.callers L.parts L.voxel script.now passes.items }

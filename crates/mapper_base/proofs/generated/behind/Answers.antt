@@ -17,5 +17,5 @@ is_behind c =
 pub returns-clause-value : goal.returns-clause-value
 returns-clause-value c = is_behind c
 
-pub returns-clause-good : goal.returns-clause-good
-returns-clause-good c = rw (is_behind c) (behind_good c.args.scan c.requires)
+pub returns-clause-lawful : goal.returns-clause-lawful
+returns-clause-lawful c = rw (is_behind c) (behind_good c.args.scan c.requires)

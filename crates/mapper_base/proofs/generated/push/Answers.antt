@@ -6,7 +6,7 @@ use Rattle.mapper_base.proofs.Scans.{length_push, script_push}
 use Rattle.mapper_base.proofs.generated.push.Goals as goal
 
 pub push-requires : goal.push-requires
-push-requires c = script_push c.args.script.now c.args.command c.commands.ensures.limits (rw c.requires.format c.requires.good) c.requires.commands c.requires.room c.requires.hits c.requires.asks
+push-requires c = script_push c.args.script.now c.args.command c.commands.ensures.limits (rw c.requires.format c.requires.lawful) c.requires.commands c.requires.room c.requires.hits c.requires.asks
 
 pub returns-clause-points : goal.returns-clause-points
 returns-clause-points c = on_ok_weaker c.push.result (λ pushed. ap (λ (s : ScriptAt). points_of s.commands) pushed ∙ points_of-push c.args.script.now.commands c.args.command) c.push.ensures.ok

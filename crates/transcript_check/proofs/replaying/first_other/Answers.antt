@@ -49,8 +49,8 @@ offset_bounds-marked_lines-at g c =
 pub bounds-marked_lines-at : goal.bounds-marked_lines-at
 bounds-marked_lines-at g c = (here_at _ _ _ _ _ _ _ _ c.loop-at.invariant.given c.loop-at.invariant.far (omega arith)).place
 
-pub is_right_line-requires-clause-good : goal.is_right_line-requires-clause-good
-is_right_line-requires-clause-good g c = rw (c.command_at-command.ensures, c.commands-commands.ensures.all) (good_at _ _ c.loop-at.invariant.given.script.each)
+pub is_right_line-requires-clause-plain : goal.is_right_line-requires-clause-plain
+is_right_line-requires-clause-plain g c = rw (c.command_at-command.ensures, c.commands-commands.ensures.all) (good_at _ _ c.loop-at.invariant.given.script.each)
 
 pub is_right_line-requires-clause-points : goal.is_right_line-requires-clause-points
 is_right_line-requires-clause-points g c =

@@ -10,8 +10,8 @@ use Rattle.mapper_core.proofs.AtEnd.{AreFew, all_ran}
 use Rattle.mapper_core.proofs.Slices.{all_take, all_drop, take_length_le, points_take}
 use Rattle.mapper_core.proofs.callers.phase.phase.Goals as goal
 
-pub run_each-requires-clause-good : goal.run_each-requires-clause-good
-run_each-requires-clause-good g c κs within = all_take IsPlain (c.args.to - c.args.from) _ (all_drop IsPlain c.args.from c.args.commands.now c.requires.good)
+pub run_each-requires-clause-plain : goal.run_each-requires-clause-plain
+run_each-requires-clause-plain g c κs within = all_take IsPlain (c.args.to - c.args.from) _ (all_drop IsPlain c.args.from c.args.commands.now c.requires.plain)
 
 pub all_meet-passes-requires-clause-all : goal.all_meet-passes-requires-clause-all
 all_meet-passes-requires-clause-all g c =
