@@ -12,7 +12,7 @@ use Rattle.clap.proofs.WalkLemmas.{first_value-rows, one_text-rows}
 use Rattle.mapper_base.specs.declared.command_line.words.Ask.{Ask}
 use Rattle.mapper_base.specs.declared.command_line.words.Ask.TheVariants.{Run, Serial, Make, Drive, Check}
 use Rattle.mapper_base.specs.Asks.{CanBeDone, spelled}
-use Rattle.mapper_base.specs.CommandLine.{IsSaid, mapper}
+use Rattle.mapper_base.specs.CommandLine.{IsMatch, mapper}
 use Rattle.mapper_base.proofs.Digits.{taken_number}
 
 abbrev pub is_text : Text → Option Text → Bool
@@ -141,21 +141,21 @@ met_is word t read (Some p) name rows h a b =
     )
 
 -- what is read in the words that ask for something
-pub heard : (a : Ask) (t : Text) (f : Found) → CanBeDone a → option_map (λ p. p.0) (subcommand_of mapper (argv a)) ≡ Some t
-    → option_map (λ p. p.1) (subcommand_of mapper (argv a)) ≡ Some (rows_of f) → IsSaid a t f
-heard Run t f ask a b =
+pub parsed : (a : Ask) (t : Text) (f : Found) → CanBeDone a → option_map (λ p. p.0) (subcommand_of mapper (argv a)) ≡ Some t
+    → option_map (λ p. p.1) (subcommand_of mapper (argv a)) ≡ Some (rows_of f) → IsMatch a t f
+parsed Run t f ask a b =
     let m = met_is (codes "run") (codes "false") (one_of (codes "serial")) _ t (rows_of f) (second_of_two _ _ (good Run ask)) a b in
     (m.0, one_text-rows f (codes "serial") ∙ m.1)
-heard Serial t f ask a b =
+parsed Serial t f ask a b =
     let m = met_is (codes "run") (codes "true") (one_of (codes "serial")) _ t (rows_of f) (second_of_two _ _ (good Serial ask)) a b in
     (m.0, one_text-rows f (codes "serial") ∙ m.1)
-heard (Make n) t f ask a b =
+parsed (Make n) t f ask a b =
     let m = met_is (codes "make") (decimal n) (first_of (codes "n")) _ t (rows_of f) (second_of_two _ _ (good (Make n) ask)) a b in
     (m.0, first_value-rows f (codes "n") ∙ m.1)
-heard (Drive n) t f ask a b =
+parsed (Drive n) t f ask a b =
     let m = met_is (codes "drive") (decimal n) (first_of (codes "n")) _ t (rows_of f) (second_of_two _ _ (good (Drive n) ask)) a b in
     (m.0, first_value-rows f (codes "n") ∙ m.1)
-heard (Check n) t f ask a b =
+parsed (Check n) t f ask a b =
     let m = met_is (codes "check") (decimal n) (first_of (codes "n")) _ t (rows_of f) (second_of_two _ _ (good (Check n) ask)) a b in
     (m.0, first_value-rows f (codes "n") ∙ m.1)
 

@@ -29,14 +29,14 @@ mapper = with_subcommand (with_subcommand (with_subcommand (with_subcommand (new
     (numbered (codes "make")).top) (numbered (codes "drive")).top) (numbered (codes "check")).top
 
 -- a subcommand of this name, with what was found in it, asks for it
-abbrev pub IsSaid : Ask → Text → Found → Type 0
-IsSaid Run t f = (t ≡ codes "run") × (one_text f (codes "serial") ≡ Some (codes "false"))
-IsSaid Serial t f = (t ≡ codes "run") × (one_text f (codes "serial") ≡ Some (codes "true"))
-IsSaid (Make n) t f = (t ≡ codes "make") × (first_value f (codes "n") ≡ Some (decimal n))
-IsSaid (Drive n) t f = (t ≡ codes "drive") × (first_value f (codes "n") ≡ Some (decimal n))
-IsSaid (Check n) t f = (t ≡ codes "check") × (first_value f (codes "n") ≡ Some (decimal n))
+abbrev pub IsMatch : Ask → Text → Found → Type 0
+IsMatch Run t f = (t ≡ codes "run") × (one_text f (codes "serial") ≡ Some (codes "false"))
+IsMatch Serial t f = (t ≡ codes "run") × (one_text f (codes "serial") ≡ Some (codes "true"))
+IsMatch (Make n) t f = (t ≡ codes "make") × (first_value f (codes "n") ≡ Some (decimal n))
+IsMatch (Drive n) t f = (t ≡ codes "drive") × (first_value f (codes "n") ≡ Some (decimal n))
+IsMatch (Check n) t f = (t ≡ codes "check") × (first_value f (codes "n") ≡ Some (decimal n))
 
 -- something was read that is spelled so
-abbrev pub IsHeard : Option Ask → List Text → Type 0
-IsHeard None words = ⊥
-IsHeard (Some a) words = spelled a ≡ words
+abbrev pub IsParsed : Option Ask → List Text → Type 0
+IsParsed None words = ⊥
+IsParsed (Some a) words = spelled a ≡ words

@@ -1,5 +1,5 @@
 //! What the words of a command line ask for.
 
-pub(crate) mod hearing;
+pub(crate) mod parse_args;
 pub(crate) mod spelling;
 pub(crate) mod words;

@@ -2,7 +2,7 @@
 ghost use Rattle.std.specs.Prelude.{◌≡◌, ◌∷◌, [], codes, map, IfOk, IfSome, IfNone};
 ghost use Rattle.mapper_base.specs.Asks.{AskNothing, Asks, texts};
 
-use crate::command_line::hearing::heard;
+use crate::command_line::parse_args::parsed;
 use crate::command_line::spelling::is_spelled;
 use std::alloc::{AllocError, Global};
 
@@ -26,7 +26,7 @@ pub fn asked(alloc: Global, words: &[String]) -> Result<Option<Ask>, AllocError>
     ensures nothing { IfOk result (λ r. IfNone r (AskNothing (texts words.now))) }
 {
     let argv = with_program(alloc, words)?;
-    let Some(ask) = heard(alloc, argv.as_slice())? else {
+    let Some(ask) = parsed(alloc, argv.as_slice())? else {
         return Ok(None);
     };
     if is_spelled(words, ask) {

@@ -3,7 +3,7 @@ use Rattle.std.proofs.lemmas.Result.{IfOk-weaker}
 use Rattle.clap.specs.Words.{Rule, rule_of, with_rule}
 use Rattle.clap.specs.declared.builder.ArgAction.TheVariants.{Set}
 use Rattle.mapper_base.specs.CommandLine.{number}
-use Rattle.mapper_base.proofs.command_line.hearing.numbered.Goals as goal
+use Rattle.mapper_base.proofs.command_line.parse_args.numbered.Goals as goal
 
 pub returns-clause-app : goal.returns-clause-app
 returns-clause-app c =

@@ -5,7 +5,7 @@ ghost use Rattle.clap.specs.declared.builder.command.Command.TheViews.{out-Comma
 ghost use Rattle.mapper_base.specs.declared.command_line.words.Ask.{Ask};
 ghost use Rattle.mapper_base.specs.declared.command_line.words.Ask.TheVariants as asks;
 ghost use Rattle.mapper_base.specs.Asks.{CanBeDone, spelled};
-ghost use Rattle.mapper_base.specs.CommandLine.{IsHeard, IsSaid, mapper, numbered, run};
+ghost use Rattle.mapper_base.specs.CommandLine.{IsParsed, IsMatch, mapper, numbered, run};
 
 use crate::command_line::spelling::{length_of, scans_of};
 use crate::command_line::words::Ask;
@@ -14,13 +14,13 @@ use clap::{Arg, ArgAction, ArgMatches, Command};
 use std::alloc::{AllocError, Global};
 
 /// `clap`'s reading of the words, of which the first is the program's name. `None` where it refuses them; its texts are dropped.
-pub fn heard(alloc: Global, argv: &[&str]) -> Result<Option<Ask>, AllocError>
+pub fn parsed(alloc: Global, argv: &[&str]) -> Result<Option<Ask>, AllocError>
     ensures can_be_done { IfOk result (λ r. IfSome r CanBeDone) }
-    ensures heard { (a : Ask) → CanBeDone a → map (λ w. w.now) argv.now ≡ codes "mapper" ∷ spelled a → IfOk result (λ r. IsHeard r (spelled a)) }
+    ensures parsed { (a : Ask) → CanBeDone a → map (λ w. w.now) argv.now ≡ codes "mapper" ∷ spelled a → IfOk result (λ r. IsParsed r (spelled a)) }
 {
     let command = command_line(alloc)?;
     match command.try_get_matches_from(argv) {
-        Ok(matches) => Ok(said_in(&matches)),
+        Ok(matches) => Ok(matched_in(&matches)),
         Err(error) => {
             if error.kind() == ErrorKind::OutOfMemory {
                 Err(AllocError)
@@ -31,12 +31,12 @@ pub fn heard(alloc: Global, argv: &[&str]) -> Result<Option<Ask>, AllocError>
     }
 }
 
-fn said_in(matches: &ArgMatches<'_>) -> Option<Ask>
+fn matched_in(matches: &ArgMatches<'_>) -> Option<Ask>
     ensures can_be_done { IfSome result CanBeDone }
-    ensures heard { (a : Ask) → CanBeDone a → subcommand_rows_of matches.now ≡ subcommand_of mapper (codes "mapper" ∷ spelled a) → IsHeard result (spelled a) }
+    ensures parsed { (a : Ask) → CanBeDone a → subcommand_rows_of matches.now ≡ subcommand_of mapper (codes "mapper" ∷ spelled a) → IsParsed result (spelled a) }
 {
     match matches.subcommand() {
-        Some((name, inner)) => said(name, inner),
+        Some((name, inner)) => matched(name, inner),
         None => None,
     }
 }
@@ -81,9 +81,9 @@ fn numbered<'a>(alloc: Global, name: &'a str) -> Result<Command<'a>, AllocError>
     Command::new(alloc, name).arg(number)
 }
 
-fn said(name: &str, inner: &ArgMatches<'_>) -> Option<Ask>
+fn matched(name: &str, inner: &ArgMatches<'_>) -> Option<Ask>
     ensures can_be_done { IfSome result CanBeDone }
-    ensures heard { (a : Ask) → CanBeDone a → IsSaid a name.now (found_of inner.now) → IsHeard result (spelled a) }
+    ensures parsed { (a : Ask) → CanBeDone a → IsMatch a name.now (found_of inner.now) → IsParsed result (spelled a) }
 {
     if name == "run" {
         return Some(run_of(inner));

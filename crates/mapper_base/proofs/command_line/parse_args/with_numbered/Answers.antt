@@ -1,7 +1,7 @@
 use Rattle.std.proofs.Common.{ap, ◌∙◌}
 use Rattle.std.proofs.lemmas.Result.{IfOk-weaker}
 use Rattle.clap.specs.Words.{App, app_of, with_subcommand}
-use Rattle.mapper_base.proofs.command_line.hearing.with_numbered.Goals as goal
+use Rattle.mapper_base.proofs.command_line.parse_args.with_numbered.Goals as goal
 
 pub returns : goal.returns
 returns c =

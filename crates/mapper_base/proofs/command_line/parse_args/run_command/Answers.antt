@@ -3,7 +3,7 @@ use Rattle.std.proofs.lemmas.Result.{IfOk-weaker}
 use Rattle.clap.specs.Words.{Rule, new_rule, rule_of, with_rule}
 use Rattle.clap.specs.declared.builder.ArgAction.TheVariants.{SetTrue}
 use Rattle.mapper_base.specs.CommandLine.{serial}
-use Rattle.mapper_base.proofs.command_line.hearing.run_command.Goals as goal
+use Rattle.mapper_base.proofs.command_line.parse_args.run_command.Goals as goal
 
 pub returns-clause-app : goal.returns-clause-app
 returns-clause-app c =

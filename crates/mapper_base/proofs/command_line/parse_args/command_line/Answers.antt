@@ -2,7 +2,7 @@ use Rattle.std.proofs.Common.{◌≡◌, codes, ap, ap₂, ◌∙◌}
 use Rattle.std.proofs.lemmas.Result.{IfOk-weaker}
 use Rattle.clap.specs.Words.{App, app_of, new_app, with_subcommand}
 use Rattle.mapper_base.specs.CommandLine.{numbered, run}
-use Rattle.mapper_base.proofs.command_line.hearing.command_line.Goals as goal
+use Rattle.mapper_base.proofs.command_line.parse_args.command_line.Goals as goal
 
 pub returns : goal.returns
 returns c =
