@@ -15,15 +15,15 @@ use Rattle.scan_log.specs.declared.command.Command.{Command}
 use Rattle.scan_log.specs.declared.command.Command.TheVariants.{Change}
 use Rattle.scan_log.specs.Scripts.{submitted}
 use Rattle.scan_log.specs.Transcript.{reply_on}
-use Rattle.mapper_base.specs.Turns.{Follows, IsTended, reply_of}
+use Rattle.mapper_base.specs.Turns.{Follows, IsMaintained, reply_of}
 use Rattle.mapper_base.proofs.Passed.{all_taken, passed}
 
 -- an update, and then the looking after
-pub change_follows : (caller : ℕ) (u : Update) (s m t : StateAt) → IsUpdateStep caller u s m → IsTended m t → Follows (Change caller u) s t
-change_follows caller u s m t step tended = record {
-  settings = tended.settings ∙ step.settings;
-  made = ap updates tended.history ∙ ap updates step.history ∙ map-append (λ (e : Entry). e.update) s.history (entry_by caller u s.history ∷ []);
-  next = tended.next ∙ ap (λ (x : MapAt). x.next) step.stepped ∙ step_next s.settings.voxel u (map_of s.tree s.next);
+pub change_follows : (caller : ℕ) (u : Update) (s m t : StateAt) → IsUpdateStep caller u s m → IsMaintained m t → Follows (Change caller u) s t
+change_follows caller u s m t step maintained = record {
+  settings = maintained.settings ∙ step.settings;
+  made = ap updates maintained.history ∙ ap updates step.history ∙ map-append (λ (e : Entry). e.update) s.history (entry_by caller u s.history ∷ []);
+  next = maintained.next ∙ ap (λ (x : MapAt). x.next) step.stepped ∙ step_next s.settings.voxel u (map_of s.tree s.next);
 }
 
 none_submitted : (c : Command) → command_update c ≡ None → submitted c ≡ 0

@@ -16,7 +16,7 @@ pub record Follows (c : Command) (s t : StateAt) : Type 0 where
   pub next : t.next ≡ s.next + submitted c
 
 -- the tree may be another one, and all that is seen stays
-pub record IsTended (s t : StateAt) : Type 0 where
+pub record IsMaintained (s t : StateAt) : Type 0 where
   pub settings : t.settings ≡ s.settings
   pub held : contents t.tree ≡ contents s.tree
   pub history : t.history ≡ s.history

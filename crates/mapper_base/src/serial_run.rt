@@ -1,5 +1,5 @@
 //! A script, run in its order on one thread.
 
-pub(crate) mod answering;
-pub(crate) mod replying;
-pub(crate) mod texts;
+pub(crate) mod one_command;
+pub(crate) mod outputs;
+pub(crate) mod whole_script;

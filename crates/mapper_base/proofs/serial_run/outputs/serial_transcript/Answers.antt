@@ -1,6 +1,6 @@
 use Rattle.std.proofs.lemmas.Result.{IfOk-weaker}
 use Rattle.mapper_base.proofs.Printed.{serial_print}
-use Rattle.mapper_base.proofs.serial_run.texts.serial_text.Goals as goal
+use Rattle.mapper_base.proofs.serial_run.outputs.serial_transcript.Goals as goal
 
 pub returns : goal.returns
 returns c =

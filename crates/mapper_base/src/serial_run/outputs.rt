@@ -25,7 +25,7 @@ pub fn in_order_text<R: Source>(alloc: Global, log: &mut R) -> Result<Vec<u8>, E
     ensures reads { ReadsInLimit Ask.Serial (log_seen R.Source log.old log.new) }
 {
     let script = read_script(alloc, Ask::Serial, log)?;
-    Ok(serial_text(alloc, script)?)
+    Ok(serial_transcript(alloc, script)?)
 }
 
 /// The log of a generated script.
@@ -43,7 +43,7 @@ pub fn driven_text(alloc: Global, scans: u32) -> Result<Vec<u8>, NoMemory>
     ensures { IfOk result (λ v. v.items ≡ summary_of scans (generated scans)) }
 {
     let script = made(alloc, scans)?;
-    drive_text(alloc, scans, script)
+    summary_text(alloc, scans, script)
 }
 
 /// The line of the verdict on what is in the input after a log of `length` bytes.
@@ -54,10 +54,10 @@ pub fn checked_text<R: Source>(alloc: Global, length: u32, log: &mut R) -> Resul
     ensures reads { ReadsInLimit (Ask.Check length) (log_seen R.Source log.old log.new) }
 {
     let input = read_input(alloc, Ask::Check(length), log)?;
-    Ok(check_text(alloc, &input, length)?)
+    Ok(verdict_text(alloc, &input, length)?)
 }
 
-fn serial_text(alloc: Global, script: Script) -> Result<Vec<u8>, NoMemory>
+fn serial_transcript(alloc: Global, script: Script) -> Result<Vec<u8>, NoMemory>
     ensures { IfOk result (λ v. AreSerialLines script v.items) }
 {
     let plain = PlainScript::of(alloc, script)?;
@@ -65,7 +65,7 @@ fn serial_text(alloc: Global, script: Script) -> Result<Vec<u8>, NoMemory>
     transcript(alloc, &plain, &replies)
 }
 
-fn drive_text(alloc: Global, scans: u32, script: Script) -> Result<Vec<u8>, NoMemory>
+fn summary_text(alloc: Global, scans: u32, script: Script) -> Result<Vec<u8>, NoMemory>
     ensures { IfOk result (λ v. v.items ≡ summary_of scans script) }
 {
     let plain = PlainScript::of(alloc, script)?;
@@ -73,7 +73,7 @@ fn drive_text(alloc: Global, scans: u32, script: Script) -> Result<Vec<u8>, NoMe
     summary(alloc, scans, &plain, replies.as_slice())
 }
 
-fn check_text(alloc: Global, input: &Input, length: u32) -> Result<Vec<u8>, NoMemory>
+fn verdict_text(alloc: Global, input: &Input, length: u32) -> Result<Vec<u8>, NoMemory>
     ensures { IfOk result (λ v. IsVerdictLine input.now.script length (Some input.now.bytes.items) v.items) }
 {
     let verdict = check(alloc, &input.script, behind(input.bytes.as_slice(), length))?;

@@ -2,7 +2,7 @@ use Rattle.std.proofs.Common.{◌≡◌, ℕ, List, drop, Option, None, Some, If
 use Rattle.scan_log.specs.Scripts.{ScriptAt}
 use Rattle.transcript_check.specs.declared.verdict.Verdict.{Verdict}
 use Rattle.transcript_check.specs.Verdicts.{IsVerdict}
-use Rattle.mapper_base.proofs.serial_run.texts.checked_text.Goals as goal
+use Rattle.mapper_base.proofs.serial_run.outputs.checked_text.Goals as goal
 
 -- the verdict on what was read is the one on what there was
 found_in : (input : Option (List ℕ)) (bytes : List ℕ) (n : ℕ) (x : ScriptAt) (v : Verdict) → IfSome input (λ b. b ≡ bytes) → IsVerdict x (drop n bytes) v
@@ -13,7 +13,7 @@ found_in (Some b) bytes n x v all found = subst (λ z. IsVerdict x (drop n z) v)
 pub returns-clause-text : goal.returns-clause-text
 returns-clause-text g c =
     let input = c.in_ok-input.input in
-    let line = c.in_ok-check_text.ensures in
+    let line = c.in_ok-verdict_text.ensures in
     record {
       script = input.script;
       said = c.in_ok-input.ensures.says;

@@ -1,7 +1,7 @@
 use Rattle.std.proofs.Common.{◌∙◌}
 use Rattle.std.proofs.lemmas.Result.{IfOk-weaker}
 use Rattle.mapper_base.proofs.Printed.{drive_print}
-use Rattle.mapper_base.proofs.serial_run.texts.drive_text.Goals as goal
+use Rattle.mapper_base.proofs.serial_run.outputs.summary_text.Goals as goal
 
 pub returns : goal.returns
 returns c =

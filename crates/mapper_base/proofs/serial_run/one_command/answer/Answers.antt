@@ -2,7 +2,7 @@ use Rattle.std.proofs.lemmas.Result.{IfOk-weaker}
 use Rattle.scan_log.proofs.Whose.{makes_none}
 use Rattle.mapper_base.specs.Turns.{Follows}
 use Rattle.mapper_base.proofs.Turns.{query_follows}
-use Rattle.mapper_base.proofs.serial_run.answering.answer.Goals as goal
+use Rattle.mapper_base.proofs.serial_run.one_command.answer.Goals as goal
 
 pub returns-in_default-clause-follows : goal.returns-in_default-clause-follows
 returns-in_default-clause-follows c =

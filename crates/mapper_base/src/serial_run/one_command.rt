@@ -3,7 +3,7 @@ ghost use Rattle.std.specs.Prelude.{◌≡◌, ◌≤◌, ◌<◌, ◌+◌, leng
 ghost use Rattle.rebuild_core.specs.Steps.{HasRoom, IsSettleStep, IsUpdateStep};
 ghost use Rattle.scan_log.specs.Plain.{IsPlain};
 ghost use Rattle.scan_log.specs.Scripts.{submitted};
-ghost use Rattle.mapper_base.specs.Turns.{Follows, IsTended, reply_of};
+ghost use Rattle.mapper_base.specs.Turns.{Follows, IsMaintained, reply_of};
 
 use crate::{tree_reply, tree_totals};
 use map_items::{MAX_POINTS, NoMemory, Update};
@@ -45,7 +45,7 @@ fn change(
 {
     let copy = update.copy(alloc)?;
     let mark = updated(alloc, state, caller, copy)?;
-    tended(alloc, state)?;
+    maintained(alloc, state)?;
     Ok(Reply::Done { mark })
 }
 
@@ -65,8 +65,8 @@ fn updated(alloc: Global, state: &mut MapState, caller: u8, update: Update) -> R
 }
 
 // After a change, one large subtree that breaches a criterion is detached, rebuilt and swapped in.
-fn tended(alloc: Global, state: &mut MapState) -> Result<(), NoMemory>
-    ensures { OnOk result (IsTended state.old.state state.new.state) }
+fn maintained(alloc: Global, state: &mut MapState) -> Result<(), NoMemory>
+    ensures { OnOk result (IsMaintained state.old.state state.new.state) }
 {
     let large = state.settings().large();
     let Some(job) = state.detach(alloc, 1)? else {
@@ -80,7 +80,7 @@ fn tended(alloc: Global, state: &mut MapState) -> Result<(), NoMemory>
 
 // A refused value changes nothing.
 fn put_back(alloc: Global, state: &mut MapState, built: Built) -> Result<(), NoMemory>
-    ensures { OnOk result (IsTended state.old.state state.new.state) }
+    ensures { OnOk result (IsMaintained state.old.state state.new.state) }
 {
     match state.swap_uncounted(alloc, built, true) {
         Ok(()) => Ok(()),

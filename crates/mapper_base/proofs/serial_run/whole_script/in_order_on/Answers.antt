@@ -1,6 +1,6 @@
 use Rattle.std.proofs.Common.{◌≡◌, ◌∷◌, ◌+◌, suc, sym, drop, drop-cons, add-one, arith, ap, ◌∙◌}
 use Rattle.mapper_base.proofs.InOrder.{Ran, ran_start, ran_next}
-use Rattle.mapper_base.proofs.serial_run.replying.in_order_on.Goals as goal
+use Rattle.mapper_base.proofs.serial_run.whole_script.in_order_on.Goals as goal
 
 pub loop-command-init : goal.loop-command-init
 loop-command-init c =

@@ -4,7 +4,7 @@ ghost use Rattle.rebuild_core.specs.Lawful.{new_state};
 ghost use Rattle.scan_log.specs.Poses.{plain_script};
 ghost use Rattle.scan_log.specs.Transcript.{replies, serial_marks, lines_text};
 
-use crate::serial_run::answering::{answer, totals};
+use crate::serial_run::one_command::{answer, totals};
 use map_items::{NoMemory, Sequence};
 use rebuild_core::MapState;
 use scan_log::{PlainScript, Reply, Script, reply_line};
