@@ -18,10 +18,10 @@ use Rattle.rebuild_core.proofs.Crossing.{state_send}
 use Rattle.rebuild_parts.proofs.Handing.{version_send, version_sync}
 use Rattle.map_c.specs.contracts.handles.content.Content.{the_row}
 use Rattle.map_c.specs.contracts.handles.content.Index as index
-use Rattle.map_c.specs.contracts.handles.content.Kept as kept
-use Rattle.map_c.specs.contracts.handles.content.Seen as seen
-use Rattle.map_c.specs.contracts.handles.done.Done as done
-use Rattle.map_c.specs.contracts.handles.work.Work as work
+use Rattle.map_c.specs.contracts.handles.content.Map as kept
+use Rattle.map_c.specs.contracts.handles.content.View as seen
+use Rattle.map_c.specs.contracts.handles.built_subtree.BuiltSubtree as done
+use Rattle.map_c.specs.contracts.handles.detached_job.DetachedJob as work
 
 ruleset items = (sendable, std.crosses, knot.crosses, o.the_field_send, o.the_field_sync, o.the_send, o.the_sync, s3.the_field_send, s3.the_field_sync, s5.the_field_send, s5.the_field_sync, s6.the_field_send, s6.the_field_sync, s10.the_field_send, s10.the_field_sync, s3.the_send, s3.the_sync, s5.the_send, s5.the_sync, s6.the_send, s6.the_sync, s7.the_send, s7.the_sync, s10.the_send, s10.the_sync, s12.the_send, s12.the_sync, s13.the_send, s13.the_sync, s14.the_send, s14.the_sync)
 

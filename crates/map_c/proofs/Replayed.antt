@@ -4,8 +4,8 @@ use Rattle.rebuild_parts.specs.Built.{BuiltAt, IsReplayOf}
 use Rattle.map_c.specs.declared.handles.content.Content.{Content}
 use Rattle.map_c.specs.declared.handles.content.Content.TheVariants as content
 use Rattle.map_c.specs.Building.{IsReplayed, built_in}
-use Rattle.map_c.specs.Done.{DoneAt}
+use Rattle.map_c.specs.BuiltSubtree.{BuiltSubtreeAt}
 
-pub replayed_in : (c : Content) (d : DoneAt) (b : BuiltAt) → c ≡ content.Built d → IsReplayOf d.built d.left b
+pub replayed_in : (c : Content) (d : BuiltSubtreeAt) (b : BuiltAt) → c ≡ content.Built d → IsReplayOf d.built d.left b
     → IsReplayed (Some c) (Some (content.Built (record { built = b; left = []; large = d.large })))
 replayed_in c d b e h = record { before = d; after = b; held = ap (λ x. built_in (Some x)) e; holds = refl; done = h }

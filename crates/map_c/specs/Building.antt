@@ -3,12 +3,12 @@ use Rattle.std.specs.Prelude.{◌≡◌, ◌⊎◌, ℤ, [], Option, None, Some}
 use Rattle.rebuild_parts.specs.Built.{BuiltAt, IsBuiltOf, IsReplayOf}
 use Rattle.map_c.specs.declared.handles.content.Content.{Content}
 use Rattle.map_c.specs.declared.handles.content.Content.TheVariants as content
-use Rattle.map_c.specs.declared.handles.work.Work.{Work}
-use Rattle.map_c.specs.Done.{DoneAt}
+use Rattle.map_c.specs.declared.handles.detached_job.DetachedJob.{DetachedJob}
+use Rattle.map_c.specs.BuiltSubtree.{BuiltSubtreeAt}
 use Rattle.map_c.specs.Status.{empty, full, no_memory}
 
 -- the job that a handle holds, if it holds one
-abbrev pub job_in : Option Content → Option Work
+abbrev pub job_in : Option Content → Option DetachedJob
 job_in None = None
 job_in (Some (content.Map s)) = None
 job_in (Some (content.View v)) = None
@@ -18,7 +18,7 @@ job_in (Some (content.Frozen m)) = None
 job_in (Some content.Nothing) = None
 
 -- the built subtree that a handle holds, if it holds one
-abbrev pub built_in : Option Content → Option DoneAt
+abbrev pub built_in : Option Content → Option BuiltSubtreeAt
 built_in None = None
 built_in (Some (content.Map s)) = None
 built_in (Some (content.View v)) = None
@@ -29,7 +29,7 @@ built_in (Some content.Nothing) = None
 
 -- The handle held a job, and the other holds the subtree that was built of it, with nothing to be done on it next.
 pub record IsJobBuilt (job built : Option Content) : Type 0 where
-  pub work : Work
+  pub work : DetachedJob
   pub of : BuiltAt
   pub held : job_in job ≡ Some work
   pub holds : built ≡ Some (content.Built (record { built = of; left = []; large = work.large }))
@@ -44,7 +44,7 @@ IsBuildRefusal job was status =
 
 -- The handle held a built subtree, and what was to be done on it next is done.
 pub record IsReplayed (old new : Option Content) : Type 0 where
-  pub before : DoneAt
+  pub before : BuiltSubtreeAt
   pub after : BuiltAt
   pub held : built_in old ≡ Some before
   pub holds : new ≡ Some (content.Built (record { built = after; left = []; large = before.large }))

@@ -1,10 +1,10 @@
 pub mod Answers
 pub mod Balls
 pub mod Building
-pub mod Done
+pub mod BuiltSubtree
 pub mod Forms
 pub mod Frozen
-pub mod Held
+pub mod RawContent
 pub mod Logged
 pub mod Maps
 pub mod Neighbours

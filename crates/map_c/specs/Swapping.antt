@@ -9,9 +9,9 @@ use Rattle.rebuild_parts.specs.declared.fault.SwapFault.{SwapFault}
 use Rattle.rebuild_parts.specs.declared.fault.SwapFault.TheVariants as fault
 use Rattle.map_c.specs.declared.handles.content.Content.{Content}
 use Rattle.map_c.specs.declared.handles.content.Content.TheVariants as content
-use Rattle.map_c.specs.declared.handles.work.Work.{Work}
+use Rattle.map_c.specs.declared.handles.detached_job.DetachedJob.{DetachedJob}
 use Rattle.map_c.specs.Building.{built_in}
-use Rattle.map_c.specs.Done.{DoneAt}
+use Rattle.map_c.specs.BuiltSubtree.{BuiltSubtreeAt}
 use Rattle.map_c.specs.Status.{bad_number, behind, empty, full, no_memory, nothing_to_detach, stale}
 use Rattle.map_c.specs.Maps.{map_in}
 use Rattle.rebuild_parts.specs.declared.fault.TheConstants.{MAX_UNFORCED}
@@ -22,7 +22,7 @@ pub record IsDetached (slot : ℕ) (old new job : Option Content) : Type 0 where
   pub after : StateAt
   pub held : map_in old ≡ Some before
   pub holds : map_in new ≡ Some after
-  pub work : Work
+  pub work : DetachedJob
   pub out : job ≡ Some (content.Job work)
   pub large : work.large ≡ before.settings.large
   pub step : IsDetachStep slot before work.job after
@@ -46,20 +46,20 @@ pub record IsSwapped (force : Bool) (old new built : Option Content) : Type 0 wh
   pub after : StateAt
   pub held : map_in old ≡ Some before
   pub holds : map_in new ≡ Some after
-  pub value : DoneAt
+  pub value : BuiltSubtreeAt
   pub given : built_in built ≡ Some value
   pub may : MaySwap value.built force before
   pub step : IsSwapStep value.built before after
 
 -- the built subtree is of no detached subtree of the map
 abbrev pub IsStaleIn : Option Content → Option Content → Type 0
-IsStaleIn c built = (s : StateAt) × (map_in c ≡ Some s) × (d : DoneAt) × (built_in built ≡ Some d) × IsStale d.built s.parts
+IsStaleIn c built = (s : StateAt) × (map_in c ≡ Some s) × (d : BuiltSubtreeAt) × (built_in built ≡ Some d) × IsStale d.built s.parts
 
 -- The swap wasn't forced, and more than 64 operations are pending on the built subtree.
 pub record IsBehindIn (force : Bool) (c built : Option Content) : Type 0 where
   pub state : StateAt
   pub held : map_in c ≡ Some state
-  pub value : DoneAt
+  pub value : BuiltSubtreeAt
   pub given : built_in built ≡ Some value
   pub unforced : force ≡ false
   pub part : PartAt
@@ -70,7 +70,7 @@ pub record IsBehindIn (force : Bool) (c built : Option Content) : Type 0 where
 pub record IsLeft (c old new : Option Content) : Type 0 where
   pub state : StateAt
   pub held : map_in c ≡ Some state
-  pub value : DoneAt
+  pub value : BuiltSubtreeAt
   pub given : built_in old ≡ Some value
   pub part : PartAt
   pub of : IsPartOf value.built state.parts part

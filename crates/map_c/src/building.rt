@@ -11,7 +11,7 @@ use std::alloc::Global;
 pub extern "C" fn corv_job_build(alloc: Global, job: &mut Handle, built: &mut Handle) -> i32
     ensures built { result ≡ done → IsJobBuilt job.old.held.content built.new.held.content }
     ensures empty { result ≡ done → job.new.held.content ≡ None }
-    ensures was { result ≡ done → built.old.held.content ≡ None }
+    ensures was_empty { result ≡ done → built.old.held.content ≡ None }
     ensures refused { result ≢ done → IsBuildRefusal job.old.held.content built.old.held.content result }
     ensures same { result ≢ done → job.new.held.content ≡ job.old.held.content }
     ensures built_same { result ≢ done → built.new.held.content ≡ built.old.held.content }

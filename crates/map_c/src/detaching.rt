@@ -5,7 +5,7 @@ ghost use Rattle.map_c.specs.Swapping.{IsDetachRefusal, IsDetached};
 ghost use Rattle.map_c.specs.Status.{code, done};
 ghost use Rattle.map_c.specs.declared.handles.content.Content.TheVariants as is;
 
-use crate::{Content, DONE, Handle, Kept, Refusal, Work, boxed};
+use crate::{Content, DONE, DetachedJob, Handle, Map, Refusal, boxed};
 use std::alloc::Global;
 
 /// Returns the job of the slot, from 1 to 4: of the subtree that was detached into it before, or else of the first large one that
@@ -19,7 +19,7 @@ pub extern "C" fn corv_map_detach(
 ) -> i32
     ensures detached { result ≡ done → IsDetached slot map.old.held.content map.new.held.content job.new.held.content }
     ensures slot { result ≡ done → IsSlot slot }
-    ensures was { result ≡ done → job.old.held.content ≡ None }
+    ensures was_empty { result ≡ done → job.old.held.content ≡ None }
     ensures refused { result ≢ done → IsDetachRefusal slot map.old.held.content job.old.held.content result }
     ensures same { result ≢ done → map.new.held.content ≡ map.old.held.content }
     ensures job_same { result ≢ done → job.new.held.content ≡ job.old.held.content }
@@ -64,7 +64,7 @@ fn detached(alloc: Global, content: &mut Content, slot: u8) -> Result<Box<Conten
     Ok(place)
 }
 
-fn work_of(alloc: Global, kept: &mut Kept, slot: u8) -> Result<Work, Refusal>
+fn work_of(alloc: Global, kept: &mut Map, slot: u8) -> Result<DetachedJob, Refusal>
     requires slot_from { 1 ≤ slot }
     requires slot_to { slot ≤ 4 }
     ensures detached { IfOk result (λ work. IsDetached slot (Some (is.Map kept.old)) (Some (is.Map kept.new)) (Some (is.Job work))) }
@@ -74,7 +74,7 @@ fn work_of(alloc: Global, kept: &mut Kept, slot: u8) -> Result<Work, Refusal>
     let large = kept.state.settings().large();
     match kept.state.detach(alloc, slot)? {
         None => Err(Refusal::NothingToDetach),
-        Some(job) => Ok(Work { job, large }),
+        Some(job) => Ok(DetachedJob { job, large }),
     }
 }
 

@@ -6,7 +6,7 @@ ghost use Rattle.map_c.specs.Maps.{IsNew, IsNewRefusal};
 ghost use Rattle.map_c.specs.Status.{done};
 ghost use Rattle.map_c.specs.declared.handles.content.Content.TheVariants as content_is;
 
-use crate::{Content, DONE, Handle, Kept, Refusal, boxed};
+use crate::{Content, DONE, Handle, Map, Refusal, boxed};
 use map_fold::{NoMemory, Settings};
 use rebuild_core::MapState;
 use std::alloc::Global;
@@ -16,7 +16,7 @@ use std::alloc::Global;
 pub extern "C" fn corv_map_new(alloc: Global, voxel: u32, large: u32, map: &mut Handle) -> i32
     ensures made { result ≡ done → IsNew voxel large map.new.held.content }
     ensures sizes { result ≡ done → AreSizes (record { voxel = voxel; large = large }) }
-    ensures was { result ≡ done → map.old.held.content ≡ None }
+    ensures was_empty { result ≡ done → map.old.held.content ≡ None }
     ensures refused { result ≢ done → IsNewRefusal voxel large map.old.held.content result }
     ensures same { result ≢ done → map.new.held.content ≡ map.old.held.content }
 {
@@ -39,7 +39,7 @@ fn made(alloc: Global, settings: Settings) -> Result<Box<Content>, NoMemory>
     ensures { IfOk result (λ content. content.value ≡ content_is.Map (new_state settings)) }
 {
     let state = MapState::new(alloc, settings)?;
-    boxed(alloc, Content::Map(Kept { state }))
+    boxed(alloc, Content::Map(Map { state }))
 }
 
 /// Frees what the handle holds.

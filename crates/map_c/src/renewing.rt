@@ -4,7 +4,7 @@ ghost use Rattle.map_items.specs.Sizes.{AreSizes};
 ghost use Rattle.map_c.specs.Renewal.{IsRenewRefusal, IsRenewed, IsRenewedOf};
 ghost use Rattle.map_c.specs.Status.{code, done};
 
-use crate::{Content, DONE, Handle, Kept, Refusal, boxed, shown};
+use crate::{Content, DONE, Handle, Map, Refusal, boxed, shown};
 use map_fold::{NoMemory, Settings};
 use map_renewal::renewed;
 use rebuild_core::Version;
@@ -21,7 +21,7 @@ pub extern "C" fn corv_view_renew(
     map: &mut Handle,
 ) -> i32
     ensures renewed { result ≡ done → IsRenewed voxel large view.old.held.content map.new.held.content }
-    ensures was { result ≡ done → map.old.held.content ≡ None }
+    ensures was_empty { result ≡ done → map.old.held.content ≡ None }
     ensures refused { result ≢ done → IsRenewRefusal voxel large view.old.held.content map.old.held.content result }
     ensures same { result ≢ done → map.new.held.content ≡ map.old.held.content }
     ensures view_same { view.new.held.content ≡ view.old.held.content }
@@ -66,5 +66,5 @@ fn made(alloc: Global, version: &Version, settings: Settings) -> Result<Box<Cont
     ensures { IfOk result (λ made. IsRenewedOf settings version.now made.value) }
 {
     let state = renewed(alloc, version, settings)?;
-    boxed(alloc, Content::Map(Kept { state }))
+    boxed(alloc, Content::Map(Map { state }))
 }

@@ -8,7 +8,7 @@ ghost use Rattle.rebuild_core.specs.Known.{IsStale};
 ghost use Rattle.rebuild_core.specs.Detach.{IsLogAfter};
 ghost use Rattle.map_c.specs.declared.handles.refusal.Refusal.TheVariants as refused_as;
 
-use crate::{Content, DONE, Done, Handle, Refusal};
+use crate::{BuiltSubtree, Content, DONE, Handle, Refusal};
 use map_fold::Ops;
 use rebuild_core::{Built, LogAsk, MapState, SwapFault, SwapLeft};
 use std::alloc::Global;
@@ -64,16 +64,16 @@ fn swap(
         return Err(Refusal::Empty);
     };
     match mem::replace(value, Content::Nothing) {
-        Content::Built(Done { built, left, large }) => {
+        Content::Built(BuiltSubtree { built, left, large }) => {
             match kept.state.swap_uncounted(alloc, built, force) {
                 Ok(()) => Ok(()),
                 Err(SwapLeft { built, fault }) => match missed(alloc, &kept.state, &built, fault) {
                     Ok(left) => {
-                        *value = Content::Built(Done { built, left, large });
+                        *value = Content::Built(BuiltSubtree { built, left, large });
                         Err(Refusal::Behind)
                     }
                     Err(refusal) => {
-                        *value = Content::Built(Done { built, left, large });
+                        *value = Content::Built(BuiltSubtree { built, left, large });
                         Err(refusal)
                     }
                 },

@@ -7,7 +7,7 @@ ghost use Rattle.map_c.specs.declared.handles.content.Content.TheVariants as is;
 use crate::asking::{
     corv_map_count, corv_map_inside, corv_map_nearest, corv_map_nearest_each, corv_map_totals,
 };
-use crate::{Bounds, Content, DONE, Handle, Hit, Item, Place, Refusal, Seen, Totals, boxed, shown};
+use crate::{Bounds, Content, DONE, Handle, Hit, Item, Place, Refusal, Totals, View, boxed, shown};
 use map_fold::NoMemory;
 use rebuild_core::Version;
 use std::alloc::Global;
@@ -49,7 +49,7 @@ fn seen(alloc: Global, version: &Arc<Version>) -> Result<Box<Content>, NoMemory>
     ensures { IfOk result (λ view. view.value ≡ is.View version.now.value) }
 {
     let version = Arc::try_clone(version)?;
-    boxed(alloc, Content::View(Seen { version }))
+    boxed(alloc, Content::View(View { version }))
 }
 
 /// Shares the view.

@@ -5,8 +5,8 @@ ghost use Rattle.kd_tree.specs.ShapeCode.{coded_shape};
 ghost use Rattle.rebuild_core.specs.Lawful.{StateAt};
 ghost use Rattle.rebuild_parts.specs.Seen.{VersionAt};
 
-use crate::handles::done::Done;
-use crate::handles::work::Work;
+use crate::handles::built_subtree::BuiltSubtree;
+use crate::handles::detached_job::DetachedJob;
 use kd_frozen::Frozen;
 use map_fold::NoMemory;
 use rebuild_core::{MapState, Version};
@@ -17,10 +17,10 @@ use std::sync::Arc;
 /// What a handle holds. A handle of one kind that is given for one of another holds nothing of that kind.
 #[derive(Drop)]
 pub enum Content {
-    Map(Kept),
-    View(Seen),
-    Job(Work),
-    Built(Done),
+    Map(Map),
+    View(View),
+    Job(DetachedJob),
+    Built(BuiltSubtree),
     Frozen(Index),
     // Only while a call runs: what is to be there isn't yet, or was taken out.
     Nothing,
@@ -35,11 +35,11 @@ pub fn boxed(alloc: Global, content: Content) -> Result<Box<Content>, NoMemory>
 
 /// The state of a map.
 #[derive(Drop)]
-pub struct Kept {
+pub struct Map {
     pub state: MapState,
 }
 
-impl Model for Kept {
+impl Model for Map {
     ghost Value = { StateAt };
 
     ghost coded = { Prim.hlevel (codes, coded_shape) };
@@ -49,11 +49,11 @@ impl Model for Kept {
 
 /// A share of a version.
 #[derive(Drop)]
-pub struct Seen {
+pub struct View {
     pub version: Arc<Version>,
 }
 
-impl Model for Seen {
+impl Model for View {
     ghost Value = { VersionAt };
 
     ghost coded = { Prim.hlevel (codes, coded_shape) };

@@ -2,8 +2,8 @@
 ghost use Rattle.std.specs.Prelude.{◌≡◌, Some, None, is_none, is_some, IfSome, IfNone};
 
 use crate::handles::content::Content;
-use crate::handles::held::Held;
 use crate::handles::parts::Parts;
+use crate::handles::raw_content::RawContent;
 use std::alloc::Global;
 use std::mem;
 
@@ -11,7 +11,7 @@ use std::mem;
 #[repr(C)]
 #[derive(Drop)]
 pub struct Handle {
-    pub held: Held,
+    pub held: RawContent,
     full: bool,
     ghost fits: { full ≡ is_some held.content },
 }
@@ -22,7 +22,7 @@ impl Handle {
         ensures { result.held.content ≡ None }
     {
         Handle {
-            held: Held::none(alloc),
+            held: RawContent::none(alloc),
             full: false,
         }
     }
@@ -32,7 +32,7 @@ impl Handle {
         ensures { result.held.content ≡ Some content.value }
     {
         Handle {
-            held: Held::of_parts(Parts::of(content)),
+            held: RawContent::of_parts(Parts::of(content)),
             full: true,
         }
     }

@@ -3,10 +3,10 @@ ghost use Rattle.std.specs.Prelude.{◌≡◌, IfErr, None, OnErr, OnOk, Some};
 ghost use Rattle.map_c.specs.Building.{IsBuildRefusal, IsJobBuilt, IsReplayRefusal, IsReplayed};
 ghost use Rattle.map_c.specs.Status.{code};
 
+use crate::handles::built_subtree::BuiltSubtree;
 use crate::handles::content::Content;
-use crate::handles::done::Done;
+use crate::handles::detached_job::DetachedJob;
 use crate::handles::refusal::Refusal;
-use crate::handles::work::Work;
 use rebuild_core::{BuiltLeft, JobLeft};
 use std::alloc::Global;
 use std::mem;
@@ -18,13 +18,13 @@ pub fn build(alloc: Global, content: &mut Content) -> Result<(), Refusal>
     ensures same { OnErr result (content.new ≡ content.old) }
 {
     match mem::replace(content, Content::Nothing) {
-        Content::Job(Work { job, large }) => match job.build(alloc, large) {
+        Content::Job(DetachedJob { job, large }) => match job.build(alloc, large) {
             Ok(built) => {
-                *content = Content::Built(Done::new(alloc, built, large));
+                *content = Content::Built(BuiltSubtree::new(alloc, built, large));
                 Ok(())
             }
             Err(JobLeft { job }) => {
-                *content = Content::Job(Work { job, large });
+                *content = Content::Job(DetachedJob { job, large });
                 Err(Refusal::NoMemory)
             }
         },
@@ -42,14 +42,14 @@ pub fn replay(alloc: Global, content: &mut Content) -> Result<(), Refusal>
     ensures same { OnErr result (content.new ≡ content.old) }
 {
     match mem::replace(content, Content::Nothing) {
-        Content::Built(Done { built, left, large }) => {
+        Content::Built(BuiltSubtree { built, left, large }) => {
             match built.replay(alloc, large, left.as_slice()) {
                 Ok(built) => {
-                    *content = Content::Built(Done::new(alloc, built, large));
+                    *content = Content::Built(BuiltSubtree::new(alloc, built, large));
                     Ok(())
                 }
                 Err(BuiltLeft { built }) => {
-                    *content = Content::Built(Done { built, left, large });
+                    *content = Content::Built(BuiltSubtree { built, left, large });
                     Err(Refusal::NoMemory)
                 }
             }

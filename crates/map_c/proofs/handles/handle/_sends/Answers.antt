@@ -1,6 +1,6 @@
 use denote.Param.Send.{sendable}
 use Rattle.std.proofs.Crossing as std
-use Rattle.map_c.proofs.handles.held.Held.TheSendSync as held
+use Rattle.map_c.proofs.handles.raw_content.RawContent.TheSendSync as held
 use Rattle.map_c.proofs.handles.handle.Handle.TheSendSync as handle
 use Rattle.map_c.proofs.handles.handle._sends.Goals as goal
 

@@ -1,6 +1,6 @@
 //! What crosses to C: a content behind a pointer that doesn't show its type.
 ghost use Rattle.std.specs.Prelude.{◌≡◌, true, Option, Some, None, is_some};
-ghost use Rattle.map_c.specs.Held.{Contents, held_owns, held_coded};
+ghost use Rattle.map_c.specs.RawContent.{Contents, held_owns, held_coded};
 
 use crate::handles::content::Content;
 use crate::handles::parts::Parts;
@@ -10,33 +10,33 @@ use std::marker::Model;
 /// A content, or nothing.
 #[repr(C)]
 #[derive(Drop)]
-pub struct Held {
+pub struct RawContent {
     at: *mut u8,
     alloc: Global,
     pub ghost content: { Option Contents } by { held_coded },
 }
 
-impl Model for Held {
+impl Model for RawContent {
     ghost also_owns = { λ h. held_owns h.alloc h.at h.content };
 }
 
-impl Held {
+impl RawContent {
     /// Nothing.
-    pub fn none(alloc: Global) -> Held
+    pub fn none(alloc: Global) -> RawContent
         ensures { result.content ≡ None }
     {
-        Held {
+        RawContent {
             at: std::ptr::null_mut(),
             alloc,
         }
     }
 
     /// The content of these parts.
-    pub fn of_parts(parts: Parts<Content, Global>) -> Held
+    pub fn of_parts(parts: Parts<Content, Global>) -> RawContent
         ensures { result.content ≡ Some parts.value }
     {
         let Parts { ptr, alloc } = parts;
-        Held {
+        RawContent {
             at: ptr as *mut u8,
             alloc,
         }
@@ -47,7 +47,7 @@ impl Held {
         requires { is_some self.content ≡ true }
         ensures { self.content ≡ Some result.value }
     {
-        let Held { at, alloc } = self;
+        let RawContent { at, alloc } = self;
         Parts {
             ptr: at as *mut Content,
             alloc,
@@ -55,4 +55,4 @@ impl Held {
     }
 }
 
-unsafe impl Send for Held {}
+unsafe impl Send for RawContent {}

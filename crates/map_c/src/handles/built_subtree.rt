@@ -8,20 +8,20 @@ use std::marker::Model;
 
 /// A rebuilt subtree, for a map with this `large`, and its pending operations, which fit it.
 #[derive(Drop)]
-pub struct Done {
+pub struct BuiltSubtree {
     pub built: Built,
     pub left: Ops,
     pub large: u32,
 }
 
-impl Model for Done {
+impl Model for BuiltSubtree {
     ghost use Rattle.map_items.specs.Ops.{Fit};
     ghost use Rattle.kd_tree.specs.Contents.{contents};
-    ghost use Rattle.map_c.specs.Done.{DoneAt};
+    ghost use Rattle.map_c.specs.BuiltSubtree.{BuiltSubtreeAt};
     ghost use Rattle.std.specs.Coded.{codes};
     ghost use Rattle.kd_tree.specs.ShapeCode.{coded_shape};
 
-    ghost Value = { DoneAt };
+    ghost Value = { BuiltSubtreeAt };
 
     ghost coded = { Prim.hlevel (codes, coded_shape) };
 
@@ -30,12 +30,12 @@ impl Model for Done {
     ghost invariant = { λ d. Fit (contents d.built.tree) d.left };
 }
 
-impl Done {
+impl BuiltSubtree {
     /// Nothing is pending.
-    pub fn new(alloc: Global, built: Built, large: u32) -> Done
+    pub fn new(alloc: Global, built: Built, large: u32) -> BuiltSubtree
         ensures { result ≡ record { built = built; left = []; large = large } }
     {
         let left = Ops::new(alloc);
-        Done { built, left, large }
+        BuiltSubtree { built, left, large }
     }
 }

@@ -33,11 +33,11 @@ use denote.Triple.Walked.{says, Stays, stay_dropped, walk_of, ends_at, Goes-drop
 use Rattle.core.proofs.alloc.Calls.{handle_tells, α}
 use Rattle.std_alloc.proofs.ResultValues.{and_tt}
 use Rattle.map_c.proofs.AsBox.{E}
-use Rattle.map_c.specs.contracts.handles.held.Held as Held
-use Rattle.map_c.specs.contracts.handles.held.Held.none as F
-use Rattle.map_c.specs.contracts.handles.held.Held.none.Key.{name as #self}
-use Rattle.map_c.proofs.handles.held.Held.none.Statement as stated
-use Rattle.map_c.proofs.handles.held.Held.none.Code as code
+use Rattle.map_c.specs.contracts.handles.raw_content.RawContent as RawContent
+use Rattle.map_c.specs.contracts.handles.raw_content.RawContent.none as F
+use Rattle.map_c.specs.contracts.handles.raw_content.RawContent.none.Key.{name as #self}
+use Rattle.map_c.proofs.handles.raw_content.RawContent.none.Statement as stated
+use Rattle.map_c.proofs.handles.raw_content.RawContent.none.Code as code
 
 abbrev Z : RattleType
 Z = E.al.row
@@ -60,7 +60,7 @@ module _ {M : Type 1} {𝓤 : Ura M} (𝓛 : Logic 𝓤) (at_mem : Memory → SP
       let w : Val = vstruct (vcons (vint w64 0) (vcons hv vnil)) in
       let typed : T (has_ty (α E.al) hv && true) × WT w = (and_tt (has_ty (α E.al) hv) fa.0, (record { fits = lit< tt }, (fa.1, tt))) in
       fjoin ! $ feq_i ! (List Val) (vint w64 0 ∷ []) (vint w64 0 ∷ []) refl $ fjoin ! $ feq_i ! (List Val) (w ∷ []) (w ∷ []) refl $ fjoin ! $
-      fpack ! (Valss (fields Held.the_type)) (within (shape Held.the_type) (to Held.the_type made) (w ∷ [])) (vint w64 0 ∷ [], (hv ∷ [], tt)) $
+      fpack ! (Valss (fields RawContent.the_type)) (within (shape RawContent.the_type) (to RawContent.the_type made) (w ∷ [])) (vint w64 0 ∷ [], (hv ∷ [], tt)) $
       nothing ! $ move ! (1 ∷ 0 ∷ []) $ fjoin ! $ use1 𝓛 (‵ (To.own_val made (w ∷ []))) (id⊢ 𝓤 _) $ move ! (1 ∷ []) $ drop ! $
       let Γ : List (Item 𝓤) = ‵ (To.own_val made (w ∷ [])) ∷ [] in
       by ! (subst (λ (us : List Val). ent 𝓤 (types.Kit.⋆ 𝓛 Γ) (WpFn 𝓤 H 𝓣.C 𝓣.Λ code.function (us ++ []) Post)) (sym ws)

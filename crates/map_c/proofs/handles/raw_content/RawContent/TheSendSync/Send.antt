@@ -13,8 +13,8 @@ use Rattle.std_alloc.proofs.SendSync.{quiet, lies}
 use Rattle.std_heap.proofs.Global.TheSendSync as handle
 use Rattle.map_c.specs.contracts.handles.content.Content as Content
 use Rattle.map_c.proofs.Crossing.{content_send}
-use Rattle.map_c.specs.Held as held
-use Rattle.map_c.specs.contracts.handles.held.Held.{the_row, the_type}
+use Rattle.map_c.specs.RawContent as held
+use Rattle.map_c.specs.contracts.handles.raw_content.RawContent.{the_row, the_type}
 
 crosses : (alloc : Global) (p : Ptr) (c : Option held.Contents) → Keyless (held.held_owns alloc p c)
 crosses alloc p None = tt
