@@ -87,7 +87,13 @@ pub fn note_pending(pending: Tag, rest: &[Side], log: &mut OpLog) -> Result<(), 
         return Ok(());
     }
     let choice = Choice::ALL;
-    note(log, Op::Mark { choice, tag: pending })
+    note(
+        log,
+        Op::Mark {
+            choice,
+            tag: pending,
+        },
+    )
 }
 
 fn is_met(choice: &Choice, tree: &Tree) -> bool

@@ -51,8 +51,24 @@ pub fn changed<L: Ledger>(
         Update::Add(points) => added(alloc, draft, large, next, points, scratch, steps),
         Update::Thin(points) => thinned(alloc, draft, settings, next, points, scratch, steps),
         Update::Delete(boxes) => marked_each(alloc, draft, large, next, boxes, Tag::DELETE, steps),
-        Update::Suspend(boxes) => marked_each(alloc, draft, large, next, boxes, Tag::SUSPEND, steps),
-        Update::Restore(boxes) => marked_each(alloc, draft, large, next, boxes, Tag::RESTORE, steps),
+        Update::Suspend(boxes) => marked_each(
+            alloc,
+            draft,
+            large,
+            next,
+            boxes,
+            Tag::SUSPEND,
+            steps,
+        ),
+        Update::Restore(boxes) => marked_each(
+            alloc,
+            draft,
+            large,
+            next,
+            boxes,
+            Tag::RESTORE,
+            steps,
+        ),
         Update::Expire(number) => {
             let choice = Choice::below(*number);
             draft.marked(alloc, large, &choice, Tag::DELETE, steps)

@@ -36,14 +36,20 @@ impl<L: MapName> MarkedSubtree<L> {
     }
 }
 
-pub fn marked_subtree_of<L: MapName>(marked: &[MarkedSubtree<L>], ticket: u64) -> Option<&MarkedSubtree<L>>
+pub fn marked_subtree_of<L: MapName>(
+    marked: &[MarkedSubtree<L>],
+    ticket: u64,
+) -> Option<&MarkedSubtree<L>>
     ensures { option_map (λ h. h.now) result ≡ marked_subtree_of ticket marked.now }
 {
     marked.iter().find(|subtree| ticket == subtree.ticket)
 }
 
 /// Replaces what this slot has, so that there are no more than slots.
-pub fn keep_marked_subtree<L: MapName>(marked: &mut Vec<MarkedSubtree<L>>, subtree: MarkedSubtree<L>)
+pub fn keep_marked_subtree<L: MapName>(
+    marked: &mut Vec<MarkedSubtree<L>>,
+    subtree: MarkedSubtree<L>,
+)
     requires { vec_len marked.old < vec_capacity marked.old }
     ensures { marked.new.items ≡ with_marked_subtree subtree marked.old.items }
 {

@@ -9,7 +9,9 @@ use crate::MapState;
 use kd_tree::Path;
 use map_items::{NoMemory, Ops};
 use op_logger::OpLog;
-use rebuild_parts::{Built, DetachedItems, Job, LogAsk, Part, Snapshot, part_in, part_of, paths_of};
+use rebuild_parts::{
+    Built, DetachedItems, Job, LogAsk, Part, Snapshot, part_in, part_of, paths_of,
+};
 use std::alloc::Global;
 
 impl MapState {

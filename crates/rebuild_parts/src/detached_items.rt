@@ -111,7 +111,11 @@ impl DetachedItems {
     }
 }
 
-pub(crate) fn copied_by<L: Ledger>(alloc: Global, tree: &Tree, blank: Blank) -> Result<Tree, NoMemory>
+pub(crate) fn copied_by<L: Ledger>(
+    alloc: Global,
+    tree: &Tree,
+    blank: Blank,
+) -> Result<Tree, NoMemory>
     requires blank { IsBlankOf L.name L.parts blank }
     ensures { IfOk result (λ t. t ≡ tree.now) }
 {

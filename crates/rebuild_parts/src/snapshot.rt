@@ -31,7 +31,10 @@ impl Snapshot {
     pub fn new(ticket: u64, detached_items: DetachedItems) -> Snapshot
         ensures { result ≡ record { ticket = ticket; items = detached_items } }
     {
-        Snapshot { ticket, detached_items }
+        Snapshot {
+            ticket,
+            detached_items,
+        }
     }
 
     /// The ticket of the subtree.

@@ -137,7 +137,12 @@ impl<'a, D: Desk, G: Gate> Worker<'a, D, G> {
     }
 
     // None once the value is swapped in, or stale.
-    fn swap_or_replay<R: Wait>(&self, rt: &R, built: Built, most: u32) -> Result<Option<Built>, NoMemory>
+    fn swap_or_replay<R: Wait>(
+        &self,
+        rt: &R,
+        built: Built,
+        most: u32,
+    ) -> Result<Option<Built>, NoMemory>
         ensures { IfOk result (λ o. IfSome o (λ b. (ops : List Op) × IsReplayOf built ops b)) }
     {
         match self.desk.swap_or_log(rt, self.alloc, built, most) {

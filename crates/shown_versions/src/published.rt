@@ -80,12 +80,20 @@ impl<L: MapName> Absorb<Published<L>> for Published<L> {
 
     ghost applied = { λ _ s. s };
 
-    fn absorb_first(&mut self, operation: &Published<L>, _other: &Published<L>) -> Result<(), AllocError> {
+    fn absorb_first(
+        &mut self,
+        operation: &Published<L>,
+        _other: &Published<L>,
+    ) -> Result<(), AllocError> {
         *self = operation.try_clone()?;
         Ok(())
     }
 
-    fn absorb_second(&mut self, operation: Published<L>, _other: &Published<L>) -> Result<(), Published<L>> {
+    fn absorb_second(
+        &mut self,
+        operation: Published<L>,
+        _other: &Published<L>,
+    ) -> Result<(), Published<L>> {
         *self = operation;
         Ok(())
     }

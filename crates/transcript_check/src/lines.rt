@@ -60,7 +60,9 @@ pub fn read_marked_lines<'a>(
     if rest.is_empty() {
         Ok(marked_lines)
     } else {
-        Err(LineFault::Unspelled { before: marked_lines.len() })
+        Err(LineFault::Unspelled {
+            before: marked_lines.len(),
+        })
     }
 }
 

@@ -13,7 +13,11 @@ use std::sync::ledger::Ledger;
 
 /// The tree with room for one more point: rebuilt with its remaining items if it has 512 levels or 4,194,304 nodes. On
 /// `NoMemory` it is dropped.
-pub fn with_room<L: Ledger>(alloc: Global, tree: Tree, steps: &mut Steps<L>) -> Result<Tree, NoMemory>
+pub fn with_room<L: Ledger>(
+    alloc: Global,
+    tree: Tree,
+    steps: &mut Steps<L>,
+) -> Result<Tree, NoMemory>
     requires { length (contents tree) < MAX_NODES }
     ensures contents { IfOk result (λ t. contents t ≡ contents tree) }
     ensures numbers { IfOk result (λ t. AreAmong (numbers t) (numbers tree)) }
