@@ -12,7 +12,9 @@ pub put_all_watched-requires-clause-fit : goal.put_all_watched-requires-clause-f
 put_all_watched-requires-clause-fit g c =
     let same = sym (c.as_slice.ensures.value ∙ c.in-Ok.ensures.items) in
     let m = contents c.args.at.map.tree in
-    subst (λ (xs : List Item). MayJoin m xs) same (join_next c.args.at.map.next m c.args.points.now (held_below c.args.at.map.next c.args.at.map.tree c.size-size.ensures.sound c.args.at.map.below) c.requires.next)
+    subst (λ (xs : List Item). MayJoin m xs) same (join_next c.args.at.map.next m c.args.points.now
+    (held_below c.args.at.map.next c.args.at.map.tree c.size-size.ensures.sound c.args.at.map.below)
+    c.requires.next)
 
 pub put_all_watched-requires-clause-small : goal.put_all_watched-requires-clause-small
 put_all_watched-requires-clause-small g c =
