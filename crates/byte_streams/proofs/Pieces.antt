@@ -23,6 +23,7 @@ pub whole_front : (old new : Option (List ℕ)) (bytes : List ℕ) → Appends o
 whole_front old new bytes h = (length bytes, rw take-length h)
 
 -- whether all was written or not, a prefix was
-pub front_either : {E : Type 0} (r : Result (Unit {0}) E) (old new : Option (List ℕ)) (bytes : List ℕ) → OnOk r (Appends old new bytes) → OnErr r (AppendsFront old new bytes) → AppendsFront old new bytes
+pub front_either : {E : Type 0} (r : Result (Unit {0}) E) (old new : Option (List ℕ)) (bytes : List ℕ)
+    → OnOk r (Appends old new bytes) → OnErr r (AppendsFront old new bytes) → AppendsFront old new bytes
 front_either (Ok u) old new bytes h k = whole_front old new bytes h
 front_either (Err e) old new bytes h k = k
