@@ -183,7 +183,9 @@ log_spelled s k each few = script_spelled (script_of s) (is_script s k each few)
 
 -- the text of one part more
 pub text_more : (caller number n : ℕ) (u : Update) → n ≡ suc number
-    → flat_map (command_text Two) (map (λ v. Change caller v) (first_parts n u)) ≡ flat_map (command_text Two) (map (λ v. Change caller v) (first_parts number u)) ++ command_text Two (Change caller (part_of u number))
+    → flat_map (command_text Two) (map (λ v. Change caller v) (first_parts n u))
+    ≡ flat_map (command_text Two) (map (λ v. Change caller v) (first_parts number u))
+    ++ command_text Two (Change caller (part_of u number))
 text_more caller number n u next =
     let f : Update → Command = λ v. Change caller v in
     let t = command_text Two in

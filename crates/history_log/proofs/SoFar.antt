@@ -35,7 +35,9 @@ text_push : (h : List Entry) (e : Entry) → lines_text (h ++ e ∷ []) ≡ line
 text_push h e = ap (flat_map (command_text Two)) (lines_push h e) ∙ flat_map-append (command_text Two) (lines_of h) (line_of e)
 
 -- what a part begins with
-opening_none : (sizes : Sizes) (from at : ℕ) (rest line : List ℕ) → from ≤ at → 0 < at → opening_of sizes from (suc at) ++ (rest ++ line) ≡ (opening_of sizes from at ++ rest) ++ (opening sizes at ++ line)
+opening_none : (sizes : Sizes) (from at : ℕ) (rest line : List ℕ) → from ≤ at → 0 < at
+    → opening_of sizes from (suc at) ++ (rest ++ line)
+    ≡ (opening_of sizes from at ++ rest) ++ (opening sizes at ++ line)
 opening_none sizes from zero rest line above some = absurd (omega arith)
 opening_none sizes zero (suc at) rest line above some = sym (append_assoc (header_text sizes) rest line)
 opening_none sizes (suc from) (suc at) rest line above some = refl
@@ -67,7 +69,8 @@ empty_part : (s : StateAt) (from : ℕ) → from ≤ length s.history → log_pa
 empty_part s from there = rw (opening_same s.settings from, empty_between from s.history there) refl
 
 -- nothing is written yet
-pub none_so_far : (s : StateAt) (from room lines : ℕ) (bytes : List ℕ) → from ≤ length s.history → bytes ≡ [] → lines ≡ min 65537 (length (lines_of (take from s.history))) → IsSoFar s from from room bytes lines
+pub none_so_far : (s : StateAt) (from room lines : ℕ) (bytes : List ℕ) → from ≤ length s.history → bytes ≡ []
+    → lines ≡ min 65537 (length (lines_of (take from s.history))) → IsSoFar s from from room bytes lines
 none_so_far s from room lines bytes there none count = record {
   text = none ∙ sym (empty_part s from there);
   fits = omega (arith, ap (λ (xs : List ℕ). length xs) none);
@@ -95,8 +98,10 @@ said_before s from at above there said =
     ]
 
 -- one entry more
-pub one_more : (s : StateAt) (from at room lines count n : ℕ) (bytes next : List ℕ) (e : Entry) → IsLawful s → IsSoFar s from at room bytes lines → from ≤ at → at < length s.history → e ≡ get_or s.history at e
-    → next ≡ bytes ++ (opening s.settings at ++ flat_map (command_text Two) (line_of e)) → HasLines e.update → lines + line_count e.update ≤ 65536 → length next ≤ room → count ≡ lines + line_count e.update → n ≡ suc at
+pub one_more : (s : StateAt) (from at room lines count n : ℕ) (bytes next : List ℕ) (e : Entry) → IsLawful s
+    → IsSoFar s from at room bytes lines → from ≤ at → at < length s.history → e ≡ get_or s.history at e
+    → next ≡ bytes ++ (opening s.settings at ++ flat_map (command_text Two) (line_of e)) → HasLines e.update
+    → lines + line_count e.update ≤ 65536 → length next ≤ room → count ≡ lines + line_count e.update → n ≡ suc at
     → IsSoFar s from n room next count
 one_more s from at room lines count n bytes next e k so above below is put has few fits sum at_next =
     let total = count_more at (suc at) s.history e refl below is in
@@ -146,7 +151,8 @@ joined s zero zero c ab bc there = refl
 joined s (suc a) zero c ab bc there = absurd (omega arith)
 joined s a (suc b) c ab bc there =
     openings_join s.settings a b c (lines_text (entries_between a (suc b) s.history)) (lines_text (entries_between (suc b) c s.history)) ab bc
-    ∙ ap (λ x. opening_of s.settings a c ++ x) (sym (lines_text-append (entries_between a (suc b) s.history) (entries_between (suc b) c s.history)) ∙ ap lines_text (between_join a (suc b) c s.history ab bc there))
+    ∙ ap (λ x. opening_of s.settings a c ++ x) (sym (lines_text-append (entries_between a (suc b) s.history) (entries_between (suc b) c s.history))
+    ∙ ap lines_text (between_join a (suc b) c s.history ab bc there))
 
 opening_first : (sizes : Sizes) (n : ℕ) → 0 < n → opening_of sizes 0 n ≡ header_text sizes
 opening_first sizes zero some = absurd (omega arith)
@@ -175,7 +181,9 @@ pub record IsAll (s : StateAt) (bytes : List ℕ) : Type 0 where
   pub text : bytes ≡ script_text (script_of s)
   pub spells : Spells bytes (script_of s)
 
-pub all_of : (s : StateAt) (bytes : List ℕ) (next room : ℕ) (stop : Option Stop) → IsLawful s → nat_eq (length s.history) 0 ≡ false → bytes ≡ log_part s 0 next → stop ≡ None → EndsThere s 0 next room stop → (0 < next → AreLines s 0 next) → IsAll s bytes
+pub all_of : (s : StateAt) (bytes : List ℕ) (next room : ℕ) (stop : Option Stop) → IsLawful s
+    → nat_eq (length s.history) 0 ≡ false → bytes ≡ log_part s 0 next → stop ≡ None → EndsThere s 0 next room stop
+    → (0 < next → AreLines s 0 next) → IsAll s bytes
 all_of s bytes next room stop k some text none ends lines =
     let end : next ≡ length s.history = subst (EndsThere s 0 next room) none ends in
     let any : 0 < length s.history = grind (arith, nat_tests) in
@@ -213,7 +221,8 @@ pub unstopped : (P : Type 0) (found : Option Stop) → is_some found ≡ false �
 unstopped P None is h = h
 unstopped P (Some why) is h = cc
 
-pub stopped : (s : StateAt) (from at room lines : ℕ) (bytes : List ℕ) (sizes : Sizes) (e : Entry) (found : Option Stop) → is_some found ≡ true → IfSome found (IsEntryStop bytes sizes e at lines room) → sizes ≡ s.settings
+pub stopped : (s : StateAt) (from at room lines : ℕ) (bytes : List ℕ) (sizes : Sizes) (e : Entry) (found : Option Stop)
+    → is_some found ≡ true → IfSome found (IsEntryStop bytes sizes e at lines room) → sizes ≡ s.settings
     → IsSoFar s from at room bytes lines → from ≤ at → at < length s.history → e ≡ get_or s.history at e → EndsThere s from at room found
 stopped s from at room lines bytes sizes e None is h same so above below here = cc
 stopped s from at room lines bytes sizes e (Some why) is h same so above below here =

@@ -16,7 +16,8 @@ returns-then-is_some-clause-ends c =
     let e = c.index-history-at.result in
     let here = c.index-history-at.is ∙ ap (λ (h : List Entry). get_or h at e) c.history-history.ensures.value in
     let below : at < length s.history = omega (arith, c.loop-at-test.true, ap (λ (h : List Entry). length h) c.history-history.ensures.value) in
-    stopped s c.args.from at c.args.room c.loop-at.lines c.loop-at.bytes.items c.settings.result.now e c.in_ok-stop.stop (sym c.is_some.ensures ∙ c.if-is_some.true) c.in_ok-stop.ensures.why c.settings.ensures
+    stopped s c.args.from at c.args.room c.loop-at.lines c.loop-at.bytes.items c.settings.result.now e c.in_ok-stop.stop
+    (sym c.is_some.ensures ∙ c.if-is_some.true) c.in_ok-stop.ensures.why c.settings.ensures
     c.loop-at.invariant c.loop-at.auto.at below here
 
 pub loop-at-preserved : goal.loop-at-preserved
@@ -34,5 +35,6 @@ loop-at-preserved c =
     let said = unstopped (HasLines e.update) found none c.in_ok-stop.ensures.said in
     let few = unstopped (c.loop-at.lines + line_count e.update ≤ 65536) found none c.in_ok-stop.ensures.few in
     let same = ap (λ (z : Sizes). bytes ++ (opening z at ++ flat_map (command_text Two) (line_of e))) c.settings.ensures in
-    one_more s c.args.from at c.args.room c.loop-at.lines (c.loop-at.lines + c.line_count-lines.result) (at + 1) bytes next e c.history-history.ensures.lawful c.loop-at.invariant c.loop-at.auto.at below here
+    one_more s c.args.from at c.args.room c.loop-at.lines (c.loop-at.lines + c.line_count-lines.result) (at + 1) bytes
+    next e c.history-history.ensures.lawful c.loop-at.invariant c.loop-at.auto.at below here
     (put ∙ same) said few c.in_ok-stop.ensures.fits (ap (λ n. c.loop-at.lines + n) c.line_count-lines.ensures.count) (omega arith)
