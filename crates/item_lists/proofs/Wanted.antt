@@ -115,7 +115,9 @@ both_tests : (p q : Item → Bool) (m : List Item) → filter p (filter q m) ≡
 both_tests p q [] = refl
 both_tests p q (i ∷ m) = by_first (q i) (both_tests p q m)
   where
-    by_first : (b : Bool) → filter p (filter q m) ≡ filter (λ i. q i && p i) m → filter p (cond b (i ∷ filter q m) (filter q m)) ≡ cond (b && p i) (i ∷ filter (λ i. q i && p i) m) (filter (λ i. q i && p i) m)
+    by_first : (b : Bool) → filter p (filter q m) ≡ filter (λ i. q i && p i) m
+        → filter p (cond b (i ∷ filter q m) (filter q m))
+        ≡ cond (b && p i) (i ∷ filter (λ i. q i && p i) m) (filter (λ i. q i && p i) m)
     by_first true k = ap (λ z. cond (p i) (i ∷ z) z) k
     by_first false k = k
 
