@@ -13,7 +13,8 @@ use Rattle.kd_search.specs.Nearest.{put_all}
 use Rattle.kd_search.proofs.Offered.{put_all-nil, in_order-by_number}
 
 -- put into nothing, the hits are the nearest
-pub from_none : (k : ℕ) (q : Place) (r : Option ℕ) (m : List Item) (old hits : List Hit) → AreDistinct m → old ≡ [] → hits ≡ take k (put_all (candidates m q r) old) → hits ≡ nearest (by_number m) k q r
+pub from_none : (k : ℕ) (q : Place) (r : Option ℕ) (m : List Item) (old hits : List Hit) → AreDistinct m → old ≡ []
+    → hits ≡ take k (put_all (candidates m q r) old) → hits ≡ nearest (by_number m) k q r
 from_none k q r m old hits d none e =
     e ∙ ap (λ z. take k (put_all (candidates m q r) z)) none
     ∙ ap (take k) (put_all-nil (candidates m q r) ∙ sym (in_order-by_number q r m d))

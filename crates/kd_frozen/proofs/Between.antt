@@ -33,7 +33,9 @@ front_distinct left right i k = record {
       omega (arith, sum_by-append g left (i ∷ right), sum_by-cons g i right, sum_by-append g (kept (i ∷ [])) (left ++ right), sum_by-append g left right, kept_fewer g i, k.once n);
 }
 
-fewer : (left right one other : List Item) (i : Item) (n : ℕ) → AreDistinct (left ++ i ∷ right) → left ++ right ≡ one ++ other → sum_by (λ w. cond (n == w.number) 1 0) one + sum_by (λ w. cond (n == w.number) 1 0) other ≤ 1
+fewer : (left right one other : List Item) (i : Item) (n : ℕ) → AreDistinct (left ++ i ∷ right)
+    → left ++ right ≡ one ++ other
+    → sum_by (λ w. cond (n == w.number) 1 0) one + sum_by (λ w. cond (n == w.number) 1 0) other ≤ 1
 fewer left right one other i n k e =
     let g : Item → ℕ = λ w. cond (n == w.number) 1 0 in
     omega (arith, sum_by-append g left (i ∷ right), sum_by-cons g i right, sum_by-append g left right, ap (sum_by g) e, sum_by-append g one other, k.once n)
@@ -47,7 +49,10 @@ pub far_distinct : (left right near far : List Item) (i : Item) → AreDistinct 
 far_distinct left right near far i k (inl e) = record { once = λ n. omega (arith, fewer left right near far i n k e) }
 far_distinct left right near far i k (inr e) = record { once = λ n. omega (arith, fewer left right far near i n k e) }
 
-moved : (q : Place) (r : Option ℕ) (i : Item) (left right : List Item) (hits : List Hit) → AreDistinct (kept (i ∷ []) ++ (left ++ right)) → put_all (candidates (kept (i ∷ []) ++ (left ++ right)) q r) hits ≡ put_all (candidates (left ++ i ∷ right) q r) hits
+moved : (q : Place) (r : Option ℕ) (i : Item) (left right : List Item) (hits : List Hit)
+    → AreDistinct (kept (i ∷ []) ++ (left ++ right))
+    → put_all (candidates (kept (i ∷ []) ++ (left ++ right)) q r) hits
+    ≡ put_all (candidates (left ++ i ∷ right) q r) hits
 moved q r i left right hits d =
     let own = candidates (i ∷ []) q r in
     let one = candidates left q r in

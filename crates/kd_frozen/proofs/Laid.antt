@@ -44,7 +44,9 @@ halves_on b a m left c right e same half around = record {
   above = rw e (above_of b c right around.1);
 }
 
-laid_parted : (one other : List Cell) (c : Cell) → length one ≡ (length one + length other) / 2 → AreBelow c.axis c.point (items_of one) → AreAbove c.axis c.point (items_of other) → AreParted one → AreParted other → AreParted (one ++ c ∷ other)
+laid_parted : (one other : List Cell) (c : Cell) → length one ≡ (length one + length other) / 2
+    → AreBelow c.axis c.point (items_of one) → AreAbove c.axis c.point (items_of other) → AreParted one
+    → AreParted other → AreParted (one ++ c ∷ other)
 laid_parted one other c half below above left right = parted
   where
     parted : (n : ℕ) → IsParted n (one ++ c ∷ other)
@@ -54,8 +56,12 @@ laid_parted one other c half below above left right = parted
         let at : length one ≡ middle m = omega (arith, length-append one (c ∷ other), half) in
         let front : take (middle m) m ≡ one = ap (λ j. take j m) (sym at) ∙ take-append_seam one (c ∷ other) in
         let back : drop (middle m) m ≡ c ∷ other = ap (λ j. drop j m) (sym at) ∙ drop-append_seam one (c ∷ other) in
-        let rest : drop (middle m + 1) m ≡ other = drop_next m (middle m) c other back in
-        (subst (λ z. IsTopped z (drop (middle m) m)) (sym front) (subst (λ z. IsTopped one z) (sym back) (below, above)), subst (IsParted n) (sym front) (left n), subst (IsParted n) (sym rest) (right n))
+        let rest : drop (middle m + 1) m ≡ other = drop_next m (middle m) c other back in (
+          subst (λ z. IsTopped z (drop (middle m) m)) (sym front)
+              (subst (λ z. IsTopped one z) (sym back) (below, above)),
+          subst (IsParted n) (sym front) (left n),
+          subst (IsParted n) (sym rest) (right n),
+        )
 
 same_items : (xs ys : List Cell) → IsPermutation xs ys → IsPermutation (items_of xs) (items_of ys)
 same_items xs ys p = IsPermutation-map item_of xs ys p
@@ -74,8 +80,13 @@ laid m left right a top c old first second new s is one f other = record {
   same =
       let items : items_of (one.added ++ c ∷ other.added) ≡ items_of one.added ++ item_of top ∷ items_of other.added =
       map-append item_of one.added (c ∷ other.added) ∙ ap (λ d. items_of one.added ++ item_of d ∷ items_of other.added) is in
-      let sides = IsPermutation-append (items_of left) (items_of one.added) (item_of top ∷ items_of right) (item_of top ∷ items_of other.added) one.same (IsPermutation-cons (item_of top) (items_of right) (items_of other.added) other.same) in
-      let first : IsPermutation (items_of m) (items_of left ++ item_of top ∷ items_of right) = subst (IsPermutation (items_of m)) (map-append item_of left (top ∷ right)) (same_items m (left ++ top ∷ right) s.same) in
+      let sides =
+      IsPermutation-append (items_of left) (items_of one.added) (item_of top ∷ items_of right)
+      (item_of top ∷ items_of other.added) one.same
+      (IsPermutation-cons (item_of top) (items_of right) (items_of other.added) other.same) in
+      let first : IsPermutation (items_of m) (items_of left ++ item_of top ∷ items_of right) =
+      subst (IsPermutation (items_of m)) (map-append item_of left (top ∷ right))
+      (same_items m (left ++ top ∷ right) s.same) in
       subst (IsPermutation (items_of m)) (sym items) (IsPermutation-trans (items_of m) _ _ first sides);
   parted =
       let half : length one.added ≡ (length one.added + length other.added) / 2 =
@@ -99,8 +110,11 @@ laid_leaf m old new few e = record { added = m; behind = e; same = IsPermutation
 -- all cells were laid
 pub laid_all : (m old new : List Cell) → AddsParted m old new → old ≡ [] → AreDistinct (items_of m) → AreParted new × AreDistinct (items_of new) × (by_number (items_of new) ≡ by_number (items_of m))
 laid_all m old new k none d =
-    let all : new ≡ k.added = k.behind ∙ ap (λ z. z ++ k.added) none in
-    (subst AreParted (sym all) k.parted, subst (λ z. AreDistinct (items_of z)) (sym all) (once_moved (items_of m) (items_of k.added) k.same d), ap (λ z. by_number (items_of z)) all ∙ sym (by_number-moved (items_of m) (items_of k.added) k.same d))
+    let all : new ≡ k.added = k.behind ∙ ap (λ z. z ++ k.added) none in (
+      subst AreParted (sym all) k.parted,
+      subst (λ z. AreDistinct (items_of z)) (sym all) (once_moved (items_of m) (items_of k.added) k.same d),
+      ap (λ z. by_number (items_of z)) all ∙ sym (by_number-moved (items_of m) (items_of k.added) k.same d),
+    )
 
 pub side_lengths : (m left : List Cell) (c : Cell) (right : List Cell) → IsPermutation m (left ++ c ∷ right) → length left + length right + 1 ≡ length m
 side_lengths m left c right p = omega (arith, length_permutation m (left ++ c ∷ right) p, length-append left (c ∷ right))

@@ -41,7 +41,9 @@ outside_away m c q gap far =
     (filter_passes (λ i. not (in_box c i)) (live_items m))
 
 -- hits of what is outside and of what is inside are hits of all
-both_sides : (m : List Item) (c : Bounds) (q : Place) (r : Option ℕ) → AreDistinct m → put_all (candidates (outside_all m c) q r) (in_order (candidates (inside_all m c) q r)) ≡ in_order (candidates (live_items m) q r)
+both_sides : (m : List Item) (c : Bounds) (q : Place) (r : Option ℕ) → AreDistinct m
+    → put_all (candidates (outside_all m c) q r) (in_order (candidates (inside_all m c) q r))
+    ≡ in_order (candidates (live_items m) q r)
 both_sides m c q r d =
     let live = live_items m in
     let one = outside_all m c in

@@ -25,7 +25,9 @@ far_once m q s p d = far_distinct p.left p.right (items_of s.near.now) (items_of
 
 -- the near side, the cell, and the far side
 pub all_parts : (k : ℕ) (q : Place) (r : Option ℕ) (m : List Cell) (s : Parts) (hits one two three : List Hit) → ArePartsOf m q s → AreDistinct (items_of m)
-    → one ≡ take k (put_all (candidates (items_of s.near.now) q r) hits) → two ≡ take k (put_all (candidates (item_of s.top.now ∷ []) q r) one) → three ≡ take k (put_all (candidates (items_of s.far.now) q r) two)
+    → one ≡ take k (put_all (candidates (items_of s.near.now) q r) hits)
+    → two ≡ take k (put_all (candidates (item_of s.top.now ∷ []) q r) one)
+    → three ≡ take k (put_all (candidates (items_of s.far.now) q r) two)
     → three ≡ take k (put_all (candidates (items_of m) q r) hits)
 all_parts k q r m s hits one two three p d e f g =
     between k q r (item_of s.top.now) p.left p.right (items_of s.near.now) (items_of s.far.now) hits one two three (subst AreDistinct p.items d) p.turned e f g

@@ -16,7 +16,9 @@ alone c =
     let q = c.args.q.now in
     let r = c.args.within in
     let found = c.search.new.found in
-    inside_alone (contents t) c.args.c.now k q r found.hits found.bound c.outside_from.result (contents_distinct t c.size-size.ensures.sound) c.in_ok-search.ensures.bound c.if-found-outside_from.true (omega arith) c.outside_from.ensures
+    inside_alone (contents t) c.args.c.now k q r found.hits found.bound c.outside_from.result
+    (contents_distinct t c.size-size.ensures.sound) c.in_ok-search.ensures.bound c.if-found-outside_from.true
+    (omega arith) c.outside_from.ensures
     (c.in_ok-search.ensures.found ∙ ap (λ (m : List Item). nearest m k q r) c.requires.frozen)
 
 pub returns-then-found-outside_from-clause-found : goal.returns-then-found-outside_from-clause-found

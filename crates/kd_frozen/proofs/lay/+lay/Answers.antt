@@ -13,5 +13,6 @@ pub returns : goal.returns
 returns t c =
     let s = c.halves-left in
     on_ok_weaker c.lay-2.result
-    (laid c.args.cells.now s.result.0.now s.result.2.now c.widest-axis.result s.result.1.now _ c.args.laid.now.items c.lay.new.laid.items c.push.new.self.items _ s.ensures refl c.in_ok-lay.ensures c.in_ok-push.ensures.items)
+    (laid c.args.cells.now s.result.0.now s.result.2.now c.widest-axis.result s.result.1.now _ c.args.laid.now.items
+    c.lay.new.laid.items c.push.new.self.items _ s.ensures refl c.in_ok-lay.ensures c.in_ok-push.ensures.items)
     c.lay-2.ensures

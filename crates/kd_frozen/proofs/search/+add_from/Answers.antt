@@ -23,5 +23,6 @@ pub returns-clause-found : goal.returns-clause-found
 returns-clause-found t c =
     let query = c.args.query.now in
     on_ok_weaker c.add_from-2.result
-    (all_parts query.k query.point query.within c.args.cells.now c.in-Some.parts c.args.found.now.hits _ _ _ c.in-Some.ensures c.requires.distinct c.in_ok-add_from.ensures.found c.in_ok-add.ensures.found)
+    (all_parts query.k query.point query.within c.args.cells.now c.in-Some.parts c.args.found.now.hits _ _ _
+    c.in-Some.ensures c.requires.distinct c.in_ok-add_from.ensures.found c.in_ok-add.ensures.found)
     c.add_from-2.ensures.found

@@ -7,5 +7,8 @@ loop-cell-preserved c =
     let query = c.args.query.now in
     record {
       bound = c.in_ok-add.ensures.bound;
-      found = next_cell query.k query.point query.within c.args.cells.now c.loop-cell.cell-index c.cell-item.result c.args.found.now.hits c.loop-cell.found.hits c.add.new.found.hits c.requires.distinct (omega arith) c.cell-item.is c.loop-cell.invariant.found c.in_ok-add.ensures.found;
+      found =
+          next_cell query.k query.point query.within c.args.cells.now c.loop-cell.cell-index c.cell-item.result
+          c.args.found.now.hits c.loop-cell.found.hits c.add.new.found.hits c.requires.distinct (omega arith)
+          c.cell-item.is c.loop-cell.invariant.found c.in_ok-add.ensures.found;
     }

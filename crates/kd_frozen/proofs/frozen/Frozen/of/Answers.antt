@@ -17,10 +17,16 @@ pub laid-requires : goal.laid-requires
 laid-requires c = subst AreDistinct (sym (live c)) (live_distinct c.args.tree.now c.counts-counts.ensures.sound)
 
 pub returns-clause-live : goal.returns-clause-live
-returns-clause-live c = IfOk-weaker c.laid.result _ _ (λ f e. e ∙ live_contents c.args.tree.now (items_of c.as_mut_slice.result.now) (live (goal.at.returns-clause-live c).After-as_mut_slice)) c.laid.ensures
+returns-clause-live c =
+    IfOk-weaker c.laid.result _ _ (λ f e. e
+    ∙ live_contents c.args.tree.now (items_of c.as_mut_slice.result.now)
+    (live (goal.at.returns-clause-live c).After-as_mut_slice)) c.laid.ensures
 
 pub returns-clause-asked : goal.returns-clause-asked
 returns-clause-asked c =
     IfOk-weaker c.laid.result _ _
-    (λ f e k q r. ap (λ z. nearest z k q r) (e ∙ live_contents c.args.tree.now (items_of c.as_mut_slice.result.now) (live (goal.at.returns-clause-asked c).After-as_mut_slice)) ∙ nearest-live (contents c.args.tree.now) k q r)
+    (λ f e k q r. ap (λ z. nearest z k q r) (e
+    ∙ live_contents c.args.tree.now (items_of c.as_mut_slice.result.now)
+    (live (goal.at.returns-clause-asked c).After-as_mut_slice))
+    ∙ nearest-live (contents c.args.tree.now) k q r)
     c.laid.ensures

@@ -19,7 +19,9 @@ pub returns-clause-found : goal.returns-clause-found
 returns-clause-found c =
     let query = c.args.query.now in
     on_ok_weaker c.add_from.result
-    (λ e. from_none query.k query.point query.within (items_of c.as_slice.result.now) c.args.found.now.hits c.add_from.new.found.hits (once c) c.requires.none e ∙ ap (λ (m : List Item). nearest m query.k query.point query.within) (seen c))
+    (λ e. from_none query.k query.point query.within (items_of c.as_slice.result.now) c.args.found.now.hits
+    c.add_from.new.found.hits (once c) c.requires.none e
+    ∙ ap (λ (m : List Item). nearest m query.k query.point query.within) (seen c))
     c.add_from.ensures.found
 
 pub returns-clause-nearest : goal.returns-clause-nearest
