@@ -53,7 +53,10 @@ own-marked chosen a i = own i.label
     own : (x : Label) → kept (marked_item chosen a (record i { label = x }) ∷ []) ≡ mark (kept (record i { label = x } ∷ [])) chosen a
     own Live = refl
     own Suspended = refl
-    own Dropped = let Q : Item → Type 0 = λ j. kept (j ∷ []) ≡ [] in cond_both (chosen (record i { label = Dropped })) (relabelled a (record i { label = Dropped })) (record i { label = Dropped }) Q (λ _. refl) (λ _. refl)
+    own Dropped = let Q : Item
+        → Type 0 = λ j. kept (j ∷ []) ≡ [] in
+        cond_both (chosen (record i { label = Dropped })) (relabelled a (record i { label = Dropped }))
+        (record i { label = Dropped }) Q (λ _. refl) (λ _. refl)
 
 -- two choices that agree
 agree_by : (chosen other : Item → Bool) (a : Tag) (xs : List Item) → AllByRecursion (λ i. chosen i ≡ other i) xs → mark xs chosen a ≡ mark xs other a
@@ -97,7 +100,11 @@ pub marked-tagged : (c : Choice) (a p : Tag) (t : Shape) → marked_under c a ke
 unfolding marked_under
 marked-tagged c a p leaf = refl
 marked-tagged c a p (fork h l r) =
-    let F : Shape → Item → Tag → Shape = λ s i q. cond (meets c (reach_of h l r)) (cond (covers c (reach_of h l r)) (tagged a s) (fork (record h { item = marked_item (chosen_by c) a i; pending = keep_tag }) (marked_under c a q l) (marked_under c a q r))) s in
+    let F : Shape → Item → Tag
+    → Shape =
+    λ s i q. cond (meets c (reach_of h l r)) (cond (covers c (reach_of h l r)) (tagged a s)
+    (fork (record h { item = marked_item (chosen_by c) a i; pending = keep_tag }) (marked_under c a q l)
+    (marked_under c a q r))) s in
     ap (λ s. F s (relabelled keep_tag (relabelled p h.item)) (composed (composed h.pending p) keep_tag)) (tagged-keep (tagged p (fork h l r)))
     ∙ ap (λ i. F (tagged p (fork h l r)) i (composed (composed h.pending p) keep_tag)) (relabelled-keep (relabelled p h.item))
     ∙ ap (λ q. F (tagged p (fork h l r)) (relabelled p h.item) q) (composed-keep_right (composed h.pending p))
@@ -108,7 +115,9 @@ child-marked c a q t = marked-tagged c a q t ∙ ap (λ p. marked_under c a p t)
 
 -- what holds where the choice misses a node, covers it or enters it
 marked_cases : (P : Shape → Type 0) (c : Choice) (a p : Tag) (h : Head) (l r : Shape) → P (tagged p (fork h l r)) → P (tagged a (tagged p (fork h l r)))
-    → P (fork (record h { item = marked_item (chosen_by c) a (relabelled p h.item); pending = keep_tag }) (marked_under c a (composed h.pending p) l) (marked_under c a (composed h.pending p) r)) → P (marked_under c a p (fork h l r))
+    → P (fork (record h { item = marked_item (chosen_by c) a (relabelled p h.item); pending = keep_tag })
+    (marked_under c a (composed h.pending p) l) (marked_under c a (composed h.pending p) r))
+    → P (marked_under c a p (fork h l r))
 unfolding marked_under
 marked_cases P c a p h l r missed covered entered = cond_both (meets c (reach_of h l r)) _ _ P (λ _. cond_both (covers c (reach_of h l r)) _ _ P (λ _. covered) (λ _. entered)) (λ _. missed)
 
@@ -136,7 +145,9 @@ abbrev AreAlike : Shape → Shape → Type 0
 AreAlike s t = (extent s ≡ extent t) × (range s ≡ range t)
 
 reaches_alike : (i j : Item) (l r l' r' : Shape) → i.point ≡ j.point → i.number ≡ j.number → AreAlike l l' → AreAlike r r'
-    → (grown (grown (spot i.point) (extent l)) (extent r) ≡ grown (grown (spot j.point) (extent l')) (extent r')) × (widened (widened (one_number i.number) (range l)) (range r) ≡ widened (widened (one_number j.number) (range l')) (range r'))
+    → (grown (grown (spot i.point) (extent l)) (extent r) ≡ grown (grown (spot j.point) (extent l')) (extent r')) ×
+    (widened (widened (one_number i.number) (range l)) (range r)
+    ≡ widened (widened (one_number j.number) (range l')) (range r'))
 reaches_alike i j l r l' r' p n e f = (rw (p, e.0, f.0) refl, rw (n, e.1, f.1) refl)
 
 reach-marked : (c : Choice) (a p : Tag) (t : Shape) → AreAlike (marked_under c a p t) t
@@ -145,14 +156,21 @@ reach-marked c a p leaf = (refl, refl)
 reach-marked c a p (fork h l r) =
     let i = relabelled p h.item in
     let q = composed h.pending p in
-    let all = reaches_alike (marked_item (chosen_by c) a i) i (marked_under c a q l) (marked_under c a q r) l r (marked-point (chosen_by c) a i) (marked_number (chosen_by c) a i) (reach-marked c a q l) (reach-marked c a q r) in
+    let all =
+    reaches_alike (marked_item (chosen_by c) a i) i (marked_under c a q l) (marked_under c a q r) l r
+    (marked-point (chosen_by c) a i) (marked_number (chosen_by c) a i) (reach-marked c a q l)
+    (reach-marked c a q r) in
     marked_cases (λ s. AreAlike s (fork h l r)) c a p h l r (refl, refl) (refl, refl) (ap Some all.0, ap Some all.1)
 
 reach-tagged : (a : Tag) (t : Shape) → AreAlike (tagged a t) t
 reach-tagged a leaf = (refl, refl)
 reach-tagged a (fork h l r) = (refl, refl)
 
-mark-fork : (c : Choice) (a p : Tag) (h : Head) (l r : Shape) → mark (walk p (fork h l r)) (chosen_by c) a ≡ mark (kept (relabelled p h.item ∷ [])) (chosen_by c) a ++ (mark (walk (composed h.pending p) l) (chosen_by c) a ++ mark (walk (composed h.pending p) r) (chosen_by c) a)
+mark-fork : (c : Choice) (a p : Tag) (h : Head) (l r : Shape)
+    → mark (walk p (fork h l r)) (chosen_by c) a
+    ≡ mark (kept (relabelled p h.item ∷ [])) (chosen_by c) a
+    ++
+    (mark (walk (composed h.pending p) l) (chosen_by c) a ++ mark (walk (composed h.pending p) r) (chosen_by c) a)
 mark-fork c a p h l r =
     mark-append (chosen_by c) a (kept (relabelled p h.item ∷ [])) (walk (composed h.pending p) l ++ walk (composed h.pending p) r)
     ∙ ap (λ z. mark (kept (relabelled p h.item ∷ [])) (chosen_by c) a ++ z) (mark-append (chosen_by c) a (walk (composed h.pending p) l) (walk (composed h.pending p) r))
@@ -195,7 +213,9 @@ chosen_met c e i r k = let q = and_parts _ _ k in both_true (below c.below q.0 r
 covered : (c : Choice) (a p : Tag) (h : Head) (l r : Shape) → covers c (reach_of h l r) ≡ true → walk keep_tag (tagged a (tagged p (fork h l r))) ≡ mark (walk p (fork h l r)) (chosen_by c) a
 covered c a p h l r k =
     walk-tagged_keep a (tagged p (fork h l r)) ∙ walk-tagged p a (fork h l r) ∙ walk-composed p a (fork h l r)
-    ∙ sym (mark_agree (chosen_by c) everything a (walk p (fork h l r)) (All-weaker (IsReached (reach_of h l r)) (λ i. chosen_by c i ≡ true) (λ i q. covered_chosen c (reach_of h l r) i k q) (walk p (fork h l r)) (reached_all p h l r)))
+    ∙ sym (mark_agree (chosen_by c) everything a (walk p (fork h l r)) (All-weaker (IsReached (reach_of h l r))
+    (λ i. chosen_by c i ≡ true) (λ i q. covered_chosen c (reach_of h l r) i k q) (walk p (fork h l r))
+    (reached_all p h l r)))
 
 not_chosen : (c : Choice) (e : Reach) (i : Item) → meets c e ≡ false → IsReached e i → chosen_by c i ≡ false
 not_chosen c e i k r = false_from_ne_true _ (λ chosen. false≢true (sym k ∙ chosen_met c e i r chosen))
@@ -204,7 +224,9 @@ not_chosen c e i k r = false_from_ne_true _ (λ chosen. false≢true (sym k ∙ 
 missed : (c : Choice) (a p : Tag) (h : Head) (l r : Shape) → meets c (reach_of h l r) ≡ false → walk keep_tag (tagged p (fork h l r)) ≡ mark (walk p (fork h l r)) (chosen_by c) a
 missed c a p h l r k =
     walk-tagged_keep p (fork h l r)
-    ∙ sym (mark_none (chosen_by c) a (walk p (fork h l r)) (All-weaker (IsReached (reach_of h l r)) (λ i. chosen_by c i ≡ false) (λ i q. not_chosen c (reach_of h l r) i k q) (walk p (fork h l r)) (reached_all p h l r)) (walk_kept p (fork h l r)))
+    ∙ sym (mark_none (chosen_by c) a (walk p (fork h l r)) (All-weaker (IsReached (reach_of h l r))
+    (λ i. chosen_by c i ≡ false) (λ i q. not_chosen c (reach_of h l r) i k q) (walk p (fork h l r))
+    (reached_all p h l r)) (walk_kept p (fork h l r)))
 
 -- what remains after an action on chosen items is what it leaves of what was there
 pub walk-marked : (c : Choice) (a p : Tag) (t : Shape) → walk keep_tag (marked_under c a p t) ≡ mark (walk p t) (chosen_by c) a
@@ -223,11 +245,19 @@ pub contents-marked : (c : Choice) (a : Tag) (t : Shape) → contents (marked_sh
 contents-marked c a t = ap by_number (walk-marked c a keep_tag t) ∙ by_number-mark (chosen_by c) a (walk keep_tag t)
 
 AllKept-marked : (P : Place → Type 0) (c : Choice) (a p : Tag) (t : Shape) → AllKept P p t → AllKept P keep_tag (marked_under c a p t)
-AllKept-marked P c a p t k = left_all P keep_tag (marked_under c a p t) (subst (All (λ (i : Item). P i.point)) (sym (walk-marked c a p t)) (mark_points P (chosen_by c) a (walk p t) (all_left P p t k)))
+AllKept-marked P c a p t k =
+    left_all P keep_tag (marked_under c a p t) (subst (All (λ (i : Item). P i.point)) (sym (walk-marked c a p t))
+    (mark_points P (chosen_by c) a (walk p t) (all_left P p t k)))
 
 times-marked : (n : ℕ) (c : Choice) (a : Tag) (t : Shape) → times n keep_tag (marked_shape c a t) ≤ times n keep_tag t
 times-marked n c a t =
-    omega (arith, times_walk n keep_tag (marked_shape c a t), times_walk n keep_tag t, mark_counts n (chosen_by c) a (walk keep_tag t), ap (count_by (λ (i : Item). n == i.number)) (walk-marked c a keep_tag t))
+    omega (
+      arith,
+      times_walk n keep_tag (marked_shape c a t),
+      times_walk n keep_tag t,
+      mark_counts n (chosen_by c) a (walk keep_tag t),
+      ap (count_by (λ (i : Item). n == i.number)) (walk-marked c a keep_tag t),
+    )
 
 -- no number remains twice after the action
 pub once-marked : (c : Choice) (a : Tag) (t : Shape) → ((n : ℕ) → times n keep_tag t ≤ 1) → (n : ℕ) → times n keep_tag (marked_shape c a t) ≤ 1
@@ -237,9 +267,15 @@ once-marked c a t k n = omega (arith, times-marked n c a t, k n)
 pub record IsEntered (c : Choice) (a : Tag) (s : Shape) (f : Fork) : Type 0 where
   pub value : fork (head (marked_item (chosen_by c) a f.item) f.axis) (marked_shape c a f.left) (marked_shape c a f.right) ≡ marked_shape c a s
   pub sound : IsSoundFork (head (marked_item (chosen_by c) a f.item) f.axis) (marked_shape c a f.left) (marked_shape c a f.right)
-  pub criteria : (large : ℕ) → RebuildsNoneEntered large c (marked_shape c a s) → IsNotDue large (fork (head (marked_item (chosen_by c) a f.item) f.axis) (marked_shape c a f.left) (marked_shape c a f.right)) × RebuildsNoneEntered large c (marked_shape c a f.left) × RebuildsNoneEntered large c (marked_shape c a f.right)
+  pub criteria : (large : ℕ) → RebuildsNoneEntered large c (marked_shape c a s)
+      → IsNotDue large
+      (fork (head (marked_item (chosen_by c) a f.item) f.axis) (marked_shape c a f.left) (marked_shape c a f.right)) ×
+      RebuildsNoneEntered large c (marked_shape c a f.left) × RebuildsNoneEntered large c (marked_shape c a f.right)
 
-enters : (c : Choice) (a : Tag) (h : Head) (l r : Shape) → meets c (reach_of h l r) ≡ true → covers c (reach_of h l r) ≡ false → fork (head (marked_item (chosen_by c) a h.item) h.axis) (marked_shape c a (tagged h.pending l)) (marked_shape c a (tagged h.pending r)) ≡ marked_shape c a (fork h l r)
+enters : (c : Choice) (a : Tag) (h : Head) (l r : Shape) → meets c (reach_of h l r) ≡ true
+    → covers c (reach_of h l r) ≡ false
+    → fork (head (marked_item (chosen_by c) a h.item) h.axis) (marked_shape c a (tagged h.pending l))
+    (marked_shape c a (tagged h.pending r)) ≡ marked_shape c a (fork h l r)
 unfolding marked_under
 enters c a h l r m k =
     tops_alike (marked_item (chosen_by c) a) h _ _ _ _ (child-marked c a h.pending l) (child-marked c a h.pending r)
@@ -248,13 +284,23 @@ enters c a h l r m k =
 entered_is : (c : Choice) (e : Reach) → meets c e ≡ true → covers c e ≡ false → is_entered c e ≡ true
 entered_is c e m k = rw (m, k) refl
 
-reach-entered : (c : Choice) (a : Tag) (h : Head) (l r : Shape) → reach_of (head (marked_item (chosen_by c) a h.item) h.axis) (marked_shape c a (tagged h.pending l)) (marked_shape c a (tagged h.pending r)) ≡ reach_of h l r
+reach-entered : (c : Choice) (a : Tag) (h : Head) (l r : Shape)
+    → reach_of (head (marked_item (chosen_by c) a h.item) h.axis) (marked_shape c a (tagged h.pending l))
+    (marked_shape c a (tagged h.pending r)) ≡ reach_of h l r
 reach-entered c a h l r =
-    let child : (t : Shape) → AreAlike (marked_shape c a (tagged h.pending t)) t = λ t. let k = reach-marked c a keep_tag (tagged h.pending t) in let o = reach-tagged h.pending t in (k.0 ∙ o.0, k.1 ∙ o.1) in
-    let all = reaches_alike (marked_item (chosen_by c) a h.item) h.item (marked_shape c a (tagged h.pending l)) (marked_shape c a (tagged h.pending r)) l r (marked-point (chosen_by c) a h.item) (marked_number (chosen_by c) a h.item) (child l) (child r) in
+    let child : (t : Shape)
+    → AreAlike (marked_shape c a (tagged h.pending t)) t = λ t. let k =
+    reach-marked c a keep_tag (tagged h.pending t) in let o = reach-tagged h.pending t in
+    (k.0 ∙ o.0, k.1 ∙ o.1) in
+    let all =
+    reaches_alike (marked_item (chosen_by c) a h.item) h.item (marked_shape c a (tagged h.pending l))
+    (marked_shape c a (tagged h.pending r)) l r (marked-point (chosen_by c) a h.item)
+    (marked_number (chosen_by c) a h.item) (child l) (child r) in
     λ i. record { extent = all.0 i; numbers = all.1 i }
 
-criteria_parts : (large : ℕ) (c : Choice) (h : Head) (l r : Shape) → is_entered c (reach_of h l r) ≡ true → RebuildsNoneEntered large c (fork h l r) → IsNotDue large (fork h l r) × RebuildsNoneEntered large c l × RebuildsNoneEntered large c r
+criteria_parts : (large : ℕ) (c : Choice) (h : Head) (l r : Shape) → is_entered c (reach_of h l r) ≡ true
+    → RebuildsNoneEntered large c (fork h l r)
+    → IsNotDue large (fork h l r) × RebuildsNoneEntered large c l × RebuildsNoneEntered large c r
 unfolding RebuildsNoneEntered
 criteria_parts large c h l r e k = k e
 
@@ -265,8 +311,12 @@ entered_fork c a h l r m k s =
     let point = marked-point (chosen_by c) a h.item in
     let ml = marked_shape c a (tagged h.pending l) in
     let mr = marked_shape c a (tagged h.pending r) in
-    let below : AllKept (λ p. on h.axis p ≤ℤ on h.axis h.item.point) keep_tag ml = rw (marked-tagged c a h.pending l) (AllKept-marked (λ p. on h.axis p ≤ℤ on h.axis h.item.point) c a h.pending l s.below) in
-    let above : AllKept (λ p. on h.axis h.item.point ≤ℤ on h.axis p) keep_tag mr = rw (marked-tagged c a h.pending r) (AllKept-marked (λ p. on h.axis h.item.point ≤ℤ on h.axis p) c a h.pending r s.above) in
+    let below : AllKept (λ p. on h.axis p ≤ℤ on h.axis h.item.point) keep_tag ml =
+    rw (marked-tagged c a h.pending l)
+    (AllKept-marked (λ p. on h.axis p ≤ℤ on h.axis h.item.point) c a h.pending l s.below) in
+    let above : AllKept (λ p. on h.axis h.item.point ≤ℤ on h.axis p) keep_tag mr =
+    rw (marked-tagged c a h.pending r)
+    (AllKept-marked (λ p. on h.axis h.item.point ≤ℤ on h.axis p) c a h.pending r s.above) in
     record {
       value = value;
       sound = record {
@@ -276,7 +326,11 @@ entered_fork c a h l r m k s =
         few = omega (arith, s.few, nodes-marked c a keep_tag (tagged h.pending l), nodes-marked c a keep_tag (tagged h.pending r), tagged_nodes h.pending l, tagged_nodes h.pending r);
         low = omega (arith, s.low, levels-marked c a keep_tag (tagged h.pending l), levels-marked c a keep_tag (tagged h.pending r), tagged_levels h.pending l, tagged_levels h.pending r);
       };
-      criteria = λ large all. criteria_parts large c (head i h.axis) ml mr (entered_is c (reach_of (head i h.axis) ml mr) (subst (λ (e : Reach). meets c e ≡ true) (sym (reach-entered c a h l r)) m) (subst (λ (e : Reach). covers c e ≡ false) (sym (reach-entered c a h l r)) k)) (subst (RebuildsNoneEntered large c) (sym value) all);
+      criteria =
+          λ large all. criteria_parts large c (head i h.axis) ml mr (entered_is c (reach_of (head i h.axis) ml mr)
+          (subst (λ (e : Reach). meets c e ≡ true) (sym (reach-entered c a h l r)) m)
+          (subst (λ (e : Reach). covers c e ≡ false) (sym (reach-entered c a h l r)) k))
+          (subst (RebuildsNoneEntered large c) (sym value) all);
     }
 
 pub entered_all : (c : Choice) (a : Tag) (s : Shape) (f : Fork) (e : Reach) → Some e ≡ reach s → meets c e ≡ true → covers c e ≡ false → IsSound s → Some f ≡ pushed s → IsEntered c a s f

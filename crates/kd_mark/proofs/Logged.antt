@@ -77,7 +77,9 @@ unfolding logged_mark
 ahead_passed c a q side path leaf e x k = refl
 ahead_passed c a q side path (fork h l r) e x k = cond-false (is_entered c (reach_of h l r)) _ _ (rw (same_Some e (reach_of h l r) x) at k)
 
-pub ahead_entered : (c : Choice) (a q p : Tag) (side : Side) (path : List Side) (t s : Shape) (e : Reach) (h : Head) (l r : Shape) → Some e ≡ reach t → meets c e ≡ true → covers c e ≡ false → t ≡ fork h l r → p ≡ composed h.pending q → s ≡ child side l r
+pub ahead_entered : (c : Choice) (a q p : Tag) (side : Side) (path : List Side) (t s : Shape) (e : Reach) (h : Head)
+    (l r : Shape) → Some e ≡ reach t → meets c e ≡ true → covers c e ≡ false → t ≡ fork h l r
+    → p ≡ composed h.pending q → s ≡ child side l r
     → logged_mark c a (side ∷ path) (tagged q t) ≡ handed path p ++ logged_mark c a path (tagged p s)
 unfolding logged_mark
 ahead_entered c a q p side path t s e h l r x m k is pending on =

@@ -41,11 +41,13 @@ made_covered c (fork h l r) e x m k =
     let k' : covers c (reach_of h l r) ≡ true = rw b at k in
     rw (m', k') (omega arith)
 
-made_here : (c : Choice) (h : Head) (l r : Shape) → meets c (reach_of h l r) ≡ true → covers c (reach_of h l r) ≡ false → made_mark c (fork h l r) ≡ 3 + (made_mark c (tagged h.pending l) + made_mark c (tagged h.pending r))
+made_here : (c : Choice) (h : Head) (l r : Shape) → meets c (reach_of h l r) ≡ true → covers c (reach_of h l r) ≡ false
+    → made_mark c (fork h l r) ≡ 3 + (made_mark c (tagged h.pending l) + made_mark c (tagged h.pending r))
 unfolding made_mark
 made_here c h l r m k = rw (m, k, made-tagged c h.pending l, made-tagged c h.pending r) refl
 
-made_entered : (c : Choice) (s : Shape) (f : Fork) (e : Reach) → Some e ≡ reach s → meets c e ≡ true → covers c e ≡ false → Some f ≡ pushed s → made_mark c s ≡ 3 + (made_mark c f.left + made_mark c f.right)
+made_entered : (c : Choice) (s : Shape) (f : Fork) (e : Reach) → Some e ≡ reach s → meets c e ≡ true
+    → covers c e ≡ false → Some f ≡ pushed s → made_mark c s ≡ 3 + (made_mark c f.left + made_mark c f.right)
 made_entered c leaf f e x m k p = absurd (cc)
 made_entered c (fork h l r) f e x m k p =
     let b = same_Some e (reach_of h l r) x in
@@ -63,7 +65,10 @@ pub nodes_made_entered : (large : ℕ) (c : Choice) (a : Tag) (s : Shape) (f : F
     → IsEntered c a s f → Some e ≡ reach s → meets c e ≡ true → covers c e ≡ false → Some f ≡ pushed s
     → n1 ≤ n0 + 2 → (RebuildsNoneEntered large c (marked_shape c a f.left) → n2 ≤ n1 + made_mark c f.left)
     → (RebuildsNoneEntered large c (marked_shape c a f.right) → n3 ≤ n2 + made_mark c f.right)
-    → (RebuildsNoneEntered large c (marked_shape c a f.left) → RebuildsNoneEntered large c (marked_shape c a f.right) → IsNotDue large (fork (head (marked_item (chosen_by c) a f.item) f.axis) (marked_shape c a f.left) (marked_shape c a f.right)) → n4 ≤ n3 + 1)
+    → (RebuildsNoneEntered large c (marked_shape c a f.left) → RebuildsNoneEntered large c (marked_shape c a f.right)
+    → IsNotDue large
+    (fork (head (marked_item (chosen_by c) a f.item) f.axis) (marked_shape c a f.left) (marked_shape c a f.right))
+    → n4 ≤ n3 + 1)
     → RebuildsNoneEntered large c (marked_shape c a s) → n4 ≤ n0 + made_mark c s
 nodes_made_entered large c a s f e n0 n1 n2 n3 n4 w x m k p two left right own criteria =
     let parts = w.criteria large criteria in

@@ -58,7 +58,10 @@ refresh_pushed h l r =
       same = subst (λ w. IsPermutation w (walk keep_tag t)) (walk-pushed h l r) (IsPermutation-refl (walk keep_tag t));
       few = omega (arith, tagged_nodes h.pending l, tagged_nodes h.pending r);
       low = omega (arith, tagged_levels h.pending l, tagged_levels h.pending r);
-      from = subst (λ w. AreAmong w (numbers (fork h l r))) (sym (ap (λ x. h.item.number ∷ (x ++ numbers (tagged h.pending r))) (tagged_numbers h.pending l) ∙ ap (λ x. h.item.number ∷ (numbers l ++ x)) (tagged_numbers h.pending r))) (among_same (numbers (fork h l r)));
+      from =
+          subst (λ w. AreAmong w (numbers (fork h l r))) (sym (ap (λ x. h.item.number ∷ (x ++ numbers (tagged h.pending r))) (tagged_numbers h.pending l)
+          ∙ ap (λ x. h.item.number ∷ (numbers l ++ x)) (tagged_numbers h.pending r)))
+          (among_same (numbers (fork h l r)));
     }
 
 refresh_left : (P : Place → Type 0) (s t : Shape) → IsRefresh s t → AllKept P keep_tag s → AllKept P keep_tag t
@@ -71,7 +74,14 @@ refresh_sound i a l r l' r' s f g =
     record {
       below = refresh_left (λ p. on a p ≤ℤ on a i.point) l l' f s.below;
       above = refresh_left (λ p. on a i.point ≤ℤ on a p) r r' g s.above;
-      once = λ n. omega (arith, s.once n, times_walk n keep_tag (fork (head i a) l r), times_walk n keep_tag (fork (head i a) l' r'), sum_by-IsPermutation (λ (j : Item). cond (n == j.number) 1 0) _ _ all.same);
+      once =
+          λ n. omega (
+            arith,
+            s.once n,
+            times_walk n keep_tag (fork (head i a) l r),
+            times_walk n keep_tag (fork (head i a) l' r'),
+            sum_by-IsPermutation (λ (j : Item). cond (n == j.number) 1 0) _ _ all.same,
+          );
       few = omega (arith, all.few, s.few);
       low = omega (arith, all.low, s.low);
     }

@@ -82,7 +82,8 @@ large_any : (large : ℕ) (ps : List (List Side)) (t : Shape) → AreLargeAt lar
 large_any large [] t k = tt
 large_any large (p ∷ ps) t k = (record { node = k.0.node; there = k.0.there; size = omega arith }, large_any large ps t k.1)
 
-pub same_children : (ps : List (List Side)) (h : Head) (l r l' r' : Shape) → is_here ps ≡ false → AreSameAt (onward Left ps) l' l → AreSameAt (onward Right ps) r' r → AreSameAt ps (fork h l' r') (fork h l r)
+pub same_children : (ps : List (List Side)) (h : Head) (l r l' r' : Shape) → is_here ps ≡ false
+    → AreSameAt (onward Left ps) l' l → AreSameAt (onward Right ps) r' r → AreSameAt ps (fork h l' r') (fork h l r)
 same_children [] h l r l' r' e u v = tt
 same_children ([] ∷ ps) h l r l' r' e u v = absurd (cc)
 same_children ((Left ∷ p) ∷ ps) h l r l' r' e u v = (u.0, same_children ps h l r l' r' e u.1 v)
@@ -103,7 +104,10 @@ spared_same large [] s t k (inr e) = tt
 spared_same large (p ∷ ps) s t k (inr e) = absurd (e.0 (λ many few. absurd (omega (arith, few, large_nodes large p s k.0))))
 
 -- a node with children that are balanced outside the paths, rebuilt where it is to be
-pub rebuilt_if_due_outside : (large : ℕ) (ps : List (List Side)) (h : Head) (l r t : Shape) → RefreshesIfDue large (fork h l r) t → (is_here ps ≡ false → IsBalancedClear large (onward Left ps) l × IsBalancedClear large (onward Right ps) r) → IsBalancedClear large ps t
+pub rebuilt_if_due_outside : (large : ℕ) (ps : List (List Side)) (h : Head) (l r t : Shape)
+    → RefreshesIfDue large (fork h l r) t
+    → (is_here ps ≡ false → IsBalancedClear large (onward Left ps) l × IsBalancedClear large (onward Right ps) r)
+    → IsBalancedClear large ps t
 rebuilt_if_due_outside large ps h l r t (inl k) e = subst (IsBalancedClear large ps) k.1 (λ here. ((λ many few. (k.0 many few).0), (e here).0, (e here).1))
 rebuilt_if_due_outside large ps h l r t (inr k) e = balanced_outside large ps t (criteria_balanced large t k.2)
 
@@ -132,7 +136,8 @@ passed_by large ps s f x = at_pushed (λ z g. AreLargeAt large ps z → IsPassed
     })
 
 -- below it large subtrees are at the paths that go on
-pub large_next : (large m : ℕ) (ps qs : List (List Side)) (s x : Shape) (f : Fork) (side : Side) → Some f ≡ pushed s → AreLargeAt large ps s → m ≡ large_at ps large → qs ≡ onward side ps → x ≡ near side f → AreLargeAt m qs x
+pub large_next : (large m : ℕ) (ps qs : List (List Side)) (s x : Shape) (f : Fork) (side : Side) → Some f ≡ pushed s
+    → AreLargeAt large ps s → m ≡ large_at ps large → qs ≡ onward side ps → x ≡ near side f → AreLargeAt m qs x
 large_next large m ps qs s x f side e k a b d =
     let there = (passed_by large ps s f e k).there side in
     rw (a, b, d) (cond_both (is_here ps) 0 large (λ (z : ℕ). AreLargeAt z (onward side ps) (near side f)) (λ _. large_any large (onward side ps) (near side f) there) (λ _. there))
@@ -145,18 +150,23 @@ pub clear_fork : (large : ℕ) (ps : List (List Side)) (old : Shape) (i : Item) 
     → RefreshesIfDue (large_at ps large) (fork (head i a) l' r') t → IsUpdatedClear large ps old (fork (head i a) l r) (C large) t
 clear_fork large ps old i a ol or l r l' r' t C Cl Cr balanced criteria none there =
     cond_both (is_here ps) 0 large
-    (λ (m : ℕ). IsUpdatedClear m (onward Left ps) ol l (Cl m) l' → IsUpdatedClear m (onward Right ps) or r (Cr m) r' → RefreshesIfDue m (fork (head i a) l' r') t → IsUpdatedClear large ps old (fork (head i a) l r) (C large) t)
+    (λ (m : ℕ). IsUpdatedClear m (onward Left ps) ol l (Cl m) l' → IsUpdatedClear m (onward Right ps) or r (Cr m) r'
+    → RefreshesIfDue m (fork (head i a) l' r') t → IsUpdatedClear large ps old (fork (head i a) l r) (C large) t)
     (λ e u v done. clear_here large ps old (fork (head i a) l r) t (C large) e (unrebuilt 0 u v done none))
     (λ e u v done.
     let children = same_children ps (head i a) l r l' r' e u.same v.same in
     record {
       refresh = refresh_trans (fork (head i a) l r) (fork (head i a) l' r') t (refresh_fork i a l r l' r' u.refresh v.refresh) (rebuilt_if_due_refresh large (fork (head i a) l' r') t done);
-      same = same_then ps t (fork (head i a) l' r') (fork (head i a) l r) (spared_same large ps (fork (head i a) l' r') t (large_all_same large ps (fork (head i a) l r) (fork (head i a) l' r') children there) done) children;
+      same =
+          same_then ps t (fork (head i a) l' r') (fork (head i a) l r) (spared_same large ps (fork (head i a) l' r') t
+          (large_all_same large ps (fork (head i a) l r) (fork (head i a) l' r') children there) done) children;
       unrebuilt = unrebuilt large u v done;
       balance = λ k. let both = balanced e k in rebuilt_if_due_outside large ps (head i a) l' r' t done (λ _. (u.balance both.0, v.balance both.1));
     })
   where
-    unrebuilt : (m : ℕ) → IsUpdatedClear m (onward Left ps) ol l (Cl m) l' → IsUpdatedClear m (onward Right ps) or r (Cr m) r' → RefreshesIfDue m (fork (head i a) l' r') t → C m → t ≡ fork (head i a) l r
+    unrebuilt : (m : ℕ) → IsUpdatedClear m (onward Left ps) ol l (Cl m) l'
+        → IsUpdatedClear m (onward Right ps) or r (Cr m) r' → RefreshesIfDue m (fork (head i a) l' r') t → C m
+        → t ≡ fork (head i a) l r
     unrebuilt m u v (inl k) c = let all = criteria m c in sym k.1 ∙ children_alike (head i a) l r l' r' (u.unrebuilt all.1) (v.unrebuilt all.2)
     unrebuilt m u v (inr k) c = let all = criteria m c in absurd (k.0 (subst (IsNotDue m) (sym (children_alike (head i a) l r l' r' (u.unrebuilt all.1) (v.unrebuilt all.2))) all.0))
 
@@ -170,11 +180,16 @@ large_all_marked large c a (p ∷ ps) t k = (large_after large p t (marked_shape
 pub clear_none_there : (large : ℕ) (c : Choice) (a : Tag) (ps : List (List Side)) (s : Shape) (C : Type 0) → ◌≡◌ {A = Option Reach} None (reach s) → IsUpdatedClear large ps s (marked_shape c a s) C s
 clear_none_there large c a ps s C x = subst (λ t. IsUpdatedClear large ps s t C s) (marked_none c a s x) (clear_plain large ps s s C (λ e. e))
 
-pub clear_missed : (large : ℕ) (c : Choice) (a : Tag) (ps : List (List Side)) (s : Shape) (C : Type 0) (e : Reach) → Some e ≡ reach s → meets c e ≡ false → IsUpdatedClear large ps s (marked_shape c a s) C s
+pub clear_missed : (large : ℕ) (c : Choice) (a : Tag) (ps : List (List Side)) (s : Shape) (C : Type 0) (e : Reach)
+    → Some e ≡ reach s → meets c e ≡ false → IsUpdatedClear large ps s (marked_shape c a s) C s
 clear_missed large c a ps s C e x m = subst (λ t. IsUpdatedClear large ps s t C s) (marked_missed c a s e x m) (clear_plain large ps s s C (λ e. e))
 
-pub clear_covered : (large : ℕ) (c : Choice) (a : Tag) (ps : List (List Side)) (s : Shape) (C : Type 0) (e : Reach) → Some e ≡ reach s → meets c e ≡ true → covers c e ≡ true → IsUpdatedClear large ps s (marked_shape c a s) C (tagged a s)
-clear_covered large c a ps s C e x m k = subst (λ t. IsUpdatedClear large ps s t C (tagged a s)) (marked_covered c a s e x m k) (clear_plain large ps s (tagged a s) C (balanced_clear_tagged large ps a s))
+pub clear_covered : (large : ℕ) (c : Choice) (a : Tag) (ps : List (List Side)) (s : Shape) (C : Type 0) (e : Reach)
+    → Some e ≡ reach s → meets c e ≡ true → covers c e ≡ true
+    → IsUpdatedClear large ps s (marked_shape c a s) C (tagged a s)
+clear_covered large c a ps s C e x m k =
+    subst (λ t. IsUpdatedClear large ps s t C (tagged a s)) (marked_covered c a s e x m k)
+    (clear_plain large ps s (tagged a s) C (balanced_clear_tagged large ps a s))
 
 -- an entered node
 pub marked_joined : (large m : ℕ) (c : Choice) (a : Tag) (ps lefts rights : List (List Side)) (s : Shape) (f : Fork) (l r t : Shape) → IsEntered c a s f → Some f ≡ pushed s → AreLargeAt large ps s
@@ -190,11 +205,15 @@ marked_joined large m c a ps lefts rights s f l r t w x k e el er u v done =
     (passed_by large ps s f x k).balanced w.criteria (criteria_none c (marked_shape c a s)) there (rw (e, el) at u) (rw (e, er) at v) (rw e at done))
 
 -- where there is no watch, both are one
-pub balanced_unwatched : (large : ℕ) (ws : List Watch) (t : Shape) → (length ws == 0) ≡ true → (IsBalancedClear large (paths_in ws) t → IsBalancedBelow large t) × (IsBalancedBelow large t → IsBalancedClear large (paths_in ws) t)
+pub balanced_unwatched : (large : ℕ) (ws : List Watch) (t : Shape) → (length ws == 0) ≡ true
+    → (IsBalancedClear large (paths_in ws) t → IsBalancedBelow large t) ×
+    (IsBalancedBelow large t → IsBalancedClear large (paths_in ws) t)
 balanced_unwatched large [] t e = (clear_balanced large t, balanced_clear large t)
 balanced_unwatched large (w ∷ ws) t e = absurd (omega (arith, eqb-true (length (w ∷ ws)) 0 e))
 
 -- each watch by itself
-pub all_watched-mark : (large : ℕ) (c : Choice) (a : Tag) (ps : List (List Side)) (t new : Shape) → AreLargeAt large ps t → AreSameAt ps new (marked_shape c a t) → AreWatched (λ p. IsWatched p t new (logged_mark c a p t)) ps
+pub all_watched-mark : (large : ℕ) (c : Choice) (a : Tag) (ps : List (List Side)) (t new : Shape)
+    → AreLargeAt large ps t → AreSameAt ps new (marked_shape c a t)
+    → AreWatched (λ p. IsWatched p t new (logged_mark c a p t)) ps
 all_watched-mark large c a [] t new k e = tt
 all_watched-mark large c a (p ∷ ps) t new k e = (watched_new p t (marked_shape c a t) new _ e.0 (watched-mark c a p t k.0.node k.0.there), all_watched-mark large c a ps t new k.1 e.1)

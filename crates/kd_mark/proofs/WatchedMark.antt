@@ -64,7 +64,8 @@ watched_handed (Left ∷ path) q (fork h l r) u s ops e w = record { before = w.
 watched_handed (Right ∷ path) q (fork h l r) u s ops e w = record { before = w.before; after = w.after; was = w.was; is = w.is; size = w.size; fit = w.fit; replayed = w.replayed }
 
 -- what is watched in a child is watched in the tree
-pub watched_child : (side : Side) (path : List Side) (h g : Head) (l r l' r' : Shape) (ops : List Op) → IsWatched path (child side l r) (child side l' r') ops → IsWatched (side ∷ path) (fork h l r) (fork g l' r') ops
+pub watched_child : (side : Side) (path : List Side) (h g : Head) (l r l' r' : Shape) (ops : List Op)
+    → IsWatched path (child side l r) (child side l' r') ops → IsWatched (side ∷ path) (fork h l r) (fork g l' r') ops
 watched_child Left path h g l r l' r' ops w = record { before = w.before; after = w.after; was = w.was; is = w.is; size = w.size; fit = w.fit; replayed = w.replayed }
 watched_child Right path h g l r l' r' ops w = record { before = w.before; after = w.after; was = w.was; is = w.is; size = w.size; fit = w.fit; replayed = w.replayed }
 
@@ -117,8 +118,12 @@ watched-mark c a (side ∷ path) (fork h l r) s e =
     let u = at-tagged path h.pending x s here in
     let ops = handed path h.pending ++ logged_mark c a path (tagged h.pending x) in
     let entered = watched_child side path h top l r l' r' ops (watched_handed path h.pending x (child side l' r') s (logged_mark c a path (tagged h.pending x)) here
-    (subst (λ z. IsWatched path (tagged h.pending x) z (logged_mark c a path (tagged h.pending x))) (child-marked c a h.pending x ∙ child_done (marked_under c a (composed h.pending keep_tag)) side l r) (watched-mark c a path (tagged h.pending x) u.0 u.1))) in
-    elim (meets c (reach_of h l r)) as (λ m. IsWatched (side ∷ path) (fork h l r) (cond m (cond (covers c (reach_of h l r)) (tagged a (tagged keep_tag (fork h l r))) (fork top l' r')) (tagged keep_tag (fork h l r))) (cond (m && not (covers c (reach_of h l r))) ops [])) [
+    (subst (λ z. IsWatched path (tagged h.pending x) z (logged_mark c a path (tagged h.pending x)))
+    (child-marked c a h.pending x ∙ child_done (marked_under c a (composed h.pending keep_tag)) side l r)
+    (watched-mark c a path (tagged h.pending x) u.0 u.1))) in
+    elim (meets c (reach_of h l r)) as (λ m. IsWatched (side ∷ path) (fork h l r)
+    (cond m (cond (covers c (reach_of h l r)) (tagged a (tagged keep_tag (fork h l r))) (fork top l' r'))
+    (tagged keep_tag (fork h l r))) (cond (m && not (covers c (reach_of h l r))) ops [])) [
       | true ↦ elim (covers c (reach_of h l r)) as (λ k. IsWatched (side ∷ path) (fork h l r) (cond k (tagged a (tagged keep_tag (fork h l r))) (fork top l' r')) (cond (true && not k) ops [])) [
         | true ↦ covered
         | false ↦ entered

@@ -23,7 +23,8 @@ some_of [] n e = cc
 some_of (p ∷ ps) n e = cc
 
 -- four lists of paths in a row, of each of which those that go on to the side are known
-pub onward_four : (side : Side) (a b c d w x y z : List (List Side)) → w ≡ onward side a → x ≡ onward side b → y ≡ onward side c → z ≡ onward side d → w ++ (x ++ (y ++ z)) ≡ onward side (a ++ (b ++ (c ++ d)))
+pub onward_four : (side : Side) (a b c d w x y z : List (List Side)) → w ≡ onward side a → x ≡ onward side b
+    → y ≡ onward side c → z ≡ onward side d → w ++ (x ++ (y ++ z)) ≡ onward side (a ++ (b ++ (c ++ d)))
 onward_four side a b c d w x y z e f g h =
     let k = onward-append side a (b ++ (c ++ d)) in
     let l = onward-append side b (c ++ d) in

@@ -13,16 +13,25 @@ use Rattle.kd_mark.proofs.log_mark.+log_mark.Goals as goal
 use Rattle.kd_mark.proofs.log_mark.+log_mark.Goals.{In-Some-reach_of, After-is_met, After-child-next}
 
 -- what is logged of an entered node is what it hands down, and what is logged of its child
-parts : (t : _) (c : After-child-next t) → let F = logged_mark c.args.choice.now c.args.tag in F c.args.sides.now (tagged c.args.pending c.args.tree.now) ≡ handed c.in-Some.rest.now c.then-pending.result ++ F c.in-Some.rest.now (tagged c.then-pending.result c.child-next.result.now)
+parts : (t : _) (c : After-child-next t)
+    → let F = logged_mark c.args.choice.now c.args.tag in
+    F c.args.sides.now (tagged c.args.pending c.args.tree.now)
+    ≡ handed c.in-Some.rest.now c.then-pending.result
+    ++ F c.in-Some.rest.now (tagged c.then-pending.result c.child-next.result.now)
 parts t c =
     let top = c.in-Some-top.top in
     let h : Head = record { item = top.item; axis = top.axis; pending = top.pending } in
     ap (λ q. logged_mark c.args.choice.now c.args.tag q (tagged c.args.pending c.args.tree.now)) c.in-Some.ensures.cases.0
-    ∙ ahead_entered c.args.choice.now c.args.tag c.args.pending c.then-pending.result c.in-Some.side.now c.in-Some.rest.now c.args.tree.now c.child-next.result.now c.in-Some-reach_of.reach h top.left.now top.right.now
-    (sym c.in-Some-reach_of.is ∙ c.reach_of.ensures) (sym c.meets.ensures ∙ c.if-not-meets.false) (sym c.covers.ensures ∙ c.if-covers.false) c.in-Some-top.ensures.some c.then-pending.ensures.value c.child-next.ensures
+    ∙ ahead_entered c.args.choice.now c.args.tag c.args.pending c.then-pending.result c.in-Some.side.now
+    c.in-Some.rest.now c.args.tree.now c.child-next.result.now c.in-Some-reach_of.reach h top.left.now top.right.now
+    (sym c.in-Some-reach_of.is ∙ c.reach_of.ensures) (sym c.meets.ensures ∙ c.if-not-meets.false)
+    (sym c.covers.ensures ∙ c.if-covers.false) c.in-Some-top.ensures.some c.then-pending.ensures.value
+    c.child-next.ensures
 
 -- what is logged of the watched root itself
-root : (t : _) (c : After-is_met t) (b : Bool) → c.is_met.result ≡ b → logged_mark c.args.choice.now c.args.tag c.args.sides.now (tagged c.args.pending c.args.tree.now) ≡ cond b (Mark c.args.choice.now c.args.tag ∷ []) []
+root : (t : _) (c : After-is_met t) (b : Bool) → c.is_met.result ≡ b
+    → logged_mark c.args.choice.now c.args.tag c.args.sides.now (tagged c.args.pending c.args.tree.now)
+    ≡ cond b (Mark c.args.choice.now c.args.tag ∷ []) []
 root t c b e = ahead_root c.args.choice.now c.args.tag c.args.pending c.args.sides.now c.args.tree.now b c.in_default.ensures.cases (sym c.is_met.ensures ∙ e)
 
 pub returns-then-not-is_met-clause-logged : goal.returns-then-not-is_met-clause-logged
@@ -33,7 +42,9 @@ note-requires t c = omega (arith, c.requires, ap length (root t (goal.at.note-re
 
 pub returns-in_default-clause-logged : goal.returns-in_default-clause-logged
 returns-in_default-clause-logged t c =
-    subst (λ ops. OnOk c.note.result (c.note.new.log ≡ c.args.log.now ++ ops)) (sym (root t (goal.at.returns-in_default-clause-logged t c).After-is_met true c.if-not-is_met.false)) c.note.ensures.logged
+    subst (λ ops. OnOk c.note.result (c.note.new.log ≡ c.args.log.now ++ ops))
+    (sym (root t (goal.at.returns-in_default-clause-logged t c).After-is_met true c.if-not-is_met.false))
+    c.note.ensures.logged
 
 pub returns-in_default-reach_of-clause-logged : goal.returns-in_default-reach_of-clause-logged
 returns-in_default-reach_of-clause-logged t c =
@@ -46,16 +57,21 @@ returns-in_default-top-clause-logged t c =
     ∙ ahead_none c.args.choice.now c.args.tag c.args.pending c.in-Some.side.now c.in-Some.rest.now c.args.tree.now (sym (ap reach (c.in_default-top.ensures.none.0 refl))))
 
 -- what is logged where the mark doesn't enter
-passed : (t : _) (c : In-Some-reach_of t) → is_entered c.args.choice.now c.in-Some-reach_of.reach ≡ false → logged_mark c.args.choice.now c.args.tag c.args.sides.now (tagged c.args.pending c.args.tree.now) ≡ []
+passed : (t : _) (c : In-Some-reach_of t) → is_entered c.args.choice.now c.in-Some-reach_of.reach ≡ false
+    → logged_mark c.args.choice.now c.args.tag c.args.sides.now (tagged c.args.pending c.args.tree.now) ≡ []
 passed t c k =
     ap (λ q. logged_mark c.args.choice.now c.args.tag q (tagged c.args.pending c.args.tree.now)) c.in-Some.ensures.cases.0
     ∙ ahead_passed c.args.choice.now c.args.tag c.args.pending c.in-Some.side.now c.in-Some.rest.now c.args.tree.now c.in-Some-reach_of.reach (sym c.in-Some-reach_of.is ∙ c.reach_of.ensures) k
 
 pub returns-then-not-meets-clause-logged : goal.returns-then-not-meets-clause-logged
-returns-then-not-meets-clause-logged t c = logged_none c.args.log.now _ (passed t (goal.at.returns-then-not-meets-clause-logged t c).In-Some-reach_of (and_left _ _ (sym c.meets.ensures ∙ c.if-not-meets.true)))
+returns-then-not-meets-clause-logged t c =
+    logged_none c.args.log.now _ (passed t (goal.at.returns-then-not-meets-clause-logged t c).In-Some-reach_of
+    (and_left _ _ (sym c.meets.ensures ∙ c.if-not-meets.true)))
 
 pub returns-then-covers-clause-logged : goal.returns-then-covers-clause-logged
-returns-then-covers-clause-logged t c = logged_none c.args.log.now _ (passed t (goal.at.returns-then-covers-clause-logged t c).In-Some-reach_of (and_right _ _ (ap not (sym c.covers.ensures ∙ c.if-covers.true))))
+returns-then-covers-clause-logged t c =
+    logged_none c.args.log.now _ (passed t (goal.at.returns-then-covers-clause-logged t c).In-Some-reach_of
+    (and_right _ _ (ap not (sym c.covers.ensures ∙ c.if-covers.true))))
 
 pub note_pending-requires : goal.note_pending-requires
 note_pending-requires t c = room_first _ _ _ _ (parts t (goal.at.note_pending-requires t c).After-child-next) c.requires
@@ -64,7 +80,10 @@ pub log_mark-requires : goal.log_mark-requires
 log_mark-requires t c = (omega (arith, c.in-Some.ensures.cases.1), room_rest _ _ _ _ _ (parts t (goal.at.log_mark-requires t c).After-child-next) c.in_ok-note_pending.ensures.logged c.requires)
 
 pub returns-clause-logged : goal.returns-clause-logged
-returns-clause-logged t c = on_ok_weaker c.log_mark.result (λ e. logged_all _ _ _ _ _ _ (parts t (goal.at.returns-clause-logged t c).After-child-next) c.in_ok-note_pending.ensures.logged e) c.log_mark.ensures.logged
+returns-clause-logged t c =
+    on_ok_weaker c.log_mark.result (λ e. logged_all _ _ _ _ _ _
+    (parts t (goal.at.returns-clause-logged t c).After-child-next) c.in_ok-note_pending.ensures.logged e)
+    c.log_mark.ensures.logged
 
 pub returns-in_default-clause-few : goal.returns-in_default-clause-few
 returns-in_default-clause-few t c = omega (arith, c.note.ensures.few, ap length (root t (goal.at.returns-in_default-clause-few t c).After-is_met true c.if-not-is_met.false))

@@ -25,13 +25,18 @@ updated : (g : _) (c : After-marked_within g) → let plain = marked_shape c.arg
     IfOk c.marked_within.result (λ t. IsUpdatedClear c.args.large (paths_in c.args.watches.now) c.args.tree plain (RebuildsNoneEntered c.args.large c.args.choice.now plain) t)
 updated g c =
     let plain = marked_shape c.args.choice.now c.args.tag c.args.tree in
-    subst (λ (ps : List (List Side)). IfOk c.marked_within.result (λ t. IsUpdatedClear c.args.large ps c.args.tree plain (RebuildsNoneEntered c.args.large c.args.choice.now plain) t)) (watched_before _ _ _ _ c.of-ways.ensures c.as_slice.ensures.value c.log_marks.ensures.begins) c.marked_within.ensures.updated
+    subst (λ (ps : List (List Side)). IfOk c.marked_within.result (λ t. IsUpdatedClear c.args.large ps c.args.tree plain
+    (RebuildsNoneEntered c.args.large c.args.choice.now plain) t))
+    (watched_before _ _ _ _ c.of-ways.ensures c.as_slice.ensures.value c.log_marks.ensures.begins)
+    c.marked_within.ensures.updated
 
 pub marked_within-requires : goal.marked_within-requires
 marked_within-requires g c = subst (λ (ps : List (List Side)). AreLargeAt c.args.large ps c.args.tree) (sym (ways g (goal.at.marked_within-requires g c).After-of-ways)) c.requires.there
 
 pub returns-clause-contents : goal.returns-clause-contents
-returns-clause-contents g c = IfOk-weaker c.marked_within.result _ _ (λ t u. marked_contents _ _ _ t c.size-size.ensures.sound u.refresh) (updated g (goal.at.returns-clause-contents g c).After-marked_within)
+returns-clause-contents g c =
+    IfOk-weaker c.marked_within.result _ _ (λ t u. marked_contents _ _ _ t c.size-size.ensures.sound u.refresh)
+    (updated g (goal.at.returns-clause-contents g c).After-marked_within)
 
 pub returns-clause-numbers : goal.returns-clause-numbers
 returns-clause-numbers g c = IfOk-weaker c.marked_within.result _ _ (λ t u. marked_numbers _ _ _ t u.refresh) (updated g (goal.at.returns-clause-numbers g c).After-marked_within)
@@ -74,7 +79,9 @@ returns-then-is_empty-clause-logged g c =
 pub returns-then-is_empty-clause-watched : goal.returns-then-is_empty-clause-watched
 returns-then-is_empty-clause-watched g c =
     let none = nil_from_length c.args.watches.now (eqb-true _ 0 (sym c.is_empty.ensures ∙ c.if-is_empty.true)) in
-    IfOk-weaker c.marked.result _ _ (λ t _. subst (λ (ws : List Watch). AreWatched (λ p. IsWatched p c.args.tree t (logged_mark c.args.choice.now c.args.tag p c.args.tree)) (paths_in ws)) (sym none) tt) c.marked.ensures.contents
+    IfOk-weaker c.marked.result _ _ (λ t _. subst (λ (ws : List Watch). AreWatched
+    (λ p. IsWatched p c.args.tree t (logged_mark c.args.choice.now c.args.tag p c.args.tree)) (paths_in ws))
+    (sym none) tt) c.marked.ensures.contents
 
 pub returns-then-is_empty-clause-contents : goal.returns-then-is_empty-clause-contents
 returns-then-is_empty-clause-contents g c = c.marked.ensures.contents

@@ -32,10 +32,19 @@ refresh g c =
     ok_both c.rebuilt_with.result _ _ (IsRefresh s) (λ t b ns. built_refresh s t b ns) same all
 
 pub returns-clause-contents : goal.returns-clause-contents
-returns-clause-contents g c = IfOk-weaker c.rebuilt_with.result _ (λ t. contents t ≡ contents c.args.tree) (λ t e. e ∙ ap by_number (append-nil (walk keep_tag c.args.tree))) c.rebuilt_with.ensures.contents
+returns-clause-contents g c =
+    IfOk-weaker c.rebuilt_with.result _ (λ t. contents t ≡ contents c.args.tree)
+    (λ t e. e ∙ ap by_number (append-nil (walk keep_tag c.args.tree))) c.rebuilt_with.ensures.contents
 
 pub returns-clause-levels : goal.returns-clause-levels
-returns-clause-levels g c = c.rebuilt_with.ensures.levels 23 (omega (arith, ap length (append-nil (walk keep_tag c.args.tree)), walk_few keep_tag c.args.tree, c.size-size.ensures.value, c.size-size.ensures.few))
+returns-clause-levels g c =
+    c.rebuilt_with.ensures.levels 23 (omega (
+      arith,
+      ap length (append-nil (walk keep_tag c.args.tree)),
+      walk_few keep_tag c.args.tree,
+      c.size-size.ensures.value,
+      c.size-size.ensures.few,
+    ))
 
 pub returns-clause-refresh : goal.returns-clause-refresh
 returns-clause-refresh g c = refresh g (goal.at.returns-clause-refresh g c).After-rebuilt_with
