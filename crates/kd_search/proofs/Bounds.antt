@@ -18,7 +18,8 @@ pub in_away : (e : Span) (q : Place) (m : List Item) → AreIn e m → AreAway (
 in_away e q m h = All-weaker (λ (i : Item). IsIn e i.point) (λ (i : Item). span_dist2 e q ≤ dist2 q i.point) (λ i inside. reach e i.point q inside) m h
 
 -- what is farther than the bound changes nothing
-pub left_out : (k : ℕ) (q : Place) (r : Option ℕ) (hits : List Hit) (bound d : ℕ) (m : List Item) → IsBound k r hits bound → bound < d → d < 2 ^ 128 → AreAway d q m → hits ≡ take k (put_all (candidates m q r) hits)
+pub left_out : (k : ℕ) (q : Place) (r : Option ℕ) (hits : List Hit) (bound d : ℕ) (m : List Item)
+    → IsBound k r hits bound → bound < d → d < 2 ^ 128 → AreAway d q m → hits ≡ take k (put_all (candidates m q r) hits)
 left_out k q r hits bound d m b l f h = elim (b.beyond d l f) [
   | inl out ↦ held_same k hits b.held ∙ ap (λ z. take k (put_all z hits)) (sym (candidates_beyond d q r m h out))
   | inr full ↦ full_stays k d (candidates m q r) hits full (candidates_away d q r m h)

@@ -172,7 +172,8 @@ either_way c i first second children m k (inr e) =
     ap (λ z. insert_all z m) (sym (ap (λ w. inside_all (kept (i ∷ []) ++ w) c) e ∙ inside-top c i second first))
 
 -- both children, whichever comes first, and then a node's item
-pub in_either_turn : (k : ℕ) (c : Bounds) (i : Item) (first second children whole m one two three : List Item) → AreDistinct whole → whole ≡ kept (i ∷ []) ++ children → IsEitherWay children first second
+pub in_either_turn : (k : ℕ) (c : Bounds) (i : Item) (first second children whole m one two three : List Item)
+    → AreDistinct whole → whole ≡ kept (i ∷ []) ++ children → IsEitherWay children first second
     → one ≡ take k (insert_all (inside_all first c) m) → two ≡ take k (insert_all (inside_all second c) one) → three ≡ take k (insert_all (inside_all (i ∷ []) c) two)
     → three ≡ take k (insert_all (inside_all whole c) m)
 in_either_turn k c i first second children whole m one two three distinct all way e f g =

@@ -31,7 +31,9 @@ best_from-none c [] = refl
 best_from-none c (i ∷ m) = best_from-some c i m
 
 -- the same live items in another order have the same best
-pub best_of_same : (c : Bounds) (xs ys : List Item) → ((i : Item) → Member i xs → Member i ys) → ((i : Item) → Member i ys → Member i xs) → ((i j : Item) → Member i xs → Member j xs → i.number ≡ j.number → i ≡ j) → best_of c xs ≡ best_of c ys
+pub best_of_same : (c : Bounds) (xs ys : List Item) → ((i : Item) → Member i xs → Member i ys)
+    → ((i : Item) → Member i ys → Member i xs)
+    → ((i j : Item) → Member i xs → Member j xs → i.number ≡ j.number → i ≡ j) → best_of c xs ≡ best_of c ys
 best_of_same c [] [] to back once = refl
 best_of_same c [] (y ∷ ys) to back once = absurd (back y (inl refl))
 best_of_same c (x ∷ xs) [] to back once = absurd (to x (inl refl))

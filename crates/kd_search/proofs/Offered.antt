@@ -81,7 +81,9 @@ candidates-append q r xs ys =
     ∙ filter-append (is_within r) (map (hit_of q) (live_items xs)) (map (hit_of q) (live_items ys))
 
 -- a node's candidate and those of its children
-pub candidates-top : (q : Place) (r : Option ℕ) (i : Item) (left right : List Item) → candidates (kept (i ∷ []) ++ (left ++ right)) q r ≡ candidates (i ∷ []) q r ++ (candidates left q r ++ candidates right q r)
+pub candidates-top : (q : Place) (r : Option ℕ) (i : Item) (left right : List Item)
+    → candidates (kept (i ∷ []) ++ (left ++ right)) q r
+    ≡ candidates (i ∷ []) q r ++ (candidates left q r ++ candidates right q r)
 candidates-top q r i left right =
     candidates-append q r (kept (i ∷ [])) (left ++ right)
     ∙ ap (λ z. filter (is_within r) (map (hit_of q) z) ++ candidates (left ++ right) q r) (live-kept i)
@@ -93,7 +95,9 @@ in_order-cons q r i m =
     ap in_order (candidates-append q r (i ∷ []) m) ∙ sym (put_all-nil (candidates (i ∷ []) q r ++ candidates m q r))
     ∙ put_all-append (candidates (i ∷ []) q r) (candidates m q r) [] ∙ ap (put_all (candidates (i ∷ []) q r)) (put_all-nil (candidates m q r))
 
-in_order-insert : (q : Place) (r : Option ℕ) (i : Item) (m : List Item) → ((z : Item) → Member z m → z.number ≡ i.number → ⊥) → in_order (candidates (insert_item i m) q r) ≡ in_order (candidates (i ∷ m) q r)
+in_order-insert : (q : Place) (r : Option ℕ) (i : Item) (m : List Item)
+    → ((z : Item) → Member z m → z.number ≡ i.number → ⊥)
+    → in_order (candidates (insert_item i m) q r) ≡ in_order (candidates (i ∷ m) q r)
 in_order-insert q r i [] k = refl
 in_order-insert q r i (j ∷ m) k =
     elim (nat_lt i.number j.number) as (λ b. in_order (candidates (cond b (i ∷ j ∷ m) (j ∷ insert_item i m)) q r) ≡ in_order (candidates (i ∷ j ∷ m) q r)) [
@@ -126,7 +130,9 @@ member_either h [] ys m = inr m
 member_either h (x ∷ xs) ys (inl e) = inl (inl e)
 member_either h (x ∷ xs) ys (inr m) = elim (member_either h xs ys m) [ inl l ↦ inl (inr l) | inr r ↦ inr r ]
 
-in_turn : (k : ℕ) (top left right hits one two three : List Hit) → HitsApart top left → HitsApart top right → HitsApart right left → one ≡ take k (put_all top hits) → two ≡ take k (put_all left one) → three ≡ take k (put_all right two)
+in_turn : (k : ℕ) (top left right hits one two three : List Hit) → HitsApart top left → HitsApart top right
+    → HitsApart right left → one ≡ take k (put_all top hits) → two ≡ take k (put_all left one)
+    → three ≡ take k (put_all right two)
     → three ≡ take k (put_all (top ++ (left ++ right)) hits)
 in_turn k top left right hits one two three a b d e f g =
     g ∙ ap (λ z. take k (put_all right z)) f ∙ put_all-take k right (put_all left one)
@@ -162,7 +168,9 @@ either_way q r i near far children hits d (inr e) =
     ∙ ap (λ z. put_all z hits) (sym (ap (λ m. candidates (kept (i ∷ []) ++ m) q r) e ∙ candidates-top q r i far near))
 
 -- the near child, then a node's item, then the far child
-pub near_first : (k : ℕ) (q : Place) (r : Option ℕ) (i : Item) (near far children whole : List Item) (hits one two three : List Hit) → AreDistinct whole → whole ≡ kept (i ∷ []) ++ children → IsEitherWay children near far
+pub near_first : (k : ℕ) (q : Place) (r : Option ℕ) (i : Item) (near far children whole : List Item)
+    (hits one two three : List Hit) → AreDistinct whole → whole ≡ kept (i ∷ []) ++ children
+    → IsEitherWay children near far
     → one ≡ take k (put_all (candidates near q r) hits) → two ≡ take k (put_all (candidates (i ∷ []) q r) one) → three ≡ take k (put_all (candidates far q r) two)
     → three ≡ take k (put_all (candidates whole q r) hits)
 near_first k q r i near far children whole hits one two three distinct all way e f g =

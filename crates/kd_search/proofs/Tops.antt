@@ -40,7 +40,9 @@ pub record IsSplit (m : List Item) (q : Place) (gap : ℕ) (i : Item) (one other
   pub item : gap ≤ dist2 q i.point
   pub far : AreAway gap q other
 
-split_pending : (t : Shape) (pending : Tag) (top : Top) (q : Place) (s : Sides) → t ≡ fork (record { item = top.item; axis = top.axis; pending = top.pending }) top.left.now top.right.now → IsSound t → AreSidesOf top q s
+split_pending : (t : Shape) (pending : Tag) (top : Top) (q : Place) (s : Sides)
+    → t ≡ fork (record { item = top.item; axis = top.axis; pending = top.pending }) top.left.now top.right.now
+    → IsSound t → AreSidesOf top q s
     → IsSplit (walk pending t) q s.gap (relabelled pending top.item) (walk (composed top.pending pending) s.near.now) (walk (composed top.pending pending) s.far.now)
 split_pending t pending top q s e sound is =
     let h : Head = record { item = top.item; axis = top.axis; pending = top.pending } in
@@ -71,7 +73,9 @@ split_pending t pending top q s e sound is =
     ]
 
 -- a tree round a point, with what its item is made and what is pending for its children
-pub split : (t : Shape) (pending : Tag) (top : Top) (q : Place) (s : Sides) (i : Item) (below : Tag) → t ≡ fork (record { item = top.item; axis = top.axis; pending = top.pending }) top.left.now top.right.now → IsSound t → AreSidesOf top q s
+pub split : (t : Shape) (pending : Tag) (top : Top) (q : Place) (s : Sides) (i : Item) (below : Tag)
+    → t ≡ fork (record { item = top.item; axis = top.axis; pending = top.pending }) top.left.now top.right.now
+    → IsSound t → AreSidesOf top q s
     → i ≡ relabelled pending top.item → below ≡ composed top.pending pending → IsSplit (walk pending t) q s.gap i (walk below s.near.now) (walk below s.far.now)
 split t pending top q s i below e sound is own under = rw (own, under) (split_pending t pending top q s e sound is)
 

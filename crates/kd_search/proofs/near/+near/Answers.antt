@@ -18,7 +18,9 @@ add_from-returns-then-found-dist2-clause-found t c =
     let query = c.args.query.now in
     let items = walk c.args.pending c.args.tree.now in
     let away = in_away c.in-Some.extent query.point items (walk_in_extent (Some c.in-Some.extent) c.args.pending c.args.tree.now c.in-Some.ensures.value) in
-    left_out query.k query.point query.within c.args.found.now.hits c.args.found.now.bound c.dist2.result items c.requires c.if-found-dist2.true (omega arith) (subst (λ d. AreAway d query.point items) (sym c.dist2.ensures.value) away)
+    left_out query.k query.point query.within c.args.found.now.hits c.args.found.now.bound c.dist2.result items
+    c.requires c.if-found-dist2.true (omega arith)
+    (subst (λ d. AreAway d query.point items) (sym c.dist2.ensures.value) away)
 
 pub add_under-returns-then-found-sides-clause-found : goal.add_under-returns-then-found-sides-clause-found
 add_under-returns-then-found-sides-clause-found t c =
@@ -33,7 +35,8 @@ add_under-returns-then-found-sides-clause-found t c =
     let bound = c.in_ok-add_from.ensures.bound in
     let Far = λ (i : Item). sides.gap ≤ dist2 query.point i.point in
     let own : AreAway sides.gap query.point (item ∷ []) = All-cons Far item [] is.item (All-nil Far) in
-    near_first query.k query.point query.within item (walk below sides.near.now) (walk below sides.far.now) is.children (walk pending c.args.tree.now) c.args.found.now.hits found.hits found.hits found.hits
+    near_first query.k query.point query.within item (walk below sides.near.now) (walk below sides.far.now) is.children
+    (walk pending c.args.tree.now) c.args.found.now.hits found.hits found.hits found.hits
     (walk_distinct pending c.args.tree.now c.size-size.ensures.sound) is.items is.turned c.in_ok-add_from.ensures.found
     (left_out query.k query.point query.within found.hits found.bound sides.gap (item ∷ []) bound c.if-found-sides.true (omega arith) own)
     (left_out query.k query.point query.within found.hits found.bound sides.gap (walk below sides.far.now) bound c.if-found-sides.true (omega arith) is.far)

@@ -4,7 +4,9 @@ use Rattle.kd_search.proofs.Bounds.{bound_stays, bound_drawn}
 use Rattle.kd_search.proofs.near.Query.put.Goals as goal
 
 pub returns-then-held-self-clause-bound : goal.returns-then-held-self-clause-bound
-returns-then-held-self-clause-bound c = bound_stays c.args.self.now.k c.args.self.now.within c.args.hit c.args.found.now.hits _ c.args.found.now.bound c.requires.bound c.requires.near c.in_ok-put.ensures.ok
+returns-then-held-self-clause-bound c =
+    bound_stays c.args.self.now.k c.args.self.now.within c.args.hit c.args.found.now.hits _ c.args.found.now.bound
+    c.requires.bound c.requires.near c.in_ok-put.ensures.ok
 
 pub returns-clause-bound : goal.returns-clause-bound
 returns-clause-bound c =
