@@ -100,7 +100,8 @@ pub ends_here : (path p : List Side) → Decides (is_here (beyond path (p ∷ []
 ends_here path p = (only_here path p, λ is. ap (λ (z : List Side). is_here (beyond path (z ∷ []))) (is ∙ sym (append-nil path)) ∙ ap is_here (beyond_rest path []))
 
 -- whether a path leads on, from whether it begins with this one
-pub leads_on : (path p : List Side) (b : Bool) → (b ≡ true → (rest : List Side) × (p ≡ path ++ rest)) → ((rest : List Side) → p ≡ path ++ rest → b ≡ true) → b ≡ not (is_none_left (beyond path (p ∷ [])))
+pub leads_on : (path p : List Side) (b : Bool) → (b ≡ true → (rest : List Side) × (p ≡ path ++ rest))
+    → ((rest : List Side) → p ≡ path ++ rest → b ≡ true) → b ≡ not (is_none_left (beyond path (p ∷ [])))
 leads_on path p true begins other =
     let k = begins refl in sym (ap (λ (z : List Side). not (is_none_left (beyond path (z ∷ [])))) k.1 ∙ ap (λ (z : List (List Side)). not (is_none_left z)) (beyond_rest path k.0))
 leads_on path p false begins other = sym (ap (λ (z : List (List Side)). not (is_none_left z)) (beyond_other path p (λ rest is. let no = other rest is in cc)))

@@ -88,7 +88,10 @@ walk_ranged a (fork h l r) e k =
     let outer = widened_parts (widened (one_number n) (range l)) (range r) e k.0 k.1 in
     let inner = widened_parts (one_number n) (range l) e outer.0 outer.1 in
     let Q : Item → Type 0 = λ i. IsInRange e i.number in
-    All-append Q _ _ (All-from_recursion Q (kept (relabelled a h.item ∷ [])) (own (inner.0, inner.1) (apply a h.item.label))) (All-append Q _ _ (walk_ranged (composed h.pending a) l e inner.2) (walk_ranged (composed h.pending a) r e outer.2))
+    All-append Q _ _
+    (All-from_recursion Q (kept (relabelled a h.item ∷ [])) (own (inner.0, inner.1) (apply a h.item.label)))
+    (All-append Q _ _ (walk_ranged (composed h.pending a) l e inner.2)
+    (walk_ranged (composed h.pending a) r e outer.2))
   where
     own : IsInRange e h.item.number → (x : Label) → AllByRecursion (λ (i : Item). IsInRange e i.number) (kept (record h.item { label = x } ∷ []))
     own p Live = (p, tt)

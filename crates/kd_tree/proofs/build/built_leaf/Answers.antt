@@ -32,4 +32,6 @@ of_one i l r d e = rw (d, e) (
 
 pub returns-clause-shape : goal.returns-clause-shape
 returns-clause-shape g c =
-    IfOk-weaker c.filled.result _ (IsBuilt (c.args.item ∷ [])) (λ t e. subst (IsBuilt (c.args.item ∷ [])) (sym (e ∙ c.made-node.ensures.shape)) (of_one c.args.item _ _ c.empty.ensures c.empty-2.ensures)) c.filled.ensures
+    IfOk-weaker c.filled.result _ (IsBuilt (c.args.item ∷ [])) (λ t e. subst (IsBuilt (c.args.item ∷ []))
+    (sym (e ∙ c.made-node.ensures.shape)) (of_one c.args.item _ _ c.empty.ensures c.empty-2.ensures))
+    c.filled.ensures

@@ -9,7 +9,10 @@ use Rattle.kd_tree.specs.Build.{IsSplit, key_of, precedes, widest}
 use Rattle.kd_tree.proofs.build.halves.Goals as goal
 
 -- parts that were searched by the coordinate on the axis k, which is the widest
-split_on : (k a : Axis) (xs f : List Item) (x : Item) (b : List Item) → a ≡ k → a ≡ widest xs → IsPermutation xs (f ++ x ∷ b) → length f ≡ (length xs - 1) / 2 → All (λ i. precedes k x i ≡ false) f × All (λ i. precedes k i x ≡ false) b → IsSplit xs (record { item = x; axis = a; pending = keep_tag }) f b
+split_on : (k a : Axis) (xs f : List Item) (x : Item) (b : List Item) → a ≡ k → a ≡ widest xs
+    → IsPermutation xs (f ++ x ∷ b) → length f ≡ (length xs - 1) / 2
+    → All (λ i. precedes k x i ≡ false) f × All (λ i. precedes k i x ≡ false) b
+    → IsSplit xs (record { item = x; axis = a; pending = keep_tag }) f b
 split_on k a xs f x b e w same half around = record {
   axis = w;
   same = same;

@@ -11,12 +11,16 @@ whole c = ap (λ (p : List Side). first_free c.args.least (beyond p c.args.excep
 
 pub returns-then-seek-clause-criteria : goal.returns-then-seek-clause-criteria
 returns-then-seek-clause-criteria c =
-    let some : first_free c.args.least c.args.except.now c.args.self.now ≡ Some c.seek.new.path = sym (whole c.before) ∙ found_path _ _ _ _ c.seek.ensures.found c.root-path.ensures c.seek.ensures.path c.if-seek.true in
+    let some : first_free c.args.least c.args.except.now c.args.self.now ≡ Some c.seek.new.path =
+    sym (whole c.before)
+    ∙ found_path _ _ _ _ c.seek.ensures.found c.root-path.ensures c.seek.ensures.path c.if-seek.true in
     ((λ e. cc), (λ k. let none = none_of_clear c.args.least c.args.except.now c.args.self.now k in cc))
 
 pub returns-then-seek-clause-first : goal.returns-then-seek-clause-first
 returns-then-seek-clause-first c =
-    let some : first_free c.args.least c.args.except.now c.args.self.now ≡ Some c.seek.new.path = sym (whole c.before) ∙ found_path _ _ _ _ c.seek.ensures.found c.root-path.ensures c.seek.ensures.path c.if-seek.true in
+    let some : first_free c.args.least c.args.except.now c.args.self.now ≡ Some c.seek.new.path =
+    sym (whole c.before)
+    ∙ found_path _ _ _ _ c.seek.ensures.found c.root-path.ensures c.seek.ensures.path c.if-seek.true in
     first_free_is c.args.least c.args.except.now c.args.self.now c.seek.new.path some
 
 pub returns-else-seek-clause-criteria : goal.returns-else-seek-clause-criteria

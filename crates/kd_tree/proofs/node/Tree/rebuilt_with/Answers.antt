@@ -34,7 +34,13 @@ pub built_in-requires-clause-distinct : goal.built_in-requires-clause-distinct
 built_in-requires-clause-distinct g c = subst AreDistinct (sym (all g (goal.at.built_in-requires-clause-distinct g c).After-as_mut_slice)) c.requires.distinct
 
 pub built_in-requires-clause-few : goal.built_in-requires-clause-few
-built_in-requires-clause-few g c = omega (arith, c.requires.few, ap length (all g (goal.at.built_in-requires-clause-few g c).After-as_mut_slice), length-append (walk keep_tag c.args.self) c.args.more.now)
+built_in-requires-clause-few g c =
+    omega (
+      arith,
+      c.requires.few,
+      ap length (all g (goal.at.built_in-requires-clause-few g c).After-as_mut_slice),
+      length-append (walk keep_tag c.args.self) c.args.more.now,
+    )
 
 of_items : (g : _) (c : After-built_in g) → c.as_mut_slice.result.now ≡ walk keep_tag c.args.self ++ c.args.more.now → IfOk c.built_in.result (IsBuilt (walk keep_tag c.args.self ++ c.args.more.now))
 of_items g c is = subst (λ (xs : List Item). IfOk c.built_in.result (IsBuilt xs)) is c.built_in.ensures.shape
@@ -54,25 +60,35 @@ pub returns-clause-contents : goal.returns-clause-contents
 returns-clause-contents g c =
     let xs = walk keep_tag c.args.self ++ c.args.more.now in
     IfOk-weaker c.built_in.result (IsBuilt xs) (λ t. contents t ≡ by_number xs)
-    (λ t k. contents-built t xs k (kept_with c.args.self c.args.more.now c.requires.kept) c.requires.distinct) (of_items g (goal.at.returns-clause-contents g c).After-built_in (all g (goal.at.returns-clause-contents g c).After-as_mut_slice))
+    (λ t k. contents-built t xs k (kept_with c.args.self c.args.more.now c.requires.kept) c.requires.distinct)
+    (of_items g (goal.at.returns-clause-contents g c).After-built_in
+    (all g (goal.at.returns-clause-contents g c).After-as_mut_slice))
 
 pub returns-clause-criteria : goal.returns-clause-criteria
 returns-clause-criteria g c =
     let xs = walk keep_tag c.args.self ++ c.args.more.now in
     IfOk-weaker c.built_in.result (IsBuilt xs) (λ t. AllMeetCriteria 10 t)
-    (λ t k. built_criteria t xs k (kept_with c.args.self c.args.more.now c.requires.kept)) (of_items g (goal.at.returns-clause-criteria g c).After-built_in (all g (goal.at.returns-clause-criteria g c).After-as_mut_slice))
+    (λ t k. built_criteria t xs k (kept_with c.args.self c.args.more.now c.requires.kept))
+    (of_items g (goal.at.returns-clause-criteria g c).After-built_in
+    (all g (goal.at.returns-clause-criteria g c).After-as_mut_slice))
 
 pub returns-clause-numbers : goal.returns-clause-numbers
 returns-clause-numbers g c =
     let xs = walk keep_tag c.args.self ++ c.args.more.now in
-    IfOk-weaker c.built_in.result (IsBuilt xs) (λ t. IsPermutation (map (λ (i : Item). i.number) xs) (numbers t)) (λ t k. built_numbers t xs k) (of_items g (goal.at.returns-clause-numbers g c).After-built_in (all g (goal.at.returns-clause-numbers g c).After-as_mut_slice))
+    IfOk-weaker c.built_in.result (IsBuilt xs) (λ t. IsPermutation (map (λ (i : Item). i.number) xs) (numbers t))
+    (λ t k. built_numbers t xs k) (of_items g (goal.at.returns-clause-numbers g c).After-built_in
+    (all g (goal.at.returns-clause-numbers g c).After-as_mut_slice))
 
 pub returns-clause-nodes : goal.returns-clause-nodes
 returns-clause-nodes g c =
     let xs = walk keep_tag c.args.self ++ c.args.more.now in
-    IfOk-weaker c.built_in.result (IsBuilt xs) (λ t. nodes t ≡ length xs) (λ t k. built_nodes t xs k) (of_items g (goal.at.returns-clause-nodes g c).After-built_in (all g (goal.at.returns-clause-nodes g c).After-as_mut_slice))
+    IfOk-weaker c.built_in.result (IsBuilt xs) (λ t. nodes t ≡ length xs) (λ t k. built_nodes t xs k)
+    (of_items g (goal.at.returns-clause-nodes g c).After-built_in
+    (all g (goal.at.returns-clause-nodes g c).After-as_mut_slice))
 
 pub returns-clause-levels : goal.returns-clause-levels
 returns-clause-levels g c n short =
     let xs = walk keep_tag c.args.self ++ c.args.more.now in
-    IfOk-weaker c.built_in.result (IsBuilt xs) (λ t. levels t ≤ n) (λ t k. built_levels t xs n k short) (of_items g (goal.at.returns-clause-levels g c).After-built_in (all g (goal.at.returns-clause-levels g c).After-as_mut_slice))
+    IfOk-weaker c.built_in.result (IsBuilt xs) (λ t. levels t ≤ n) (λ t k. built_levels t xs n k short)
+    (of_items g (goal.at.returns-clause-levels g c).After-built_in
+    (all g (goal.at.returns-clause-levels g c).After-as_mut_slice))
