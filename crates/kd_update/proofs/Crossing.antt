@@ -72,7 +72,9 @@ pub whole_moved : (s t : Shape) (is js : List Item) → IsPermutation is js → 
 whole_moved s t is js m k = record { grown = grown_moved s t is js m k.grown; many = omega (arith, k.many, length_permutation is js m) }
 
 -- the first nodes of a tree
-pub whole_first : (s t : Shape) (is : List Item) → s ≡ leaf → AreLive is → length is < 4194304 → IsBuilt (walk keep_tag s ++ is) t → IsPermutation (map (λ i. i.number) (walk keep_tag s ++ is)) (numbers t) → nodes t ≡ length (walk keep_tag s ++ is) → IsWholeGrown leaf is t
+pub whole_first : (s t : Shape) (is : List Item) → s ≡ leaf → AreLive is → length is < 4194304
+    → IsBuilt (walk keep_tag s ++ is) t → IsPermutation (map (λ i. i.number) (walk keep_tag s ++ is)) (numbers t)
+    → nodes t ≡ length (walk keep_tag s ++ is) → IsWholeGrown leaf is t
 whole_first s t is none live short b ns n = record { grown = grown_first s t is none live short b ns; many = omega (arith, n, length-append (walk keep_tag s) is) }
 
 pub whole_leaf : (i : Item) (axis : Axis) (t : Shape) → i.label ≡ Live → t ≡ leaf_of i axis → IsWholeGrown leaf (i ∷ []) t
@@ -90,7 +92,9 @@ step_from s f n is js xs ys x k m l r e e' = record {
   beside = rw (e, e') (record { left = l; right = r });
 }
 
-pub whole_step : (s : Shape) (is : List Item) (f : Fork) (xs ys : List Item) (l r : Shape) → Some f ≡ pushed s → IsStep s is f xs ys → IsWholeGrown f.left xs l → IsWholeGrown f.right ys r → IsWholeGrown s is (fork (head f.item f.axis) l r)
+pub whole_step : (s : Shape) (is : List Item) (f : Fork) (xs ys : List Item) (l r : Shape) → Some f ≡ pushed s
+    → IsStep s is f xs ys → IsWholeGrown f.left xs l → IsWholeGrown f.right ys r
+    → IsWholeGrown s is (fork (head f.item f.axis) l r)
 whole_step s is f xs ys l r x k left right = record {
   grown = step_grown 0 s is f xs ys l r (fork (head f.item f.axis) l r) k left.grown right.grown (inl ((λ many few. absurd (omega (arith, few))), refl));
   many = omega (arith, left.many, right.many, pushed_nodes s f x, length_permutation is (xs ++ ys) k.moved, length-append xs ys);
@@ -149,13 +153,23 @@ met_root s t is k w = record {
 filter_short : (p : Item → Bool) (xs : List Item) → length (filter p xs) ≤ length xs
 filter_short p xs = omega (arith, length-filter p xs, count_by-le-length p xs)
 
-come_side : (p : Item → Bool) (k a b is : List Item) (s : Shape) → walk keep_tag s ≡ a → AreLive is → AreDistinct ((k ++ (a ++ b)) ++ is) → length (k ++ (a ++ b)) + length is ≤ 4194304 → MayCome s (filter p is)
+come_side : (p : Item → Bool) (k a b is : List Item) (s : Shape) → walk keep_tag s ≡ a → AreLive is
+    → AreDistinct ((k ++ (a ++ b)) ++ is) → length (k ++ (a ++ b)) + length is ≤ 4194304 → MayCome s (filter p is)
 come_side p k a b is s e live d room = record {
   live = All-filter p IsLive is live;
   distinct = record {
     once = λ n.
         let g : Item → ℕ = λ i. cond (n == i.number) 1 0 in
-        omega (arith, d.once n, filter_counts n p is, sum_by-append g (k ++ (a ++ b)) is, sum_by-append g k (a ++ b), sum_by-append g a b, sum_by-append g (walk keep_tag s) (filter p is), ap (λ (xs : List Item). count_by (λ i. n == i.number) xs) e);
+        omega (
+          arith,
+          d.once n,
+          filter_counts n p is,
+          sum_by-append g (k ++ (a ++ b)) is,
+          sum_by-append g k (a ++ b),
+          sum_by-append g a b,
+          sum_by-append g (walk keep_tag s) (filter p is),
+          ap (λ (xs : List Item). count_by (λ i. n == i.number) xs) e,
+        );
   };
   room = omega (arith, room, filter_short p is, length-append k (a ++ b), length-append a b, ap length e);
 }
@@ -184,12 +198,15 @@ watched_scan (side ∷ path) (i ∷ is) (fork h l r) (fork g l' r') q e k m =
     let xs = going side h.axis h.item.point (i ∷ is) in
     let come = come_on side (λ x. goes_to side (goes_left h.axis x.point h.item.point)) h l r (i ∷ is) k in
     watched_child side path h g l r l' r' (handed path h.pending ++ logged_scan path xs (tagged h.pending (child side l r)))
-    (watched_handed path h.pending (child side l r) (child side l' r') q (logged_scan path xs (tagged h.pending (child side l r))) (at_child side path h l r q e) (watched_scan path xs (tagged h.pending (child side l r)) (child side l' r') u.0 u.1 come m))
+    (watched_handed path h.pending (child side l r) (child side l' r') q
+    (logged_scan path xs (tagged h.pending (child side l r))) (at_child side path h l r q e)
+    (watched_scan path xs (tagged h.pending (child side l r)) (child side l' r') u.0 u.1 come m))
 
 pub piece_comes : (large : ℕ) (s : Shape) (is : List Item) → IsPiece large s is → MayCome s is
 piece_comes large s is p = record { live = p.live; distinct = p.distinct; room = omega (arith, p.few, walk_few keep_tag s) }
 
-pub all_watched_scan : (large : ℕ) (ps : List (List Side)) (is : List Item) (s t : Shape) → AreLargeAt large ps s → MayCome s is → AreMet ps is s t → AreWatched (λ p. IsWatched p s t (logged_scan p is s)) ps
+pub all_watched_scan : (large : ℕ) (ps : List (List Side)) (is : List Item) (s t : Shape) → AreLargeAt large ps s
+    → MayCome s is → AreMet ps is s t → AreWatched (λ p. IsWatched p s t (logged_scan p is s)) ps
 all_watched_scan large [] is s t k m a = tt
 all_watched_scan large (p ∷ ps) is s t k m a = (watched_scan p is s t k.0.node k.0.there m a.0, all_watched_scan large ps is s t k.1 m a.1)
 
@@ -244,24 +261,31 @@ filter_no p (i ∷ xs) k = ap (λ b. cond b (i ∷ filter p xs) (filter p xs)) k
 first_parted : (p : Item → Bool) (is xs ys : List Item) → AreDistinct is → IsPermutation is (xs ++ ys) → All (λ i. p i ≡ true) xs → All (λ i. p i ≡ false) ys → IsPermutation (filter p is) xs
 first_parted p is xs ys d m a b =
     let same : filter p (xs ++ ys) ≡ xs =
-    filter-append p xs ys ∙ ap (λ z. z ++ filter p ys) (filter_every p xs (recursion_from_All (λ (i : Item). p i ≡ true) xs a)) ∙ ap (λ z. xs ++ z) (filter_no p ys (recursion_from_All (λ (i : Item). p i ≡ false) ys b)) ∙ append-nil xs in
+    filter-append p xs ys
+    ∙ ap (λ z. z ++ filter p ys) (filter_every p xs (recursion_from_All (λ (i : Item). p i ≡ true) xs a))
+    ∙ ap (λ z. xs ++ z) (filter_no p ys (recursion_from_All (λ (i : Item). p i ≡ false) ys b)) ∙ append-nil xs in
     subst (λ z. IsPermutation (filter p is) z) same (filter_moved p is (xs ++ ys) d m)
 
 last_parted : (p : Item → Bool) (is xs ys : List Item) → AreDistinct is → IsPermutation is (xs ++ ys) → All (λ i. p i ≡ false) xs → All (λ i. p i ≡ true) ys → IsPermutation (filter p is) ys
 last_parted p is xs ys d m a b = first_parted p is ys xs d (IsPermutation-trans _ _ _ m (IsPermutation-append_comm xs ys)) b a
 
-met_fork : (ps : List (List Side)) (i : Item) (is : List Item) (h : Head) (l0 r0 l r : Shape) (xs ys : List Item) → AreDistinct (i ∷ is) → IsPermutation (i ∷ is) (xs ++ ys) → GoBeside h.item h.axis xs ys → is_here ps ≡ false
+met_fork : (ps : List (List Side)) (i : Item) (is : List Item) (h : Head) (l0 r0 l r : Shape) (xs ys : List Item)
+    → AreDistinct (i ∷ is) → IsPermutation (i ∷ is) (xs ++ ys) → GoBeside h.item h.axis xs ys → is_here ps ≡ false
     → AreMet (onward Left ps) xs (tagged h.pending l0) l → AreMet (onward Right ps) ys (tagged h.pending r0) r → AreMet ps (i ∷ is) (fork h l0 r0) (fork (head h.item h.axis) l r)
 met_fork ps i is h l0 r0 l r xs ys d m b e u v =
     let p : Item → Bool = λ x. goes_left h.axis x.point h.item.point in
     let q : Item → Bool = λ x. not (p x) in
     let pl = first_parted p (i ∷ is) xs ys d m b.left b.right in
-    let pr = last_parted q (i ∷ is) xs ys d m (All-weaker (λ x. p x ≡ true) (λ x. q x ≡ false) (λ x k. ap not k) xs b.left) (All-weaker (λ x. p x ≡ false) (λ x. q x ≡ true) (λ x k. ap not k) ys b.right) in
+    let pr =
+    last_parted q (i ∷ is) xs ys d m (All-weaker (λ x. p x ≡ true) (λ x. q x ≡ false) (λ x k. ap not k) xs b.left)
+    (All-weaker (λ x. p x ≡ false) (λ x. q x ≡ true) (λ x k. ap not k) ys b.right) in
     met_children ps i is h (head h.item h.axis) l0 r0 l r e
     (all_met_moved (onward Left ps) (filter p (i ∷ is)) xs (tagged h.pending l0) l (distinct_filter p (i ∷ is) d) pl u)
     (all_met_moved (onward Right ps) (filter q (i ∷ is)) ys (tagged h.pending r0) r (distinct_filter q (i ∷ is) d) pr v)
 
-met_step : (ps : List (List Side)) (s : Shape) (is : List Item) (f : Fork) (xs ys : List Item) (l r : Shape) → Some f ≡ pushed s → AreDistinct is → (is ≡ [] → ⊥) → IsPermutation is (xs ++ ys) → GoBeside f.item f.axis xs ys → is_here ps ≡ false
+met_step : (ps : List (List Side)) (s : Shape) (is : List Item) (f : Fork) (xs ys : List Item) (l r : Shape)
+    → Some f ≡ pushed s → AreDistinct is → (is ≡ [] → ⊥) → IsPermutation is (xs ++ ys) → GoBeside f.item f.axis xs ys
+    → is_here ps ≡ false
     → AreMet (onward Left ps) xs f.left l → AreMet (onward Right ps) ys f.right r → AreMet ps is s (fork (head f.item f.axis) l r)
 met_step ps s [] f xs ys l r x d some m b e u v = absurd (some refl)
 met_step ps s (i ∷ is) f xs ys l r x d some m b e u v =
@@ -271,7 +295,9 @@ met_step ps s (i ∷ is) f xs ys l r x d some m b e u v =
 -- crossings
 
 pub crossed_free : (large : ℕ) (ps : List (List Side)) (s t : Shape) (is : List Item) → ps ≡ [] → IsGrown s is t → (IsBalancedBelow large s → IsBalancedBelow large t) → IsCrossed large ps s is t
-crossed_free large ps s t is e k balanced = subst (λ (qs : List (List Side)). IsCrossed large qs s is t) (sym e) (record { grown = k; met = tt; balance = λ b. balanced_clear large t (balanced (clear_balanced large s b)) })
+crossed_free large ps s t is e k balanced =
+    subst (λ (qs : List (List Side)). IsCrossed large qs s is t) (sym e)
+    (record { grown = k; met = tt; balance = λ b. balanced_clear large t (balanced (clear_balanced large s b)) })
 
 pub crossed_here : (large : ℕ) (ps : List (List Side)) (s t : Shape) (is : List Item) → AreAllApart ps → is_here ps ≡ true → IsWholeGrown s is t → IsCrossed large ps s is t
 crossed_here large ps s t is a e k = record {
@@ -283,8 +309,10 @@ crossed_here large ps s t is a e k = record {
 pub crossed_none : (large : ℕ) (ps : List (List Side)) (s : Shape) (is : List Item) → is ≡ [] → is_here ps ≡ false → IsCrossed large ps s is s
 crossed_none large ps s is e n = subst (λ (xs : List Item). IsCrossed large ps s xs s) (sym e) (record { grown = grown_none s; met = all_met_none ps s n; balance = λ k. k })
 
-pub crossed_step : (large : ℕ) (ps : List (List Side)) (s : Shape) (is : List Item) (f : Fork) (xs ys : List Item) (l r : Shape) → Some f ≡ pushed s → IsStep s is f xs ys → IsPiece large s is → AreLargeAt large ps s
-    → is_here ps ≡ false → (ps ≡ [] → ⊥) → (is ≡ [] → ⊥) → IsCrossed large (onward Left ps) f.left xs l → IsCrossed large (onward Right ps) f.right ys r → IsCrossed large ps s is (fork (head f.item f.axis) l r)
+pub crossed_step : (large : ℕ) (ps : List (List Side)) (s : Shape) (is : List Item) (f : Fork) (xs ys : List Item)
+    (l r : Shape) → Some f ≡ pushed s → IsStep s is f xs ys → IsPiece large s is → AreLargeAt large ps s
+    → is_here ps ≡ false → (ps ≡ [] → ⊥) → (is ≡ [] → ⊥) → IsCrossed large (onward Left ps) f.left xs l
+    → IsCrossed large (onward Right ps) f.right ys r → IsCrossed large ps s is (fork (head f.item f.axis) l r)
 crossed_step large ps s is f xs ys l r x k p there here any some u v =
     let new = fork (head f.item f.axis) l r in
     let met = met_step ps s is f xs ys l r x (distinct_back (walk keep_tag s) is p.distinct) some k.moved k.beside here u.met v.met in

@@ -121,7 +121,8 @@ built_from s t is ns n k =
     among_append (numbers_in (walk keep_tag s)) (numbers s) (numbers_in is) (numbers_in is) (left_among s) (among_same (numbers_in is)) n
     (subst (λ z. Contains z n) (map-append (λ (i : Item). i.number) (walk keep_tag s) is) (Contains-permutation _ _ n (IsPermutation-sym _ _ ns) k))
 
-built_grown : (s t : Shape) (is : List Item) → AreLive is → levels t ≤ levels s + 22 → IsBuilt (walk keep_tag s ++ is) t → IsPermutation (map (λ i. i.number) (walk keep_tag s ++ is)) (numbers t) → IsGrown s is t
+built_grown : (s t : Shape) (is : List Item) → AreLive is → levels t ≤ levels s + 22 → IsBuilt (walk keep_tag s ++ is) t
+    → IsPermutation (map (λ i. i.number) (walk keep_tag s ++ is)) (numbers t) → IsGrown s is t
 built_grown s t is live low b ns = record {
   same = built_walk t (walk keep_tag s ++ is) b (kept_with s is live);
   few = omega (arith, built_nodes t (walk keep_tag s ++ is) b, length-append (walk keep_tag s) is, walk_few keep_tag s);
@@ -130,14 +131,18 @@ built_grown s t is live low b ns = record {
 }
 
 -- what remains and the items, built by medians: where the tree had a node, there is room for that
-pub grown_anew : (s t : Shape) (is : List Item) → AreLive is → length (walk keep_tag s) + length is ≤ 4194304 → 1 ≤ nodes s + levels s → IsBuilt (walk keep_tag s ++ is) t → IsPermutation (map (λ i. i.number) (walk keep_tag s ++ is)) (numbers t) → IsGrown s is t
+pub grown_anew : (s t : Shape) (is : List Item) → AreLive is → length (walk keep_tag s) + length is ≤ 4194304
+    → 1 ≤ nodes s + levels s → IsBuilt (walk keep_tag s ++ is) t
+    → IsPermutation (map (λ i. i.number) (walk keep_tag s ++ is)) (numbers t) → IsGrown s is t
 grown_anew leaf t is live few some b ns = absurd (omega (arith, some))
 grown_anew (fork h l r) t is live few some b ns =
     let all = walk keep_tag (fork h l r) ++ is in
     built_grown (fork h l r) t is live (omega (arith, built_levels t all 23 b (omega (arith, length-append (walk keep_tag (fork h l r)) is, few)))) b ns
 
 -- and fewer items than a pass puts where it had none
-pub grown_first : (s t : Shape) (is : List Item) → s ≡ leaf → AreLive is → length is < 4194304 → IsBuilt (walk keep_tag s ++ is) t → IsPermutation (map (λ i. i.number) (walk keep_tag s ++ is)) (numbers t) → IsGrown leaf is t
+pub grown_first : (s t : Shape) (is : List Item) → s ≡ leaf → AreLive is → length is < 4194304
+    → IsBuilt (walk keep_tag s ++ is) t → IsPermutation (map (λ i. i.number) (walk keep_tag s ++ is)) (numbers t)
+    → IsGrown leaf is t
 grown_first leaf t is none live short b ns = built_grown leaf t is live (built_levels t is 22 b (omega (arith, short))) b ns
 grown_first (fork h l r) t is none live short b ns = absurd (cc none)
 
@@ -156,7 +161,9 @@ new_first xs is i d =
     omega (arith, here, d.once i.number, sum_by-append (λ (j : Item). cond (i.number == j.number) 1 0) xs (i ∷ is))
 
 -- no more items may be put in a tree that is no larger
-piece_part : (large : ℕ) (s t : Shape) (is js : List Item) → IsPiece large s is → AreLive js → AreDistinct (walk keep_tag t ++ js) → length js ≤ length is → nodes t ≤ nodes s → levels t ≤ levels s → IsPiece large t js
+piece_part : (large : ℕ) (s t : Shape) (is js : List Item) → IsPiece large s is → AreLive js
+    → AreDistinct (walk keep_tag t ++ js) → length js ≤ length is → nodes t ≤ nodes s → levels t ≤ levels s
+    → IsPiece large t js
 piece_part large s t is js p live distinct short few low = record {
   live = live;
   distinct = distinct;
@@ -168,7 +175,9 @@ piece_part large s t is js p live distinct short few low = record {
 
 pub piece_moved : (large : ℕ) (s : Shape) (is js : List Item) → IsPermutation is js → IsPiece large s is → IsPiece large s js
 piece_moved large s is js m p =
-    piece_part large s s is js p (All-permutation IsLive is js m p.live) (once_moved _ _ (IsPermutation-append_right (walk keep_tag s) _ _ m) p.distinct) (omega (arith, length_permutation is js m)) (omega arith) (omega arith)
+    piece_part large s s is js p (All-permutation IsLive is js m p.live)
+    (once_moved _ _ (IsPermutation-append_right (walk keep_tag s) _ _ m) p.distinct)
+    (omega (arith, length_permutation is js m)) (omega arith) (omega arith)
 
 piece_after : (large : ℕ) (s t : Shape) (is : List Item) → IsRefresh s t → IsPiece large s is → IsPiece large t is
 piece_after large s t is f p = piece_part large s t is is p p.live (once_moved _ _ (IsPermutation-append_left is _ _ f.same) p.distinct) (omega arith) f.few f.low
@@ -189,7 +198,9 @@ distinct_back xs ys d = record { once = λ n. let g : Item → ℕ = λ i. cond 
 -- the items that go to each child may be put there
 piece_children : (large : ℕ) (i : Item) (a : Axis) (l r : Shape) (xs ys : List Item) → IsPiece large (fork (head i a) l r) (xs ++ ys) → IsPiece large l xs × IsPiece large r ys
 piece_children large i a l r xs ys p =
-    let both : AreDistinct ((walk keep_tag l ++ xs) ++ (walk keep_tag r ++ ys)) = distinct_back _ _ (once_moved _ _ (spread (kept (relabelled keep_tag i ∷ [])) (walk keep_tag l) (walk keep_tag r) xs ys) p.distinct) in
+    let both : AreDistinct ((walk keep_tag l ++ xs) ++ (walk keep_tag r ++ ys)) =
+    distinct_back _ _ (once_moved _ _
+    (spread (kept (relabelled keep_tag i ∷ [])) (walk keep_tag l) (walk keep_tag r) xs ys) p.distinct) in
     let size = length-append xs ys in
     let s = fork (head i a) l r in (
       piece_part large s l (xs ++ ys) xs p (all_first IsLive xs ys p.live) (distinct_front (walk keep_tag l ++ xs) (walk keep_tag r ++ ys) both) (omega (arith, size)) (omega arith) (omega arith),
@@ -239,16 +250,22 @@ pub step_pieces : (large : ℕ) (s : Shape) (is : List Item) (f : Fork) (xs ys :
 step_pieces large s is f xs ys k p =
     piece_children large f.item f.axis f.left f.right xs ys (piece_after large s (fork (head f.item f.axis) f.left f.right) (xs ++ ys) k.apart.refresh (piece_moved large s is (xs ++ ys) k.moved p))
 
-pub step_sound : (large : ℕ) (s : Shape) (is : List Item) (f : Fork) (xs ys : List Item) (l r : Shape) → IsStep s is f xs ys → IsPiece large s is → IsGrown f.left xs l → IsGrown f.right ys r → IsSoundFork (head f.item f.axis) l r
+pub step_sound : (large : ℕ) (s : Shape) (is : List Item) (f : Fork) (xs ys : List Item) (l r : Shape)
+    → IsStep s is f xs ys → IsPiece large s is → IsGrown f.left xs l → IsGrown f.right ys r
+    → IsSoundFork (head f.item f.axis) l r
 step_sound large s is f xs ys l r k p left right =
     sound_grown large f.item f.axis f.left f.right l r xs ys k.apart.sound
     (piece_after large s (fork (head f.item f.axis) f.left f.right) (xs ++ ys) k.apart.refresh (piece_moved large s is (xs ++ ys) k.moved p)) k.beside left right
 
-pub step_grown : (large : ℕ) (s : Shape) (is : List Item) (f : Fork) (xs ys : List Item) (l r t : Shape) → IsStep s is f xs ys → IsGrown f.left xs l → IsGrown f.right ys r → RefreshesIfDue large (fork (head f.item f.axis) l r) t → IsGrown s is t
+pub step_grown : (large : ℕ) (s : Shape) (is : List Item) (f : Fork) (xs ys : List Item) (l r t : Shape)
+    → IsStep s is f xs ys → IsGrown f.left xs l → IsGrown f.right ys r
+    → RefreshesIfDue large (fork (head f.item f.axis) l r) t → IsGrown s is t
 step_grown large s is f xs ys l r t k left right done =
     grown_moved s t is (xs ++ ys) k.moved
     (grown_after s (fork (head f.item f.axis) f.left f.right) t (xs ++ ys) k.apart.refresh
-    (grown_then (fork (head f.item f.axis) f.left f.right) (fork (head f.item f.axis) l r) t (xs ++ ys) (grown_fork f.item f.axis f.left f.right l r xs ys left right) (rebuilt_if_due_refresh large (fork (head f.item f.axis) l r) t done)))
+    (grown_then (fork (head f.item f.axis) f.left f.right) (fork (head f.item f.axis) l r) t (xs ++ ys)
+    (grown_fork f.item f.axis f.left f.right l r xs ys left right)
+    (rebuilt_if_due_refresh large (fork (head f.item f.axis) l r) t done)))
 
 -- balance
 
@@ -256,7 +273,9 @@ balanced_due : (large : ℕ) (h : Head) (l r t : Shape) → IsBalancedBelow larg
 balanced_due large h l r t left right (inl k) = subst (IsBalancedBelow large) k.1 ((λ many few. (k.0 many few).0), left, right)
 balanced_due large h l r t left right (inr k) = criteria_balanced large t k.2
 
-pub step_balanced : (large : ℕ) (s : Shape) (f : Fork) (l r t : Shape) → Some f ≡ pushed s → (IsBalancedBelow large f.left → IsBalancedBelow large l) → (IsBalancedBelow large f.right → IsBalancedBelow large r) → RefreshesIfDue large (fork (head f.item f.axis) l r) t
+pub step_balanced : (large : ℕ) (s : Shape) (f : Fork) (l r t : Shape) → Some f ≡ pushed s
+    → (IsBalancedBelow large f.left → IsBalancedBelow large l)
+    → (IsBalancedBelow large f.right → IsBalancedBelow large r) → RefreshesIfDue large (fork (head f.item f.axis) l r) t
     → IsBalancedBelow large s → IsBalancedBelow large t
 step_balanced large s f l r t x left right done balanced =
     let both = at_pushed (λ z g. IsBalancedBelow large z → IsBalancedBelow large g.left × IsBalancedBelow large g.right) s f x (balanced_children large) balanced in

@@ -57,7 +57,9 @@ put_none large s = record { held = refl; from = among_same (numbers s); few = om
 pub put_then : (large : ℕ) (s t u : Shape) (xs ys : List Item) → IsPut large s xs t → IsPut large t ys u → IsPut large s (xs ++ ys) u
 put_then large s t u xs ys f g = record {
   held = g.held ∙ ap (λ m. put_each m ys) f.held ∙ sym (put_each-append (contents s) xs ys);
-  from = subst (λ z. AreAmong (numbers u) (z ++ numbers s)) (sym (map-append (λ (i : Item). i.number) xs ys)) (among_then (numbers_in xs) (numbers_in ys) (numbers s) (numbers t) (numbers u) f.from g.from);
+  from =
+      subst (λ z. AreAmong (numbers u) (z ++ numbers s)) (sym (map-append (λ (i : Item). i.number) xs ys))
+      (among_then (numbers_in xs) (numbers_in ys) (numbers s) (numbers t) (numbers u) f.from g.from);
   few = omega (arith, f.few, g.few, length-append xs ys);
   balanced = λ k. g.balanced (f.balanced k);
 }
@@ -70,7 +72,8 @@ walk_distinct s is d = once_moved _ _ (IsPermutation-append_left is _ _ (IsPermu
 pub contents_size : (s : Shape) → length (contents s) ≡ length (walk keep_tag s)
 contents_size s = length_permutation (walk keep_tag s) (contents s) (by_number_moves (walk keep_tag s))
 
-pub join_piece : (large : ℕ) (s : Shape) (is : List Item) → MayJoin (contents s) is → length is < max 2 large → length is < 4194304 → levels s ≤ MAX_PASS_LEVELS → nodes s + length is ≤ 4194304 → IsPiece large s is
+pub join_piece : (large : ℕ) (s : Shape) (is : List Item) → MayJoin (contents s) is → length is < max 2 large
+    → length is < 4194304 → levels s ≤ MAX_PASS_LEVELS → nodes s + length is ≤ 4194304 → IsPiece large s is
 join_piece large s is k small short low few = record { live = k.live; distinct = walk_distinct s is k.distinct; small = small; short = short; low = low; few = few }
 
 -- what a tree that has grown by them holds, and what numbers it has

@@ -30,7 +30,11 @@ put_few n p (side ∷ path) leaf = omega arith
 put_few n p (side ∷ path) (fork h l r) =
     let few = put_few n p path (tagged h.pending (child side l r)) in
     let on : List Op → Type 0 = λ os. length os ≤ 1 + min 1 (length path) in
-    omega (arith, handed_few path h.pending _ (cond_both (goes_to side (goes_left h.axis p h.item.point)) (logged_put n p path (tagged h.pending (child side l r))) [] on (λ _. few) (λ _. omega arith)))
+    omega (
+      arith,
+      handed_few path h.pending _ (cond_both (goes_to side (goes_left h.axis p h.item.point))
+          (logged_put n p path (tagged h.pending (child side l r))) [] on (λ _. few) (λ _. omega arith)),
+    )
 
 pub logged_put_few : (n : ℕ) (p : Place) (path : List Side) (t : Shape) → length (logged_put n p path t) ≤ 2
 logged_put_few n p path t = omega (arith, put_few n p path t)
@@ -70,7 +74,9 @@ pub ahead_put_none : (n : ℕ) (p : Place) (q : Tag) (side : Side) (path : List 
 unfolding logged_put
 ahead_put_none n p q side path t e = ap (λ z. logged_put n p (side ∷ path) (tagged q z)) e
 
-pub ahead_put : (n : ℕ) (p : Place) (q o : Tag) (side : Side) (path : List Side) (t s : Shape) (h : Head) (l r : Shape) (b : Bool) → t ≡ fork h l r → o ≡ composed h.pending q → s ≡ child side l r → b ≡ goes_to side (goes_left h.axis p h.item.point)
+pub ahead_put : (n : ℕ) (p : Place) (q o : Tag) (side : Side) (path : List Side) (t s : Shape) (h : Head) (l r : Shape)
+    (b : Bool) → t ≡ fork h l r → o ≡ composed h.pending q → s ≡ child side l r
+    → b ≡ goes_to side (goes_left h.axis p h.item.point)
     → logged_put n p (side ∷ path) (tagged q t) ≡ handed path o ++ cond b (logged_put n p path (tagged o s)) []
 unfolding logged_put
 ahead_put n p q o side path t s h l r b is pending on goes = rw (is, pending, on, goes) refl

@@ -118,7 +118,8 @@ run_piece large s ops r k =
     join_piece large s (items_put ops) k (omega (arith, same, r.small)) (omega (arith, same, r.short)) r.low (omega (arith, same, r.few))
 
 -- and a tree that has grown by it has its operations done
-pub run_performed : (large : ℕ) (s t : Shape) (ops : List Op) → IsRun large ops s → MayJoin (contents s) (items_put ops) → IsGrown s (items_put ops) t → (IsBalancedBelow large s → IsBalancedBelow large t) → IsPerformed large s ops t
+pub run_performed : (large : ℕ) (s t : Shape) (ops : List Op) → IsRun large ops s → MayJoin (contents s) (items_put ops)
+    → IsGrown s (items_put ops) t → (IsBalancedBelow large s → IsBalancedBelow large t) → IsPerformed large s ops t
 run_performed large s t ops r k g balanced =
     let put = join_grown large s t (items_put ops) k g balanced in
     record {

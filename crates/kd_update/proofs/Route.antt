@@ -163,17 +163,23 @@ pub record IsOnRoute (n : ℕ) (p : Place) (axis : Axis) (s : Shape) (f : Fork) 
   pub free : IsFree n (near side f)
   pub entered : entered_put p s ≡ 1 + entered_put p (near side f)
 
-criteria_parts : (large : ℕ) (p : Place) (h : Head) (l r : Shape) → RebuildsNoneOnRoute large p (fork h l r) → IsNotDue large (fork h l r) × (goes_left h.axis p h.item.point ≡ true → RebuildsNoneOnRoute large p l) × (goes_left h.axis p h.item.point ≡ false → RebuildsNoneOnRoute large p r)
+criteria_parts : (large : ℕ) (p : Place) (h : Head) (l r : Shape) → RebuildsNoneOnRoute large p (fork h l r)
+    → IsNotDue large (fork h l r) × (goes_left h.axis p h.item.point ≡ true → RebuildsNoneOnRoute large p l) ×
+    (goes_left h.axis p h.item.point ≡ false → RebuildsNoneOnRoute large p r)
 unfolding RebuildsNoneOnRoute
 criteria_parts large p h l r k = k
 
-value_left : (n : ℕ) (p : Place) (axis : Axis) (h : Head) (l r : Shape) → goes_left h.axis p h.item.point ≡ true → fork (head h.item h.axis) (put_from n p (next_axis h.axis) (tagged h.pending l)) (tagged h.pending r) ≡ put_from n p axis (fork h l r)
+value_left : (n : ℕ) (p : Place) (axis : Axis) (h : Head) (l r : Shape) → goes_left h.axis p h.item.point ≡ true
+    → fork (head h.item h.axis) (put_from n p (next_axis h.axis) (tagged h.pending l)) (tagged h.pending r)
+    ≡ put_from n p axis (fork h l r)
 unfolding put_under
 value_left n p axis h l r e =
     tops_alike (λ i. i) h _ _ _ (tagged (composed h.pending keep_tag) r) (child-put n p (next_axis h.axis) h.pending l) (ap (λ t. tagged t r) (sym (composed-keep_right h.pending)))
     ∙ sym (cond-true (goes_left h.axis p h.item.point) _ _ e)
 
-value_right : (n : ℕ) (p : Place) (axis : Axis) (h : Head) (l r : Shape) → goes_left h.axis p h.item.point ≡ false → fork (head h.item h.axis) (tagged h.pending l) (put_from n p (next_axis h.axis) (tagged h.pending r)) ≡ put_from n p axis (fork h l r)
+value_right : (n : ℕ) (p : Place) (axis : Axis) (h : Head) (l r : Shape) → goes_left h.axis p h.item.point ≡ false
+    → fork (head h.item h.axis) (tagged h.pending l) (put_from n p (next_axis h.axis) (tagged h.pending r))
+    ≡ put_from n p axis (fork h l r)
 unfolding put_under
 value_right n p axis h l r e =
     tops_alike (λ i. i) h _ _ (tagged (composed h.pending keep_tag) l) _ (ap (λ t. tagged t l) (sym (composed-keep_right h.pending))) (child-put n p (next_axis h.axis) h.pending r)
@@ -194,7 +200,8 @@ unfolding entered_put
 entered_put-tagged p a leaf = refl
 entered_put-tagged p a (fork h l r) = refl
 
-entered_child : (p : Place) (h : Head) (l r : Shape) (b : Bool) → goes_left h.axis p h.item.point ≡ b → entered_put p (fork h l r) ≡ 1 + cond b (entered_put p (tagged h.pending l)) (entered_put p (tagged h.pending r))
+entered_child : (p : Place) (h : Head) (l r : Shape) (b : Bool) → goes_left h.axis p h.item.point ≡ b
+    → entered_put p (fork h l r) ≡ 1 + cond b (entered_put p (tagged h.pending l)) (entered_put p (tagged h.pending r))
 unfolding entered_put
 entered_child p h l r b e = rw (e, entered_put-tagged p h.pending l, entered_put-tagged p h.pending r) refl
 
@@ -209,7 +216,8 @@ route_sound n p axis h l r l' r' s k value below above = record {
   low = omega (arith, k.low, ap levels value, levels-put n p axis keep_tag (fork h l r));
 }
 
-left_fork : (n : ℕ) (p : Place) (axis : Axis) (h : Head) (l r : Shape) → goes_left h.axis p h.item.point ≡ true → IsSound (fork h l r) → IsFree n (fork h l r) → IsOnRoute n p axis (fork h l r) (forked h l r) Left
+left_fork : (n : ℕ) (p : Place) (axis : Axis) (h : Head) (l r : Shape) → goes_left h.axis p h.item.point ≡ true
+    → IsSound (fork h l r) → IsFree n (fork h l r) → IsOnRoute n p axis (fork h l r) (forked h l r) Left
 left_fork n p axis h l r e s k =
     let value = value_left n p axis h l r e in
     let next = next_axis h.axis in
@@ -218,12 +226,15 @@ left_fork n p axis h l r e s k =
       value = value;
       sound = route_sound n p axis h l r (put_from n p next (tagged h.pending l)) (tagged h.pending r) s k value
           (rw (put-tagged n p next h.pending l) (AllKept-put P n p next h.pending l (le_of_true (on h.axis p) (on h.axis h.item.point) e) s.0.below)) (pushed_sound h l r s).0.above;
-      criteria = λ large all. let parts = criteria_parts large p (head h.item h.axis) (put_from n p next (tagged h.pending l)) (tagged h.pending r) (subst (RebuildsNoneOnRoute large p) (sym value) all) in (parts.0, parts.1 e);
+      criteria = λ large all. let parts =
+          criteria_parts large p (head h.item h.axis) (put_from n p next (tagged h.pending l)) (tagged h.pending r)
+          (subst (RebuildsNoneOnRoute large p) (sym value) all) in (parts.0, parts.1 e);
       free = (free_children n h l r k).0;
       entered = entered_child p h l r true e;
     }
 
-right_fork : (n : ℕ) (p : Place) (axis : Axis) (h : Head) (l r : Shape) → goes_left h.axis p h.item.point ≡ false → IsSound (fork h l r) → IsFree n (fork h l r) → IsOnRoute n p axis (fork h l r) (forked h l r) Right
+right_fork : (n : ℕ) (p : Place) (axis : Axis) (h : Head) (l r : Shape) → goes_left h.axis p h.item.point ≡ false
+    → IsSound (fork h l r) → IsFree n (fork h l r) → IsOnRoute n p axis (fork h l r) (forked h l r) Right
 right_fork n p axis h l r e s k =
     let value = value_right n p axis h l r e in
     let next = next_axis h.axis in
@@ -232,7 +243,9 @@ right_fork n p axis h l r e s k =
       value = value;
       sound = route_sound n p axis h l r (tagged h.pending l) (put_from n p next (tagged h.pending r)) s k value (pushed_sound h l r s).0.below
           (rw (put-tagged n p next h.pending r) (AllKept-put P n p next h.pending r (le_of_false (on h.axis p) (on h.axis h.item.point) e) s.0.above));
-      criteria = λ large all. let parts = criteria_parts large p (head h.item h.axis) (tagged h.pending l) (put_from n p next (tagged h.pending r)) (subst (RebuildsNoneOnRoute large p) (sym value) all) in (parts.0, parts.2 e);
+      criteria = λ large all. let parts =
+          criteria_parts large p (head h.item h.axis) (tagged h.pending l) (put_from n p next (tagged h.pending r))
+          (subst (RebuildsNoneOnRoute large p) (sym value) all) in (parts.0, parts.2 e);
       free = (free_children n h l r k).1;
       entered = entered_child p h l r false e;
     }
@@ -240,7 +253,9 @@ right_fork n p axis h l r e s k =
 pub on_route : (n : ℕ) (p : Place) (axis : Axis) (s : Shape) (f : Fork) (side : Side) → Some f ≡ pushed s → side ≡ side_of f.axis p f.item.point → IsSound s → IsFree n s → IsOnRoute n p axis s f side
 on_route n p axis s f side x e = subst (λ (w : Side). IsSound s → IsFree n s → IsOnRoute n p axis s f w) (sym e)
     (at_pushed (λ z g. IsSound z → IsFree n z → IsOnRoute n p axis z g (side_of g.axis p g.item.point)) s f x
-    (λ h l r. cond_both (goes_left h.axis p h.item.point) Left Right (λ (w : Side). IsSound (fork h l r) → IsFree n (fork h l r) → IsOnRoute n p axis (fork h l r) (forked h l r) w) (left_fork n p axis h l r) (right_fork n p axis h l r)))
+    (λ h l r. cond_both (goes_left h.axis p h.item.point) Left Right
+    (λ (w : Side). IsSound (fork h l r) → IsFree n (fork h l r) → IsOnRoute n p axis (fork h l r) (forked h l r) w)
+    (left_fork n p axis h l r) (right_fork n p axis h l r)))
 
 -- no tree has fewer than 0 nodes, so with 0 for the large ones no node of a route is to be rebuilt
 pub route_none : (p : Place) (t : Shape) → RebuildsNoneOnRoute 0 p t

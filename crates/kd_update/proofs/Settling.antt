@@ -22,10 +22,14 @@ pub settled_sound : (s : Shape) (f : Fork) (l r : Shape) → Some f ≡ pushed s
 settled_sound s f l r x k left right = refresh_sound f.item f.axis f.left f.right l r (apart s f x k).sound left.refresh right.refresh
 
 -- and their parent is settled
-pub settled_fork : (s : Shape) (f : Fork) (l r t : Shape) → Some f ≡ pushed s → IsSound s → IsSettled f.left l → IsSettled f.right r → RefreshesIfDue 4194305 (fork (head f.item f.axis) l r) t → (AllMeetCriteria 10 s → ⊥) → IsSettled s t
+pub settled_fork : (s : Shape) (f : Fork) (l r t : Shape) → Some f ≡ pushed s → IsSound s → IsSettled f.left l
+    → IsSettled f.right r → RefreshesIfDue 4194305 (fork (head f.item f.axis) l r) t → (AllMeetCriteria 10 s → ⊥)
+    → IsSettled s t
 settled_fork s f l r t x k left right done breach = record {
   refresh = refresh_trans s (fork (head f.item f.axis) f.left f.right) t (apart s f x k).refresh
-      (refresh_trans (fork (head f.item f.axis) f.left f.right) (fork (head f.item f.axis) l r) t (refresh_fork f.item f.axis f.left f.right l r left.refresh right.refresh) (rebuilt_if_due_refresh 4194305 (fork (head f.item f.axis) l r) t done));
+      (refresh_trans (fork (head f.item f.axis) f.left f.right) (fork (head f.item f.axis) l r) t
+      (refresh_fork f.item f.axis f.left f.right l r left.refresh right.refresh)
+      (rebuilt_if_due_refresh 4194305 (fork (head f.item f.axis) l r) t done));
   criteria = criteria done;
   unrebuilt = λ c. absurd (breach c);
 }

@@ -39,14 +39,19 @@ clear_child large ps s f Right plain y t C Cs pass criteria none there u done =
 
 -- each watch by itself
 
-pub large_all_put : (large n : ℕ) (p : Place) (axis : Axis) (ps : List (List Side)) (t : Shape) → IsSound t → times n keep_tag t ≡ 0 → nodes t < 4194304 → AreLargeAt large ps t → AreLargeAt large ps (put_from n p axis t)
+pub large_all_put : (large n : ℕ) (p : Place) (axis : Axis) (ps : List (List Side)) (t : Shape) → IsSound t
+    → times n keep_tag t ≡ 0 → nodes t < 4194304 → AreLargeAt large ps t → AreLargeAt large ps (put_from n p axis t)
 large_all_put large n p axis [] t s e f k = tt
 large_all_put large n p axis (q ∷ ps) t s e f k = (large_after large q t (put_from n p axis t) _ k.0 (watched-put n p axis q t k.0.node k.0.there s e f), large_all_put large n p axis ps t s e f k.1)
 
-pub all_watched-put : (large n : ℕ) (p : Place) (axis : Axis) (ps : List (List Side)) (t new : Shape) → IsSound t → times n keep_tag t ≡ 0 → nodes t < 4194304 → AreLargeAt large ps t → AreSameAt ps new (put_from n p axis t)
+pub all_watched-put : (large n : ℕ) (p : Place) (axis : Axis) (ps : List (List Side)) (t new : Shape) → IsSound t
+    → times n keep_tag t ≡ 0 → nodes t < 4194304 → AreLargeAt large ps t → AreSameAt ps new (put_from n p axis t)
     → AreWatched (λ q. IsWatched q t new (logged_put n p q t)) ps
 all_watched-put large n p axis [] t new s o f k e = tt
-all_watched-put large n p axis (q ∷ ps) t new s o f k e = (watched_new q t (put_from n p axis t) new _ e.0 (watched-put n p axis q t k.0.node k.0.there s o f), all_watched-put large n p axis ps t new s o f k.1 e.1)
+all_watched-put large n p axis (q ∷ ps) t new s o f k e = (
+  watched_new q t (put_from n p axis t) new _ e.0 (watched-put n p axis q t k.0.node k.0.there s o f),
+  all_watched-put large n p axis ps t new s o f k.1 e.1,
+)
 
 pub some_of : (large : ℕ) (ps : List (List Side)) (t : Shape) → (ps ≡ [] → ⊥) → AreLargeAt large ps t → large ≤ nodes t
 some_of large [] t n k = absurd (n refl)
@@ -59,7 +64,9 @@ none_on large ([] ∷ ps) k e = absurd (cc)
 none_on large ((side ∷ p) ∷ ps) k e = absurd (cc k.0.there)
 
 -- the first node of an empty tree
-pub clear_leaf : (large n : ℕ) (p : Place) (axis : Axis) (ps : List (List Side)) (s : Shape) (C : Type 0) → ◌≡◌ {A = Option Fork} None (pushed s) → IsUpdatedClear large ps s (put_from n p axis s) C (leaf_of (live_at n p) axis)
+pub clear_leaf : (large n : ℕ) (p : Place) (axis : Axis) (ps : List (List Side)) (s : Shape) (C : Type 0)
+    → ◌≡◌ {A = Option Fork} None (pushed s)
+    → IsUpdatedClear large ps s (put_from n p axis s) C (leaf_of (live_at n p) axis)
 unfolding put_under
 clear_leaf large n p axis ps leaf C x = clear_plain large ps leaf (leaf_of (live_at n p) axis) C (λ _ _. ((λ many few. absurd (omega arith)), tt, tt))
 clear_leaf large n p axis ps (fork h l r) C x = absurd (cc)

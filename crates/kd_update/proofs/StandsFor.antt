@@ -51,7 +51,9 @@ pub same_times : (n : ℕ) (a : Tag) (s t : Shape) → contents s ≡ contents t
 same_times n a s t e = omega (arith, times_walk n a s, times_walk n a t, sum_by-IsPermutation (λ (i : Item). cond (n == i.number) 1 0) _ _ (moved_under a s t e))
 
 -- a sound node with children that hold the same
-pub same_sound : (h : Head) (l r l' r' : Shape) → IsSoundFork h l r → contents l ≡ contents l' → contents r ≡ contents r' → nodes l' + nodes r' + 1 ≤ 4194304 → levels l' ≤ 511 → levels r' ≤ 511 → IsSoundFork h l' r'
+pub same_sound : (h : Head) (l r l' r' : Shape) → IsSoundFork h l r → contents l ≡ contents l'
+    → contents r ≡ contents r' → nodes l' + nodes r' + 1 ≤ 4194304 → levels l' ≤ 511 → levels r' ≤ 511
+    → IsSoundFork h l' r'
 same_sound h l r l' r' s e f few low lower = record {
   below = same_left (λ p. on h.axis p ≤ℤ on h.axis h.item.point) h.pending l l' e s.below;
   above = same_left (λ p. on h.axis h.item.point ≤ℤ on h.axis p) h.pending r r' f s.above;
@@ -65,7 +67,9 @@ same_fork h l r l' r' once e f =
     let q = composed h.pending keep_tag in
     let own = kept (relabelled keep_tag h.item ∷ []) in
     let moved : IsPermutation (walk keep_tag (fork h l r)) (walk keep_tag (fork h l' r')) =
-    IsPermutation-append_right own _ _ (IsPermutation-trans _ _ _ (IsPermutation-append_left (walk q r) _ _ (moved_under q l l' e)) (IsPermutation-append_right (walk q l') _ _ (moved_under q r r' f))) in
+    IsPermutation-append_right own _ _ (IsPermutation-trans _ _ _
+    (IsPermutation-append_left (walk q r) _ _ (moved_under q l l' e))
+    (IsPermutation-append_right (walk q l') _ _ (moved_under q r r' f))) in
     sym (by_number-moved _ _ moved (once_walk (fork h l r) once))
 
 -- a tree that is to be spared stays
@@ -99,7 +103,8 @@ replaced_left large path h l r other l' t s u k sound =
     beside (Left ∷ p) a big = stays (Left ∷ p) (u.beside p a (record { node = big.node; there = big.there; size = big.size })) big
     beside (Right ∷ p) a big = stays (Right ∷ p) refl big
 
-replaced_right : (large : ℕ) (path : List Side) (h : Head) (l r other r' t : Shape) → IsSound (fork h l r) → IsReplaced large path r other r' → RefreshesIfDue large (fork h l r') t → IsSoundFork h l r'
+replaced_right : (large : ℕ) (path : List Side) (h : Head) (l r other r' t : Shape) → IsSound (fork h l r)
+    → IsReplaced large path r other r' → RefreshesIfDue large (fork h l r') t → IsSoundFork h l r'
     → IsReplaced large (Right ∷ path) (fork h l r) other t
 replaced_right large path h l r other r' t s u k sound =
     let f = rebuilt_if_due_refresh large (fork h l r') t k in
@@ -172,7 +177,9 @@ child_there Left path (fork h l r) other e k = cc
 child_there Right path (fork h l r) other e k = cc
 
 -- the tree with the changed child is sound
-pub child_sound : (large : ℕ) (side : Side) (path : List Side) (t other s new : Shape) → at (side ∷ []) t ≡ Some s → IsSound t → HasRoomAt (side ∷ path) other t → IsReplaced large path s other new → IsTopSound (with_child side new t)
+pub child_sound : (large : ℕ) (side : Side) (path : List Side) (t other s new : Shape) → at (side ∷ []) t ≡ Some s
+    → IsSound t → HasRoomAt (side ∷ path) other t → IsReplaced large path s other new
+    → IsTopSound (with_child side new t)
 child_sound large side path leaf other s new e sound k u = absurd (cc)
 child_sound large Left path (fork h l r) other s new e sound k u =
     let f = subst (λ x. IsReplaced large path x other new) (sym (same_Some l s e)) u in
@@ -182,7 +189,8 @@ child_sound large Right path (fork h l r) other s new e sound k u =
     same_sound h l r l new sound.0 refl (sym f.held) (omega (arith, k.few, f.size.few)) (omega (arith, k.low)) (omega (arith, k.low, f.size.low))
 
 -- and where it is rebuilt if it is to be, the whole is replaced
-pub child_replaced : (large : ℕ) (side : Side) (path : List Side) (t other s new u : Shape) → at (side ∷ []) t ≡ Some s → IsSound t → HasRoomAt (side ∷ path) other t → IsReplaced large path s other new
+pub child_replaced : (large : ℕ) (side : Side) (path : List Side) (t other s new u : Shape) → at (side ∷ []) t ≡ Some s
+    → IsSound t → HasRoomAt (side ∷ path) other t → IsReplaced large path s other new
     → RefreshesIfDue large (with_child side new t) u → IsReplaced large (side ∷ path) t other u
 child_replaced large side path leaf other s new u e sound k f g = absurd (cc)
 child_replaced large Left path (fork h l r) other s new u e sound k f g =
@@ -193,7 +201,8 @@ child_replaced large Right path (fork h l r) other s new u e sound k f g =
 -- several paths
 
 -- large subtrees apart from the path are unchanged
-pub same_beside : (large : ℕ) (path : List Side) (ps : List (List Side)) (old other new : Shape) → IsReplaced large path old other new → IsClear path ps → AreLargeAt large ps old → AreSameAt ps new old
+pub same_beside : (large : ℕ) (path : List Side) (ps : List (List Side)) (old other new : Shape)
+    → IsReplaced large path old other new → IsClear path ps → AreLargeAt large ps old → AreSameAt ps new old
 same_beside large path [] old other new u a k = tt
 same_beside large path (p ∷ ps) old other new u a k = (u.beside p a.0 k.0, same_beside large path ps old other new u a.1 k.1)
 
@@ -209,7 +218,9 @@ replaced_contents (Right ∷ path) (fork h l r) other sound k =
     same_fork h l r l (replaced_at path other r) sound.0.once refl (sym (replaced_contents path r other sound.2 (child_stands Right path (fork h l r) other r refl k)))
 
 -- what is built of all that remains is no larger
-pub anew_no_larger : (path : List Side) (t other new : Shape) → IsSound t → StandsFor path t other → (HasRoomAt path other t → ⊥) → nodes new ≡ length (contents t) → levels new ≤ 23 → IsNoLarger (replaced_at path other t) new
+pub anew_no_larger : (path : List Side) (t other new : Shape) → IsSound t → StandsFor path t other
+    → (HasRoomAt path other t → ⊥) → nodes new ≡ length (contents t) → levels new ≤ 23
+    → IsNoLarger (replaced_at path other t) new
 anew_no_larger path t other new sound k none few low =
     let plain = replaced_at path other t in
     record {

@@ -43,12 +43,16 @@ sound_on : (side : Side) (h : Head) (l r : Shape) → IsSound (fork h l r) → I
 sound_on Left h l r sound = (pushed_sound h l r sound).1
 sound_on Right h l r sound = (pushed_sound h l r sound).2
 
-free_on : (n : ℕ) (side : Side) (h : Head) (l r : Shape) → times n keep_tag (fork h l r) ≡ 0 → nodes (fork h l r) < 4194304 → (times n keep_tag (tagged h.pending (child side l r)) ≡ 0) × (nodes (tagged h.pending (child side l r)) < 4194304)
+free_on : (n : ℕ) (side : Side) (h : Head) (l r : Shape) → times n keep_tag (fork h l r) ≡ 0
+    → nodes (fork h l r) < 4194304
+    → (times n keep_tag (tagged h.pending (child side l r)) ≡ 0) × (nodes (tagged h.pending (child side l r)) < 4194304)
 free_on n Left h l r new few = ((new_children n h l r new).0, omega (arith, few, tagged_nodes h.pending l))
 free_on n Right h l r new few = ((new_children n h l r new).1, omega (arith, few, tagged_nodes h.pending r))
 
 -- the watched child of a node on the route, whether the point goes on to it or not
-route_watched : (side : Side) (b : Bool) (path : List Side) (h g : Head) (l r l' r' lo ro : Shape) (xs ops : List Op) → IsWatched path (child side l r) (child side l' r') (xs ++ ops) → IsWatched path (child side l r) (child side lo ro) (xs ++ [])
+route_watched : (side : Side) (b : Bool) (path : List Side) (h g : Head) (l r l' r' lo ro : Shape) (xs ops : List Op)
+    → IsWatched path (child side l r) (child side l' r') (xs ++ ops)
+    → IsWatched path (child side l r) (child side lo ro) (xs ++ [])
     → IsWatched (side ∷ path) (fork h l r) (cond b (fork g l' ro) (fork g lo r')) (xs ++ cond (goes_to side b) ops [])
 route_watched Left true path h g l r l' r' lo ro xs ops u v = watched_child Left path h g l r l' ro (xs ++ ops) u
 route_watched Left false path h g l r l' r' lo ro xs ops u v = watched_child Left path h g l r lo r' (xs ++ []) v
@@ -79,6 +83,13 @@ watched-put n p axis (side ∷ path) (fork h l r) s e sound new few =
     let u = at-tagged path h.pending x s here in
     let free = free_on n side h l r new few in
     let ops = logged_put n p path (tagged h.pending x) in
-    let below = subst (λ z. IsWatched path (tagged h.pending x) z ops) (child-put n p next h.pending x ∙ child_done (put_under n p next pending) side l r) (watched-put n p next path (tagged h.pending x) u.0 u.1 (sound_on side h l r sound) free.0 free.1) in
-    route_watched side (goes_left h.axis p h.item.point) path h (record h { item = relabelled keep_tag h.item; pending = keep_tag }) l r l' r' (tagged pending l) (tagged pending r) (handed path h.pending) ops
-    (watched_handed path h.pending x (child side l' r') s ops here below) (subst (λ z. IsWatched path x z (handed path h.pending ++ [])) (child_done (tagged pending) side l r) (at_child_tagged path h.pending x s here))
+    let below =
+    subst (λ z. IsWatched path (tagged h.pending x) z ops)
+    (child-put n p next h.pending x ∙ child_done (put_under n p next pending) side l r)
+    (watched-put n p next path (tagged h.pending x) u.0 u.1 (sound_on side h l r sound) free.0 free.1) in
+    route_watched side (goes_left h.axis p h.item.point) path h
+    (record h { item = relabelled keep_tag h.item; pending = keep_tag }) l r l' r' (tagged pending l)
+    (tagged pending r) (handed path h.pending) ops
+    (watched_handed path h.pending x (child side l' r') s ops here below) (subst
+    (λ z. IsWatched path x z (handed path h.pending ++ [])) (child_done (tagged pending) side l r)
+    (at_child_tagged path h.pending x s here))

@@ -5,7 +5,10 @@ use Rattle.kd_mark.proofs.Several.{balanced_free}
 use Rattle.kd_update.proofs.points.insert.put.Goals as goal
 
 pub returns-clause-contents : goal.returns-clause-contents
-returns-clause-contents g c = IfOk-weaker c.put_below.result _ _ (λ t u. put_contents _ _ _ _ t c.size-size.ensures.sound c.requires.new u.refresh) (rw c.live-item.ensures at c.put_below.ensures.updated)
+returns-clause-contents g c =
+    IfOk-weaker c.put_below.result _ _
+    (λ t u. put_contents _ _ _ _ t c.size-size.ensures.sound c.requires.new u.refresh)
+    (rw c.live-item.ensures at c.put_below.ensures.updated)
 
 pub returns-clause-numbers : goal.returns-clause-numbers
 returns-clause-numbers g c = IfOk-weaker c.put_below.result _ _ (λ t u. put_numbers _ _ _ _ t u.refresh) (rw c.live-item.ensures at c.put_below.ensures.updated)

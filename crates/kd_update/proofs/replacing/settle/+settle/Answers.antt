@@ -22,9 +22,15 @@ settled_along-settled_at-requires-2 g t c κs within =
     (omega (arith, (pushed_smaller c.args.tree (fork_of c.in-Some-2.node) parts).1), (within, (c.known_of_children-known.ensures (fork_of c.in-Some-2.node) parts).right))
 
 pub settled_along-joined_and_rebuilt_if_due-requires : goal.settled_along-joined_and_rebuilt_if_due-requires
-settled_along-joined_and_rebuilt_if_due-requires g t c = settled_sound c.args.tree (fork_of c.in-Some-2.node) c.in_ok-left.left c.in_ok-right.right (ap fork_in (sym c.in-Some-2.is) ∙ c.in_ok-node.ensures.parts) c.size-size.ensures.sound c.in_ok-left.ensures c.in_ok-right.ensures
+settled_along-joined_and_rebuilt_if_due-requires g t c =
+    settled_sound c.args.tree (fork_of c.in-Some-2.node) c.in_ok-left.left c.in_ok-right.right
+    (ap fork_in (sym c.in-Some-2.is) ∙ c.in_ok-node.ensures.parts) c.size-size.ensures.sound c.in_ok-left.ensures
+    c.in_ok-right.ensures
 
 pub settled_along-returns : goal.settled_along-returns
 settled_along-returns g t c =
     IfOk-weaker c.joined_and_rebuilt_if_due.result _ (IsSettled c.args.tree)
-    (λ u done. settled_fork c.args.tree (fork_of c.in-Some-2.node) c.in_ok-left.left c.in_ok-right.right u (ap fork_in (sym c.in-Some-2.is) ∙ c.in_ok-node.ensures.parts) c.size-size.ensures.sound c.in_ok-left.ensures c.in_ok-right.ensures done (breached_not c.args.tree c.args.path.now c.requires)) c.joined_and_rebuilt_if_due.ensures.due
+    (λ u done. settled_fork c.args.tree (fork_of c.in-Some-2.node) c.in_ok-left.left c.in_ok-right.right u
+    (ap fork_in (sym c.in-Some-2.is) ∙ c.in_ok-node.ensures.parts) c.size-size.ensures.sound c.in_ok-left.ensures
+    c.in_ok-right.ensures done (breached_not c.args.tree c.args.path.now c.requires))
+    c.joined_and_rebuilt_if_due.ensures.due

@@ -25,7 +25,9 @@ pub returns-in_ok-tree-in-Put-clause-numbers : goal.returns-in_ok-tree-in-Put-cl
 returns-in_ok-tree-in-Put-clause-numbers g c =
     rw c.in-Put.is
     (IfOk-weaker c.put.result _ (λ t. AreAmong (numbers t) (c.in-Put.number ∷ numbers c.args.tree))
-    (λ t f n k. among_append (c.in-Put.number ∷ []) (c.in-Put.number ∷ []) (numbers c.in_ok-tree-in-Put.tree) (numbers c.args.tree) (among_same (c.in-Put.number ∷ [])) c.in_ok-tree-in-Put.ensures.numbers n (f n k)) c.put.ensures.numbers)
+    (λ t f n k. among_append (c.in-Put.number ∷ []) (c.in-Put.number ∷ []) (numbers c.in_ok-tree-in-Put.tree)
+    (numbers c.args.tree) (among_same (c.in-Put.number ∷ [])) c.in_ok-tree-in-Put.ensures.numbers n (f n k))
+    c.put.ensures.numbers)
 
 pub returns-in_ok-tree-in-Put-clause-balance : goal.returns-in_ok-tree-in-Put-clause-balance
 returns-in_ok-tree-in-Put-clause-balance g c = λ balanced. c.put.ensures.balance (c.in_ok-tree-in-Put.ensures.balance c.args.large balanced)

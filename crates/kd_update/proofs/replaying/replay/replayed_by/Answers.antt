@@ -19,7 +19,9 @@ loop-rest-preserved g c =
     let more = c.split_at.result.1.now in
     let cut = c.split_at.ensures.by_index.0 in
     record {
-      fit = subst (λ m. Fit m more) (sym c.in_ok-tree.ensures.held) (fit_second (contents s) c.split_at.result.0.now more (subst (λ (xs : List Op). Fit (contents s) xs) cut c.loop-rest.invariant.fit));
+      fit =
+          subst (λ m. Fit m more) (sym c.in_ok-tree.ensures.held) (fit_second (contents s) c.split_at.result.0.now more
+          (subst (λ (xs : List Op). Fit (contents s) xs) cut c.loop-rest.invariant.fit));
       rest = λ u k. c.loop-rest.invariant.rest u (subst (λ (xs : List Op). IsPerformed c.args.large s xs u) (sym cut) (performed_then c.args.large s _ u _ _ c.in_ok-tree.ensures k));
     }
 

@@ -19,5 +19,10 @@ returns g c = λ large.
     let s = c.args.tree in
     let is = c.args.items.now in
     let few : length (walk keep_tag s) + length is ≤ 4194304 = omega (arith, contents_size s, c.requires.fit.room) in
-    let built = ok_both c.rebuilt_with.result _ _ (λ t. IsGrown s is t) (λ t b ns. grown_anew s t is c.requires.fit.live few c.requires.some b ns) c.rebuilt_with.ensures.shape c.rebuilt_with.ensures.numbers in
-    ok_both c.rebuilt_with.result _ _ (λ t. IsPut large s is t) (λ t k criteria. join_grown large s t is c.requires.fit k (λ balanced. criteria_balanced large t criteria)) built c.rebuilt_with.ensures.criteria
+    let built =
+    ok_both c.rebuilt_with.result _ _ (λ t. IsGrown s is t)
+    (λ t b ns. grown_anew s t is c.requires.fit.live few c.requires.some b ns) c.rebuilt_with.ensures.shape
+    c.rebuilt_with.ensures.numbers in
+    ok_both c.rebuilt_with.result _ _ (λ t. IsPut large s is t)
+    (λ t k criteria. join_grown large s t is c.requires.fit k (λ balanced. criteria_balanced large t criteria))
+    built c.rebuilt_with.ensures.criteria

@@ -29,24 +29,36 @@ updated : (g : _) (c : After-put_below g) → let plain = put_shape c.args.numbe
     IfOk c.put_below.result (λ t. IsUpdatedClear c.args.large (paths_in c.args.watches.now) c.args.tree plain (RebuildsNoneOnRoute c.args.large c.args.point plain) t)
 updated g c =
     let plain = put_shape c.args.number c.args.point c.args.tree in
-    subst (λ (ps : List (List Side)). IfOk c.put_below.result (λ t. IsUpdatedClear c.args.large ps c.args.tree plain (RebuildsNoneOnRoute c.args.large c.args.point plain) t)) (watched_before _ _ _ _ c.of-ways.ensures c.as_slice.ensures.value c.log_puts.ensures.begins) (rw c.live-item.ensures at c.put_below.ensures.updated)
+    subst (λ (ps : List (List Side)). IfOk c.put_below.result (λ t. IsUpdatedClear c.args.large ps c.args.tree plain
+    (RebuildsNoneOnRoute c.args.large c.args.point plain) t))
+    (watched_before _ _ _ _ c.of-ways.ensures c.as_slice.ensures.value c.log_puts.ensures.begins)
+    (rw c.live-item.ensures at c.put_below.ensures.updated)
 
 pub put_below-requires-clause-there : goal.put_below-requires-clause-there
-put_below-requires-clause-there g c = subst (λ (ps : List (List Side)). AreLargeAt c.args.large ps c.args.tree) (sym (ways g (goal.at.put_below-requires-clause-there g c).After-of-ways)) c.requires.there
+put_below-requires-clause-there g c =
+    subst (λ (ps : List (List Side)). AreLargeAt c.args.large ps c.args.tree)
+    (sym (ways g (goal.at.put_below-requires-clause-there g c).After-of-ways)) c.requires.there
 
 pub returns-clause-contents : goal.returns-clause-contents
-returns-clause-contents g c = IfOk-weaker c.put_below.result _ _ (λ t u. put_contents _ _ _ _ t c.size-size.ensures.sound c.requires.new u.refresh) (updated g (goal.at.returns-clause-contents g c).After-put_below)
+returns-clause-contents g c =
+    IfOk-weaker c.put_below.result _ _
+    (λ t u. put_contents _ _ _ _ t c.size-size.ensures.sound c.requires.new u.refresh)
+    (updated g (goal.at.returns-clause-contents g c).After-put_below)
 
 pub returns-clause-numbers : goal.returns-clause-numbers
 returns-clause-numbers g c = IfOk-weaker c.put_below.result _ _ (λ t u. put_numbers _ _ _ _ t u.refresh) (updated g (goal.at.returns-clause-numbers g c).After-put_below)
 
 pub returns-clause-there : goal.returns-clause-there
 returns-clause-there g c =
-    IfOk-weaker c.put_below.result _ _ (λ t u. large_all_same _ _ _ t u.same (large_all_put _ _ _ X _ _ c.size-size.ensures.sound c.requires.new (omega (arith, c.requires.few)) c.requires.there)) (updated g (goal.at.returns-clause-there g c).After-put_below)
+    IfOk-weaker c.put_below.result _ _ (λ t u. large_all_same _ _ _ t u.same (large_all_put _ _ _ X _ _
+    c.size-size.ensures.sound c.requires.new (omega (arith, c.requires.few)) c.requires.there))
+    (updated g (goal.at.returns-clause-there g c).After-put_below)
 
 pub returns-clause-watched : goal.returns-clause-watched
 returns-clause-watched g c =
-    IfOk-weaker c.put_below.result _ _ (λ t u. all_watched-put _ _ _ X _ _ t c.size-size.ensures.sound c.requires.new (omega (arith, c.requires.few)) c.requires.there u.same) (updated g (goal.at.returns-clause-watched g c).After-put_below)
+    IfOk-weaker c.put_below.result _ _ (λ t u. all_watched-put _ _ _ X _ _ t c.size-size.ensures.sound c.requires.new
+    (omega (arith, c.requires.few)) c.requires.there u.same)
+    (updated g (goal.at.returns-clause-watched g c).After-put_below)
 
 pub returns-clause-balance : goal.returns-clause-balance
 returns-clause-balance g c = λ balanced. IfOk-weaker c.put_below.result _ _ (λ t u. u.balance balanced) (updated g (goal.at.returns-clause-balance g c).After-put_below)
@@ -76,7 +88,9 @@ returns-then-is_empty-clause-logged g c =
 pub returns-then-is_empty-clause-watched : goal.returns-then-is_empty-clause-watched
 returns-then-is_empty-clause-watched g c =
     let none = nil_from_length c.args.watches.now (eqb-true _ 0 (sym c.is_empty.ensures ∙ c.if-is_empty.true)) in
-    IfOk-weaker c.put.result _ _ (λ t _. subst (λ (ws : List Watch). AreWatched (λ p. IsWatched p c.args.tree t (logged_put c.args.number c.args.point p c.args.tree)) (paths_in ws)) (sym none) tt) c.put.ensures.contents
+    IfOk-weaker c.put.result _ _ (λ t _. subst (λ (ws : List Watch). AreWatched
+    (λ p. IsWatched p c.args.tree t (logged_put c.args.number c.args.point p c.args.tree)) (paths_in ws))
+    (sym none) tt) c.put.ensures.contents
 
 pub returns-clause-refresh : goal.returns-clause-refresh
 returns-clause-refresh g c = IfOk-weaker c.put_below.result _ _ (λ t u. u.refresh) (updated g (goal.at.returns-clause-refresh g c).After-put_below)

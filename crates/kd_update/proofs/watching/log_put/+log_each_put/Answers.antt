@@ -34,7 +34,9 @@ pub returns-clause-begins : goal.returns-clause-begins
 returns-clause-begins t c = extended_front _ c.in-Some.rest.now _ _ _ c.in-Some.ensures.cases.0 c.log_put.ensures.begins c.log_each_put.ensures.begins
 
 pub returns-in_default-clause-logged : goal.returns-in_default-clause-logged
-returns-in_default-clause-logged t c = subst (λ (ws : List Watch). ws ≡ with_puts c.args.number c.args.point c.args.tree.now ws) (sym (nil_from_length c.args.watches.now c.in_default.ensures.cases)) refl
+returns-in_default-clause-logged t c =
+    subst (λ (ws : List Watch). ws ≡ with_puts c.args.number c.args.point c.args.tree.now ws)
+    (sym (nil_from_length c.args.watches.now c.in_default.ensures.cases)) refl
 
 pub returns-in_default-clause-begins : goal.returns-in_default-clause-begins
 returns-in_default-clause-begins t c = extended_itself c.args.watches.now

@@ -37,13 +37,23 @@ pub note_pending-requires : goal.note_pending-requires
 note_pending-requires t c = room_first _ _ _ _ (parts t (goal.at.note_pending-requires t c).After-goes_to-goes_on _ refl) c.requires
 
 pub returns-then-not-goes_on-clause-logged : goal.returns-then-not-goes_on-clause-logged
-returns-then-not-goes_on-clause-logged t c = logged_all _ _ _ _ _ _ (parts t (goal.at.returns-then-not-goes_on-clause-logged t c).After-goes_to-goes_on false c.if-not-goes_on.true) c.in_ok-note_pending.ensures.logged (sym (append-nil _))
+returns-then-not-goes_on-clause-logged t c =
+    logged_all _ _ _ _ _ _
+    (parts t (goal.at.returns-then-not-goes_on-clause-logged t c).After-goes_to-goes_on false c.if-not-goes_on.true)
+    c.in_ok-note_pending.ensures.logged (sym (append-nil _))
 
 pub log_put-requires : goal.log_put-requires
-log_put-requires t c = (omega (arith, c.in-Some.ensures.cases.1), room_rest _ _ _ _ _ (parts t (goal.at.log_put-requires t c).After-goes_to-goes_on true c.if-not-goes_on.false) c.in_ok-note_pending.ensures.logged c.requires)
+log_put-requires t c = (
+  omega (arith, c.in-Some.ensures.cases.1),
+  room_rest _ _ _ _ _ (parts t (goal.at.log_put-requires t c).After-goes_to-goes_on true c.if-not-goes_on.false)
+      c.in_ok-note_pending.ensures.logged c.requires,
+)
 
 pub returns-clause-logged : goal.returns-clause-logged
-returns-clause-logged t c = on_ok_weaker c.log_put.result (λ e. logged_all _ _ _ _ _ _ (parts t (goal.at.returns-clause-logged t c).After-goes_to-goes_on true c.if-not-goes_on.false) c.in_ok-note_pending.ensures.logged e) c.log_put.ensures.logged
+returns-clause-logged t c =
+    on_ok_weaker c.log_put.result (λ e. logged_all _ _ _ _ _ _
+    (parts t (goal.at.returns-clause-logged t c).After-goes_to-goes_on true c.if-not-goes_on.false)
+    c.in_ok-note_pending.ensures.logged e) c.log_put.ensures.logged
 
 pub returns-in_default-clause-few : goal.returns-in_default-clause-few
 returns-in_default-clause-few t c =

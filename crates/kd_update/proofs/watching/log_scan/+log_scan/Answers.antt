@@ -20,7 +20,9 @@ parts t c =
     let rest = c.in-Some.rest.now in
     let o = c.then-pending.result in
     ap (λ q. logged_scan q c.args.items.now.items (tagged c.args.pending c.args.tree.now)) c.in-Some.ensures.cases.0
-    ∙ ahead_scan c.in-Some.side.now rest c.args.items.now.items c.args.pending o c.args.tree.now c.child-next.result.now h top.left.now top.right.now c.in-Some-top.ensures.some c.then-pending.ensures.value c.child-next.ensures (λ e. c.is_none.ensures.some c.if-is_none.false (c.as_slice-2.ensures.value ∙ e))
+    ∙ ahead_scan c.in-Some.side.now rest c.args.items.now.items c.args.pending o c.args.tree.now c.child-next.result.now
+    h top.left.now top.right.now c.in-Some-top.ensures.some c.then-pending.ensures.value c.child-next.ensures
+    (λ e. c.is_none.ensures.some c.if-is_none.false (c.as_slice-2.ensures.value ∙ e))
     ∙ ap (λ (xs : List Item). handed rest o ++ logged_scan rest xs (tagged o c.child-next.result.now)) (sym c.keep_going.ensures)
 
 -- what is logged of the watched root itself
@@ -51,7 +53,10 @@ pub log_scan-requires : goal.log_scan-requires
 log_scan-requires t c = (omega (arith, c.in-Some.ensures.cases.1), room_rest _ _ _ _ _ (parts t (goal.at.log_scan-requires t c).After-keep_going) c.in_ok-note_pending.ensures.logged c.requires)
 
 pub returns-clause-logged : goal.returns-clause-logged
-returns-clause-logged t c = on_ok_weaker c.log_scan.result (λ e. logged_all _ _ _ _ _ _ (parts t (goal.at.returns-clause-logged t c).After-keep_going) c.in_ok-note_pending.ensures.logged e) c.log_scan.ensures.logged
+returns-clause-logged t c =
+    on_ok_weaker c.log_scan.result (λ e. logged_all _ _ _ _ _ _
+    (parts t (goal.at.returns-clause-logged t c).After-keep_going) c.in_ok-note_pending.ensures.logged e)
+    c.log_scan.ensures.logged
 
 pub returns-clause-few : goal.returns-clause-few
 returns-clause-few t c = few_rest _ _ _ _ _ _ (parts t (goal.at.returns-clause-few t c).After-keep_going) c.note_pending.ensures.few c.log_scan.ensures.few

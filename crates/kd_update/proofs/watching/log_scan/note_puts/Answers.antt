@@ -13,7 +13,14 @@ note-requires c =
     let x = c.item-item.result in
     let cut : drop i c.args.items.now ≡ x ∷ drop (i + 1) c.args.items.now = drop-at c.args.items.now _ i x (omega arith) c.loop-item-test.true c.item-item.is in
     let is = c.loop-item.invariant.whole in
-    omega (arith, c.requires, ap length is, length-append c.loop-item.log (puts_of (drop i c.args.items.now)), length-append c.args.log.now (puts_of c.args.items.now), ap (λ (xs : List Item). length (puts_of xs)) cut)
+    omega (
+      arith,
+      c.requires,
+      ap length is,
+      length-append c.loop-item.log (puts_of (drop i c.args.items.now)),
+      length-append c.args.log.now (puts_of c.args.items.now),
+      ap (λ (xs : List Item). length (puts_of xs)) cut,
+    )
 
 pub returns-in_err-note-clause-few : goal.returns-in_err-note-clause-few
 returns-in_err-note-clause-few c =
@@ -21,7 +28,14 @@ returns-in_err-note-clause-few c =
     let x = c.item-item.result in
     let cut : drop i c.args.items.now ≡ x ∷ drop (i + 1) c.args.items.now = drop-at c.args.items.now _ i x (omega arith) c.loop-item-test.true c.item-item.is in
     let is = c.loop-item.invariant.whole in
-    omega (arith, c.note.ensures.few, ap length is, length-append c.loop-item.log (puts_of (drop i c.args.items.now)), length-append c.args.log.now (puts_of c.args.items.now), ap (λ (xs : List Item). length (puts_of xs)) cut)
+    omega (
+      arith,
+      c.note.ensures.few,
+      ap length is,
+      length-append c.loop-item.log (puts_of (drop i c.args.items.now)),
+      length-append c.args.log.now (puts_of c.args.items.now),
+      ap (λ (xs : List Item). length (puts_of xs)) cut,
+    )
 
 pub loop-item-preserved : goal.loop-item-preserved
 loop-item-preserved c =
@@ -31,6 +45,9 @@ loop-item-preserved c =
     let rest = puts_of (drop (i + 1) c.args.items.now) in
     let cut : drop i c.args.items.now ≡ x ∷ drop (i + 1) c.args.items.now = drop-at c.args.items.now _ i x (omega arith) c.loop-item-test.true c.item-item.is in
     record {
-      whole = ap (λ (os : List Op). os ++ rest) c.in_ok-note.ensures.logged ∙ append_assoc log (Put x.number x.point ∷ []) rest ∙ ap (λ (xs : List Item). log ++ puts_of xs) (sym cut) ∙ c.loop-item.invariant.whole;
+      whole =
+          ap (λ (os : List Op). os ++ rest) c.in_ok-note.ensures.logged
+          ∙ append_assoc log (Put x.number x.point ∷ []) rest ∙ ap (λ (xs : List Item). log ++ puts_of xs) (sym cut)
+          ∙ c.loop-item.invariant.whole;
       begins = extends_on _ _ _ c.loop-item.invariant.begins c.note.ensures.begins;
     }

@@ -25,19 +25,30 @@ piece g c = join_piece c.args.large c.args.tree c.args.items.now c.requires.fit 
 crossed : (g : _) (c : After-put_beside g) → IfOk c.put_beside.result (λ t. IsCrossed c.args.large (paths_in c.args.watches.now) c.args.tree c.args.items.now t)
 crossed g c =
     subst (λ (is : List Item). IfOk c.put_beside.result (λ t. IsCrossed c.args.large (paths_in c.args.watches.now) c.args.tree is t)) (c.as_mut_slice-items.ensures.value ∙ c.in_ok-items.ensures.items)
-    (subst (λ (ps : List (List Side)). IfOk c.put_beside.result (λ t. IsCrossed c.args.large ps c.args.tree c.as_mut_slice-items.result.now t)) (watched_before _ _ _ _ c.of-ways.ensures c.as_slice.ensures.value c.log_scans.ensures.begins) c.put_beside.ensures)
+    (subst (λ (ps : List (List Side)). IfOk c.put_beside.result
+    (λ t. IsCrossed c.args.large ps c.args.tree c.as_mut_slice-items.result.now t))
+    (watched_before _ _ _ _ c.of-ways.ensures c.as_slice.ensures.value c.log_scans.ensures.begins)
+    c.put_beside.ensures)
 
 pub put_beside-requires-clause-piece : goal.put_beside-requires-clause-piece
-put_beside-requires-clause-piece g c = subst (λ (is : List Item). IsPiece c.args.large c.args.tree is) (sym (c.as_mut_slice-items.ensures.value ∙ c.in_ok-items.ensures.items)) (piece g (goal.at.put_beside-requires-clause-piece g c).After-of-ways)
+put_beside-requires-clause-piece g c =
+    subst (λ (is : List Item). IsPiece c.args.large c.args.tree is)
+    (sym (c.as_mut_slice-items.ensures.value ∙ c.in_ok-items.ensures.items))
+    (piece g (goal.at.put_beside-requires-clause-piece g c).After-of-ways)
 
 pub put_beside-requires-clause-there : goal.put_beside-requires-clause-there
-put_beside-requires-clause-there g c = subst (λ (ps : List (List Side)). AreLargeAt c.args.large ps c.args.tree) (sym (ways g (goal.at.put_beside-requires-clause-there g c).After-of-ways)) c.requires.there
+put_beside-requires-clause-there g c =
+    subst (λ (ps : List (List Side)). AreLargeAt c.args.large ps c.args.tree)
+    (sym (ways g (goal.at.put_beside-requires-clause-there g c).After-of-ways)) c.requires.there
 
 pub put_beside-requires-clause-apart : goal.put_beside-requires-clause-apart
 put_beside-requires-clause-apart g c = subst AreAllApart (sym (ways g (goal.at.put_beside-requires-clause-apart g c).After-of-ways)) c.requires.apart
 
 pub returns-clause-contents : goal.returns-clause-contents
-returns-clause-contents g c = IfOk-weaker c.put_beside.result _ _ (λ t u. grown_held _ t _ c.requires.fit.live (walk_distinct c.args.tree c.args.items.now c.requires.fit.distinct) u.grown) (crossed g (goal.at.returns-clause-contents g c).After-put_beside)
+returns-clause-contents g c =
+    IfOk-weaker c.put_beside.result _ _ (λ t u. grown_held _ t _ c.requires.fit.live
+    (walk_distinct c.args.tree c.args.items.now c.requires.fit.distinct) u.grown)
+    (crossed g (goal.at.returns-clause-contents g c).After-put_beside)
 
 pub returns-clause-numbers : goal.returns-clause-numbers
 returns-clause-numbers g c = IfOk-weaker c.put_beside.result _ _ (λ t u. grown_numbers _ t _ u.grown) (crossed g (goal.at.returns-clause-numbers g c).After-put_beside)
