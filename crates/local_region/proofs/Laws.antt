@@ -136,7 +136,17 @@ high_taken r a h =
 -- a box of ranges that are cut is taken as a caller's
 pub cut_taken : (x y z : Range) → IsCut x → IsCut y → IsCut z → cuboid_of (box_of x y z).lo (box_of x y z).hi ≡ Ok (box_of x y z)
 cut_taken x y z h k l =
-    rw (low_taken x X h, low_taken y Y k, low_taken z Z l, high_taken x X h, high_taken y Y k, high_taken z Z l, upright_taken X x.lo x.hi h.filled, upright_taken Y y.lo y.hi k.filled, upright_taken Z z.lo z.hi l.filled)
+    rw (
+      low_taken x X h,
+      low_taken y Y k,
+      low_taken z Z l,
+      high_taken x X h,
+      high_taken y Y k,
+      high_taken z Z l,
+      upright_taken X x.lo x.hi h.filled,
+      upright_taken Y y.lo y.hi k.filled,
+      upright_taken Z z.lo z.hi l.filled,
+    )
     refl
 
 -- lists of one box at most
@@ -200,7 +210,9 @@ listed_each x y z =
 
 -- three slabs
 
-slabs_bools : (ox nx oy ny oz nz : Bool) → (((ox && not nx) && oy && oz) || ((ox && nx) && (oy && not ny) && oz) || ((ox && nx) && (oy && ny) && (oz && not nz))) ≡ ((ox && oy && oz) && not (nx && ny && nz))
+slabs_bools : (ox nx oy ny oz nz : Bool)
+    → (((ox && not nx) && oy && oz) || ((ox && nx) && (oy && not ny) && oz) ||
+    ((ox && nx) && (oy && ny) && (oz && not nz))) ≡ ((ox && oy && oz) && not (nx && ny && nz))
 slabs_bools false nx oy ny oz nz = refl
 slabs_bools true false false ny oz nz = refl
 slabs_bools true false true ny false nz = refl
@@ -238,9 +250,15 @@ slabs_exact side a b p n h =
     let B = box_if_any (kept_range side a.x b.x) (left_range side a.y b.y) (whole_range side a.z) in
     let C = box_if_any (kept_range side a.x b.x) (kept_range side a.y b.y) (left_range side a.z b.z) in
     list_any-append test (A ++ B) C ∙ ap (λ t. t || list_any test C) (list_any-append test A B) ∙
-    rw (listed_some (left_range side a.x b.x) (whole_range side a.y) (whole_range side a.z) p h, listed_some (kept_range side a.x b.x) (left_range side a.y b.y) (whole_range side a.z) p h, listed_some (kept_range side a.x b.x) (kept_range side a.y b.y) (left_range side a.z b.z) p h)
+    rw (
+      listed_some (left_range side a.x b.x) (whole_range side a.y) (whole_range side a.z) p h,
+      listed_some (kept_range side a.x b.x) (left_range side a.y b.y) (whole_range side a.z) p h,
+      listed_some (kept_range side a.x b.x) (kept_range side a.y b.y) (left_range side a.z b.z) p h,
+    )
     (rw (left_between side a.x b.x p.x n.x, left_between side a.y b.y p.y n.y, left_between side a.z b.z p.z n.z, kept_between side a.x b.x p.x, kept_between side a.y b.y p.y)
-    (slabs_bools (in_range (whole_range side a.x) p.x) (in_range (whole_range side b.x) p.x) (in_range (whole_range side a.y) p.y) (in_range (whole_range side b.y) p.y) (in_range (whole_range side a.z) p.z) (in_range (whole_range side b.z) p.z)))
+    (slabs_bools (in_range (whole_range side a.x) p.x) (in_range (whole_range side b.x) p.x)
+    (in_range (whole_range side a.y) p.y) (in_range (whole_range side b.y) p.y)
+    (in_range (whole_range side a.z) p.z) (in_range (whole_range side b.z) p.z)))
 
 slabs_apart : (side : ℕ) (a b : Corner) (p : Place) → AreNear side a b → IsPlace p → times_in (slabs_of side a b) p ≤ 1
 slabs_apart side a b p n h =
@@ -253,7 +271,9 @@ slabs_apart side a b p n h =
     rw parts
     (rw (listed_times (left_range side a.x b.x) (whole_range side a.y) (whole_range side a.z) p h, listed_times (kept_range side a.x b.x) (left_range side a.y b.y) (whole_range side a.z) p h, listed_times (kept_range side a.x b.x) (kept_range side a.y b.y) (left_range side a.z b.z) p h)
     (rw (left_between side a.x b.x p.x n.x, left_between side a.y b.y p.y n.y, left_between side a.z b.z p.z n.z, kept_between side a.x b.x p.x, kept_between side a.y b.y p.y)
-    (apart_bools (in_range (whole_range side a.x) p.x) (in_range (whole_range side b.x) p.x) (in_range (whole_range side a.y) p.y) (in_range (whole_range side b.y) p.y) (in_range (whole_range side a.z) p.z) (in_range (whole_range side b.z) p.z))))
+    (apart_bools (in_range (whole_range side a.x) p.x) (in_range (whole_range side b.x) p.x)
+    (in_range (whole_range side a.y) p.y) (in_range (whole_range side b.y) p.y)
+    (in_range (whole_range side a.z) p.z) (in_range (whole_range side b.z) p.z))))
 
 slabs_few : (side : ℕ) (a b : Corner) → length (slabs_of side a b) ≤ 3
 slabs_few side a b =
@@ -267,7 +287,8 @@ slabs_few side a b =
 
 slabs_each : (side : ℕ) (a b : Corner) → AllByRecursion IsFilledBox (slabs_of side a b)
 slabs_each side a b =
-    all_both _ _ (all_both _ _ (listed_each (left_range side a.x b.x) (whole_range side a.y) (whole_range side a.z)) (listed_each (kept_range side a.x b.x) (left_range side a.y b.y) (whole_range side a.z)))
+    all_both _ _ (all_both _ _ (listed_each (left_range side a.x b.x) (whole_range side a.y) (whole_range side a.z))
+    (listed_each (kept_range side a.x b.x) (left_range side a.y b.y) (whole_range side a.z)))
     (listed_each (kept_range side a.x b.x) (kept_range side a.y b.y) (left_range side a.z b.z))
 
 but_not : (s t u : Bool) → s ≡ (t && not u) → (s ≡ true) ↔ ((t ≡ true) × (u ≡ false))
