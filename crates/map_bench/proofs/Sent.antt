@@ -19,4 +19,36 @@ use Rattle.map_bench.proofs.threads.plan.Plan.TheSendSync as plan
 use Rattle.map_bench.proofs.threads.roles.Role.TheSendSync as role
 
 -- what `search` lists for it
-pub ruleset to_thread = (sendable, std.crosses, map.shared_sync, map.pass_send, heap.the_send, heap.the_sync, memory.the_send, memory.the_field_send, memory.the_sync, memory.the_field_sync, option.the_sync, option.the_field_sync, flag.the_sync, flag.the_field_sync, duration.the_sync, duration.the_field_sync, point.the_sync, corner.the_sync, corner.the_field_sync, cuboid.the_sync, sequence.the_sync, scan.the_sync, scan.the_field_sync, company.the_sync, company.the_field_sync, plan.the_sync, plan.the_field_sync, bell.the_sync, rest.the_send, role.the_send, role.the_field_send)
+pub ruleset to_thread = (
+  sendable,
+  std.crosses,
+  map.shared_sync,
+  map.pass_send,
+  heap.the_send,
+  heap.the_sync,
+  memory.the_send,
+  memory.the_field_send,
+  memory.the_sync,
+  memory.the_field_sync,
+  option.the_sync,
+  option.the_field_sync,
+  flag.the_sync,
+  flag.the_field_sync,
+  duration.the_sync,
+  duration.the_field_sync,
+  point.the_sync,
+  corner.the_sync,
+  corner.the_field_sync,
+  cuboid.the_sync,
+  sequence.the_sync,
+  scan.the_sync,
+  scan.the_field_sync,
+  company.the_sync,
+  company.the_field_sync,
+  plan.the_sync,
+  plan.the_field_sync,
+  bell.the_sync,
+  rest.the_send,
+  role.the_send,
+  role.the_field_send,
+)
