@@ -23,7 +23,39 @@ use Rattle.map_c.specs.contracts.handles.content.View as seen
 use Rattle.map_c.specs.contracts.handles.built_subtree.BuiltSubtree as done
 use Rattle.map_c.specs.contracts.handles.detached_job.DetachedJob as work
 
-ruleset items = (sendable, std.crosses, knot.crosses, o.the_field_send, o.the_field_sync, o.the_send, o.the_sync, s3.the_field_send, s3.the_field_sync, s5.the_field_send, s5.the_field_sync, s6.the_field_send, s6.the_field_sync, s10.the_field_send, s10.the_field_sync, s3.the_send, s3.the_sync, s5.the_send, s5.the_sync, s6.the_send, s6.the_sync, s7.the_send, s7.the_sync, s10.the_send, s10.the_sync, s12.the_send, s12.the_sync, s13.the_send, s13.the_sync, s14.the_send, s14.the_sync)
+ruleset items = (
+  sendable,
+  std.crosses,
+  knot.crosses,
+  o.the_field_send,
+  o.the_field_sync,
+  o.the_send,
+  o.the_sync,
+  s3.the_field_send,
+  s3.the_field_sync,
+  s5.the_field_send,
+  s5.the_field_sync,
+  s6.the_field_send,
+  s6.the_field_sync,
+  s10.the_field_send,
+  s10.the_field_sync,
+  s3.the_send,
+  s3.the_sync,
+  s5.the_send,
+  s5.the_sync,
+  s6.the_send,
+  s6.the_sync,
+  s7.the_send,
+  s7.the_sync,
+  s10.the_send,
+  s10.the_sync,
+  s12.the_send,
+  s12.the_sync,
+  s13.the_send,
+  s13.the_sync,
+  s14.the_send,
+  s14.the_sync,
+)
 
 kept_send : IsSend kept.the_row
 kept_send = search (state_send, sendable, std.crosses) depth 40 fits 20000
@@ -38,7 +70,21 @@ done_send : IsSend done.the_row
 done_send = search items depth 40 fits 20000
 
 index_send : IsSend index.the_row
-index_send = search (frozen.the_send, frozen.the_sync, cell.the_send, cell.the_sync, axis.the_field_send, axis.the_field_sync, axis.the_send, axis.the_sync, s14.the_send, s14.the_sync, sendable, std.crosses) depth 40 fits 20000
+index_send =
+    search (
+      frozen.the_send,
+      frozen.the_sync,
+      cell.the_send,
+      cell.the_sync,
+      axis.the_field_send,
+      axis.the_field_sync,
+      axis.the_send,
+      axis.the_sync,
+      s14.the_send,
+      s14.the_sync,
+      sendable,
+      std.crosses,
+    ) depth 40 fits 20000
 
 pub content_send : IsSend the_row
 content_send = search (kept_send, seen_send, work_send, done_send, index_send, sendable, std.crosses) depth 40 fits 20000

@@ -45,7 +45,8 @@ module _ {M : Type 1} {𝓤 : Ura M} (𝓛 : Logic 𝓤) (at_mem : Memory → SP
   walk z =
       let Post = (walk_of 𝓛 F.ended stayed (F.clauses 𝓛 at_mem run)).post z in
       let h = z.0.3.0 in
-      qed 𝓛 ((‵ ftrue ⊛ ‵ (fsep (RawContent.the_row.own_val h z.0.4.0) ftrue)) ∷ raw (fact 𝓤 (is_some h.content ≡ true)) ∷ []) ∵ move ! (1 ∷ []) $ heard ! (is_some h.content ≡ true) (λ some. split ! $ drop ! $ fsplit ! $
+      qed 𝓛 ((‵ ftrue ⊛ ‵ (fsep (RawContent.the_row.own_val h z.0.4.0) ftrue)) ∷ raw (fact 𝓤 (is_some h.content ≡ true))
+      ∷ []) ∵ move ! (1 ∷ []) $ heard ! (is_some h.content ≡ true) (λ some. split ! $ drop ! $ fsplit ! $
       let s : Contents = content_of h.content some in let full : h.content ≡ Some s = is_it h.content some in
       let v : D E = record { ptr = h.at; alloc = h.alloc; value = s } in
       let To = type_at (F.signature).result tt in
@@ -57,7 +58,9 @@ module _ {M : Type 1} {𝓤 : Ura M} (𝓛 : Logic 𝓤) (at_mem : Memory → SP
       by ! (subst (λ (us : List Val). ent 𝓤 (types.Kit.⋆ 𝓛 Γ) (WpFn 𝓤 H 𝓣.C 𝓣.Λ code.function (us ++ []) Post)) (sym ws)
       (qed 𝓛 Γ ∵ enter ! 𝓣.C 𝓣.Λ code.function (w ∷ []) _ $ alloc_all ! (λ ls. pass_all ! refl (box_typed E hv b o fa, tt) $
       sets ! (of_opd ! (get_in ! (fld ! refl (stop !)) (sub ! 0 refl (whole !)))) refl (tt, tt) $ sets ! (of_opd ! (get_in ! (fld ! refl (stop !)) (sub ! 1 refl (whole !)))) refl fa $
-      sets ! (of_opd ! (get ! refl)) refl (tt, tt) $ sets ! (agg ! (and_then ! (get ! refl) (and_then ! (get ! refl) (no_more !)))) refl (box_typed E hv b o fa) $ returns ! (look_at ! 0 refl) $ free_all ! refl $
+      sets ! (of_opd ! (get ! refl)) refl (tt, tt) $ sets !
+      (agg ! (and_then ! (get ! refl) (and_then ! (get ! refl) (no_more !)))) refl (box_typed E hv b o fa) $ returns
+      ! (look_at ! 0 refl) $ free_all ! refl $
       suffices ! _ (ends_at 𝓛 F.ended stayed (F.clauses 𝓛 at_mem run) z w made (tt, tt) (tt, tt)) $ says ! full $
       nothing ! $ nothing ! $ fjoin ! $ join ! $ nothing ! $ join ! $ done !)))))
 
