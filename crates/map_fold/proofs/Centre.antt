@@ -19,7 +19,9 @@ use Rattle.map_fold.specs.Thinned.{NoneBefore}
 use Rattle.map_fold.proofs.Order.{place_cmp_total, then_equal}
 
 pub centre_cmp_total : (c : Bounds) → IsTotalOrder (centre_cmp c)
-centre_cmp_total c = then_total (on_total (λ (i : Item). centre_dist2 c i.point) nat_cmp_total) (then_total (on_total (λ (i : Item). i.point) place_cmp_total) (on_total (λ (i : Item). i.number) nat_cmp_total))
+centre_cmp_total c =
+    then_total (on_total (λ (i : Item). centre_dist2 c i.point) nat_cmp_total)
+    (then_total (on_total (λ (i : Item). i.point) place_cmp_total) (on_total (λ (i : Item). i.number) nat_cmp_total))
 
 -- no item comes before one that comes before it
 pub order : (c : Bounds) → IsStrictWeakOrder (comes_before c)
@@ -45,7 +47,9 @@ least_first c i (j ∷ m) k n = over (comes_before c j i) refl (least_first c j 
   where
     over : (b : Bool) → comes_before c j i ≡ b → NoneBefore c (least (centre_cmp c) j m) (j ∷ m) → NoneBefore c (least (centre_cmp c) i m) (i ∷ m)
         → Member k (i ∷ j ∷ m) → comes_before c k (least (centre_cmp c) (cond b j i) m) ≡ false
-    over true e f g (inl is) = subst (λ (v : Item). comes_before c v (least (centre_cmp c) j m) ≡ false) (sym is) ((order c).chain i j (least (centre_cmp c) j m) ((order c).one_way j i e) (f j (inl refl)))
+    over true e f g (inl is) =
+        subst (λ (v : Item). comes_before c v (least (centre_cmp c) j m) ≡ false) (sym is)
+        ((order c).chain i j (least (centre_cmp c) j m) ((order c).one_way j i e) (f j (inl refl)))
     over true e f g (inr later) = f k later
     over false e f g (inl is) = g k (inl is)
     over false e f g (inr (inl is)) = subst (λ (v : Item). comes_before c v (least (centre_cmp c) i m) ≡ false) (sym is) ((order c).chain j i (least (centre_cmp c) i m) e (g i (inl refl)))

@@ -163,7 +163,8 @@ one_rival edge n m p i j h new (inr held) (inl f) same = absurd (unheld_of n m i
 one_rival edge n m p i j h new (inr held) (inr other) same = one_number 0 m i j h (inside_is (voxel edge p) m i held).0 (inside_is (voxel edge p) m j other).0 same
 
 -- a rival before which none of the rivals comes is the winner
-pub winner_is : (edge n : ℕ) (m : List Item) (p : Place) (w : Item) → IsRising 0 m → IsUnheld n m → Member w (rivals edge m n p) → NoneBefore (voxel edge p) w (rivals edge m n p) → winner edge m n p ≡ w
+pub winner_is : (edge n : ℕ) (m : List Item) (p : Place) (w : Item) → IsRising 0 m → IsUnheld n m
+    → Member w (rivals edge m n p) → NoneBefore (voxel edge p) w (rivals edge m n p) → winner edge m n p ≡ w
 winner_is edge n m p w h new rival first =
     let v = winner edge m n p in
     let is = winner_rival edge n m p in
@@ -180,7 +181,9 @@ winner_unheld edge n m p h = over (winner_rival edge n m p)
     w = winner edge m n p
 
     over : Member w (rivals edge m n p) → IsUnheld w.number (mark m (in_box c) thin_tag)
-    over (inl same) = subst (λ (i : Item). IsUnheld i.number (mark m (in_box c) thin_tag)) (sym same) (unheld_above 0 n n (mark m (in_box c) thin_tag) (omega arith) (contents_mark 0 n m (in_box c) thin_tag h))
+    over (inl same) =
+        subst (λ (i : Item). IsUnheld i.number (mark m (in_box c) thin_tag)) (sym same)
+        (unheld_above 0 n n (mark m (in_box c) thin_tag) (omega arith) (contents_mark 0 n m (in_box c) thin_tag h))
     over (inr held) =
         let is = inside_is c m w held in
         subst (IsUnheld w.number) (sym (mark-thin c 0 n m h)) (left_unheld c 0 n m w h is.0 (both_true is.1 is.2))
@@ -240,7 +243,8 @@ thinned_is edge n m p from h =
     }
 
 -- where one live item is alone in the voxel and the new one doesn't come before it, nothing changes
-pub thin_same : (edge n : ℕ) (m : List Item) (p : Place) (w : Item) → AreContents 0 n m → inside_all m (voxel edge p) ≡ w ∷ [] → comes_before (voxel edge p) (live_at n p) w ≡ false → thin edge m n p ≡ m
+pub thin_same : (edge n : ℕ) (m : List Item) (p : Place) (w : Item) → AreContents 0 n m
+    → inside_all m (voxel edge p) ≡ w ∷ [] → comes_before (voxel edge p) (live_at n p) w ≡ false → thin edge m n p ≡ m
 thin_same edge n m p w h alone behind =
     let c = voxel edge p in
     let rival : Member w (rivals edge m n p) = inr (subst (Member w) (sym alone) (inl refl)) in

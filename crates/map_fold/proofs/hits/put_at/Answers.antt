@@ -13,7 +13,9 @@ returns-clause-ok c =
     let placed : c.put_before_last.new.hits ≡ insert (take (length lent - 1) lent) c.args.at c.args.hit.now = rw c.as_mut_slice.ensures.value at c.put_before_last.ensures in
     let whole : insert (take (length lent - 1) lent) c.args.at c.args.hit.now ≡ kept = elim c.if-len-k.branch [
       | then-len-k+in_ok-push w ↦ insert-room c.args.k c.args.at old lent c.args.hit.now (omega arith) (ap (λ v. v.items) w.hits-is ∙ w.in_ok-push.ensures.ok)
-      | else-len-k w ↦ ap (λ xs. insert (take (length xs - 1) xs) c.args.at c.args.hit.now) (ap (λ v. v.items) w.hits-is) ∙ insert-full c.args.k c.args.at old c.args.hit.now c.requires.kept (omega arith)
+      | else-len-k w ↦ ap (λ xs. insert (take (length xs - 1) xs) c.args.at c.args.hit.now)
+          (ap (λ v. v.items) w.hits-is)
+          ∙ insert-full c.args.k c.args.at old c.args.hit.now c.requires.kept (omega arith)
     ] in
     let same : length c.put_before_last.new.hits ≡ length lent = omega (arith, ap length c.as_mut_slice.ensures.value) in
     rw (items-with_items c.if-len-k.hits c.put_before_last.new.hits same) (placed ∙ whole)

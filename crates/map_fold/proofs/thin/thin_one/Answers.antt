@@ -25,10 +25,13 @@ returns-then-not-comes_before c =
     let w = c.in-One.rival in
     let alone : inside_all m (voxel c.args.edge p) ≡ w ∷ [] = rw (c.as_slice.ensures.value, c.voxel-cube.ensures.value) at c.in-One.ensures in
     let behind : comes_before (voxel c.args.edge p) (live_at n p) w ≡ false =
-    ap (λ (b : Bounds). comes_before b (live_at n p) w) (sym c.voxel-cube.ensures.value) ∙ ap (λ (i : Item). comes_before c.voxel-cube.result i w) (sym c.live-new.ensures) ∙ sym c.comes_before.ensures ∙ c.if-not-comes_before.true in
+    ap (λ (b : Bounds). comes_before b (live_at n p) w) (sym c.voxel-cube.ensures.value)
+    ∙ ap (λ (i : Item). comes_before c.voxel-cube.result i w) (sym c.live-new.ensures) ∙ sym c.comes_before.ensures
+    ∙ c.if-not-comes_before.true in
     sym (thin_same c.args.edge n m p w c.requires.held alone behind)
 
 pub returns : goal.returns
 returns c =
-    let marked : c.mark_items.new.items.items ≡ mark c.args.items.now.items (in_box c.voxel-cube.result) thin_tag = c.mark_items.ensures ∙ mark-within c.within.result c.voxel-cube.result _ _ c.within.ensures in
+    let marked : c.mark_items.new.items.items ≡ mark c.args.items.now.items (in_box c.voxel-cube.result) thin_tag =
+    c.mark_items.ensures ∙ mark-within c.within.result c.voxel-cube.result _ _ c.within.ensures in
     search rules
