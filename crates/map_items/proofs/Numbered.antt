@@ -59,7 +59,8 @@ contents_within low least high most (i ∷ m) below above h =
 pub marked_number : (chosen : Item → Bool) (a : Tag) (i : Item) → (marked_item chosen a i).number ≡ i.number
 marked_number chosen a i = elim (chosen i) as (λ b. (cond b (relabelled a i) i).number ≡ i.number) [ true ↦ refl | false ↦ refl ]
 
-contents_kept : (low high : ℕ) (j : Item) (m : List Item) (b : Bool) → low ≤ j.number → j.number < high → is_dropped j.label ≡ b → AreContents (j.number + 1) high m → AreContents low high (cond (not b) (j ∷ m) m)
+contents_kept : (low high : ℕ) (j : Item) (m : List Item) (b : Bool) → low ≤ j.number → j.number < high
+    → is_dropped j.label ≡ b → AreContents (j.number + 1) high m → AreContents low high (cond (not b) (j ∷ m) m)
 contents_kept low high j m true from below e rest = contents_within (j.number + 1) low high high m (omega arith) (omega arith) rest
 contents_kept low high j m false from below e rest = (from, below, e, rest)
 
