@@ -31,7 +31,8 @@ Holds s m n = map_of s.tree s.next ≡ record { items = m; next = n }
 pub after_first : (ps : List Place) (sizes : Sizes) (t : StateAt) → IsAdded ps (new_state sizes) t → Holds t (numbered_as Live 0 ps) (length ps)
 after_first ps sizes t step = step.added ∙ added ps 0 [] tt ∙ ap (λ n. record { items = numbered_as Live 0 ps; next = n }) (omega arith)
 
-pub after_second : (ps : List Place) (s t : StateAt) → All IsPlace ps → Holds s (numbered_as Live 0 ps) (length ps) → IsUpdateStep 1 (Suspend (all_places ∷ [])) s t → Holds t (numbered_as Suspended 0 ps) (length ps)
+pub after_second : (ps : List Place) (s t : StateAt) → All IsPlace ps → Holds s (numbered_as Live 0 ps) (length ps)
+    → IsUpdateStep 1 (Suspend (all_places ∷ [])) s t → Holds t (numbered_as Suspended 0 ps) (length ps)
 after_second ps s t places held step =
     step.stepped ∙ ap (λ m. mark_boxes suspend_tag (all_places ∷ []) m) held ∙ ap (λ m. record { items = m; next = length ps }) (hidden all_places ps 0 (all_held ps places))
 
@@ -57,7 +58,8 @@ first ps sizes s t e step =
 pub room_next : (u : Update) (s : StateAt) (m : List Item) (n k : ℕ) → Holds s m n → length s.history ≤ k → k < 100 → n + points_in u ≤ 4194304 → HasRoom u s
 room_next u s m n k held len lt few = record { updates = omega (arith, len, lt); points = omega (arith, next_of s m n held, few) }
 
-pub second : (ps : List Place) (cs : List Bounds) (s t : StateAt) → cs ≡ all_places ∷ [] → All IsPlace ps → Holds s (numbered_as Live 0 ps) (length ps) → length s.history ≤ 1 → IsUpdateStep 1 (Suspend cs) s t
+pub second : (ps : List Place) (cs : List Bounds) (s t : StateAt) → cs ≡ all_places ∷ [] → All IsPlace ps
+    → Holds s (numbered_as Live 0 ps) (length ps) → length s.history ≤ 1 → IsUpdateStep 1 (Suspend cs) s t
     → Holds t (numbered_as Suspended 0 ps) (length ps) × (length t.history ≤ 2)
 second ps cs s t e places held len step =
     (after_second ps s t places held (subst (λ x. IsUpdateStep 1 (Suspend x) s t) e step), omega (arith, longer (Suspend cs) s t step, len))
@@ -80,7 +82,12 @@ both (i ∷ m) k =
 pub both_lengths : (t : Shape) → length (points_of (suspended_items (contents t))) + length (points_of (live_items (contents t))) ≡ length (contents t)
 both_lengths t =
     let m = contents t in
-    omega (arith, length-map (suspended_items m) (λ (i : Item). i.point), length-map (live_items m) (λ (i : Item). i.point), both m (recursion_from_All (λ (i : Item). is_dropped i.label ≡ false) m (contents_kept t)))
+    omega (
+      arith,
+      length-map (suspended_items m) (λ (i : Item). i.point),
+      length-map (live_items m) (λ (i : Item). i.point),
+      both m (recursion_from_All (λ (i : Item). is_dropped i.label ≡ false) m (contents_kept t)),
+    )
 
 -- what is held in the end
 pub renewed_of : (m : List Item) → numbered_as Suspended 0 (points_of (suspended_items m)) ++ numbered_as Live (length (points_of (suspended_items m))) (points_of (live_items m)) ≡ renewed_items m

@@ -30,7 +30,10 @@ items t ps qs k = rw (k.hid, k.seen) (renewed_of (contents t))
 pub of_points-requires : goal.of_points-requires
 of_points-requires c =
     let t = c.args.version.now.tree in
-    let k = both_of t _ _ _ _ _ _ (c.as_slice-3.ensures ∙ c.in_ok-suspended.ensures) (c.as_slice-4.ensures ∙ c.in_ok-live.ensures) c.as_slice.ensures c.as_slice-2.ensures c.in_ok-items.ensures c.tree-2.ensures in
+    let k =
+    both_of t _ _ _ _ _ _ (c.as_slice-3.ensures ∙ c.in_ok-suspended.ensures)
+    (c.as_slice-4.ensures ∙ c.in_ok-live.ensures) c.as_slice.ensures c.as_slice-2.ensures c.in_ok-items.ensures
+    c.tree-2.ensures in
     let small : nodes c.tree.result.now ≤ 4194304 = omega (arith, c.size-size.ensures.value, c.size-size.ensures.few) in
     let same : nodes t ≡ nodes c.tree.result.now = ap nodes (sym c.tree.ensures) in
     record { few = omega (arith, lengths t _ _ k, contents_few t, small, same) }
@@ -38,7 +41,10 @@ of_points-requires c =
 pub returns : goal.returns
 returns c =
     let t = c.args.version.now.tree in
-    let k = both_of t _ _ _ _ _ _ (c.as_slice-3.ensures ∙ c.in_ok-suspended.ensures) (c.as_slice-4.ensures ∙ c.in_ok-live.ensures) c.as_slice.ensures c.as_slice-2.ensures c.in_ok-items.ensures c.tree-2.ensures in
+    let k =
+    both_of t _ _ _ _ _ _ (c.as_slice-3.ensures ∙ c.in_ok-suspended.ensures)
+    (c.as_slice-4.ensures ∙ c.in_ok-live.ensures) c.as_slice.ensures c.as_slice-2.ensures c.in_ok-items.ensures
+    c.tree-2.ensures in
     let held = c.in_ok-state.ensures.held ∙ items t _ _ k in
     record {
       held = held;
