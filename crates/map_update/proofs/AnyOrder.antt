@@ -39,7 +39,9 @@ live_own : (edge : ℕ) (k : Item) → 1 ≤ edge → is_live k.label ≡ true �
 live_own edge k from live = both_true live (voxel_held edge k.point from)
 
 -- what is first by the voxel of one item is first by the same voxel of another
-first_by : (edge : ℕ) (is m : List Item) (k e : Item) (c : Bounds) (j : Item) → IsLeft edge is m k → Member e is → voxel edge e.point ≡ c → InPool is m j → is_live_in c k ≡ true → is_live_in c j ≡ true → comes_before c j k ≡ false
+first_by : (edge : ℕ) (is m : List Item) (k e : Item) (c : Bounds) (j : Item) → IsLeft edge is m k → Member e is
+    → voxel edge e.point ≡ c → InPool is m j → is_live_in c k ≡ true → is_live_in c j ≡ true
+    → comes_before c j k ≡ false
 first_by edge is m k e c j left there same pool live other =
     subst (λ (b : Bounds). is_live_in b k ≡ true → is_live_in b j ≡ true → comes_before b j k ≡ false) same (left.first e j there pool) live other
 
@@ -88,7 +90,8 @@ pool_before edge high is m i k entry (inr there) = over (entered_from edge high 
     over (inr wins) = one_more is m i k (rival_from edge high m i k entry.may (subst (λ (x : Item). Member x (rivals edge m i.number i.point)) (sym wins) (winner_rival edge i.number m i.point)))
 
 -- the winner doesn't come before what remains in the voxel
-won_behind : (edge high : ℕ) (is m : List Item) (i k : Item) → IsEntry edge high m i → IsLeft edge is (after edge m i) k → is_live_in (voxel edge i.point) k ≡ true → comes_before (voxel edge i.point) (won edge m i) k ≡ false
+won_behind : (edge high : ℕ) (is m : List Item) (i k : Item) → IsEntry edge high m i → IsLeft edge is (after edge m i) k
+    → is_live_in (voxel edge i.point) k ≡ true → comes_before (voxel edge i.point) (won edge m i) k ≡ false
 won_behind edge high is m i k entry left live = by_pool left.held
   where
     c : Bounds
@@ -99,11 +102,16 @@ won_behind edge high is m i k entry left live = by_pool left.held
     over (inr wins) = subst (λ (x : Item). comes_before c (won edge m i) x ≡ false) (sym wins) (not_itself c (won edge m i))
 
     by_pool : InPool is (after edge m i) k → comes_before c (won edge m i) k ≡ false
-    by_pool (inl there) = first_by edge is (after edge m i) k k c (won edge m i) left there (voxel_in edge i.point k entry.from live) (inr (won_held edge high m i entry)) live (rival_in edge m i (won edge m i) entry.from (winner_rival edge i.number m i.point))
+    by_pool (inl there) =
+        first_by edge is (after edge m i) k k c (won edge m i) left there (voxel_in edge i.point k entry.from live)
+        (inr (won_held edge high m i entry)) live
+        (rival_in edge m i (won edge m i) entry.from (winner_rival edge i.number m i.point))
     by_pool (inr there) = over (entered_from edge high i.number m i.point k entry.contents entry.may.unheld there)
 
 -- an item of the voxel, the one that enters or one that is held, doesn't come before what remains there
-rival_behind : (edge high : ℕ) (is m : List Item) (i j k : Item) → IsEntry edge high m i → IsLeft edge is (after edge m i) k → (j ≡ i) ⊎ Member j m → is_live_in (voxel edge i.point) j ≡ true → is_live_in (voxel edge i.point) k ≡ true → comes_before (voxel edge i.point) j k ≡ false
+rival_behind : (edge high : ℕ) (is m : List Item) (i j k : Item) → IsEntry edge high m i
+    → IsLeft edge is (after edge m i) k → (j ≡ i) ⊎ Member j m → is_live_in (voxel edge i.point) j ≡ true
+    → is_live_in (voxel edge i.point) k ≡ true → comes_before (voxel edge i.point) j k ≡ false
 rival_behind edge high is m i j k entry left pool inside live =
     (order (voxel edge i.point)).chain j (won edge m i) k (winner_first edge i.number m i.point j (is_rival edge high m i j entry.may pool inside)) (won_behind edge high is m i k entry left live)
 
@@ -112,19 +120,25 @@ left_before : (edge high : ℕ) (is m : List Item) (i k : Item) → IsEntry edge
 left_before edge high is m i k entry left = record { held = pool_before edge high is m i k entry left.held; first = first }
   where
     -- in the voxel of the one that enters, by whichever item that voxel is named
-    inside : (e j : Item) → (j ≡ i) ⊎ Member j m → is_live_in (voxel edge i.point) j ≡ true → is_live_in (voxel edge e.point) k ≡ true → is_live_in (voxel edge e.point) j ≡ true → comes_before (voxel edge e.point) j k ≡ false
+    inside : (e j : Item) → (j ≡ i) ⊎ Member j m → is_live_in (voxel edge i.point) j ≡ true
+        → is_live_in (voxel edge e.point) k ≡ true → is_live_in (voxel edge e.point) j ≡ true
+        → comes_before (voxel edge e.point) j k ≡ false
     inside e j pool own live other =
         let same : voxel edge i.point ≡ voxel edge e.point = sym (voxel_in edge i.point j entry.from own) ∙ voxel_in edge e.point j entry.from other in
         subst (λ (b : Bounds). is_live_in b j ≡ true → is_live_in b k ≡ true → comes_before b j k ≡ false) same (rival_behind edge high is m i j k entry left pool) other live
 
-    outside : (e j : Item) → Member e (i ∷ is) → (j ≡ i) ⊎ Member j m → is_live_in (voxel edge i.point) j ≡ false → is_live_in (voxel edge e.point) k ≡ true → is_live_in (voxel edge e.point) j ≡ true → comes_before (voxel edge e.point) j k ≡ false
+    outside : (e j : Item) → Member e (i ∷ is) → (j ≡ i) ⊎ Member j m → is_live_in (voxel edge i.point) j ≡ false
+        → is_live_in (voxel edge e.point) k ≡ true → is_live_in (voxel edge e.point) j ≡ true
+        → comes_before (voxel edge e.point) j k ≡ false
     outside e j (inl same) pool out live other = let there : is_live_in (voxel edge i.point) j ≡ true = subst (λ (x : Item). is_live_in (voxel edge x.point) j ≡ true) same other in absurd (cc)
     outside e j (inr there) (inl same) out live other =
         let own : is_live_in (voxel edge i.point) i ≡ true = live_own edge i entry.from (ap is_live entry.may.live) in
         let none : is_live_in (voxel edge i.point) i ≡ false = sym (ap (is_live_in (voxel edge i.point)) same) ∙ out in absurd (cc)
     outside e j (inr there) (inr held) out live other = left.first e j there (inr (entered_in edge high i.number m i.point j entry.contents entry.may.unheld (inl (held, out)))) live other
 
-    by_voxel : (b : Bool) → (e j : Item) → is_live_in (voxel edge i.point) j ≡ b → Member e (i ∷ is) → (j ≡ i) ⊎ Member j m → is_live_in (voxel edge e.point) k ≡ true → is_live_in (voxel edge e.point) j ≡ true → comes_before (voxel edge e.point) j k ≡ false
+    by_voxel : (b : Bool) → (e j : Item) → is_live_in (voxel edge i.point) j ≡ b → Member e (i ∷ is)
+        → (j ≡ i) ⊎ Member j m → is_live_in (voxel edge e.point) k ≡ true → is_live_in (voxel edge e.point) j ≡ true
+        → comes_before (voxel edge e.point) j k ≡ false
     by_voxel true e j own there pool live other = inside e j pool own live other
     by_voxel false e j out there pool live other = outside e j there pool out live other
 
@@ -186,7 +200,8 @@ left_all edge next ps fs m k from firsts left = record { held = held left.held; 
     held (inr there) = inr there
 
     -- by the first one of a voxel, what a first one or the map has there
-    first_there : (e j : Item) → IsBeaten edge fs e → InPool fs m j → is_live_in (voxel edge e.point) k ≡ true → is_live_in (voxel edge e.point) j ≡ true → comes_before (voxel edge e.point) j k ≡ false
+    first_there : (e j : Item) → IsBeaten edge fs e → InPool fs m j → is_live_in (voxel edge e.point) k ≡ true
+        → is_live_in (voxel edge e.point) j ≡ true → comes_before (voxel edge e.point) j k ≡ false
     first_there e j beaten pool live other = first_by edge fs m k beaten.by (voxel edge e.point) j left beaten.there (voxel_of edge e.point beaten.by.point from beaten.inside) pool live other
 
     live_by : (e : Item) → Member e fs → is_live e.label ≡ true
@@ -198,7 +213,9 @@ left_all edge next ps fs m k from firsts left = record { held = held left.held; 
         let inside : is_live_in c two.by ≡ true = both_true (live_by two.by two.there) (subst (λ (b : Bounds). holds b two.by.point ≡ true) same two.inside) in
         (order c).chain j two.by k (subst (λ (b : Bounds). comes_before b j two.by ≡ false) same two.behind) (first_there e two.by one (inl two.there) live inside)
 
-    first : (e j : Item) → Member e (live_from next ps) → InPool (live_from next ps) m j → is_live_in (voxel edge e.point) k ≡ true → is_live_in (voxel edge e.point) j ≡ true → comes_before (voxel edge e.point) j k ≡ false
+    first : (e j : Item) → Member e (live_from next ps) → InPool (live_from next ps) m j
+        → is_live_in (voxel edge e.point) k ≡ true → is_live_in (voxel edge e.point) j ≡ true
+        → comes_before (voxel edge e.point) j k ≡ false
     first e j there (inl point) live other = behind e j (firsts.beaten e there) (firsts.beaten j point) (voxel_in edge e.point j from other) live
     first e j there (inr held) live other = first_there e j (firsts.beaten e there) (inr held) live other
 
@@ -236,7 +253,8 @@ thin_each-thin_points edge n [] m = refl
 thin_each-thin_points edge n (p ∷ ps) m = thin_each-thin_points edge (n + 1) ps (thin edge m n p)
 
 -- The first ones of the voxels of a scan, in any order, leave what all its points leave in turn.
-pub thin_firsts : (edge next : ℕ) (ps : List Place) (fs m : List Item) → 1 ≤ edge → AreContents 0 next m → AreFirsts edge next ps fs → thin_each edge m fs ≡ (thin_points edge ps (record { items = m; next = next })).items
+pub thin_firsts : (edge next : ℕ) (ps : List Place) (fs m : List Item) → 1 ≤ edge → AreContents 0 next m
+    → AreFirsts edge next ps fs → thin_each edge m fs ≡ (thin_points edge ps (record { items = m; next = next })).items
 thin_firsts edge next ps fs m from h firsts =
     same_rising (thin_each edge m fs) (thin_each edge m (live_from next ps))
     (contents_rises 0 high (thin_each edge m fs) (contents_each edge high m fs wide some))

@@ -159,7 +159,9 @@ none_live c (x ∷ ws) k =
     let out : is_live_in c x ≡ false = not_both (is_live x.label) (in_box c x) (All-head P x ws k) in rw out (none_live c ws (All-tail P x ws k))
 
 -- then the tree alone is cleared
-pub cleared_clear : (c : Bounds) (high : ℕ) (t u : Shape) (ws : List Item) → All (λ i. in_box c i ≡ false) ws → AreContents 0 high (both t ws) → AreContents 0 high (contents t) → contents u ≡ mark (contents t) (in_box c) thin_tag
+pub cleared_clear : (c : Bounds) (high : ℕ) (t u : Shape) (ws : List Item) → All (λ i. in_box c i ≡ false) ws
+    → AreContents 0 high (both t ws) → AreContents 0 high (contents t)
+    → contents u ≡ mark (contents t) (in_box c) thin_tag
     → both u ws ≡ mark (both t ws) (in_box c) thin_tag
 cleared_clear c high t u ws clear k h e = ap (both u) (sym (all_left (is_live_in c) ws (none_live c ws clear))) ∙ cleared_held c high t u ws k h e
 

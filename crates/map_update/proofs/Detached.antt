@@ -34,7 +34,10 @@ part_watched large next more last t u p ops k w room le below =
       few = room;
       items = contents_more 0 next more p.items le k.items;
       fit = fit_append p.items p.log ops k.fit (subst (λ m. Fit m ops) held w.fit);
-      below = subst (All (λ n. n < more)) (sym (numbers_put-append p.log ops)) (All-append (λ n. n < more) (numbers_put p.log) (numbers_put ops) (All-weaker (λ n. n < next) (λ n. n < more) (λ n h. omega (arith, h)) (numbers_put p.log) k.below) below);
+      below =
+          subst (All (λ n. n < more)) (sym (numbers_put-append p.log ops)) (All-append (λ n. n < more)
+          (numbers_put p.log) (numbers_put ops)
+          (All-weaker (λ n. n < next) (λ n. n < more) (λ n h. omega (arith, h)) (numbers_put p.log) k.below) below);
       replayed = w.replayed ∙ ap (λ m. replay m ops) held ∙ sym (replay-append p.items p.log ops);
       ticket_from = k.ticket_from;
       ticket_to = k.ticket_to;
@@ -55,7 +58,8 @@ part_same large next more last later t u p same le after k = record {
 
 -- several parts
 
-pub each_same : (large next more last later : ℕ) (t u : Shape) (ps : List PartAt) → AreSameAt (paths ps) u t → next ≤ more → last ≤ later → AreEachLawful large next last t ps → AreEachLawful large more later u ps
+pub each_same : (large next more last later : ℕ) (t u : Shape) (ps : List PartAt) → AreSameAt (paths ps) u t
+    → next ≤ more → last ≤ later → AreEachLawful large next last t ps → AreEachLawful large more later u ps
 each_same large next more last later t u [] same le after k = tt
 each_same large next more last later t u (p ∷ ps) same le after k = (part_same large next more last later t u p same.0 le after k.0, each_same large next more last later t u ps same.1 le after k.1)
 
@@ -88,7 +92,8 @@ pub room_of_two : (ps : List PartAt) → HaveLogRoom ps → HaveLogRoomOf 2 ps
 room_of_two [] k = tt
 room_of_two (p ∷ ps) k = (k.0, room_of_two ps k.1)
 
-pub each_logged : (large next more last n : ℕ) (F : List Side → List Op) (t u : Shape) (ps : List PartAt) → AreEachLawful large next last t ps → AreWatched (λ q. IsWatched q t u (F q)) (paths ps) → HaveLogRoomOf n ps
+pub each_logged : (large next more last n : ℕ) (F : List Side → List Op) (t u : Shape) (ps : List PartAt)
+    → AreEachLawful large next last t ps → AreWatched (λ q. IsWatched q t u (F q)) (paths ps) → HaveLogRoomOf n ps
     → ((q : List Side) → length (F q) ≤ n) → next ≤ more → ((q : List Side) → All (λ n. n < more) (numbers_put (F q))) → AreEachLawful large more last u (logged F ps)
 each_logged large next more last n F t u [] k w room few le below = tt
 each_logged large next more last n F t u (p ∷ ps) k w room few le below = (
@@ -115,7 +120,9 @@ pub left_without : (front : List PartAt) (p : PartAt) (back : List PartAt) → A
 left_without [] p back = inl (left_itself back)
 left_without (q ∷ front) p back = inr (q.log, front ++ back, refl, extends_itself q.log, left_without front p back)
 
-left_on : (p : PartAt) (log : List Op) (ps rest rs : List PartAt) → Extends p.log log → ((us : List PartAt) → AreLeft rest us → AreLeft ps us) → AreLeft (record p { log = log } ∷ rest) rs → AreLeft (p ∷ ps) rs
+left_on : (p : PartAt) (log : List Op) (ps rest rs : List PartAt) → Extends p.log log
+    → ((us : List PartAt) → AreLeft rest us → AreLeft ps us) → AreLeft (record p { log = log } ∷ rest) rs
+    → AreLeft (p ∷ ps) rs
 left_on p log ps rest rs more on (inl m) = inl (on rs m)
 left_on p log ps rest rs more on (inr m) = inr (m.0, m.1, m.2, extends_on p.log log m.0 more m.3, on m.1 m.4)
 
@@ -154,7 +161,8 @@ left_slots from (p ∷ ps) qs (inl k) s = slots_from from (p.slot + 1) qs (omega
 left_slots from (p ∷ ps) qs (inr k) s = subst (AreInSlots from) (sym k.2) (s.0, s.1, left_slots (p.slot + 1) ps k.1 k.4 s.2)
 
 -- what remains is lawful where each of it is
-pub left_lawful : (large next more last later : ℕ) (t u : Shape) (ps qs : List PartAt) → AreLeft ps qs → AreLawfulParts large next last t ps → AreEachLawful large more later u qs → AreLawfulParts large more later u qs
+pub left_lawful : (large next more last later : ℕ) (t u : Shape) (ps qs : List PartAt) → AreLeft ps qs
+    → AreLawfulParts large next last t ps → AreEachLawful large more later u qs → AreLawfulParts large more later u qs
 left_lawful large next more last later t u ps qs k lawful each = record {
   each = each;
   apart = left_all_apart ps qs k lawful.apart;
@@ -164,7 +172,8 @@ left_lawful large next more last later t u ps qs k lawful each = record {
 
 -- one among others
 
-pub each_without : (large next last : ℕ) (t : Shape) (front : List PartAt) (p : PartAt) (back : List PartAt) → AreEachLawful large next last t (front ++ p ∷ back) → AreEachLawful large next last t (front ++ back)
+pub each_without : (large next last : ℕ) (t : Shape) (front : List PartAt) (p : PartAt) (back : List PartAt)
+    → AreEachLawful large next last t (front ++ p ∷ back) → AreEachLawful large next last t (front ++ back)
 each_without large next last t [] p back k = k.1
 each_without large next last t (q ∷ front) p back k = (k.0, each_without large next last t front p back k.1)
 

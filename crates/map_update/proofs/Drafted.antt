@@ -99,7 +99,9 @@ worked_mark c a v w u vs spared low few made more most = record {
   still = λ room x m own. still_of 2 1 x w.watches vs (omega arith) more most (spared x m own);
 }
 
-pub worked_put : (n : ℕ) (p : Place) (v w : Draft) (u : Shape) (vs : List Watch) → (levels v.tree < 512 → nodes v.tree < 4194304 → AreSpared v.watches w.watches) → levels w.tree ≤ levels v.tree → nodes w.tree ≤ nodes v.tree
+pub worked_put : (n : ℕ) (p : Place) (v w : Draft) (u : Shape) (vs : List Watch)
+    → (levels v.tree < 512 → nodes v.tree < 4194304 → AreSpared v.watches w.watches) → levels w.tree ≤ levels v.tree
+    → nodes w.tree ≤ nodes v.tree
     → IsRefresh (put_shape n p w.tree) u → AreExtended w.watches vs → AreFewMore w.watches vs → IsDrafted 1 1 v (record { tree = u; watches = vs })
 worked_put n p v w u vs spared low few made more most = record {
   low = omega (arith, made.low, levels-put n p X keep_tag w.tree, low);
@@ -109,14 +111,18 @@ worked_put n p v w u vs spared low few made more most = record {
 
 -- one that rebuilds nothing
 
-pub plain_mark : (large : ℕ) (c : Choice) (a : Tag) (v w : Draft) (u : Shape) (vs : List Watch) → w ≡ v → (RebuildsNoneEntered large c (marked_shape c a w.tree) → u ≡ marked_shape c a w.tree) → vs ≡ with_marks c a w.tree w.watches
+pub plain_mark : (large : ℕ) (c : Choice) (a : Tag) (v w : Draft) (u : Shape) (vs : List Watch) → w ≡ v
+    → (RebuildsNoneEntered large c (marked_shape c a w.tree) → u ≡ marked_shape c a w.tree)
+    → vs ≡ with_marks c a w.tree w.watches
     → RebuildsNothing large (Mark c a) v.tree → ◌≡◌ {A = Draft} (record { tree = u; watches = vs }) (plain_draft (Mark c a) v)
 plain_mark large c a v w u vs same made logged unrebuilt =
     let shape = subst (λ (x : Draft). RebuildsNoneEntered large c (marked_shape c a x.tree) → u ≡ marked_shape c a x.tree) same made unrebuilt.criteria in
     let seen : vs ≡ with_marks c a v.tree v.watches = logged ∙ ap (λ (x : Draft). with_marks c a x.tree x.watches) same in
     ap (λ (t : Shape). record { tree = t; watches = vs }) shape ∙ ap (λ (ws : List Watch). record { tree = marked_shape c a v.tree; watches = ws }) seen
 
-pub plain_put : (large n : ℕ) (p : Place) (v w : Draft) (u : Shape) (vs : List Watch) → w ≡ v → (RebuildsNoneOnRoute large p (put_shape n p w.tree) → u ≡ put_shape n p w.tree) → vs ≡ with_puts n p w.tree w.watches
+pub plain_put : (large n : ℕ) (p : Place) (v w : Draft) (u : Shape) (vs : List Watch) → w ≡ v
+    → (RebuildsNoneOnRoute large p (put_shape n p w.tree) → u ≡ put_shape n p w.tree)
+    → vs ≡ with_puts n p w.tree w.watches
     → RebuildsNothing large (Put n p) v.tree → ◌≡◌ {A = Draft} (record { tree = u; watches = vs }) (plain_draft (Put n p) v)
 plain_put large n p v w u vs same made logged unrebuilt =
     let shape = subst (λ (x : Draft). RebuildsNoneOnRoute large p (put_shape n p x.tree) → u ≡ put_shape n p x.tree) same made unrebuilt.criteria in

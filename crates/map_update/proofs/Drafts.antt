@@ -48,7 +48,9 @@ pub first_box : (a : Tag) (i : ℕ) (cs : List Bounds) (c : Bounds) (op : Op) �
 first_box a i cs c op cut none only = only_marked a cs (drop (i + 1) cs) c op (sym (ap (λ k. drop k cs) none) ∙ cut) only
 
 -- what is promised of an operation that rebuilds nothing, said of equal values
-pub unrebuilt_nodes_made : (large : ℕ) (o op : Op) (t s : Shape) (m n new : ℕ) → o ≡ op → t ≡ s → m ≡ n → (RebuildsNothing large o t → new ≤ m + (5 * entered_nodes o t + 1)) → RebuildsNothing large op s → new ≤ n + (5 * entered_nodes op s + 1)
+pub unrebuilt_nodes_made : (large : ℕ) (o op : Op) (t s : Shape) (m n new : ℕ) → o ≡ op → t ≡ s → m ≡ n
+    → (RebuildsNothing large o t → new ≤ m + (5 * entered_nodes o t + 1)) → RebuildsNothing large op s
+    → new ≤ n + (5 * entered_nodes op s + 1)
 unrebuilt_nodes_made large o op t s m n new e f same k =
     let first : RebuildsNothing large op t → new ≤ m + (5 * entered_nodes op t + 1) = subst (λ (x : Op). RebuildsNothing large x t → new ≤ m + (5 * entered_nodes x t + 1)) e k in
     let second : RebuildsNothing large op s → new ≤ m + (5 * entered_nodes op s + 1) = subst (λ (x : Shape). RebuildsNothing large op x → new ≤ m + (5 * entered_nodes op x + 1)) f first in

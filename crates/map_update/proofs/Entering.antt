@@ -109,24 +109,30 @@ contents_entered edge high n m p h below =
     contents_put 0 high w.number (mark m (in_box (voxel edge p)) thin_tag) w.point (omega arith) (winner_below edge high n m p h below) (contents_mark 0 high m (in_box (voxel edge p)) thin_tag h)
 
 -- it was held outside the voxel or suspended, or won
-pub entered_from : (edge high n : ℕ) (m : List Item) (p : Place) (k : Item) → AreContents 0 high m → IsUnheld n m → Member k (thin edge m n p) → (Member k m × (is_live_in (voxel edge p) k ≡ false)) ⊎ (k ≡ winner edge m n p)
+pub entered_from : (edge high n : ℕ) (m : List Item) (p : Place) (k : Item) → AreContents 0 high m → IsUnheld n m
+    → Member k (thin edge m n p) → (Member k m × (is_live_in (voxel edge p) k ≡ false)) ⊎ (k ≡ winner edge m n p)
 entered_from edge high n m p k h new there =
     let w = winner edge m n p in
     let left = mark m (in_box (voxel edge p)) thin_tag in
     over (member-put 0 high w.number left w.point k (contents_mark 0 high m (in_box (voxel edge p)) thin_tag h) (winner_new edge high n m p h new) there)
   where
-    over : (k ≡ live_at (winner edge m n p).number (winner edge m n p).point) ⊎ Member k (mark m (in_box (voxel edge p)) thin_tag) → (Member k m × (is_live_in (voxel edge p) k ≡ false)) ⊎ (k ≡ winner edge m n p)
+    over : (k ≡ live_at (winner edge m n p).number (winner edge m n p).point) ⊎ Member k
+        (mark m (in_box (voxel edge p)) thin_tag)
+        → (Member k m × (is_live_in (voxel edge p) k ≡ false)) ⊎ (k ≡ winner edge m n p)
     over (inl same) = inr (same ∙ winner_itself edge n m p)
     over (inr there) = inl (left_is edge high m p k h there)
 
 -- and what was held outside the voxel, was suspended or won is held
-pub entered_in : (edge high n : ℕ) (m : List Item) (p : Place) (k : Item) → AreContents 0 high m → IsUnheld n m → (Member k m × (is_live_in (voxel edge p) k ≡ false)) ⊎ (k ≡ winner edge m n p) → Member k (thin edge m n p)
+pub entered_in : (edge high n : ℕ) (m : List Item) (p : Place) (k : Item) → AreContents 0 high m → IsUnheld n m
+    → (Member k m × (is_live_in (voxel edge p) k ≡ false)) ⊎ (k ≡ winner edge m n p) → Member k (thin edge m n p)
 entered_in edge high n m p k h new there =
     let w = winner edge m n p in
     let left = mark m (in_box (voxel edge p)) thin_tag in
     member-put_of 0 high w.number left w.point k (contents_mark 0 high m (in_box (voxel edge p)) thin_tag h) (winner_new edge high n m p h new) (over there)
   where
-    over : (Member k m × (is_live_in (voxel edge p) k ≡ false)) ⊎ (k ≡ winner edge m n p) → (k ≡ live_at (winner edge m n p).number (winner edge m n p).point) ⊎ Member k (mark m (in_box (voxel edge p)) thin_tag)
+    over : (Member k m × (is_live_in (voxel edge p) k ≡ false)) ⊎ (k ≡ winner edge m n p)
+        → (k ≡ live_at (winner edge m n p).number (winner edge m n p).point) ⊎ Member k
+        (mark m (in_box (voxel edge p)) thin_tag)
     over (inl there) = inr (is_left edge high m p k h there.0 there.1)
     over (inr same) = inl (same ∙ sym (winner_itself edge n m p))
 
@@ -147,7 +153,9 @@ pub live_inside : (c : Bounds) (m : List Item) (k : Item) → Member k m → is_
 live_inside c m k there live = subst (Member k) (sym (inside_by c m)) (member-filter_of (is_live_in c) k m there live)
 
 -- where one live item is alone in the voxel and the new one doesn't come before it, nothing changes
-pub entered_same : (edge high n : ℕ) (m : List Item) (p : Place) (w : Item) → AreContents 0 high m → n < high → IsUnheld n m → inside_all m (voxel edge p) ≡ w ∷ [] → comes_before (voxel edge p) (live_at n p) w ≡ false → thin edge m n p ≡ m
+pub entered_same : (edge high n : ℕ) (m : List Item) (p : Place) (w : Item) → AreContents 0 high m → n < high
+    → IsUnheld n m → inside_all m (voxel edge p) ≡ w ∷ [] → comes_before (voxel edge p) (live_at n p) w ≡ false
+    → thin edge m n p ≡ m
 entered_same edge high n m p w h below new alone behind =
     same_rising (thin edge m n p) m (contents_rises 0 high (thin edge m n p) (contents_entered edge high n m p h below)) (contents_rises 0 high m h)
     (λ k there. held k (entered_from edge high n m p k h new there))
@@ -199,7 +207,8 @@ pub still_enter : (edge high n : ℕ) (m : List Item) (p : Place) (k : Item) →
 still_enter edge high n m p k h new other may = record { live = may.live; below = may.below; unheld = unheld_after edge high n m p k.number h new may.unheld other }
 
 -- and so may each of several
-pub entrants_kept : (edge high n : ℕ) (m : List Item) (p : Place) (is : List Item) → AreContents 0 high m → IsUnheld n m → All (λ j. j.number ≢ n) is → AreEntrants high m is → AreEntrants high (thin edge m n p) is
+pub entrants_kept : (edge high n : ℕ) (m : List Item) (p : Place) (is : List Item) → AreContents 0 high m → IsUnheld n m
+    → All (λ j. j.number ≢ n) is → AreEntrants high m is → AreEntrants high (thin edge m n p) is
 entrants_kept edge high n m p [] h new other may = tt
 entrants_kept edge high n m p (i ∷ is) h new other may = (
   still_enter edge high n m p i h new (All-head (λ (j : Item). j.number ≢ n) i is other) may.0,
@@ -214,4 +223,6 @@ entrants_after edge high m i is h may = entrants_kept edge high i.number m i.poi
 -- what a map holds when all entered is what it may hold under the bound
 pub contents_each : (edge high : ℕ) (m is : List Item) → AreContents 0 high m → AreEntrants high m is → AreContents 0 high (thin_each edge m is)
 contents_each edge high m [] h may = h
-contents_each edge high m (i ∷ is) h may = contents_each edge high (thin edge m i.number i.point) is (contents_entered edge high i.number m i.point h may.0.below) (entrants_after edge high m i is h may)
+contents_each edge high m (i ∷ is) h may =
+    contents_each edge high (thin edge m i.number i.point) is
+    (contents_entered edge high i.number m i.point h may.0.below) (entrants_after edge high m i is h may)

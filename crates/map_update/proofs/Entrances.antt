@@ -16,7 +16,9 @@ use Rattle.map_update.proofs.Voxels.{voxel_of}
 pub none_clear : (edge : ℕ) (w : Waiting) (is : List Item) → w.items.items ≡ [] → AreClear edge w is
 none_clear edge w [] none = All-nil (λ (i : Item). NoneWaitsIn (voxel edge i.point) w)
 none_clear edge w (i ∷ is) none =
-    All-cons (λ (j : Item). NoneWaitsIn (voxel edge j.point) w) i is (subst (All (λ u. in_box (voxel edge i.point) u ≡ false)) (sym none) (All-nil (λ u. in_box (voxel edge i.point) u ≡ false))) (none_clear edge w is none)
+    All-cons (λ (j : Item). NoneWaitsIn (voxel edge j.point) w) i is (subst
+    (All (λ u. in_box (voxel edge i.point) u ≡ false)) (sym none)
+    (All-nil (λ u. in_box (voxel edge i.point) u ≡ false))) (none_clear edge w is none)
 
 -- what lies in one voxel doesn't lie in the voxel of a point outside
 not_in : (edge : ℕ) (p q r : Place) → 1 ≤ edge → holds (voxel edge p) q ≡ true → holds (voxel edge p) r ≡ false → holds (voxel edge r) q ≡ false
@@ -29,7 +31,8 @@ not_in edge p q r from there apart =
       | inr e ↦ e
     ]
 
-one_clear : (edge : ℕ) (i j : Item) (v w : Waiting) → 1 ≤ edge → holds (voxel edge i.point) j.point ≡ false → NoneWaitsIn (voxel edge j.point) v → IsJoined (voxel edge i.point) v w → NoneWaitsIn (voxel edge j.point) w
+one_clear : (edge : ℕ) (i j : Item) (v w : Waiting) → 1 ≤ edge → holds (voxel edge i.point) j.point ≡ false
+    → NoneWaitsIn (voxel edge j.point) v → IsJoined (voxel edge i.point) v w → NoneWaitsIn (voxel edge j.point) w
 one_clear edge i j v w from apart clear (inl same) = subst (All (λ u. in_box (voxel edge j.point) u ≡ false)) (sym same) clear
 one_clear edge i j v w from apart clear (inr more) =
     let P : Item → Type 0 = λ u. in_box (voxel edge j.point) u ≡ false in
@@ -37,7 +40,9 @@ one_clear edge i j v w from apart clear (inr more) =
     subst (All P) (sym more.2) (All-append P v.items.items (u ∷ []) clear (All-cons P u [] (not_in edge i.point u.point j.point from more.1 apart) (All-nil P)))
 
 -- one item more that waits, from a voxel in which none of the others lies
-pub still_clear : (edge : ℕ) (i : Item) (is : List Item) (v w : Waiting) → 1 ≤ edge → All (λ j. holds (voxel edge i.point) j.point ≡ false) is → AreClear edge v is → IsJoined (voxel edge i.point) v w → AreClear edge w is
+pub still_clear : (edge : ℕ) (i : Item) (is : List Item) (v w : Waiting) → 1 ≤ edge
+    → All (λ j. holds (voxel edge i.point) j.point ≡ false) is → AreClear edge v is → IsJoined (voxel edge i.point) v w
+    → AreClear edge w is
 still_clear edge i [] v w from apart clear joined = All-nil (λ (j : Item). NoneWaitsIn (voxel edge j.point) w)
 still_clear edge i (j ∷ is) v w from apart clear joined =
     let A : Item → Type 0 = λ x. holds (voxel edge i.point) x.point ≡ false in

@@ -62,17 +62,21 @@ pub points_enter : (next : ℕ) (ps : List Place) (m : List Item) → AreContent
 points_enter next ps m h = later_enter next (next + length ps) next ps m (omega arith) (omega arith) h
 
 -- items of two voxels have two numbers
-apart_numbers : (edge next : ℕ) (ps : List Place) (i j : Item) → 1 ≤ edge → Member i (live_from next ps) → Member j (live_from next ps) → holds (voxel edge i.point) j.point ≡ false → j.number ≢ i.number
+apart_numbers : (edge next : ℕ) (ps : List Place) (i j : Item) → 1 ≤ edge → Member i (live_from next ps)
+    → Member j (live_from next ps) → holds (voxel edge i.point) j.point ≡ false → j.number ≢ i.number
 apart_numbers edge next ps i j from one two out = λ same.
     let own : holds (voxel edge i.point) i.point ≡ true = voxel_held edge i.point from in
     let e : j ≡ i = from_once next ps j i two one same in
     let in_own : holds (voxel edge i.point) i.point ≡ false = sym (ap (λ (k : Item). holds (voxel edge i.point) k.point) e) ∙ out in absurd (cc)
 
-some_enter : (edge next : ℕ) (ps : List Place) (fs m : List Item) → 1 ≤ edge → AreContents 0 next m → HaveOwnVoxels edge fs → ((i : Item) → Member i fs → Member i (live_from next ps)) → AreEntrants (next + length ps) m fs
+some_enter : (edge next : ℕ) (ps : List Place) (fs m : List Item) → 1 ≤ edge → AreContents 0 next m
+    → HaveOwnVoxels edge fs → ((i : Item) → Member i fs → Member i (live_from next ps))
+    → AreEntrants (next + length ps) m fs
 some_enter edge next ps [] m from h apart within = tt
 some_enter edge next ps (i ∷ fs) m from h apart within = (
   from_enters next ps m i h (within i (inl refl)),
-  All-members (λ j. j.number ≢ i.number) fs (λ j there. apart_numbers edge next ps i j from (within i (inl refl)) (within j (inr there)) (member_of (λ (k : Item). holds (voxel edge i.point) k.point ≡ false) j fs apart.0 there)),
+  All-members (λ j. j.number ≢ i.number) fs (λ j there. apart_numbers edge next ps i j from (within i (inl refl))
+      (within j (inr there)) (member_of (λ (k : Item). holds (voxel edge i.point) k.point ≡ false) j fs apart.0 there)),
   some_enter edge next ps fs m from h apart.1 (λ j there. within j (inr there)),
 )
 

@@ -51,7 +51,9 @@ pub draft_scan : (large next last : ℕ) (is : List Item) (w : Draft) (u : Shape
     → AreAmong (numbers u) (numbers_in is ++ numbers w.tree) → (IsBalancedClear large (paths_in w.watches) w.tree → IsBalancedClear large (paths_in w.watches) u)
     → AreWatched (λ q. IsWatched q w.tree u (logged_scan q is w.tree)) (paths_in w.watches) → IsDraftLeft large next last ps (record { tree = u; watches = vs })
 draft_scan large next last is w u vs ps less d room same among balanced watched =
-    let below : All (λ n. n < next) (numbers_in is ++ numbers w.tree) = All-append (λ n. n < next) (numbers_in is) (numbers w.tree) (All-map (λ n. n < next) (λ (i : Item). i.number) is less) d.below in
+    let below : All (λ n. n < next) (numbers_in is ++ numbers w.tree) =
+    All-append (λ n. n < next) (numbers_in is) (numbers w.tree)
+    (All-map (λ n. n < next) (λ (i : Item). i.number) is less) d.below in
     draft_logged large next last (length is + 1) (λ q. logged_scan q is w.tree) w u vs ps d
     (room_scan (length is) ps (subst (HaveRoomAtOnce (length is)) d.watched room))
     (same ∙ ap (with_scan is w.tree) d.watched ∙ scan-watched is w.tree ps)

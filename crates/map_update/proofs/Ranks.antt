@@ -100,7 +100,9 @@ voxel_cmp e f = corner_cmp e.cube.lo f.cube.lo
 abbrev own_cmp : Entrant → Entrant → Ordering
 own_cmp e f = ordering_then (nat_cmp (centre_dist2 e.cube e.item.point) (centre_dist2 f.cube f.item.point)) (ordering_then (place_cmp e.item.point f.item.point) (nat_cmp e.item.number f.item.number))
 
-regrouped : (x y z d p n : Ordering) → ordering_then (ordering_then (ordering_then (ordering_then (ordering_then x y) z) d) p) n ≡ ordering_then (ordering_then x (ordering_then y z)) (ordering_then d (ordering_then p n))
+regrouped : (x y z d p n : Ordering)
+    → ordering_then (ordering_then (ordering_then (ordering_then (ordering_then x y) z) d) p) n
+    ≡ ordering_then (ordering_then x (ordering_then y z)) (ordering_then d (ordering_then p n))
 regrouped x y z d p n =
     let v = ordering_then (ordering_then x y) z in
     then_assoc (ordering_then v d) p n ∙ then_assoc v d (ordering_then p n) ∙ ap (λ o. ordering_then o (ordering_then d (ordering_then p n))) (then_assoc x y z)
@@ -109,14 +111,18 @@ parts : (e f : Entrant) → rank_cmp (rank_of e) (rank_of f) ≡ ordering_then (
 parts e f =
     regrouped (int_cmp e.cube.lo.x f.cube.lo.x) (int_cmp e.cube.lo.y f.cube.lo.y) (int_cmp e.cube.lo.z f.cube.lo.z)
     (nat_cmp (centre_dist2 e.cube e.item.point) (centre_dist2 f.cube f.item.point)) (spot_cmp (rank_of e).4 (rank_of f).4) (nat_cmp e.item.number f.item.number)
-    ∙ ap (λ (o : Ordering). ordering_then (voxel_cmp e f) (ordering_then (nat_cmp (centre_dist2 e.cube e.item.point) (centre_dist2 f.cube f.item.point)) (ordering_then o (nat_cmp e.item.number f.item.number))))
+    ∙ ap (λ (o : Ordering). ordering_then (voxel_cmp e f) (ordering_then
+    (nat_cmp (centre_dist2 e.cube e.item.point) (centre_dist2 f.cube f.item.point))
+    (ordering_then o (nat_cmp e.item.number f.item.number))))
     (then_assoc (int_cmp e.item.point.x f.item.point.x) (int_cmp e.item.point.y f.item.point.y) (int_cmp e.item.point.z f.item.point.z))
 
 -- in one voxel the first to win is ahead
 ahead_inside : (e f : Entrant) → e.cube ≡ f.cube → is_ahead e f ≡ comes_before f.cube e.item f.item
 ahead_inside e f same =
     ap is_lt (parts e f)
-    ∙ ap (λ (c : Bounds). is_lt (ordering_then (corner_cmp c.lo f.cube.lo) (ordering_then (nat_cmp (centre_dist2 c e.item.point) (centre_dist2 f.cube f.item.point)) (ordering_then (place_cmp e.item.point f.item.point) (nat_cmp e.item.number f.item.number))))) same
+    ∙ ap (λ (c : Bounds). is_lt (ordering_then (corner_cmp c.lo f.cube.lo) (ordering_then
+    (nat_cmp (centre_dist2 c e.item.point) (centre_dist2 f.cube f.item.point))
+    (ordering_then (place_cmp e.item.point f.item.point) (nat_cmp e.item.number f.item.number))))) same
     ∙ ap (λ (o : Ordering). is_lt (ordering_then o (centre_cmp f.cube e.item f.item))) (tied_itself corner_cmp_total f.cube.lo)
 
 -- what isn't ahead isn't in a voxel that is
@@ -129,7 +135,8 @@ same_corner edge e f own other same =
     own ∙ ap (cube edge) (sym (ap (λ (c : Bounds). c.lo) own) ∙ same ∙ ap (λ (c : Bounds). c.lo) other) ∙ sym other
 
 -- what comes behind an entrant of another voxel lies in none that was before
-later_voxel : (edge : ℕ) (k x y : Entrant) → k.cube ≡ voxel edge k.item.point → x.cube ≡ voxel edge x.item.point → is_ahead x k ≡ false → is_ahead y x ≡ false → (x.cube ≡ k.cube → ⊥) → y.cube ≡ k.cube → ⊥
+later_voxel : (edge : ℕ) (k x y : Entrant) → k.cube ≡ voxel edge k.item.point → x.cube ≡ voxel edge x.item.point
+    → is_ahead x k ≡ false → is_ahead y x ≡ false → (x.cube ≡ k.cube → ⊥) → y.cube ≡ k.cube → ⊥
 later_voxel edge k x y own next behind after other same =
     let first = voxel_behind x k behind in
     let second : is_lt (corner_cmp k.cube.lo x.cube.lo) ≡ false = subst (λ (c : Bounds). is_lt (corner_cmp c.lo x.cube.lo) ≡ false) same (voxel_behind y x after) in
@@ -162,7 +169,10 @@ left_apart edge k (x ∷ xs) from own up =
           let next = All-head P x xs rest in
           let other = different x k e in
           let first : Q x = not_held edge k x from here next other in
-          let all : All Q (x ∷ xs) = All-cons Q x xs first (λ j d inside. not_held edge k (get_or xs j d) from here (All-tail P x xs rest j d inside) (later_voxel edge k x (get_or xs j d) here next (All-head A x xs up.0) (up.1.0 j d inside) other)) in
+          let all : All Q (x ∷ xs) =
+          All-cons Q x xs first (λ j d inside. not_held edge k (get_or xs j d) from here
+          (All-tail P x xs rest j d inside)
+          (later_voxel edge k x (get_or xs j d) here next (All-head A x xs up.0) (up.1.0 j d inside) other)) in
           let kept : All Q (dedup_from is_same_voxel x xs) = All-dedup is_same_voxel Q (x ∷ xs) all in
           rw e (All-map (λ (j : Item). holds (voxel edge k.item.point) j.point ≡ false) (λ (y : Entrant). y.item) (dedup_from is_same_voxel x xs) kept, left_apart edge x xs from rest up.1)
     ]
@@ -198,7 +208,14 @@ left_keeps k (x ∷ xs) up e m =
         let ahead : is_ahead x k ≡ false = All-head (λ (f : Entrant). is_ahead f k ≡ false) x xs up.0 in
         let first : comes_before k.cube x.item k.item ≡ false = sym (ahead_inside x k same) ∙ ahead in
         let last : comes_before k.cube x.item h.by.item ≡ false = (order k.cube).chain x.item k.item h.by.item first h.behind in
-        let x_keeps : Keeps (dedup_from is_same_voxel k xs) x = record { by = h.by; there = h.there; same = h.same ∙ sym same; behind = subst (λ (c : Bounds). comes_before c x.item h.by.item ≡ false) (sym same) last } in
+        let x_keeps : Keeps (dedup_from is_same_voxel k xs) x =
+        record {
+          by = h.by;
+          there = h.there;
+          same = h.same ∙ sym same;
+          behind =
+              subst (λ (c : Bounds). comes_before c x.item h.by.item ≡ false) (sym same) last;
+        } in
         subst (Keeps (dedup_from is_same_voxel k xs)) (sym own) x_keeps
     over same rest (inr (inr later)) = rest e (inr later)
 
@@ -251,7 +268,9 @@ sorted_firsts edge next ps es from same up = by_list es refl
       record {
         apart = tt;
         within = λ i m. absurd m;
-        beaten = λ i m. absurd (subst (Member (entrant_of edge i)) (sym e) (moved es all (IsPermutation-sym all es same) (entrant_of edge i) (member-map_of (entrant_of edge) i (live_from next ps) m)));
+        beaten =
+            λ i m. absurd (subst (Member (entrant_of edge i)) (sym e) (moved es all (IsPermutation-sym all es same)
+            (entrant_of edge i) (member-map_of (entrant_of edge) i (live_from next ps) m)));
       },
       All-nil P,
     )

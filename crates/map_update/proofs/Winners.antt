@@ -29,7 +29,9 @@ pub draft_contents : (large next : ℕ) (w : Draft) → IsSound w.tree → IsLaw
 draft_contents large next w sound d = are_contents next w.tree sound d.2.below
 
 -- a new item that comes before the best of its voxel wins
-pub new_wins : (edge n : ℕ) (m : List Item) (p : Place) (held : Item) → IsRising 0 m → IsUnheld n m → IsBest m (voxel edge p) held → comes_before (voxel edge p) (live_at n p) held ≡ true → winner edge m n p ≡ live_at n p
+pub new_wins : (edge n : ℕ) (m : List Item) (p : Place) (held : Item) → IsRising 0 m → IsUnheld n m
+    → IsBest m (voxel edge p) held → comes_before (voxel edge p) (live_at n p) held ≡ true
+    → winner edge m n p ≡ live_at n p
 new_wins edge n m p held rising new best before = winner_is edge n m p (live_at n p) rising new (inl refl) first
   where
     first : NoneBefore (voxel edge p) (live_at n p) (rivals edge m n p)
@@ -39,7 +41,8 @@ new_wins edge n m p held rising new best before = winner_is edge n m p (live_at 
         (order (voxel edge p)).chain i held (live_at n p) (best.first i is.0 is.1) ((order (voxel edge p)).one_way (live_at n p) held before)
 
 -- and else the best stays
-pub held_wins : (edge n : ℕ) (m : List Item) (p : Place) (held : Item) → IsRising 0 m → IsUnheld n m → IsBest m (voxel edge p) held → comes_before (voxel edge p) (live_at n p) held ≡ false → winner edge m n p ≡ held
+pub held_wins : (edge n : ℕ) (m : List Item) (p : Place) (held : Item) → IsRising 0 m → IsUnheld n m
+    → IsBest m (voxel edge p) held → comes_before (voxel edge p) (live_at n p) held ≡ false → winner edge m n p ≡ held
 held_wins edge n m p held rising new best behind =
     winner_is edge n m p held rising new (inr (member-filter_of (in_box (voxel edge p)) held (live_items m) best.live best.held)) first
   where

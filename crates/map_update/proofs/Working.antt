@@ -89,14 +89,19 @@ draft_more large next more last ps w le d = record {
 
 -- operations that are logged
 
-pub draft_logged : (large next last n : ℕ) (F : List Side → List Op) (w : Draft) (u : Shape) (vs : List Watch) (ps : List PartAt) → IsDraft large next last ps w → HaveLogRoomOf n ps → vs ≡ watches_of (logged F ps)
-    → All (λ n. n < next) (numbers u) → (IsBalancedClear large (paths_in w.watches) w.tree → IsBalancedClear large (paths_in w.watches) u) → AreWatched (λ q. IsWatched q w.tree u (F q)) (paths_in w.watches)
+pub draft_logged : (large next last n : ℕ) (F : List Side → List Op) (w : Draft) (u : Shape) (vs : List Watch)
+    (ps : List PartAt) → IsDraft large next last ps w → HaveLogRoomOf n ps → vs ≡ watches_of (logged F ps)
+    → All (λ n. n < next) (numbers u)
+    → (IsBalancedClear large (paths_in w.watches) w.tree → IsBalancedClear large (paths_in w.watches) u)
+    → AreWatched (λ q. IsWatched q w.tree u (F q)) (paths_in w.watches)
     → ((q : List Side) → length (F q) ≤ n) → ((q : List Side) → All (λ m. m < next) (numbers_put (F q))) → IsDraftLeft large next last ps (record { tree = u; watches = vs })
 draft_logged large next last n F w u vs ps d room is below balanced watched few puts =
     let named : paths_in w.watches ≡ paths ps = ap paths_in d.watched ∙ paths-watched ps in
     let seen : AreWatched (λ q. IsWatched q w.tree u (F q)) (paths ps) = subst (AreWatched (λ q. IsWatched q w.tree u (F q))) named watched in
     let each = each_logged large next next last n F w.tree u ps d.parts.each seen room few (omega arith) puts in
-    let outside : IsBalancedClear large (paths ps) u = subst (λ (qs : List (List Side)). IsBalancedClear large qs u) named (balanced (subst (λ (qs : List (List Side)). IsBalancedClear large qs w.tree) (sym named) d.balanced)) in (
+    let outside : IsBalancedClear large (paths ps) u =
+    subst (λ (qs : List (List Side)). IsBalancedClear large qs u) named
+    (balanced (subst (λ (qs : List (List Side)). IsBalancedClear large qs w.tree) (sym named) d.balanced)) in (
       logged F ps,
       left_logged F ps,
       record {
@@ -108,22 +113,30 @@ draft_logged large next last n F w u vs ps d room is below balanced watched few 
     )
 
 -- an action in a box
-pub draft_marked : (large next last : ℕ) (c : Choice) (a : Tag) (w : Draft) (u : Shape) (vs : List Watch) (ps : List PartAt) → IsDraft large next last ps w → HaveRoom w.watches → vs ≡ with_marks c a w.tree w.watches
+pub draft_marked : (large next last : ℕ) (c : Choice) (a : Tag) (w : Draft) (u : Shape) (vs : List Watch)
+    (ps : List PartAt) → IsDraft large next last ps w → HaveRoom w.watches → vs ≡ with_marks c a w.tree w.watches
     → AreAmong (numbers u) (numbers w.tree) → (IsBalancedClear large (paths_in w.watches) w.tree → IsBalancedClear large (paths_in w.watches) u)
     → AreWatched (λ q. IsWatched q w.tree u (logged_mark c a q w.tree)) (paths_in w.watches) → IsDraftLeft large next last ps (record { tree = u; watches = vs })
 draft_marked large next last c a w u vs ps d room is among balanced watched =
-    draft_logged large next last 2 (λ q. logged_mark c a q w.tree) w u vs ps d (room_of_two ps (room_watched ps (subst HaveRoom d.watched room))) (is ∙ ap (with_marks c a w.tree) d.watched ∙ marks-watched c a w.tree ps) (among_below next (numbers u) (numbers w.tree) among d.below) balanced watched
+    draft_logged large next last 2 (λ q. logged_mark c a q w.tree) w u vs ps d
+    (room_of_two ps (room_watched ps (subst HaveRoom d.watched room)))
+    (is ∙ ap (with_marks c a w.tree) d.watched ∙ marks-watched c a w.tree ps)
+    (among_below next (numbers u) (numbers w.tree) among d.below) balanced watched
     (λ q. logged_mark_few c a q w.tree) (λ q. subst (All (λ n. n < next)) (sym (mark_puts c a q w.tree)) (All-nil (λ n. n < next)))
 
 below_put : (next n : ℕ) (ns ms : List ℕ) → n < next → AreAmong ns (n ∷ ms) → All (λ m. m < next) ms → All (λ m. m < next) ns
 below_put next n ns ms less among below = among_below next ns (n ∷ ms) among (All-cons (λ m. m < next) n ms less below)
 
 -- a point
-pub draft_put : (large next last n : ℕ) (p : Place) (w : Draft) (u : Shape) (vs : List Watch) (ps : List PartAt) → n < next → IsDraft large next last ps w → HaveRoom w.watches → vs ≡ with_puts n p w.tree w.watches
+pub draft_put : (large next last n : ℕ) (p : Place) (w : Draft) (u : Shape) (vs : List Watch) (ps : List PartAt)
+    → n < next → IsDraft large next last ps w → HaveRoom w.watches → vs ≡ with_puts n p w.tree w.watches
     → AreAmong (numbers u) (n ∷ numbers w.tree) → (IsBalancedClear large (paths_in w.watches) w.tree → IsBalancedClear large (paths_in w.watches) u)
     → AreWatched (λ q. IsWatched q w.tree u (logged_put n p q w.tree)) (paths_in w.watches) → IsDraftLeft large next last ps (record { tree = u; watches = vs })
 draft_put large next last n p w u vs ps less d room is among balanced watched =
-    draft_logged large next last 2 (λ q. logged_put n p q w.tree) w u vs ps d (room_of_two ps (room_watched ps (subst HaveRoom d.watched room))) (is ∙ ap (with_puts n p w.tree) d.watched ∙ puts-watched n p w.tree ps) (below_put next n (numbers u) (numbers w.tree) less among d.below) balanced watched
+    draft_logged large next last 2 (λ q. logged_put n p q w.tree) w u vs ps d
+    (room_of_two ps (room_watched ps (subst HaveRoom d.watched room)))
+    (is ∙ ap (with_puts n p w.tree) d.watched ∙ puts-watched n p w.tree ps)
+    (below_put next n (numbers u) (numbers w.tree) less among d.below) balanced watched
     (λ q. logged_put_few n p q w.tree) (λ q. put_puts (λ m. m < next) n p q w.tree less)
 
 -- what remains of what remains
@@ -131,7 +144,9 @@ pub draft_on : (large next last : ℕ) (ps qs : List PartAt) (w : Draft) → Are
 draft_on large next last ps qs w k d = (d.0, left_trans ps qs d.0 k d.1, d.2)
 
 -- nothing more is watched where the whole tree was rebuilt
-pub draft_anew : (large next last : ℕ) (w : Draft) (u : Shape) (ps : List PartAt) → IsDraft large next last ps w → AreAmong (numbers u) (numbers w.tree) → AllMeetCriteria 10 u → IsDraftLeft large next last ps (record { tree = u; watches = [] })
+pub draft_anew : (large next last : ℕ) (w : Draft) (u : Shape) (ps : List PartAt) → IsDraft large next last ps w
+    → AreAmong (numbers u) (numbers w.tree) → AllMeetCriteria 10 u
+    → IsDraftLeft large next last ps (record { tree = u; watches = [] })
 draft_anew large next last w u ps d among criteria = (
   [],
   left_none ps,
@@ -193,20 +208,31 @@ without_at large next last w front p back gone ws d is left =
       all = refl;
       left = left;
       there = subst (λ (q : List Side). IsLargeAt large q w.tree) (sym path) here.there;
-      others = subst (λ (qs : List (List Side)). AreLargeAt large qs w.tree) (sym named) (each_large large next last w.tree (front ++ back) (each_without large next last w.tree front p back d.parts.each));
+      others =
+          subst (λ (qs : List (List Side)). AreLargeAt large qs w.tree) (sym named)
+          (each_large large next last w.tree (front ++ back)
+          (each_without large next last w.tree front p back d.parts.each));
       clear = subst (λ (q : List Side). IsClear q (paths_in ws)) (sym path) (subst (λ (qs : List (List Side)). IsClear p.path qs) (sym named) (clear_of_others front p back d.parts.apart));
       outside = subst (λ (q : List Side). IsBalancedClear large (q ∷ paths_in ws) w.tree) (sym path)
-          (subst (λ (qs : List (List Side)). IsBalancedClear large (p.path ∷ qs) w.tree) (sym named) (balanced_more large (paths (front ++ p ∷ back)) (p.path ∷ paths (front ++ back)) w.tree (ones_moved front p back) d.balanced));
+          (subst (λ (qs : List (List Side)). IsBalancedClear large (p.path ∷ qs) w.tree) (sym named)
+          (balanced_more large (paths (front ++ p ∷ back)) (p.path ∷ paths (front ++ back)) w.tree
+          (ones_moved front p back) d.balanced));
     }
 
-pub without_of : (large next last : ℕ) (ps : List PartAt) (w : Draft) (i : ℕ) (gone : Watch) (ws : List Watch) → IsDraft large next last ps w → i < length w.watches → gone ≡ get_or w.watches i gone → ws ≡ remove w.watches i
+pub without_of : (large next last : ℕ) (ps : List PartAt) (w : Draft) (i : ℕ) (gone : Watch) (ws : List Watch)
+    → IsDraft large next last ps w → i < length w.watches → gone ≡ get_or w.watches i gone → ws ≡ remove w.watches i
     → IsWithout large ps w gone ws
 without_of large next last ps w i gone ws d below is left =
     let many : length w.watches ≡ length ps = ap length d.watched ∙ length-map ps watch_of in
     let at = part_at ps i (omega (arith, below, many)) in
     let all : w.watches ≡ watches_of (at.front ++ at.part ∷ at.back) = d.watched ∙ ap watches_of at.all in
-    let one : gone ≡ watch_of at.part = is ∙ ap (λ (vs : List Watch). get_or vs i gone) all ∙ ap (λ (k : ℕ). get_or (watches_of (at.front ++ at.part ∷ at.back)) k gone) at.place ∙ taken_part at.front at.part at.back gone in
-    let others : ws ≡ watches_of (at.front ++ at.back) = left ∙ ap (λ (vs : List Watch). remove vs i) all ∙ ap (remove (watches_of (at.front ++ at.part ∷ at.back))) at.place ∙ left_watches at.front at.part at.back in
+    let one : gone ≡ watch_of at.part =
+    is ∙ ap (λ (vs : List Watch). get_or vs i gone) all
+    ∙ ap (λ (k : ℕ). get_or (watches_of (at.front ++ at.part ∷ at.back)) k gone) at.place
+    ∙ taken_part at.front at.part at.back gone in
+    let others : ws ≡ watches_of (at.front ++ at.back) =
+    left ∙ ap (λ (vs : List Watch). remove vs i) all
+    ∙ ap (remove (watches_of (at.front ++ at.part ∷ at.back))) at.place ∙ left_watches at.front at.part at.back in
     subst (λ (qs : List PartAt). IsWithout large qs w gone ws) (sym at.all)
     (without_at large next last w at.front at.part at.back gone ws (subst (λ (qs : List PartAt). IsDraft large next last qs w) at.all d) one others)
 

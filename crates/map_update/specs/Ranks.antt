@@ -33,4 +33,7 @@ spot_cmp p q = ordering_then (ordering_then (int_cmp p.0 q.0) (int_cmp p.1 q.1))
 
 -- ranks are compared by the voxel, then as its points win: by the distance to the centre, then the place, then the number
 abbrev pub rank_cmp : Rank → Rank → Ordering
-rank_cmp k j = ordering_then (ordering_then (ordering_then (ordering_then (ordering_then (int_cmp k.0 j.0) (int_cmp k.1 j.1)) (int_cmp k.2 j.2)) (nat_cmp k.3 j.3)) (spot_cmp k.4 j.4)) (nat_cmp k.5 j.5)
+rank_cmp k j =
+    ordering_then (ordering_then (ordering_then
+    (ordering_then (ordering_then (int_cmp k.0 j.0) (int_cmp k.1 j.1)) (int_cmp k.2 j.2)) (nat_cmp k.3 j.3))
+    (spot_cmp k.4 j.4)) (nat_cmp k.5 j.5)

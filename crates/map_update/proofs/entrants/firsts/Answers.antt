@@ -22,7 +22,8 @@ both c =
     let es = c.sort_unstable_by_key.new.self.items in
     let all = c.in_ok-entrants.ensures ∙ ap (λ (n : ℕ). map (entrant_of n) (live_from c.args.next c.args.points.now)) c.voxel-edge.ensures.value in
     let moved = subst (λ (xs : List Entrant). IsPermutation xs es) all c.sort_unstable_by_key.ensures.permutation in
-    sorted_firsts edge c.args.next c.args.points.now es c.voxel-edge.ensures.sizes.voxel_from moved (c.sort_unstable_by_key.ensures.sorted rank_of (always_returns_same _ _ _ (λ a r g h. search rules)))
+    sorted_firsts edge c.args.next c.args.points.now es c.voxel-edge.ensures.sizes.voxel_from moved
+    (c.sort_unstable_by_key.ensures.sorted rank_of (always_returns_same _ _ _ (λ a r g h. search rules)))
 
 pub returns-clause-firsts : goal.returns-clause-firsts
 returns-clause-firsts c = subst (λ (es : List Entrant). AreFirsts c.args.settings.now.voxel c.args.next c.args.points.now (items_in es)) (sym (left c)) (both c).0

@@ -26,7 +26,10 @@ put-requires-clause-few g c =
     omega (arith, draft_few c.args.large c.args.next r.0 k.0 c.in_ok-draft.draft c.size-size.ensures.sound k.2, c.requires.few)
 
 pub put-requires-clause-new : goal.put-requires-clause-new
-put-requires-clause-new g c = unheld_free c.args.item.number c.in_ok-draft.draft.tree (subst (IsUnheld c.args.item.number) (sym (c.in_ok-draft.ensures.contents ∙ mark-within c.within.result c.args.cuboid.now _ _ c.within.ensures)) c.requires.new)
+put-requires-clause-new g c =
+    unheld_free c.args.item.number c.in_ok-draft.draft.tree (subst (IsUnheld c.args.item.number)
+    (sym (c.in_ok-draft.ensures.contents ∙ mark-within c.within.result c.args.cuboid.now _ _ c.within.ensures))
+    c.requires.new)
 
 pub returns-clause-draft : goal.returns-clause-draft
 returns-clause-draft g c = λ last ps d.
@@ -46,4 +49,5 @@ returns-clause-contents g c =
 
 pub returns-clause-drafted : goal.returns-clause-drafted
 returns-clause-drafted g c =
-    IfOk-weaker c.put.result _ (IsDrafted 1 2 c.args.draft) (λ w k. worked_then 0 1 1 1 1 2 c.args.draft c.in_ok-draft.draft w (omega arith) (omega arith) c.in_ok-draft.ensures.drafted k) c.put.ensures.drafted
+    IfOk-weaker c.put.result _ (IsDrafted 1 2 c.args.draft) (λ w k. worked_then 0 1 1 1 1 2 c.args.draft
+    c.in_ok-draft.draft w (omega arith) (omega arith) c.in_ok-draft.ensures.drafted k) c.put.ensures.drafted

@@ -50,7 +50,9 @@ loop-point-preserved g c =
           (l.0, left_trans ps k.0 l.0 k.1 l.1, l.2);
       room = omega (arith, c.loop-point.invariant.room);
       rest = rw c.in_ok-draft.ensures.contents (rw cut at c.loop-point.invariant.rest);
-      drafted = worked_then i (2 * i) 1 2 (i + 1) (2 * (i + 1)) c.args.draft c.loop-point.draft c.in_ok-draft.draft (omega arith) (omega arith) c.loop-point.invariant.drafted c.in_ok-draft.ensures.drafted;
+      drafted =
+          worked_then i (2 * i) 1 2 (i + 1) (2 * (i + 1)) c.args.draft c.loop-point.draft c.in_ok-draft.draft
+          (omega arith) (omega arith) c.loop-point.invariant.drafted c.in_ok-draft.ensures.drafted;
       same = λ p one turned.
           let first = only_first i ps p q cut below one in
           let start = c.loop-point.invariant.same p one turned in

@@ -37,7 +37,9 @@ left_alone-requires-clause-new g c =
     let best : IsBest m (voxel edge p) c.in-Some.held = rw (same, c.in-Some.is) at c.rivals_in-best.ensures.first in
     let before : comes_before (voxel edge p) (live_at n p) c.in-Some.held ≡ true = rw (same, c.live-new.ensures) at (sym c.comes_before.ensures ∙ c.if-comes_before.true) in
     let held = draft_contents c.args.settings.now.large n c.args.draft c.size-size.ensures.sound c.requires.draft in
-    rw (same, c.live-new.ensures) (subst (λ (i : Item). IsUnheld i.number (mark m (in_box (voxel edge p)) thin_tag)) (new_wins edge n m p c.in-Some.held (contents_rise 0 n m held) (unheld_above 0 n n m (omega arith) held) best before) (winner_unheld edge n m p held))
+    rw (same, c.live-new.ensures) (subst (λ (i : Item). IsUnheld i.number (mark m (in_box (voxel edge p)) thin_tag))
+    (new_wins edge n m p c.in-Some.held (contents_rise 0 n m held) (unheld_above 0 n n m (omega arith) held) best
+    before) (winner_unheld edge n m p held))
 
 pub returns-then-comes_before-clause-contents : goal.returns-then-comes_before-clause-contents
 returns-then-comes_before-clause-contents g c =
@@ -51,7 +53,9 @@ returns-then-comes_before-clause-contents g c =
     let held = draft_contents c.args.settings.now.large n c.args.draft c.size-size.ensures.sound c.requires.draft in
     let wins = new_wins edge n m p c.in-Some.held (contents_rise 0 n m held) (unheld_above 0 n n m (omega arith) held) best before in
     becomes c.left_alone.result (put (mark m (in_box c.voxel-cube.result) thin_tag) c.live-new.result.number c.live-new.result.point) (thin edge m n p)
-    (ap (λ (i : Item). put (mark m (in_box c.voxel-cube.result) thin_tag) i.number i.point) c.live-new.ensures ∙ ap (λ (b : Bounds). put (mark m (in_box b) thin_tag) n p) same ∙ ap (λ (i : Item). put (mark m (in_box (voxel edge p)) thin_tag) i.number i.point) (sym wins))
+    (ap (λ (i : Item). put (mark m (in_box c.voxel-cube.result) thin_tag) i.number i.point) c.live-new.ensures
+    ∙ ap (λ (b : Bounds). put (mark m (in_box b) thin_tag) n p) same
+    ∙ ap (λ (i : Item). put (mark m (in_box (voxel edge p)) thin_tag) i.number i.point) (sym wins))
     c.left_alone.ensures.contents
 
 pub returns-then-count-eq1-clause-contents : goal.returns-then-count-eq1-clause-contents
@@ -93,7 +97,9 @@ left_alone-requires-2-clause-new g c =
     let best : IsBest m (voxel edge p) c.in-Some.held = rw (same, c.in-Some.is) at c.rivals_in-best.ensures.first in
     let behind : comes_before (voxel edge p) (live_at n p) c.in-Some.held ≡ false = rw (same, c.live-new.ensures) at (sym c.comes_before.ensures ∙ c.if-comes_before.false) in
     let held = draft_contents c.args.settings.now.large n c.args.draft c.size-size.ensures.sound c.requires.draft in
-    rw same (subst (λ (i : Item). IsUnheld i.number (mark m (in_box (voxel edge p)) thin_tag)) (held_wins edge n m p c.in-Some.held (contents_rise 0 n m held) (unheld_above 0 n n m (omega arith) held) best behind) (winner_unheld edge n m p held))
+    rw same (subst (λ (i : Item). IsUnheld i.number (mark m (in_box (voxel edge p)) thin_tag))
+    (held_wins edge n m p c.in-Some.held (contents_rise 0 n m held) (unheld_above 0 n n m (omega arith) held) best
+    behind) (winner_unheld edge n m p held))
 
 pub returns-clause-contents : goal.returns-clause-contents
 returns-clause-contents g c =
@@ -107,14 +113,17 @@ returns-clause-contents g c =
     let held = draft_contents c.args.settings.now.large n c.args.draft c.size-size.ensures.sound c.requires.draft in
     let wins = held_wins edge n m p c.in-Some.held (contents_rise 0 n m held) (unheld_above 0 n n m (omega arith) held) best behind in
     becomes c.left_alone-2.result (put (mark m (in_box c.voxel-cube.result) thin_tag) c.in-Some.held.number c.in-Some.held.point) (thin edge m n p)
-    (ap (λ (b : Bounds). put (mark m (in_box b) thin_tag) c.in-Some.held.number c.in-Some.held.point) same ∙ ap (λ (i : Item). put (mark m (in_box (voxel edge p)) thin_tag) i.number i.point) (sym wins))
+    (ap (λ (b : Bounds). put (mark m (in_box b) thin_tag) c.in-Some.held.number c.in-Some.held.point) same
+    ∙ ap (λ (i : Item). put (mark m (in_box (voxel edge p)) thin_tag) i.number i.point) (sym wins))
     c.left_alone-2.ensures.contents
 
 pub returns-clause-draft : goal.returns-clause-draft
 returns-clause-draft g c = rw c.large-large.ensures.value at c.left_alone-2.ensures.draft
 
 pub returns-in_default-clause-drafted : goal.returns-in_default-clause-drafted
-returns-in_default-clause-drafted g c = IfOk-weaker c.added_one.result _ (IsDrafted 1 2 c.args.draft) (λ w k. worked_more 1 1 1 2 c.args.draft w (omega arith) (omega arith) k) c.added_one.ensures.drafted
+returns-in_default-clause-drafted g c =
+    IfOk-weaker c.added_one.result _ (IsDrafted 1 2 c.args.draft)
+    (λ w k. worked_more 1 1 1 2 c.args.draft w (omega arith) (omega arith) k) c.added_one.ensures.drafted
 
 pub returns-then-count-eq1-clause-drafted : goal.returns-then-count-eq1-clause-drafted
 returns-then-count-eq1-clause-drafted g c = worked_itself 1 2 c.args.draft

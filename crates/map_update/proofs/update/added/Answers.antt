@@ -63,7 +63,9 @@ loop-point-preserved g c =
           let with_room = subst (λ (w : Draft). HaveRoom w.watches) (sym start.0) room in
           let is = first_point c.args.next c.loop-point.next i ps p op cut none start.1 only in (
             plain_same c.args.large (Put c.loop-point.next p) op c.loop-point.draft c.args.draft c.in_ok-draft.draft is start.0 (c.in_ok-draft.ensures.unrebuilt with_room) unrebuilt,
-            unrebuilt_nodes_made c.args.large (Put c.loop-point.next p) op c.loop-point.draft.tree c.args.draft.tree c.loop-point.steps c.args.steps.now c.added_one.new.steps is same start.2 (c.in_ok-draft.ensures.nodes_made with_room) unrebuilt,
+            unrebuilt_nodes_made c.args.large (Put c.loop-point.next p) op c.loop-point.draft.tree c.args.draft.tree
+                c.loop-point.steps c.args.steps.now c.added_one.new.steps is same start.2
+                (c.in_ok-draft.ensures.nodes_made with_room) unrebuilt,
           );
     }
 
@@ -78,7 +80,9 @@ returns-in_err-draft-clause-nodes_made g c = λ op only room unrebuilt.
     let start = c.loop-point.invariant.first none in
     let is = first_point c.args.next c.loop-point.next i ps p op cut none start.1 only in
     let with_room = subst (λ (w : Draft). HaveRoom w.watches) (sym start.0) room in
-    unrebuilt_nodes_made c.args.large (Put c.loop-point.next p) op c.loop-point.draft.tree c.args.draft.tree c.loop-point.steps c.args.steps.now c.added_one.new.steps is (ap (λ (w : Draft). w.tree) start.0) start.2 (c.in_err-draft.ensures.nodes_made with_room) unrebuilt
+    unrebuilt_nodes_made c.args.large (Put c.loop-point.next p) op c.loop-point.draft.tree c.args.draft.tree
+    c.loop-point.steps c.args.steps.now c.added_one.new.steps is (ap (λ (w : Draft). w.tree) start.0) start.2
+    (c.in_err-draft.ensures.nodes_made with_room) unrebuilt
 
 pub returns-clause-unrebuilt : goal.returns-clause-unrebuilt
 returns-clause-unrebuilt g c = λ op only room unrebuilt.
@@ -133,7 +137,9 @@ returns-then-len-ge-PASS_FROM-clause-draft g c = λ last ps d.
     let next = c.args.next in
     let high = next + length c.args.points.now in
     let same = sym (c.as_slice-then-len-ge-PASS_FROM.ensures.value ∙ c.in_ok-items.ensures.items ∙ ap (live_from next) c.as_slice.ensures) in
-    c.put_items.ensures.draft high last ps (subst (All (λ i. i.number < high)) same (live_from_under high next c.args.points.now (omega arith))) (draft_more c.args.large next high last ps c.args.draft (omega arith) d)
+    c.put_items.ensures.draft high last ps
+    (subst (All (λ i. i.number < high)) same (live_from_under high next c.args.points.now (omega arith)))
+    (draft_more c.args.large next high last ps c.args.draft (omega arith) d)
 
 pub returns-then-len-ge-PASS_FROM-clause-kept : goal.returns-then-len-ge-PASS_FROM-clause-kept
 returns-then-len-ge-PASS_FROM-clause-kept g c =

@@ -23,7 +23,9 @@ loop-cuboid-preserved g c =
     let box = c.cuboid-item.result in
     let cs = c.args.boxes.now in
     let i = c.loop-cuboid.cuboid-index in
-    let cut : drop i cs ≡ box ∷ drop (i + 1) cs = drop-at cs _ i box (omega arith) (rw c.as_slice-cuboid-items.ensures at c.loop-cuboid-test.true) (rw c.as_slice-cuboid-items.ensures at c.cuboid-item.is) in
+    let cut : drop i cs ≡ box ∷ drop (i + 1) cs =
+    drop-at cs _ i box (omega arith) (rw c.as_slice-cuboid-items.ensures at c.loop-cuboid-test.true)
+    (rw c.as_slice-cuboid-items.ensures at c.cuboid-item.is) in
     record {
       draft = λ last ps d.
           let k = c.loop-cuboid.invariant.draft last ps d in
@@ -39,7 +41,9 @@ loop-cuboid-preserved g c =
           let with_room = subst (λ (w : Draft). HaveRoom w.watches) (sym start.0) room in
           let is = ap (λ (d : Choice). Mark d c.args.tag) c.within.ensures ∙ first_box c.args.tag i cs box op cut none only in (
             plain_same c.args.large (Mark c.within.result c.args.tag) op c.loop-cuboid.draft c.args.draft c.in_ok-draft.draft is start.0 (c.in_ok-draft.ensures.unrebuilt with_room) unrebuilt,
-            unrebuilt_nodes_made c.args.large (Mark c.within.result c.args.tag) op c.loop-cuboid.draft.tree c.args.draft.tree c.loop-cuboid.steps c.args.steps.now c.marked.new.steps is same start.1 (c.in_ok-draft.ensures.nodes_made with_room) unrebuilt,
+            unrebuilt_nodes_made c.args.large (Mark c.within.result c.args.tag) op c.loop-cuboid.draft.tree
+                c.args.draft.tree c.loop-cuboid.steps c.args.steps.now c.marked.new.steps is same start.1
+                (c.in_ok-draft.ensures.nodes_made with_room) unrebuilt,
           );
     }
 
@@ -54,7 +58,9 @@ returns-in_err-draft-clause-nodes_made g c = λ op only room unrebuilt.
     let start = c.loop-cuboid.invariant.first none in
     let is = ap (λ (d : Choice). Mark d c.args.tag) c.within.ensures ∙ first_box c.args.tag i cs box op cut none only in
     let with_room = subst (λ (w : Draft). HaveRoom w.watches) (sym start.0) room in
-    unrebuilt_nodes_made c.args.large (Mark c.within.result c.args.tag) op c.loop-cuboid.draft.tree c.args.draft.tree c.loop-cuboid.steps c.args.steps.now c.marked.new.steps is (ap (λ (w : Draft). w.tree) start.0) start.1 (c.in_err-draft.ensures.nodes_made with_room) unrebuilt
+    unrebuilt_nodes_made c.args.large (Mark c.within.result c.args.tag) op c.loop-cuboid.draft.tree c.args.draft.tree
+    c.loop-cuboid.steps c.args.steps.now c.marked.new.steps is (ap (λ (w : Draft). w.tree) start.0) start.1
+    (c.in_err-draft.ensures.nodes_made with_room) unrebuilt
 
 pub returns-clause-unrebuilt : goal.returns-clause-unrebuilt
 returns-clause-unrebuilt g c = λ op only room unrebuilt.

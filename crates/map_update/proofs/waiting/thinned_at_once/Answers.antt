@@ -48,15 +48,21 @@ loop-entrant-init g c =
     let m = contents c.args.draft.tree in
     let es = c.as_slice-entrant-items.result.now in
     let held = are_contents next c.args.draft.tree c.size-size.ensures.sound c.requires.draft.2.below in
-    let firsts : AreFirsts edge next c.args.points.now (items_in es) = subst (λ (xs : List Entrant). AreFirsts edge next c.args.points.now (items_in xs)) (sym c.as_slice-entrant-items.ensures.value) c.in_ok-entrants.ensures.firsts in
+    let firsts : AreFirsts edge next c.args.points.now (items_in es) =
+    subst (λ (xs : List Entrant). AreFirsts edge next c.args.points.now (items_in xs))
+    (sym c.as_slice-entrant-items.ensures.value) c.in_ok-entrants.ensures.firsts in
     let ready = firsts_enter edge next c.args.points.now (items_in es) m c.large-large.ensures.sizes.voxel_from held firsts in
     record {
-      waiting = c.none-waiting.ensures.waiting c.args.settings.now.large high (let d = c.requires.draft in (d.0, d.1, draft_more c.args.settings.now.large next high d.0 d.1 c.args.draft (omega arith) d.2));
+      waiting =
+          c.none-waiting.ensures.waiting c.args.settings.now.large high (let d = c.requires.draft in
+          (d.0, d.1, draft_more c.args.settings.now.large next high d.0 d.1 c.args.draft (omega arith) d.2));
       rest = ap (λ (xs : List Item). thin_each edge xs (items_in es)) c.none-waiting.ensures.held;
       ready = subst (λ (xs : List Item). AreEntrants high xs (items_in es)) (sym c.none-waiting.ensures.held) ready;
       apart = firsts.apart;
       clear = none_clear edge c.none-waiting.result (items_in es) c.none-waiting.ensures.none;
-      draft = λ last ps d. subst (IsDraftLeft c.args.settings.now.large high last ps) (sym c.none-waiting.ensures.same) (ps, left_itself ps, draft_more c.args.settings.now.large next high last ps c.args.draft (omega arith) d);
+      draft =
+          λ last ps d. subst (IsDraftLeft c.args.settings.now.large high last ps) (sym c.none-waiting.ensures.same)
+          (ps, left_itself ps, draft_more c.args.settings.now.large next high last ps c.args.draft (omega arith) d);
       drafted = subst (IsDrafted 0 0 c.args.draft) (sym c.none-waiting.ensures.same) (worked_itself 0 0 c.args.draft);
       few = omega (arith, ap (λ (xs : List Item). length xs) c.none-waiting.ensures.none);
     }
@@ -104,7 +110,9 @@ loop-entrant-preserved g c =
           ap (λ (xs : List Item). thin_each edge xs left) c.in_ok-waiting.ensures.held
           ∙ ap (λ (xs : List Entrant). thin_each edge (contents_of v) (items_in xs)) (sym parts)
           ∙ c.loop-entrant.invariant.rest;
-      ready = subst (λ (xs : List Item). AreEntrants high xs left) (sym c.in_ok-waiting.ensures.held) (entrants_after edge high (contents_of v) e.item left c.loop-entrant.invariant.waiting.held ready);
+      ready =
+          subst (λ (xs : List Item). AreEntrants high xs left) (sym c.in_ok-waiting.ensures.held)
+          (entrants_after edge high (contents_of v) e.item left c.loop-entrant.invariant.waiting.held ready);
       apart = apart.1;
       clear = still_clear edge e.item left v w c.large-large.ensures.sizes.voxel_from apart.0 (All-tail (λ (i : Item). NoneWaitsIn (voxel edge i.point) v) e.item left clear) joined;
       draft = λ last ps d. let j = c.loop-entrant.invariant.draft last ps d in draft_on c.args.settings.now.large high last ps j.0 w.draft j.1 (c.in_ok-waiting.ensures.draft last j.0 j.2);
@@ -118,7 +126,9 @@ returns-clause-draft g c = λ last ps d.
     let large = c.args.settings.now.large in
     let high = c.args.next + length c.args.points.now in
     let j = c.loop-entrant.invariant.draft last ps d in
-    IfOk-weaker c.put.result _ (IsDraftLeft large high last ps) (λ u l. draft_on large high last ps j.0 u j.1 l) (subst (λ (l : ℕ). IsDraft l high last j.0 w.draft → IfOk c.put.result (IsDraftLeft l high last j.0)) c.large-large.ensures.value (c.put.ensures.draft last j.0) j.2)
+    IfOk-weaker c.put.result _ (IsDraftLeft large high last ps) (λ u l. draft_on large high last ps j.0 u j.1 l)
+    (subst (λ (l : ℕ). IsDraft l high last j.0 w.draft → IfOk c.put.result (IsDraftLeft l high last j.0))
+    c.large-large.ensures.value (c.put.ensures.draft last j.0) j.2)
 
 pub returns-clause-kept : goal.returns-clause-kept
 returns-clause-kept g c = λ room x there own.
@@ -145,9 +155,12 @@ returns-clause-stepped g c =
     let es = c.as_slice-entrant-items.result.now in
     let w = c.loop-entrant.waiting in
     let held = are_contents next t c.size-size.ensures.sound c.requires.draft.2.below in
-    let firsts : AreFirsts edge next ps (items_in es) = subst (λ (xs : List Entrant). AreFirsts edge next ps (items_in xs)) (sym c.as_slice-entrant-items.ensures.value) c.in_ok-entrants.ensures.firsts in
+    let firsts : AreFirsts edge next ps (items_in es) =
+    subst (λ (xs : List Entrant). AreFirsts edge next ps (items_in xs)) (sym c.as_slice-entrant-items.ensures.value)
+    c.in_ok-entrants.ensures.firsts in
     let none = drop_all c.loop-entrant.entrant-index es c.loop-entrant-test.false in
     let whole : contents_of w ≡ (thin_points edge ps (map_of t next)).items =
-    ap (λ (xs : List Entrant). thin_each edge (contents_of w) (items_in xs)) (sym none) ∙ c.loop-entrant.invariant.rest ∙ thin_firsts edge next ps (items_in es) (contents t) c.large-large.ensures.sizes.voxel_from held firsts in
+    ap (λ (xs : List Entrant). thin_each edge (contents_of w) (items_in xs)) (sym none) ∙ c.loop-entrant.invariant.rest
+    ∙ thin_firsts edge next ps (items_in es) (contents t) c.large-large.ensures.sizes.voxel_from held firsts in
     IfOk-weaker c.put.result _ (λ (u : Draft). map_of u.tree (next + length ps) ≡ thin_points edge ps (map_of t next))
     (λ u e. map_alike (thin_points edge ps (map_of t next)) (contents u.tree) (next + length ps) (e ∙ whole) (sym (thin_next edge ps (map_of t next)))) c.put.ensures.held

@@ -20,13 +20,18 @@ returns-clause-draft g c = λ next last ps less d.
     let u = c.in_ok-tree.tree in
     let vs = c.put_watched.new.watches in
     draft_on c.args.large next last ps k.0 _ k.1
-    (draft_put c.args.large next last c.args.number c.args.point c.in_ok-draft.draft u vs k.0 less k.2 c.in_ok-draft.ensures.room c.in_ok-tree.ensures.logged c.in_ok-tree.ensures.numbers c.in_ok-tree.ensures.balance c.in_ok-tree.ensures.watched)
+    (draft_put c.args.large next last c.args.number c.args.point c.in_ok-draft.draft u vs k.0 less k.2
+    c.in_ok-draft.ensures.room c.in_ok-tree.ensures.logged c.in_ok-tree.ensures.numbers c.in_ok-tree.ensures.balance
+    c.in_ok-tree.ensures.watched)
 
 pub returns-clause-drafted : goal.returns-clause-drafted
 returns-clause-drafted g c =
     let e = c.in_ok-draft.ensures in
-    worked_put c.args.number c.args.point c.args.self c.in_ok-draft.draft c.in_ok-tree.tree c.put_watched.new.watches e.spared e.lower e.fewer c.in_ok-tree.ensures.refresh c.put_watched.ensures.begins c.put_watched.ensures.few
+    worked_put c.args.number c.args.point c.args.self c.in_ok-draft.draft c.in_ok-tree.tree c.put_watched.new.watches
+    e.spared e.lower e.fewer c.in_ok-tree.ensures.refresh c.put_watched.ensures.begins c.put_watched.ensures.few
 
 pub returns-clause-unrebuilt : goal.returns-clause-unrebuilt
 returns-clause-unrebuilt g c = λ room unrebuilt.
-    plain_put c.args.large c.args.number c.args.point c.args.self c.in_ok-draft.draft c.in_ok-tree.tree c.put_watched.new.watches (c.in_ok-draft.ensures.same unrebuilt.low unrebuilt.few room) c.in_ok-tree.ensures.unrebuilt c.in_ok-tree.ensures.logged unrebuilt
+    plain_put c.args.large c.args.number c.args.point c.args.self c.in_ok-draft.draft c.in_ok-tree.tree
+    c.put_watched.new.watches (c.in_ok-draft.ensures.same unrebuilt.low unrebuilt.few room)
+    c.in_ok-tree.ensures.unrebuilt c.in_ok-tree.ensures.logged unrebuilt

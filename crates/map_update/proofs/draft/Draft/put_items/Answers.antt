@@ -80,7 +80,9 @@ returns-then-len-eq0-clause-draft g c = λ next last ps less d.
     let is = c.args.items.now in
     let free : w.watches ≡ [] = nil_from_length w.watches (omega (arith, c.len.ensures, c.if-len-eq0.true)) in
     let old = free_balanced c.args.large next last ps w free d in
-    let below : All (λ n. n < next) (numbers_in is ++ numbers w.tree) = All-append (λ n. n < next) (numbers_in is) (numbers w.tree) (All-map (λ n. n < next) (λ (i : Item). i.number) is less) d.below in
+    let below : All (λ n. n < next) (numbers_in is ++ numbers w.tree) =
+    All-append (λ n. n < next) (numbers_in is) (numbers w.tree)
+    (All-map (λ n. n < next) (λ (i : Item). i.number) is less) d.below in
     free_draft c.args.large next last ps (record { tree = t; watches = w.watches }) free
     (among_below next (numbers t) (numbers_in is ++ numbers w.tree) c.in_ok-tree.ensures.numbers below) (c.in_ok-tree.ensures.balance old)
 

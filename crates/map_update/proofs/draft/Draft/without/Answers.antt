@@ -20,14 +20,18 @@ returns-in_default-clause-draft g c = λ next last ps d.
 pub replaced-requires-clause-there : goal.replaced-requires-clause-there
 replaced-requires-clause-there g c =
     let r = c.requires.draft in
-    let k = without_of c.args.large r.0 r.1.0 r.1.1 c.args.self c.args.place c.remove-path.result c.remove-path.new.self r.1.2 c.requires.place c.remove-path.ensures.value c.remove-path.ensures.items in
+    let k =
+    without_of c.args.large r.0 r.1.0 r.1.1 c.args.self c.args.place c.remove-path.result c.remove-path.new.self
+    r.1.2 c.requires.place c.remove-path.ensures.value c.remove-path.ensures.items in
     let others : c.as_slice-others.result.now ≡ paths_in c.remove-path.new.self = c.as_slice-others.ensures.value ∙ c.in_ok-others.ensures ∙ ap paths_in c.as_slice.ensures.value in
     subst (λ (qs : List (List Side)). AreLargeAt c.args.large qs c.args.self.tree) (sym others) k.others
 
 pub replaced-requires-clause-apart : goal.replaced-requires-clause-apart
 replaced-requires-clause-apart g c =
     let r = c.requires.draft in
-    let k = without_of c.args.large r.0 r.1.0 r.1.1 c.args.self c.args.place c.remove-path.result c.remove-path.new.self r.1.2 c.requires.place c.remove-path.ensures.value c.remove-path.ensures.items in
+    let k =
+    without_of c.args.large r.0 r.1.0 r.1.1 c.args.self c.args.place c.remove-path.result c.remove-path.new.self
+    r.1.2 c.requires.place c.remove-path.ensures.value c.remove-path.ensures.items in
     let others : c.as_slice-others.result.now ≡ paths_in c.remove-path.new.self = c.as_slice-others.ensures.value ∙ c.in_ok-others.ensures ∙ ap paths_in c.as_slice.ensures.value in
     subst (IsClear c.remove-path.result.path) (sym others) k.clear
 
@@ -43,8 +47,13 @@ returns-clause-draft g c = λ next last ps d.
     let of_node : AreAmong (numbers with) (numbers node) = c.in_ok-with.ensures.numbers in
     let among = among_part (numbers u) (numbers with) (numbers node) (numbers t) c.in_ok-tree.ensures.numbers of_node (at_numbers c.remove-path.result.path t node c.in-Some.ensures.some) in
     let outside = subst (λ (qs : List (List Side)). IsBalancedClear c.args.large (c.remove-path.result.path ∷ qs) t) (sym others) k.outside in
-    let balanced = subst (λ (qs : List (List Side)). IsBalancedClear c.args.large qs u) others (c.in_ok-tree.ensures.balance outside (criteria_balanced c.args.large with c.in_ok-with.ensures.criteria)) in
-    let room = no_larger c.remove-path.result.path with t node c.in-Some.ensures.some c.in_ok-with.ensures.low c.in_ok-with.ensures.few (omega (arith, c.levels-levels.ensures.value, c.levels-levels.ensures.low)) (omega (arith, c.size-size.ensures.value, c.size-size.ensures.few)) in
+    let balanced =
+    subst (λ (qs : List (List Side)). IsBalancedClear c.args.large qs u) others
+    (c.in_ok-tree.ensures.balance outside (criteria_balanced c.args.large with c.in_ok-with.ensures.criteria)) in
+    let room =
+    no_larger c.remove-path.result.path with t node c.in-Some.ensures.some c.in_ok-with.ensures.low
+    c.in_ok-with.ensures.few (omega (arith, c.levels-levels.ensures.value, c.levels-levels.ensures.low))
+    (omega (arith, c.size-size.ensures.value, c.size-size.ensures.few)) in
     let same = subst (λ (qs : List (List Side)). AreSameAt qs u t) others (c.in_ok-tree.ensures.others (c.in_ok-tree.ensures.anew.1 room)) in
     draft_without c.args.large next last ps c.args.self c.remove-path.result ws u d k same balanced among
 

@@ -11,7 +11,10 @@ held : (g : _) (c : goal.In_ok-draft g) → both c.in_ok-draft.draft.tree c.args
 held g c =
     let t = c.args.self.draft.tree in
     let k = c.requires.waiting in
-    cleared_clear c.args.cuboid.now c.args.high t c.in_ok-draft.draft.tree c.args.self.items.items c.requires.clear k.held (are_contents c.args.high t c.size-size.ensures.sound k.draft.2.below) (c.in_ok-draft.ensures.contents ∙ mark-within c.within-choice.result c.args.cuboid.now _ _ c.within-choice.ensures)
+    cleared_clear c.args.cuboid.now c.args.high t c.in_ok-draft.draft.tree c.args.self.items.items c.requires.clear
+    k.held (are_contents c.args.high t c.size-size.ensures.sound k.draft.2.below)
+    (c.in_ok-draft.ensures.contents
+    ∙ mark-within c.within-choice.result c.args.cuboid.now _ _ c.within-choice.ensures)
 
 pub returns-clause-held : goal.returns-clause-held
 returns-clause-held g c = held g c

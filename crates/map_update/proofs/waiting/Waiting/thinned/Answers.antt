@@ -116,7 +116,9 @@ with-requires-2-clause-below g c =
     let cube = voxel edge i.point in
     let best = best_on m c.args.entrant.now.cube cube c.rivals-best.result.best c.in-Some.best c.requires.cube c.rivals-best.ensures.best c.in-Some.is in
     let behind = first_on i c.in-Some.best c.args.entrant.now.cube cube c.comes_before.result c.requires.cube c.requires.live c.comes_before.ensures ∙ c.if-comes_before.false in
-    subst (λ (j : Item). j.number < c.args.high) (held_wins edge i.number m i.point c.in-Some.best (contents_rise 0 c.args.high m c.requires.waiting.held) c.requires.new best behind) (winner_below edge c.args.high i.number m i.point c.requires.waiting.held c.requires.below)
+    subst (λ (j : Item). j.number < c.args.high) (held_wins edge i.number m i.point c.in-Some.best
+    (contents_rise 0 c.args.high m c.requires.waiting.held) c.requires.new best behind)
+    (winner_below edge c.args.high i.number m i.point c.requires.waiting.held c.requires.below)
 
 pub with-requires-2-clause-new : goal.with-requires-2-clause-new
 with-requires-2-clause-new g c =
@@ -128,7 +130,9 @@ with-requires-2-clause-new g c =
     let behind = first_on i c.in-Some.best c.args.entrant.now.cube cube c.comes_before.result c.requires.cube c.requires.live c.comes_before.ensures ∙ c.if-comes_before.false in
     let left = c.in_ok-cleared-2.ensures.held ∙ ap (λ (b : Bounds). mark m (in_box b) thin_tag) c.requires.cube in
     let new = winner_new edge c.args.high i.number m i.point c.requires.waiting.held c.requires.new in
-    subst (IsUnheld c.in-Some.best.number) (sym left) (subst (λ (j : Item). IsUnheld j.number (mark m (in_box cube) thin_tag)) (held_wins edge i.number m i.point c.in-Some.best (contents_rise 0 c.args.high m c.requires.waiting.held) c.requires.new best behind) new)
+    subst (IsUnheld c.in-Some.best.number) (sym left) (subst
+    (λ (j : Item). IsUnheld j.number (mark m (in_box cube) thin_tag)) (held_wins edge i.number m i.point
+    c.in-Some.best (contents_rise 0 c.args.high m c.requires.waiting.held) c.requires.new best behind) new)
 
 pub returns-clause-held : goal.returns-clause-held
 returns-clause-held g c =
@@ -141,7 +145,10 @@ returns-clause-held g c =
     let behind = first_on i old c.args.entrant.now.cube cube c.comes_before.result c.requires.cube c.requires.live c.comes_before.ensures ∙ c.if-comes_before.false in
     let left = c.in_ok-cleared-2.ensures.held ∙ ap (λ (b : Bounds). mark m (in_box b) thin_tag) c.requires.cube in
     IfOk-weaker c.with-2.result _ (λ w. contents_of w ≡ thin edge m i.number i.point)
-    (λ w e. e ∙ ap (λ (xs : List Item). put xs old.number old.point) left ∙ ap (λ (j : Item). put (mark m (in_box cube) thin_tag) j.number j.point) (sym (held_wins edge i.number m i.point old (contents_rise 0 c.args.high m c.requires.waiting.held) c.requires.new best behind))) c.with-2.ensures.held
+    (λ w e. e ∙ ap (λ (xs : List Item). put xs old.number old.point) left
+    ∙ ap (λ (j : Item). put (mark m (in_box cube) thin_tag) j.number j.point)
+    (sym (held_wins edge i.number m i.point old (contents_rise 0 c.args.high m c.requires.waiting.held)
+    c.requires.new best behind))) c.with-2.ensures.held
 
 -- where only what waits is more
 
@@ -158,7 +165,10 @@ returns-in_default-clause-drafted g c =
 pub returns-then-comes_before-clause-draft : goal.returns-then-comes_before-clause-draft
 returns-then-comes_before-clause-draft g c = λ last ps d.
     IfOk-weaker c.with-then-comes_before.result _ (λ (w : Waiting). IsDraftLeft c.args.settings.now.large c.args.high last ps w.draft)
-    (λ w same. subst (IsDraftLeft c.args.settings.now.large c.args.high last ps) (sym same) (subst (λ (l : ℕ). IsDraft l c.args.high last ps c.args.self.draft → IsDraftLeft l c.args.high last ps c.in_ok-cleared.cleared.draft) c.large-large.ensures.value (c.in_ok-cleared.ensures.draft last ps) d)) c.with-then-comes_before.ensures.draft
+    (λ w same. subst (IsDraftLeft c.args.settings.now.large c.args.high last ps) (sym same)
+    (subst (λ (l : ℕ). IsDraft l c.args.high last ps c.args.self.draft
+    → IsDraftLeft l c.args.high last ps c.in_ok-cleared.cleared.draft) c.large-large.ensures.value
+    (c.in_ok-cleared.ensures.draft last ps) d)) c.with-then-comes_before.ensures.draft
 
 pub returns-then-comes_before-clause-drafted : goal.returns-then-comes_before-clause-drafted
 returns-then-comes_before-clause-drafted g c =
@@ -174,7 +184,10 @@ returns-then-count-eq1-clause-drafted g c = worked_itself 0 1 c.args.self.draft
 pub returns-clause-draft : goal.returns-clause-draft
 returns-clause-draft g c = λ last ps d.
     IfOk-weaker c.with-2.result _ (λ (w : Waiting). IsDraftLeft c.args.settings.now.large c.args.high last ps w.draft)
-    (λ w same. subst (IsDraftLeft c.args.settings.now.large c.args.high last ps) (sym same) (subst (λ (l : ℕ). IsDraft l c.args.high last ps c.args.self.draft → IsDraftLeft l c.args.high last ps c.in_ok-cleared-2.cleared.draft) c.large-large.ensures.value (c.in_ok-cleared-2.ensures.draft last ps) d)) c.with-2.ensures.draft
+    (λ w same. subst (IsDraftLeft c.args.settings.now.large c.args.high last ps) (sym same)
+    (subst (λ (l : ℕ). IsDraft l c.args.high last ps c.args.self.draft
+    → IsDraftLeft l c.args.high last ps c.in_ok-cleared-2.cleared.draft) c.large-large.ensures.value
+    (c.in_ok-cleared-2.ensures.draft last ps) d)) c.with-2.ensures.draft
 
 pub returns-clause-drafted : goal.returns-clause-drafted
 returns-clause-drafted g c =
