@@ -78,11 +78,17 @@ ran_next c s left t u rs r ran follows answered =
     let grown : n ≡ length t.history + length own =
     sym long ∙ ap length follows.made ∙ length-append (updates t.history) own ∙ ap (λ k. k + length own) (length-map t.history (λ (e : Entry). e.update)) in
     let replied : r ≡ reply_to s.sizes.voxel h c n =
-    answered ∙ ap (λ (z : Sizes). reply_to z.voxel (updates u.history) c n) (follows.settings ∙ ran.settings) ∙ sym (reply_early s.sizes.voxel n (updates u.history) (updates_made left) c long) ∙ ap (λ us. reply_to s.sizes.voxel us c n) made in
+    answered ∙ ap (λ (z : Sizes). reply_to z.voxel (updates u.history) c n) (follows.settings ∙ ran.settings)
+    ∙ sym (reply_early s.sizes.voxel n (updates u.history) (updates_made left) c long)
+    ∙ ap (λ us. reply_to s.sizes.voxel us c n) made in
     record {
       settings = follows.settings ∙ ran.settings;
       made = made;
       few = omega (arith, grown, at_most_one c, ran.few);
       room = omega (arith, follows.next, ran.room);
-      told = append_assoc rs (r ∷ []) _ ∙ ap (λ x. rs ++ x ∷ replies_from s.sizes.voxel h left (serial_marks_from n left)) replied ∙ ap (λ ms. rs ++ replies_from s.sizes.voxel h (c ∷ left) ms) (sym (marks_cons (length t.history) n c left grown)) ∙ ran.told;
+      told =
+          append_assoc rs (r ∷ []) _
+          ∙ ap (λ x. rs ++ x ∷ replies_from s.sizes.voxel h left (serial_marks_from n left)) replied
+          ∙ ap (λ ms. rs ++ replies_from s.sizes.voxel h (c ∷ left) ms)
+          (sym (marks_cons (length t.history) n c left grown)) ∙ ran.told;
     }

@@ -88,7 +88,10 @@ seen_all i s left t ps seen none =
     (sym (append-nil ps) ∙ ap (λ qs. ps ++ qs) (sym (no_points i t)) ∙ all, sym (no_draws t) ∙ on)
 
 -- the first of n scans
-scans_next : (i k s : ℕ) → commands_from i (suc k) (next_draws (6000 * suc k) s) ≡ scan_commands i (points_of_draws i (next_draws 6000 s)) ++ commands_from (i + 1) k (next_draws (6000 * k) (after 6000 s))
+scans_next : (i k s : ℕ)
+    → commands_from i (suc k) (next_draws (6000 * suc k) s)
+    ≡ scan_commands i (points_of_draws i (next_draws 6000 s))
+    ++ commands_from (i + 1) k (next_draws (6000 * k) (after 6000 s))
 unfolding commands_from
 scans_next i k s =
     let more : 6000 * suc k ≡ 6000 + 6000 * k = omega arith in

@@ -17,5 +17,12 @@ returns-clause-text g c =
     record {
       script = input.script;
       said = c.in_ok-input.ensures.says;
-      printed = record { verdict = line.verdict; found = found_in (g.R.Source.left c.args.log.now) input.bytes.items c.args.length input.script line.verdict c.in_ok-input.ensures.bytes line.found; told = line.told };
+      printed =
+          record {
+            verdict = line.verdict;
+            found =
+                found_in (g.R.Source.left c.args.log.now) input.bytes.items c.args.length input.script line.verdict
+                c.in_ok-input.ensures.bytes line.found;
+            told = line.told;
+          };
     }

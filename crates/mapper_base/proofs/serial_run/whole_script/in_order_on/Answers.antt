@@ -12,6 +12,8 @@ loop-command-preserved c =
     let i = c.loop-command.command-index in
     let command = c.command-item.result in
     let cut : drop i s.commands ≡ command ∷ drop (i + 1) s.commands =
-    rw (add-one, ← c.commands-command-items.ensures.all) (drop-cons c.commands-command-items.result.now i command (omega arith) ∙ ap (λ x. x ∷ drop (suc i) c.commands-command-items.result.now) (sym c.command-item.is)) in
+    rw (add-one, ← c.commands-command-items.ensures.all) (drop-cons c.commands-command-items.result.now i command (omega arith)
+    ∙ ap (λ x. x ∷ drop (suc i) c.commands-command-items.result.now) (sym c.command-item.is)) in
     let ran : Ran s (command ∷ drop (i + 1) s.commands) c.loop-command.state.state c.loop-command.replies = rw cut at c.loop-command.invariant in
-    rw c.in_ok-push.ensures.ok (ran_next command s _ c.loop-command.state.state c.answer.new.state.state c.loop-command.replies c.in_ok-reply.reply ran c.in_ok-reply.ensures.follows c.in_ok-reply.ensures.reply)
+    rw c.in_ok-push.ensures.ok (ran_next command s _ c.loop-command.state.state c.answer.new.state.state
+    c.loop-command.replies c.in_ok-reply.reply ran c.in_ok-reply.ensures.follows c.in_ok-reply.ensures.reply)
