@@ -160,11 +160,17 @@ ran_end voxel cs left p q rs ran none =
 pub mine_next : (voxel : ℕ) (h : List Entry) (x : ℕ) (c : Command) (cs : List Command) (low : ℕ) (rs : List Reply) (high : ℕ) → is_by x c ≡ true → Mine voxel h x (c ∷ cs) low rs high
     → (r : Reply) × (rest : List Reply) × (rs ≡ r ∷ rest) × Answers voxel h low c r × Mine voxel h x cs (mark_of r) rest high
 mine_next voxel h x c cs low rs high is m =
-    let P : Bool → Type 0 = λ b. MatchBool b ((r : Reply) × (rest : List Reply) × (rs ≡ r ∷ rest) × Answers voxel h low c r × Mine voxel h x cs (mark_of r) rest high) (Mine voxel h x cs low rs high) in
+    let P : Bool
+    → Type 0 =
+    λ b. MatchBool b ((r : Reply) × (rest : List Reply) × (rs ≡ r ∷ rest) × Answers voxel h low c r × Mine voxel h
+    x cs (mark_of r) rest high) (Mine voxel h x cs low rs high) in
     subst P is m
 
 pub mine_skip : (voxel : ℕ) (h : List Entry) (x : ℕ) (c : Command) (cs : List Command) (low : ℕ) (rs : List Reply) (high : ℕ) → is_by x c ≡ false
     → Mine voxel h x (c ∷ cs) low rs high → Mine voxel h x cs low rs high
 mine_skip voxel h x c cs low rs high is m =
-    let P : Bool → Type 0 = λ b. MatchBool b ((r : Reply) × (rest : List Reply) × (rs ≡ r ∷ rest) × Answers voxel h low c r × Mine voxel h x cs (mark_of r) rest high) (Mine voxel h x cs low rs high) in
+    let P : Bool
+    → Type 0 =
+    λ b. MatchBool b ((r : Reply) × (rest : List Reply) × (rs ≡ r ∷ rest) × Answers voxel h low c r × Mine voxel h
+    x cs (mark_of r) rest high) (Mine voxel h x cs low rs high) in
     subst P is m

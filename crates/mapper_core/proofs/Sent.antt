@@ -20,4 +20,23 @@ pub ruleset to_worker = (sendable, std.crosses, map.shared_sync, heap.the_send, 
 pub ruleset to_caller = (sendable, std.crosses, map.shared_sync, map.pass_send, heap.the_send, signals.the_sync, command.the_sync)
 
 -- and back
-pub ruleset from_caller = (sendable, std.crosses, map.crosses, option.the_send, option.the_field_send, option.the_sync, option.the_field_sync, result.the_send, result.the_field_send, memory.the_send, memory.the_field_send, memory.the_sync, memory.the_field_sync, phantom.the_send, phantom.the_field_send, none.the_send, none.the_field_send, queue.the_send)
+pub ruleset from_caller = (
+  sendable,
+  std.crosses,
+  map.crosses,
+  option.the_send,
+  option.the_field_send,
+  option.the_sync,
+  option.the_field_sync,
+  result.the_send,
+  result.the_field_send,
+  memory.the_send,
+  memory.the_field_send,
+  memory.the_sync,
+  memory.the_field_sync,
+  phantom.the_send,
+  phantom.the_field_send,
+  none.the_send,
+  none.the_field_send,
+  queue.the_send,
+)

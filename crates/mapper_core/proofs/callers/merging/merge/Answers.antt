@@ -15,7 +15,9 @@ caller_of-requires c =
     let i = c.loop-command.command-index in
     let command = c.command-item.result in
     let cut : drop i cs ≡ command ∷ drop (i + 1) cs = rw add-one (drop-cons cs i command (omega arith) ∙ ap (λ x. x ∷ drop (suc i) cs) (sym c.command-item.is)) in
-    let left : AreReplies c.loop-command.invariant.left.0 (command ∷ drop (i + 1) cs) c.loop-command.queues = subst (λ z. AreReplies c.loop-command.invariant.left.0 z c.loop-command.queues) cut c.loop-command.invariant.left.1 in
+    let left : AreReplies c.loop-command.invariant.left.0 (command ∷ drop (i + 1) cs) c.loop-command.queues =
+    subst (λ z. AreReplies c.loop-command.invariant.left.0 z c.loop-command.queues) cut
+    c.loop-command.invariant.left.1 in
     (left.owned.0.0 + 1, left.owned.0.1)
 
 pub take_for-reply-requires : goal.take_for-reply-requires

@@ -44,7 +44,9 @@ merge-requires g c =
       few = (let a = take_length_le c.args.to cs in let b = c.requires.commands in omega arith);
       room = (let a = points_take c.args.to cs in let b = c.requires.room in omega arith);
     } in
-    let ran : AllBack (Ran voxel between) ps qs lists = all_ran voxel before between ps qs ss lists c.args.replies.now (subst AreFew (sym whole) few) c.requires.standing back c.all_meet-passes.ensures in
+    let ran : AllBack (Ran voxel between) ps qs lists =
+    all_ran voxel before between ps qs ss lists c.args.replies.now (subst AreFew (sym whole) few)
+    c.requires.standing back c.all_meet-passes.ensures in
     let told = told_mine voxel before between ps qs ss lists c.args.replies.now c.requires.standing ran c.all_meet-passes.ensures in
     let many : length lists ≡ g.L.MapName.callers = ran.queues ∙ c.requires.all in
     subst (λ z. (v : ℕ) × AreReplies v between z) (sym c.as_mut_slice.ensures.value) (

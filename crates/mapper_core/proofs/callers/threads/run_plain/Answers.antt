@@ -12,13 +12,17 @@ pub returns-clause-legal : goal.returns-clause-legal
 returns-clause-legal g c =
     let s = c.args.script.now in
     answer_gives (λ r. StandingAtEnd g.L.MapName.voxel g.L.MapName.callers s.commands r.0.items r.1) (λ r. AreLegalReplies s r.1)
-    (λ r e. ended_is_legal g.L.MapName.callers s r.0.items r.1 (subst (λ z. StandingAtEnd z g.L.MapName.callers s.commands r.0.items r.1) c.requires.ready.voxel e)) c.join-all.result.1 c.join-all.ensures.second
+    (λ r e. ended_is_legal g.L.MapName.callers s r.0.items r.1
+    (subst (λ z. StandingAtEnd z g.L.MapName.callers s.commands r.0.items r.1) c.requires.ready.voxel e))
+    c.join-all.result.1 c.join-all.ensures.second
 
 pub returns-clause-ended : goal.returns-clause-ended
 returns-clause-ended g c =
     let s = c.args.script.now in
     answer_gives (λ r. StandingAtEnd g.L.MapName.voxel g.L.MapName.callers s.commands r.0.items r.1) (λ r. HaveEnded g.L.MapName.callers s r.0.items r.1)
-    (λ r e. have_ended g.L.MapName.callers s r.0.items r.1 (subst (λ z. StandingAtEnd z g.L.MapName.callers s.commands r.0.items r.1) c.requires.ready.voxel e)) c.join-all.result.1 c.join-all.ensures.second
+    (λ r e. have_ended g.L.MapName.callers s r.0.items r.1
+    (subst (λ z. StandingAtEnd z g.L.MapName.callers s.commands r.0.items r.1) c.requires.ready.voxel e))
+    c.join-all.result.1 c.join-all.ensures.second
 
 pub join-all-requires-send-F : goal.join-all-requires-send-F
 join-all-requires-send-F g c κs within =
