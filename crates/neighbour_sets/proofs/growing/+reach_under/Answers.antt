@@ -29,7 +29,9 @@ returns-then-own-clause-reached t c =
 pub returns-then-not-meets-clause-reached : goal.returns-then-not-meets-clause-reached
 returns-then-not-meets-clause-reached t c =
     let inside = walk_in_extent (Some c.in-Some-extent.extent) c.args.pending c.args.tree.now c.in-Some-extent.ensures.value in
-    ap (put_all_new c.args.front.now) (sym (near_missed c.args.ball.now.center c.args.ball.now.limit c.in-Some-extent.extent (walk c.args.pending c.args.tree.now) inside (sym c.meets.ensures ∙ c.if-not-meets.true)))
+    ap (put_all_new c.args.front.now) (sym (near_missed c.args.ball.now.center c.args.ball.now.limit
+    c.in-Some-extent.extent (walk c.args.pending c.args.tree.now) inside
+    (sym c.meets.ensures ∙ c.if-not-meets.true)))
 
 pub reach_under-requires : goal.reach_under-requires
 reach_under-requires t c =
