@@ -66,7 +66,9 @@ pub true_found : (s : StateAt) (ticket : ℕ) (hs : List MarkedSubtreeAt) (h : M
 true_found s ticket [] h e a = absurd cc
 true_found s ticket (k ∷ hs) h e a =
     cond_both (ticket == k.ticket) (Some k) (marked_subtree_of ticket hs) (λ o. o ≡ Some h → AreItemsOf ticket h.items s.parts)
-    (λ same f. subst (λ (z : ℕ × MarkedSubtreeAt). AreItemsOf z.0 z.1.items s.parts) (λ i. (sym (eqb-true ticket k.ticket same) i, some_marked k h f i)) a.0.items) (λ _ f. true_found s ticket hs h f a.1) e
+    (λ same f. subst (λ (z : ℕ × MarkedSubtreeAt). AreItemsOf z.0 z.1.items s.parts)
+    (λ i. (sym (eqb-true ticket k.ticket same) i, some_marked k h f i)) a.0.items)
+    (λ _ f. true_found s ticket hs h f a.1) e
 
 -- what lies under the lock is whole still where the history stays
 pub whole_after : (known shown h : List Entry) (total parts amount : ℕ) (k : List Entry) → IsWhole known shown h total parts amount → k ≡ h → IsWhole known shown k total parts amount

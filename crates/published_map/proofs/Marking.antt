@@ -49,7 +49,8 @@ places_snoc c h low (j ∷ js) e m =
     rw (a, b, r) refl
 
 -- the caller's entry comes after a history that begins with what was marked
-pub marked_after : (c : ℕ) (s h n : List Entry) (ks js : List ℕ) (place : ℕ) (e : Entry) → IsPrefix s h → AreOwnPlaces c s 0 ks → n ≡ h ++ e ∷ [] → js ≡ ks ++ place ∷ [] → place ≡ length h → e.caller ≡ c
+pub marked_after : (c : ℕ) (s h n : List Entry) (ks js : List ℕ) (place : ℕ) (e : Entry) → IsPrefix s h
+    → AreOwnPlaces c s 0 ks → n ≡ h ++ e ∷ [] → js ≡ ks ++ place ∷ [] → place ≡ length h → e.caller ≡ c
     → AreOwnPlaces c n 0 js × (at_places n js ≡ at_places s ks ++ e.update ∷ [])
 marked_after c s h n ks js place e p m is more at by =
     let here : js ≡ ks ++ length h ∷ [] = more ∙ ap (λ k. ks ++ k ∷ []) at in
@@ -79,7 +80,8 @@ pass_longer c h k known knows ks parts amount p longer begins = record {
 }
 
 -- the caller has one entry more, the last
-pub pass_added : (c : ℕ) (s h n known knows : List Entry) (ks js : List ℕ) (place parts amount : ℕ) (e : Entry) → IsPass c s known ks parts amount → IsPrefix s h → n ≡ h ++ e ∷ [] → js ≡ ks ++ place ∷ [] → place ≡ length h
+pub pass_added : (c : ℕ) (s h n known knows : List Entry) (ks js : List ℕ) (place parts amount : ℕ) (e : Entry)
+    → IsPass c s known ks parts amount → IsPrefix s h → n ≡ h ++ e ∷ [] → js ≡ ks ++ place ∷ [] → place ≡ length h
     → e.caller ≡ c → length h < 1048576 → IsPrefix n knows → (q b : ℕ) → q ≡ parts → b ≡ amount + 1 → IsPass c n knows js q b
 pass_added c s h n known knows ks js place parts amount e p begins is more at by room known_by q b same one =
     let all = marked_after c s h n ks js place e begins p.marked is more at by in

@@ -38,10 +38,15 @@ invariant_of-pass-2 g c =
     let got : c.read_newest.result ≡ c.published-shown.result.now = c.read_newest.ensures.same in
     let now : c.read_newest.result ≡ c.take_step.new.state.state.history = got ∙ (c.published-shown.ensures ∙ step.at.1) in
     let entry = c.in_ok-planned.planned.entry in
-    let after : c.read_newest.result ≡ h ++ e ∷ [] = now ∙ (ap (λ (t : StateAt). t.history) step.entered ∙ (ap (λ (t : StateAt). t.history ++ listed entry) plan.same ∙ ap (λ o. h ++ listed o) plan.planned.entry)) in
+    let after : c.read_newest.result ≡ h ++ e ∷ [] =
+    now
+    ∙ (ap (λ (t : StateAt). t.history) step.entered
+    ∙ (ap (λ (t : StateAt). t.history ++ listed entry) plan.same ∙ ap (λ o. h ++ listed o) plan.planned.entry))
+    in
     let p : IsPrefix c.pass.inside.kept h = subst (λ (z : Seen × Stored). IsPrefix z.0.seen z.1.state.history) (λ k. (sym c.pass.view_is k, sym c.self.view_is k)) c.requires.begins in
     let more = c.push_reserved.ensures.items ∙ ap (λ ks. ks ++ length c.history.result.now ∷ []) c.reserve.ensures.items in
-    pass_added _ _ h _ _ _ _ _ _ _ _ e c.pass.invariant p after more (ap length c.history.ensures.value) refl plan.room.updates (begins _ _ (got ∙ sym c.read_newest.ensures.at)) _ _ c.add.ensures.parts c.add.ensures.amount
+    pass_added _ _ h _ _ _ _ _ _ _ _ e c.pass.invariant p after more (ap length c.history.ensures.value) refl
+    plan.room.updates (begins _ _ (got ∙ sym c.read_newest.ensures.at)) _ _ c.add.ensures.parts c.add.ensures.amount
 
 pub returns-clause-made : goal.returns-clause-made
 returns-clause-made g c =
@@ -53,7 +58,11 @@ returns-clause-made g c =
     let got : c.read_newest.result ≡ c.published-shown.result.now = c.read_newest.ensures.same in
     let now : c.read_newest.result ≡ c.take_step.new.state.state.history = got ∙ (c.published-shown.ensures ∙ step.at.1) in
     let entry = c.in_ok-planned.planned.entry in
-    let after : c.read_newest.result ≡ h ++ e ∷ [] = now ∙ (ap (λ (t : StateAt). t.history) step.entered ∙ (ap (λ (t : StateAt). t.history ++ listed entry) plan.same ∙ ap (λ o. h ++ listed o) plan.planned.entry)) in
+    let after : c.read_newest.result ≡ h ++ e ∷ [] =
+    now
+    ∙ (ap (λ (t : StateAt). t.history) step.entered
+    ∙ (ap (λ (t : StateAt). t.history ++ listed entry) plan.same ∙ ap (λ o. h ++ listed o) plan.planned.entry))
+    in
     let p : IsPrefix c.pass.inside.kept h = subst (λ (z : Seen × Stored). IsPrefix z.0.seen z.1.state.history) (λ k. (sym c.pass.view_is k, sym c.self.view_is k)) c.requires.begins in
     let more = c.push_reserved.ensures.items ∙ ap (λ ks. ks ++ length c.history.result.now ∷ []) c.reserve.ensures.items in
     let m = marked_after c.pass.inside.caller _ h _ _ _ _ e p c.pass.invariant.marked after more (ap length c.history.ensures.value) refl in
