@@ -27,12 +27,16 @@ use Rattle.map_update.proofs.Working.{at_numbers}
 in_lawful : (large next last : ℕ) (t : Shape) (slot : ℕ) (ps : List PartAt) (p : PartAt) → part_in slot ps ≡ Some p → AreEachLawful large next last t ps → IsLawfulPart large next last t p
 in_lawful large next last t slot [] p e k = absurd cc
 in_lawful large next last t slot (r ∷ ps) p e k =
-    cond_both (slot == r.slot) (Some r) (part_in slot ps) (λ o. o ≡ Some p → IsLawfulPart large next last t p) (λ _ f. subst (IsLawfulPart large next last t) (same_Some r p f) k.0) (λ _ f. in_lawful large next last t slot ps p f k.1) e
+    cond_both (slot == r.slot) (Some r) (part_in slot ps) (λ o. o ≡ Some p → IsLawfulPart large next last t p)
+    (λ _ f. subst (IsLawfulPart large next last t) (same_Some r p f) k.0)
+    (λ _ f. in_lawful large next last t slot ps p f k.1) e
 
 in_clear : (path : List Side) (slot : ℕ) (ps : List PartAt) (p : PartAt) → part_in slot ps ≡ Some p → IsClear path (paths ps) → AreApart path p.path
 in_clear path slot [] p e k = absurd cc
 in_clear path slot (r ∷ ps) p e k =
-    cond_both (slot == r.slot) (Some r) (part_in slot ps) (λ o. o ≡ Some p → AreApart path p.path) (λ _ f. subst (λ (x : PartAt). AreApart path x.path) (same_Some r p f) k.0) (λ _ f. in_clear path slot ps p f k.1) e
+    cond_both (slot == r.slot) (Some r) (part_in slot ps) (λ o. o ≡ Some p → AreApart path p.path)
+    (λ _ f. subst (λ (x : PartAt). AreApart path x.path) (same_Some r p f) k.0)
+    (λ _ f. in_clear path slot ps p f k.1) e
 
 -- whether a part of the slot fits next to the parts: it is where the slot's part is, and apart from the others
 abbrev FitsBeside : PartAt → List PartAt → Type 0
@@ -69,7 +73,9 @@ fits_old q from (r ∷ ps) p e path s k =
 -- with a part in its slot
 
 -- what holds of parts, and of them with the part in its slot, by cases
-pub with_cases : (P : List PartAt → List PartAt → Type 0) (q : PartAt) → P [] (q ∷ []) → ((p : PartAt) (ps : List PartAt) → q.slot ≡ p.slot → P (p ∷ ps) (q ∷ ps)) → ((p : PartAt) (ps : List PartAt) → q.slot < p.slot → P (p ∷ ps) (q ∷ p ∷ ps))
+pub with_cases : (P : List PartAt → List PartAt → Type 0) (q : PartAt) → P [] (q ∷ [])
+    → ((p : PartAt) (ps : List PartAt) → q.slot ≡ p.slot → P (p ∷ ps) (q ∷ ps))
+    → ((p : PartAt) (ps : List PartAt) → q.slot < p.slot → P (p ∷ ps) (q ∷ p ∷ ps))
     → ((p : PartAt) (ps qs : List PartAt) → p.slot < q.slot → P ps qs → P (p ∷ ps) (p ∷ qs)) → (ps : List PartAt) → P ps (with_part q ps)
 with_cases P q none same before after [] = none
 with_cases P q none same before after (p ∷ ps) =
@@ -77,18 +83,23 @@ with_cases P q none same before after (p ∷ ps) =
     cond_both (q.slot == p.slot) (q ∷ ps) (cond (nat_lt q.slot p.slot) (q ∷ p ∷ ps) (p ∷ with_part q ps)) (P (p ∷ ps)) (λ e. same p ps (eqb-true q.slot p.slot e))
     (λ e.
     let other = eqb-false q.slot p.slot e in
-    cond_both (nat_lt q.slot p.slot) (q ∷ p ∷ ps) (p ∷ with_part q ps) (P (p ∷ ps)) (λ l. before p ps (ltb-true q.slot p.slot l)) (λ l. let le = ltb-false q.slot p.slot l in after p ps (with_part q ps) (less p.slot q.slot le other) rest))
+    cond_both (nat_lt q.slot p.slot) (q ∷ p ∷ ps) (p ∷ with_part q ps) (P (p ∷ ps))
+    (λ l. before p ps (ltb-true q.slot p.slot l))
+    (λ l. let le = ltb-false q.slot p.slot l in after p ps (with_part q ps) (less p.slot q.slot le other) rest))
   where
     less : (a b : ℕ) → a ≤ b → (b ≡ a → ⊥) → a < b
     less a b le ne = omega (arith, le, ne)
 
-each_with : (large next last : ℕ) (t : Shape) (q : PartAt) → IsLawfulPart large next last t q → (ps : List PartAt) → AreEachLawful large next last t ps → AreEachLawful large next last t (with_part q ps)
+each_with : (large next last : ℕ) (t : Shape) (q : PartAt) → IsLawfulPart large next last t q → (ps : List PartAt)
+    → AreEachLawful large next last t ps → AreEachLawful large next last t (with_part q ps)
 each_with large next last t q k =
     with_cases (λ ps qs. AreEachLawful large next last t ps → AreEachLawful large next last t qs) q (λ _. (k, tt)) (λ p ps _ l. (k, l.1)) (λ p ps _ l. (k, l)) (λ p ps qs _ f l. (l.0, f l.1))
 
 slots_with : (q : PartAt) → q.slot ≤ 4 → (ps : List PartAt) (from : ℕ) → from ≤ q.slot → AreInSlots from ps → AreInSlots from (with_part q ps)
 slots_with q high =
-    with_cases (λ ps qs. (from : ℕ) → from ≤ q.slot → AreInSlots from ps → AreInSlots from qs) q (λ from low s. (low, high, tt)) (λ p ps e from low s. (low, high, subst (λ (n : ℕ). AreInSlots (n + 1) ps) (sym e) s.2))
+    with_cases (λ ps qs. (from : ℕ) → from ≤ q.slot → AreInSlots from ps → AreInSlots from qs) q
+    (λ from low s. (low, high, tt))
+    (λ p ps e from low s. (low, high, subst (λ (n : ℕ). AreInSlots (n + 1) ps) (sym e) s.2))
     (λ p ps less from low s. (low, high, (omega (arith, less), s.1, s.2))) (λ p ps qs less f from low s. (s.0, s.1, f (p.slot + 1) (omega (arith, less)) s.2))
 
 new_with : (ticket : ℕ) (q : PartAt) → (ticket ≡ q.ticket → ⊥) → (ps : List PartAt) → IsNewTicket ticket ps → IsNewTicket ticket (with_part q ps)
@@ -120,7 +131,9 @@ apart_with q from (p ∷ ps) s k apart =
     (λ e.
     let other = eqb-false q.slot p.slot e in
     cond_both (nat_lt q.slot p.slot) (q ∷ p ∷ ps) (p ∷ with_part q ps) (λ qs. AreAllApart (paths qs))
-    (λ l. let less = ltb-true q.slot p.slot l in ((k.1 other, clear_beside q (p.slot + 1) ps (omega (arith, less)) s.2 k.2), apart)) (λ l. (clear_with p.path q (apart_sym q.path p.path (k.1 other)) ps apart.0, rest)))
+    (λ l. let less = ltb-true q.slot p.slot l in
+    ((k.1 other, clear_beside q (p.slot + 1) ps (omega (arith, less)) s.2 k.2), apart))
+    (λ l. (clear_with p.path q (apart_sym q.path p.path (k.1 other)) ps apart.0, rest)))
 
 -- each path is still there
 ones_with : (q : PartAt) (ps : List PartAt) → FitsBeside q ps → AreOnesOf (paths ps) (paths (with_part q ps))
@@ -164,7 +177,8 @@ later_new large next last ticket t (p ∷ ps) above k = (later p.ticket k.0.tick
 pub detach_items : (s : StateAt) (path : List Side) (node : Shape) → IsLawful s → IsSound node → at path s.tree ≡ Some node → AreContents 0 s.next (contents node)
 detach_items s path node k sound there = are_contents s.next node sound (among_below s.next (numbers node) (numbers s.tree) (at_numbers path s.tree node there) k.below)
 
-pub detached_lawful : (slot : ℕ) (s : StateAt) (path : List Side) (node : Shape) → 1 ≤ slot → slot ≤ 4 → IsLawful s → IsSound node → IsDetachedAt (part_in slot s.parts) s path → at path s.tree ≡ Some node
+pub detached_lawful : (slot : ℕ) (s : StateAt) (path : List Side) (node : Shape) → 1 ≤ slot → slot ≤ 4 → IsLawful s
+    → IsSound node → IsDetachedAt (part_in slot s.parts) s path → at path s.tree ≡ Some node
     → IsLawful (record s { last = s.last + 1; parts = with_part (part_detached slot path node s) s.parts })
 detached_lawful slot s path node from to k sound chosen there =
     let q = part_detached slot path node s in
@@ -190,7 +204,10 @@ detached_lawful slot s path node from to k sound chosen there =
       short = k.short;
       entries = k.entries;
       parts = record {
-        each = each_with s.settings.large s.next (s.last + 1) s.tree q part s.parts (each_more s.settings.large s.next s.next s.last (s.last + 1) s.tree s.parts (omega arith) (omega arith) k.parts.each);
+        each =
+            each_with s.settings.large s.next (s.last + 1) s.tree q part s.parts
+            (each_more s.settings.large s.next s.next s.last (s.last + 1) s.tree s.parts (omega arith) (omega arith)
+            k.parts.each);
         apart = apart_with q 1 s.parts k.parts.slots fits k.parts.apart;
         slots = slots_with q to s.parts 1 from k.parts.slots;
         tickets = tickets_with q s.parts (later_new s.settings.large s.next s.last (s.last + 1) s.tree s.parts (omega arith) k.parts.each) k.parts.tickets;

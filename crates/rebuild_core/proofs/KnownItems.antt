@@ -56,12 +56,15 @@ items_of_planned ticket items [] ps k = k
 items_of_planned ticket items (x ∷ plans) ps k = items_of_planned ticket items plans (relogged x ps) (items_of_relogged ticket items x ps k)
 
 -- the part of the ticket may be put in again with these items
-pub held_again : (ticket : ℕ) (items : List Item) (ps : List PartAt) (i : ℕ) (q : PartAt) → AreItemsOf ticket items ps → IsPlaceOf ticket i ps → q ≡ get_or ps i q → set ps i (record q { items = items }) ≡ ps
+pub held_again : (ticket : ℕ) (items : List Item) (ps : List PartAt) (i : ℕ) (q : PartAt) → AreItemsOf ticket items ps
+    → IsPlaceOf ticket i ps → q ≡ get_or ps i q → set ps i (record q { items = items }) ≡ ps
 held_again ticket items ps i q known k is =
     let same : q ≡ k.part = is ∙ ap (λ (z : List PartAt). get_or z i q) k.all ∙ get_or_at k.front k.part k.back q i (sym k.place) in
     let held : k.part.items ≡ items = own k.front (subst (AreItemsOf ticket items) k.all known) in
     let put : record q { items = items } ≡ k.part = ap (λ (m : List Item). record q { items = m }) (sym held ∙ ap (λ (p : PartAt). p.items) (sym same)) ∙ same in
-    let at : set (k.front ++ k.part ∷ k.back) i (record q { items = items }) ≡ k.front ++ record q { items = items } ∷ k.back = set_at k.front k.part k.back (record q { items = items }) i (sym k.place) in
+    let at : set (k.front ++ k.part ∷ k.back) i (record q { items = items })
+    ≡ k.front ++ record q { items = items } ∷ k.back =
+    set_at k.front k.part k.back (record q { items = items }) i (sym k.place) in
     ap (λ (z : List PartAt). set z i (record q { items = items })) k.all ∙ at ∙ ap (λ (p : PartAt). k.front ++ p ∷ k.back) put ∙ sym k.all
   where
     own : (front : List PartAt) → AreItemsOf ticket items (front ++ k.part ∷ k.back) → k.part.items ≡ items
@@ -78,7 +81,8 @@ items_of_with ticket items q own =
     with_cases (λ ps qs. AreItemsOf ticket items ps → AreItemsOf ticket items qs) q (λ _. (own, tt)) (λ p ps _ k. (own, k.1)) (λ p ps _ k. (own, k)) (λ p ps qs _ f k. (k.0, f k.1))
 
 -- after a subtree was detached, for a ticket that was given before
-pub items_of_detached : (slot : ℕ) (s : StateAt) (job : JobAt) (t : StateAt) (ticket : ℕ) (items : List Item) → IsDetachStep slot s job t → ticket ≤ s.last → AreItemsOf ticket items s.parts → AreItemsOf ticket items t.parts
+pub items_of_detached : (slot : ℕ) (s : StateAt) (job : JobAt) (t : StateAt) (ticket : ℕ) (items : List Item)
+    → IsDetachStep slot s job t → ticket ≤ s.last → AreItemsOf ticket items s.parts → AreItemsOf ticket items t.parts
 items_of_detached slot s job t ticket items d before k =
     subst (λ (x : StateAt). AreItemsOf ticket items x.parts) (sym d.state) (items_of_with ticket items (part_detached slot d.path d.node s) (λ e. absurd (omega (arith, before, e))) s.parts k)
 

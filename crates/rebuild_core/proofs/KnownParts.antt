@@ -36,7 +36,8 @@ undone_fit s b p k h o =
     subst (λ m. Fit m (undone b p)) (ap (λ m. replay m b.done) (sym o.items) ∙ sym h.replayed) rest
 
 -- and once it is done, the value holds what the subtree holds
-pub undone_same : (s : StateAt) (b : BuiltAt) (p : PartAt) (k : IsLawful s) → IsLawfulBuilt b → (o : IsPartOf b s.parts p) → replay (contents b.tree) (undone b p) ≡ contents (built_part s b p k o).there.node
+pub undone_same : (s : StateAt) (b : BuiltAt) (p : PartAt) (k : IsLawful s) → IsLawfulBuilt b
+    → (o : IsPartOf b s.parts p) → replay (contents b.tree) (undone b p) ≡ contents (built_part s b p k o).there.node
 undone_same s b p k h o =
     ap (λ m. replay m (undone b p)) (h.replayed ∙ ap (λ m. replay m b.done) o.items)
     ∙ sym (replay-append p.items b.done (undone b p)) ∙ ap (replay p.items) (sym (log_parts b s.parts p o)) ∙ sym (built_part s b p k o).replayed

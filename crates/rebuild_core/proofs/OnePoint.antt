@@ -22,7 +22,8 @@ turned_copy s z t p is same turned =
     subst (λ (x : Shape). IsRejected s.settings.voxel (map_of x s.next) p) (sym same) here
 
 -- a step that thins the voxel of one point does what is said of it
-pub thinned_from : (u : Update) (s z : StateAt) (copy t : Shape) (next : ℕ) (p : Place) → s ≡ z → IsLawful s → copy ≡ s.tree → map_of t next ≡ step s.settings.voxel u (map_of copy s.next) → u ≡ Thin (p ∷ [])
+pub thinned_from : (u : Update) (s z : StateAt) (copy t : Shape) (next : ℕ) (p : Place) → s ≡ z → IsLawful s
+    → copy ≡ s.tree → map_of t next ≡ step s.settings.voxel u (map_of copy s.next) → u ≡ Thin (p ∷ [])
     → IsThinnedFrom z p t
 thinned_from u s z copy t next p is k same stepped one =
     let whole : map_of t next ≡ step s.settings.voxel (Thin (p ∷ [])) (map_of s.tree s.next) =

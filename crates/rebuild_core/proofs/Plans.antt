@@ -38,7 +38,9 @@ pub parts_few : (s : StateAt) → IsLawful s → length s.parts ≤ 4
 parts_few s k = omega (arith, slots_few 1 s.parts (omega arith) k.parts.slots)
 
 -- what the work on a copy promises of one operation, the plan promises of the state
-pub plan_shape : (u : Update) (op : Op) (s z : StateAt) (t new : Shape) (ws : List Watch) → s ≡ z → t ≡ s.tree → ws ≡ watches_of s.parts → (only_op s.next u ≡ Some op → HaveRoom ws → RebuildsNothing s.settings.large op t → new ≡ unrebuilt op t)
+pub plan_shape : (u : Update) (op : Op) (s z : StateAt) (t new : Shape) (ws : List Watch) → s ≡ z → t ≡ s.tree
+    → ws ≡ watches_of s.parts
+    → (only_op s.next u ≡ Some op → HaveRoom ws → RebuildsNothing s.settings.large op t → new ≡ unrebuilt op t)
     → IsUnrebuiltUpdate u op z → new ≡ unrebuilt op z.tree
 plan_shape u op s z t new ws is same seen k =
     let here : IsUnrebuiltUpdate u op s → new ≡ unrebuilt op s.tree =
@@ -46,7 +48,9 @@ plan_shape u op s z t new ws is same seen k =
     subst (λ (x : StateAt). IsUnrebuiltUpdate u op x → new ≡ unrebuilt op x.tree) is here
 
 pub plan_nodes_made : (u : Update) (op : Op) (s z : StateAt) (t : Shape) (m n new : ℕ) (ws : List Watch) → s ≡ z → t ≡ s.tree → m ≡ n → ws ≡ watches_of s.parts
-    → (only_op s.next u ≡ Some op → HaveRoom ws → RebuildsNothing s.settings.large op t → new ≤ m + (5 * entered_nodes op t + 1)) → IsUnrebuiltUpdate u op z → new ≤ n + (5 * entered_nodes op z.tree + 1)
+    → (only_op s.next u ≡ Some op → HaveRoom ws → RebuildsNothing s.settings.large op t
+    → new ≤ m + (5 * entered_nodes op t + 1)) → IsUnrebuiltUpdate u op z
+    → new ≤ n + (5 * entered_nodes op z.tree + 1)
 plan_nodes_made u op s z t m n new ws is same start seen k =
     let here : IsUnrebuiltUpdate u op s → new ≤ m + (5 * entered_nodes op s.tree + 1) =
     λ q. subst (λ (x : Shape). RebuildsNothing s.settings.large op x → new ≤ m + (5 * entered_nodes op x + 1)) same (k q.only (subst HaveRoom (sym seen) (watched_room s.parts q.room))) q.unrebuilt in
@@ -54,7 +58,8 @@ plan_nodes_made u op s z t m n new ws is same start seen k =
     λ q. let h = there q in omega (arith, h, start)
 
 -- A draft that was worked out from a lawful state makes a lawful state.
-planned_lawful : (caller : ℕ) (u : Update) (s : StateAt) (d : PlanDraft) → IsLawful s → 1 ≤ caller → caller ≤ 8 → length s.history < 1048576 → s.next + points_in u ≤ 4194304 → IsSound d.tree → IsPlanDraft u s d
+planned_lawful : (caller : ℕ) (u : Update) (s : StateAt) (d : PlanDraft) → IsLawful s → 1 ≤ caller → caller ≤ 8
+    → length s.history < 1048576 → s.next + points_in u ≤ 4194304 → IsSound d.tree → IsPlanDraft u s d
     → IsLawful (record s {
       tree = d.tree;
       next = s.next + points_in u;
@@ -78,17 +83,37 @@ planned_lawful caller u s d k from to short few sound made = record {
 }
 
 -- the plan of an update, with what its values are equal to
-pub planned : (caller : ℕ) (u : Update) (s z : StateAt) (d : PlanDraft) (next : ℕ) (ver : VersionAt) (e : Entry) → IsLawful s → 1 ≤ caller → caller ≤ 8 → length s.history < 1048576 → next ≤ 4194304 → next ≡ s.next + points_in u
+pub planned : (caller : ℕ) (u : Update) (s z : StateAt) (d : PlanDraft) (next : ℕ) (ver : VersionAt) (e : Entry)
+    → IsLawful s → 1 ≤ caller → caller ≤ 8 → length s.history < 1048576 → next ≤ 4194304 → next ≡ s.next + points_in u
     → IsSound d.tree → IsPlanDraft u s d → ver ≡ record { tree = d.tree; next = next; len = length s.history + 1 } → e ≡ entry_by caller u s.history → s ≡ z
     → IsUpdatePlan caller u z (record { tree = d.tree; next = next; version = ver; entry = Some e; logs = d.logs.items })
 planned caller u s z d next ver e k from to short few asked sound made shown by is =
     let P : PlannedAt =
-    record { tree = d.tree; next = s.next + points_in u; version = record { tree = d.tree; next = s.next + points_in u; len = length s.history + 1 }; entry = Some (entry_by caller u s.history); logs = d.logs.items } in
-    let plan : IsUpdatePlan caller u s P = record { lawful = planned_lawful caller u s d k from to short (omega (arith, few, asked)) sound made; stepped = made.stepped; entry = refl; parts = made.left } in
+    record {
+      tree = d.tree;
+      next = s.next + points_in u;
+      version =
+          record { tree = d.tree; next = s.next + points_in u; len = length s.history + 1 };
+      entry =
+          Some (entry_by caller u s.history);
+      logs = d.logs.items;
+    } in
+    let plan : IsUpdatePlan caller u s P =
+    record {
+      lawful = planned_lawful caller u s d k from to short (omega (arith, few, asked)) sound made;
+      stepped =
+          made.stepped;
+      entry = refl;
+      parts = made.left;
+    } in
     let V : ℕ → VersionAt = λ n. record { tree = d.tree; next = n; len = length s.history + 1 } in
     let with_next : IsUpdatePlan caller u s (record P { next = next; version = V next }) = subst (λ (n : ℕ). IsUpdatePlan caller u s (record P { next = n; version = V n })) (sym asked) plan in
-    let with_version : IsUpdatePlan caller u s (record P { next = next; version = ver }) = subst (λ (x : VersionAt). IsUpdatePlan caller u s (record P { next = next; version = x })) (sym shown) with_next in
-    let with_entry : IsUpdatePlan caller u s (record P { next = next; version = ver; entry = Some e }) = subst (λ (x : Entry). IsUpdatePlan caller u s (record P { next = next; version = ver; entry = Some x })) (sym by) with_version in
+    let with_version : IsUpdatePlan caller u s (record P { next = next; version = ver }) =
+    subst (λ (x : VersionAt). IsUpdatePlan caller u s (record P { next = next; version = x })) (sym shown) with_next
+    in
+    let with_entry : IsUpdatePlan caller u s (record P { next = next; version = ver; entry = Some e }) =
+    subst (λ (x : Entry). IsUpdatePlan caller u s (record P { next = next; version = ver; entry = Some x }))
+    (sym by) with_version in
     subst (λ (x : StateAt). IsUpdatePlan caller u x (record P { next = next; version = ver; entry = Some e })) is with_entry
 
 -- what is planned may be listed
@@ -99,7 +124,8 @@ next_of p q s z e f k =
     next_entry s.history p.entry there.entries there.short
 
 -- A lawful state stays lawful with another tree that holds the same, and with parts that are lawful in that.
-pub held_lawful : (s : StateAt) (t : Shape) (ps : List PartAt) → IsLawful s → IsSound t → contents t ≡ contents s.tree → All (λ n. n < s.next) (numbers t) → AreLawfulParts s.settings.large s.next s.last t ps
+pub held_lawful : (s : StateAt) (t : Shape) (ps : List PartAt) → IsLawful s → IsSound t → contents t ≡ contents s.tree
+    → All (λ n. n < s.next) (numbers t) → AreLawfulParts s.settings.large s.next s.last t ps
     → IsBalancedClear s.settings.large (paths ps) t → IsLawful (record s { tree = t; version = record { tree = t; next = s.next; len = length s.history }; history = s.history ++ []; parts = ps })
 held_lawful s t ps k sound held below lawful balanced =
     let one : IsLawful (record s { tree = t; version = record { tree = t; next = s.next; len = length s.history }; parts = ps }) = record {
@@ -119,12 +145,14 @@ held_lawful s t ps k sound held below lawful balanced =
     subst (λ (h : List Entry). IsLawful (record s { tree = t; version = record { tree = t; next = s.next; len = length s.history }; history = h; parts = ps })) (sym (append-nil s.history)) one
 
 -- the plan of settling
-pub settles : (s z : StateAt) (t : Shape) (logs : List LogPlan) → IsLawful s → IsSound t → contents t ≡ contents s.tree → AreAmong (numbers t) (numbers s.tree) → AllMeetCriteria 10 t → planned_parts logs s.parts ≡ [] → s ≡ z
+pub settles : (s z : StateAt) (t : Shape) (logs : List LogPlan) → IsLawful s → IsSound t → contents t ≡ contents s.tree
+    → AreAmong (numbers t) (numbers s.tree) → AllMeetCriteria 10 t → planned_parts logs s.parts ≡ [] → s ≡ z
     → IsSettlePlan z (plan_with t logs z)
 settles s z t logs k sound held from criteria none is =
     let P : PlannedAt = plan_with t logs s in
     let all =
-    held_lawful s t [] k sound held (among_below s.next (numbers t) (numbers s.tree) from k.below) (left_lawful s.settings.large s.next s.next s.last s.last s.tree t s.parts [] (left_none s.parts) k.parts tt)
+    held_lawful s t [] k sound held (among_below s.next (numbers t) (numbers s.tree) from k.below)
+    (left_lawful s.settings.large s.next s.next s.last s.last s.tree t s.parts [] (left_none s.parts) k.parts tt)
     (balanced_clear s.settings.large t (criteria_balanced s.settings.large t criteria)) in
     let here : IsLawful (entered P s) = subst (λ (ps : List PartAt). IsLawful (record s { tree = t; version = P.version; history = s.history ++ []; parts = ps })) (sym none) all in
     let plan : IsSettlePlan s P = record { lawful = here; held = held; next = refl; none = refl; parts = none; criteria = criteria } in

@@ -8,7 +8,15 @@ use Rattle.rebuild_core.proofs.KnownItems.{held_again}
 use Rattle.rebuild_parts.proofs.PartLogs.{place_below}
 use Rattle.rebuild_core.proofs.state.MapState.keep_list.Goals as goal
 
-same_parts : (c : goal.After-self-1) → set c.self.inside.parts.items c.in-Some.place (record { slot = c.part.inside.slot; path = c.part.inside.path; ticket = c.part.inside.ticket; items = c.replace.new.dest; log = c.part.inside.log }) ≡ c.self.inside.parts.items
+same_parts : (c : goal.After-self-1)
+    → set c.self.inside.parts.items c.in-Some.place (record {
+      slot = c.part.inside.slot;
+      path = c.part.inside.path;
+      ticket = c.part.inside.ticket;
+      items = c.replace.new.dest;
+      log = c.part.inside.log;
+    })
+    ≡ c.self.inside.parts.items
 same_parts c =
     let ps = c.self.inside.parts.items in
     let place = c.in-Some.place in

@@ -17,21 +17,30 @@ pub returns-in_err-work-clause-nodes : goal.returns-in_err-work-clause-nodes
 returns-in_err-work-clause-nodes g c =
     let is = ap (λ (x : Stored). x.state) c.self.view_is in
     let copy = c.in_ok-copy.ensures in
-    plan_makes c.args.update.now (state_of c.self.inside) c.args.self.now.state c.in_ok-copy.copy.tree c.copied.new.steps c.args.steps.now c.changed.new.steps c.in_ok-copy.copy.watches is (copy.tree ∙ ap (λ (x : StateAt). x.tree) (sym is)) copy.nodes_made (copy.watches ∙ ap (λ (x : StateAt). watches_of x.parts) (sym is))
+    plan_makes c.args.update.now (state_of c.self.inside) c.args.self.now.state c.in_ok-copy.copy.tree
+    c.copied.new.steps c.args.steps.now c.changed.new.steps c.in_ok-copy.copy.watches is
+    (copy.tree ∙ ap (λ (x : StateAt). x.tree) (sym is)) copy.nodes_made
+    (copy.watches ∙ ap (λ (x : StateAt). watches_of x.parts) (sym is))
     c.in_err-work.ensures.nodes_made c.in_err-work.ensures.no_nodes_made
 
 pub returns-in_err-logs-clause-nodes : goal.returns-in_err-logs-clause-nodes
 returns-in_err-logs-clause-nodes g c =
     let is = ap (λ (x : Stored). x.state) c.self.view_is in
     let copy = c.in_ok-copy.ensures in
-    plan_makes c.args.update.now (state_of c.self.inside) c.args.self.now.state c.in_ok-copy.copy.tree c.copied.new.steps c.args.steps.now c.changed.new.steps c.in_ok-copy.copy.watches is (copy.tree ∙ ap (λ (x : StateAt). x.tree) (sym is)) copy.nodes_made (copy.watches ∙ ap (λ (x : StateAt). watches_of x.parts) (sym is))
+    plan_makes c.args.update.now (state_of c.self.inside) c.args.self.now.state c.in_ok-copy.copy.tree
+    c.copied.new.steps c.args.steps.now c.changed.new.steps c.in_ok-copy.copy.watches is
+    (copy.tree ∙ ap (λ (x : StateAt). x.tree) (sym is)) copy.nodes_made
+    (copy.watches ∙ ap (λ (x : StateAt). watches_of x.parts) (sym is))
     c.in_ok-work.ensures.nodes_made c.in_ok-work.ensures.no_nodes_made
 
 pub returns-clause-nodes : goal.returns-clause-nodes
 returns-clause-nodes g c =
     let is = ap (λ (x : Stored). x.state) c.self.view_is in
     let copy = c.in_ok-copy.ensures in
-    plan_makes c.args.update.now (state_of c.self.inside) c.args.self.now.state c.in_ok-copy.copy.tree c.copied.new.steps c.args.steps.now c.changed.new.steps c.in_ok-copy.copy.watches is (copy.tree ∙ ap (λ (x : StateAt). x.tree) (sym is)) copy.nodes_made (copy.watches ∙ ap (λ (x : StateAt). watches_of x.parts) (sym is))
+    plan_makes c.args.update.now (state_of c.self.inside) c.args.self.now.state c.in_ok-copy.copy.tree
+    c.copied.new.steps c.args.steps.now c.changed.new.steps c.in_ok-copy.copy.watches is
+    (copy.tree ∙ ap (λ (x : StateAt). x.tree) (sym is)) copy.nodes_made
+    (copy.watches ∙ ap (λ (x : StateAt). watches_of x.parts) (sym is))
     c.in_ok-work.ensures.nodes_made c.in_ok-work.ensures.no_nodes_made
 
 pub returns-clause-leaves : goal.returns-clause-leaves

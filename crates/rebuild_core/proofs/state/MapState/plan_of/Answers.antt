@@ -23,6 +23,9 @@ returns-clause-planned g c =
     let V : ℕ → VersionAt = λ n. record { tree = d.tree; next = c.args.next; len = n + 1 } in
     let shown : c.in_ok-version.version.value ≡ V (length s.history) = c.in_ok-version.ensures.shown ∙ ap V (omega (arith, c.len-len.ensures, c.self.inside.history.ok)) in
     let by =
-    entry_made c.args.caller (slice_index_or c.self.inside.made (c.args.caller - 1) 0) (c.args.caller - 1 + 1) u s.history (c.self.invariant.1.each (c.args.caller - 1) 0 (omega (arith, c.requires.caller_to, c.requires.caller_from))) (omega (arith, c.requires.caller_from)) in
+    entry_made c.args.caller (slice_index_or c.self.inside.made (c.args.caller - 1) 0) (c.args.caller - 1 + 1) u
+    s.history
+    (c.self.invariant.1.each (c.args.caller - 1) 0 (omega (arith, c.requires.caller_to, c.requires.caller_from)))
+    (omega (arith, c.requires.caller_from)) in
     let made : IsPlanDraft u s d = subst (λ (x : StateAt). IsPlanDraft u x d) (sym is) c.requires.plan_draft in
     planned c.args.caller u s z d c.args.next c.in_ok-version.version.value _ lawful c.requires.caller_from c.requires.caller_to small few asked c.size-size.ensures.sound made shown by is

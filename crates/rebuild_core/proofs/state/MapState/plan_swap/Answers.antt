@@ -20,7 +20,8 @@ out_of (Err e) P none k = subst P (sym none) k
 pub returns-in_err-ops-clause-refused : goal.returns-in_err-ops-clause-refused
 returns-in_err-ops-clause-refused g c =
     let left =
-    left_is c.args.built.now c.in-Some.part.now c.len.result (length c.done.result.now) c.part.inside.log c.done.result.now c.len.ensures.value (ap (λ (p : PartAt). p.log) c.part.view_is) refl c.done.ensures.value in
+    left_is c.args.built.now c.in-Some.part.now c.len.result (length c.done.result.now) c.part.inside.log
+    c.done.result.now c.len.ensures.value (ap (λ (p : PartAt). p.log) c.part.view_is) refl c.done.ensures.value in
     let may : MaySwap c.args.built.now c.args.force c.args.self.now.state = (
       c.in-Some.part.now,
       c.in-Some.ensures.some.of,
@@ -34,7 +35,8 @@ returns-in_err-ops-clause-refused g c =
 pub returns-in_err-copy-clause-refused : goal.returns-in_err-copy-clause-refused
 returns-in_err-copy-clause-refused g c =
     let left =
-    left_is c.args.built.now c.in-Some.part.now c.len.result (length c.done.result.now) c.part.inside.log c.done.result.now c.len.ensures.value (ap (λ (p : PartAt). p.log) c.part.view_is) refl c.done.ensures.value in
+    left_is c.args.built.now c.in-Some.part.now c.len.result (length c.done.result.now) c.part.inside.log
+    c.done.result.now c.len.ensures.value (ap (λ (p : PartAt). p.log) c.part.view_is) refl c.done.ensures.value in
     let may : MaySwap c.args.built.now c.args.force c.args.self.now.state = (
       c.in-Some.part.now,
       c.in-Some.ensures.some.of,
@@ -48,7 +50,8 @@ returns-in_err-copy-clause-refused g c =
 pub returns-in_err-planned-clause-refused : goal.returns-in_err-planned-clause-refused
 returns-in_err-planned-clause-refused g c =
     let left =
-    left_is c.args.built.now c.in-Some.part.now c.len.result (length c.done.result.now) c.part.inside.log c.done.result.now c.len.ensures.value (ap (λ (p : PartAt). p.log) c.part.view_is) refl c.done.ensures.value in
+    left_is c.args.built.now c.in-Some.part.now c.len.result (length c.done.result.now) c.part.inside.log
+    c.done.result.now c.len.ensures.value (ap (λ (p : PartAt). p.log) c.part.view_is) refl c.done.ensures.value in
     let may : MaySwap c.args.built.now c.args.force c.args.self.now.state = (
       c.in-Some.part.now,
       c.in-Some.ensures.some.of,
@@ -62,7 +65,8 @@ returns-in_err-planned-clause-refused g c =
 pub returns-clause-may : goal.returns-clause-may
 returns-clause-may g c =
     let left =
-    left_is c.args.built.now c.in-Some.part.now c.len.result (length c.done.result.now) c.part.inside.log c.done.result.now c.len.ensures.value (ap (λ (p : PartAt). p.log) c.part.view_is) refl c.done.ensures.value in (
+    left_is c.args.built.now c.in-Some.part.now c.len.result (length c.done.result.now) c.part.inside.log
+    c.done.result.now c.len.ensures.value (ap (λ (p : PartAt). p.log) c.part.view_is) refl c.done.ensures.value in (
       c.in-Some.part.now,
       c.in-Some.ensures.some.of,
       λ unforced. elim c.else-not-force.branch [

@@ -23,7 +23,9 @@ pub plan_of-requires-clause-plan_draft : goal.plan_of-requires-clause-plan_draft
 plan_of-requires-clause-plan_draft g c =
     let u = c.args.update in
     let d = c.in_ok-draft.draft in
-    let plan_draft : IsPlanDraft u c.take_scratch-scratch.new.self.state d = subst (λ r. IfOk r (IsPlanDraft u c.take_scratch-scratch.new.self.state)) c.in_ok-draft.was c.plan_draft-draft.ensures.plan_draft in
+    let plan_draft : IsPlanDraft u c.take_scratch-scratch.new.self.state d =
+    subst (λ r. IfOk r (IsPlanDraft u c.take_scratch-scratch.new.self.state)) c.in_ok-draft.was
+    c.plan_draft-draft.ensures.plan_draft in
     subst (λ (x : StateAt). IsPlanDraft u x d) (sym c.put_scratch.ensures.same) plan_draft
 
 pub returns-clause-planned : goal.returns-clause-planned
@@ -38,8 +40,12 @@ returns-clause-leaves g c =
     let take_scratch = c.take_scratch-scratch.new.self.state in
     let left : IsLeftByUpdate u take_scratch (planned_parts d.logs.items take_scratch.parts) d.tree =
     subst (λ r. IfOk r (λ (x : PlanDraft). IsLeftByUpdate u take_scratch (planned_parts x.logs.items take_scratch.parts) x.tree)) c.in_ok-draft.was c.plan_draft-draft.ensures.leaves in
-    let here : IsLeftByUpdate u z (planned_parts d.logs.items z.parts) d.tree = subst (λ (x : StateAt). IsLeftByUpdate u x (planned_parts d.logs.items x.parts) d.tree) c.take_scratch-scratch.ensures.same left in
-    let tree : IsLeftByUpdate u z (planned_parts d.logs.items z.parts) c.in_ok-planned.planned.tree = subst (λ (t : Shape). IsLeftByUpdate u z (planned_parts d.logs.items z.parts) t) (sym c.in_ok-planned.ensures.tree) here in
+    let here : IsLeftByUpdate u z (planned_parts d.logs.items z.parts) d.tree =
+    subst (λ (x : StateAt). IsLeftByUpdate u x (planned_parts d.logs.items x.parts) d.tree)
+    c.take_scratch-scratch.ensures.same left in
+    let tree : IsLeftByUpdate u z (planned_parts d.logs.items z.parts) c.in_ok-planned.planned.tree =
+    subst (λ (t : Shape). IsLeftByUpdate u z (planned_parts d.logs.items z.parts) t)
+    (sym c.in_ok-planned.ensures.tree) here in
     subst (λ (logs : List LogPlan). IsLeftByUpdate u z (planned_parts logs z.parts) c.in_ok-planned.planned.tree) (sym c.in_ok-planned.ensures.logs) tree
 
 pub returns-in_err-next-clause-nodes : goal.returns-in_err-next-clause-nodes
