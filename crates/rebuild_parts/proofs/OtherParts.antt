@@ -8,7 +8,8 @@ use Rattle.kd_tree.specs.declared.path.Side.{Side}
 use Rattle.kd_update.specs.Detached.{IsNewTicket, IsPlaceOf, PartAt, part_of, paths, without}
 
 -- the paths of the first parts, and that of the next one
-pub paths_next : (ps : List PartAt) (i : ℕ) (p : PartAt) (q : List Side) (old new : List (List Side)) → i < length ps → p ≡ get_or ps i p → q ≡ p.path → old ≡ paths (take i ps) → new ≡ old ++ q ∷ [] → new ≡ paths (take (i + 1) ps)
+pub paths_next : (ps : List PartAt) (i : ℕ) (p : PartAt) (q : List Side) (old new : List (List Side)) → i < length ps
+    → p ≡ get_or ps i p → q ≡ p.path → old ≡ paths (take i ps) → new ≡ old ++ q ∷ [] → new ≡ paths (take (i + 1) ps)
 paths_next ps i p q old new low at is all added =
     let more : take (i + 1) ps ≡ take i ps ++ p ∷ [] = take_more ps i p low ∙ ap (λ (r : PartAt). take i ps ++ r ∷ []) (sym at) in
     added ∙ ap (λ (qs : List (List Side)). qs ++ q ∷ []) all ∙ ap (λ (r : List Side). paths (take i ps) ++ r ∷ []) is ∙ sym (ap paths more ∙ map-append (λ (r : PartAt). r.path) (take i ps) (p ∷ []))
@@ -48,7 +49,14 @@ pub part_among : (ticket : ℕ) (ps : List PartAt) (p : PartAt) → part_of tick
 part_among ticket [] p e = absurd cc
 part_among ticket (r ∷ ps) p e =
     cond_both (ticket == r.ticket) (Some r) (part_of ticket ps) (λ o. o ≡ Some p → IsAmongOthers ticket (r ∷ ps) p)
-    (λ same f. let one : r ≡ p = cc in let is = eqb-true ticket r.ticket same in record { front = []; back = ps; all = ap (λ (x : PartAt). x ∷ ps) one; others = without_at ticket [] r ps tt is; is = is ∙ ap (λ (x : PartAt). x.ticket) one })
+    (λ same f. let one : r ≡ p = cc in let is = eqb-true ticket r.ticket same in
+    record {
+      front = [];
+      back = ps;
+      all = ap (λ (x : PartAt). x ∷ ps) one;
+      others = without_at ticket [] r ps tt is;
+      is = is ∙ ap (λ (x : PartAt). x.ticket) one;
+    })
     (λ other f.
     let k = part_among ticket ps p f in
     record {

@@ -32,7 +32,8 @@ pub relog_none : (x : LogPlan) (ps : List PartAt) → IsNewTicket x.ticket ps �
 relog_none x ps k = sym (relogged_new x ps k)
 
 -- the part of the ticket, after others
-relogged_at : (x : LogPlan) (front : List PartAt) (p : PartAt) (back : List PartAt) → IsNewTicket x.ticket front → x.ticket ≡ p.ticket → relogged x (front ++ p ∷ back) ≡ front ++ (with_log x.log p ++ back)
+relogged_at : (x : LogPlan) (front : List PartAt) (p : PartAt) (back : List PartAt) → IsNewTicket x.ticket front
+    → x.ticket ≡ p.ticket → relogged x (front ++ p ∷ back) ≡ front ++ (with_log x.log p ++ back)
 relogged_at x [] p back k e = relogged_here x p back e
 relogged_at x (q ∷ front) p back k e = relogged_past x q (front ++ p ∷ back) k.0 ∙ ap (λ (qs : List PartAt). q ∷ qs) (relogged_at x front p back k.1 e)
 
@@ -52,12 +53,14 @@ relog_forgotten x ps i k e =
     subst (λ (z : List PartAt). remove z i ≡ relogged x z) (sym k.all) (at ∙ sym all)
 
 -- or has another log
-pub relog_some : (x : LogPlan) (ps : List PartAt) (i : ℕ) (q : PartAt) (log : List Op) → IsPlaceOf x.ticket i ps → x.log ≡ Some log → q ≡ get_or ps i q → set ps i (record q { log = log }) ≡ relogged x ps
+pub relog_some : (x : LogPlan) (ps : List PartAt) (i : ℕ) (q : PartAt) (log : List Op) → IsPlaceOf x.ticket i ps
+    → x.log ≡ Some log → q ≡ get_or ps i q → set ps i (record q { log = log }) ≡ relogged x ps
 relog_some x ps i q log k e is =
     let same : q ≡ k.part = is ∙ ap (λ (z : List PartAt). get_or z i q) k.all ∙ get_or_at k.front k.part k.back q i (sym k.place) in
     let at : set (k.front ++ k.part ∷ k.back) i (record q { log = log }) ≡ k.front ++ record q { log = log } ∷ k.back = set_at k.front k.part k.back (record q { log = log }) i (sym k.place) in
     let logs : with_log x.log k.part ≡ record q { log = log } ∷ [] = ap (λ (o : Option (List Op)). with_log o k.part) e ∙ ap (λ (p : PartAt). record p { log = log } ∷ []) (sym same) in
-    let all : relogged x (k.front ++ k.part ∷ k.back) ≡ k.front ++ record q { log = log } ∷ k.back = relogged_at x k.front k.part k.back k.new k.is ∙ ap (λ (z : List PartAt). k.front ++ (z ++ k.back)) logs in
+    let all : relogged x (k.front ++ k.part ∷ k.back) ≡ k.front ++ record q { log = log } ∷ k.back =
+    relogged_at x k.front k.part k.back k.new k.is ∙ ap (λ (z : List PartAt). k.front ++ (z ++ k.back)) logs in
     subst (λ (z : List PartAt). set z i (record q { log = log }) ≡ relogged x z) (sym k.all) (at ∙ sym all)
 
 pub planned-append : (xs ys : List LogPlan) (ps : List PartAt) → planned_parts (xs ++ ys) ps ≡ planned_parts ys (planned_parts xs ps)
@@ -148,7 +151,9 @@ logs_step (Ok u) p ps qs o before after old new own left is none other some rest
 logs_step (Err e) p ps qs o before after old new own left is none other some rest = tt
 
 -- the first watch, which has this path, is taken out
-pub first_taken : (before after rest : List Watch) (first w : Watch) (path : List Side) → before ≡ first ∷ rest → first.path ≡ path → w ≡ get_or before 0 w → after ≡ remove before 0 → before ≡ record { path = path; log = w.log } ∷ after
+pub first_taken : (before after rest : List Watch) (first w : Watch) (path : List Side) → before ≡ first ∷ rest
+    → first.path ≡ path → w ≡ get_or before 0 w → after ≡ remove before 0
+    → before ≡ record { path = path; log = w.log } ∷ after
 first_taken before after rest first w path all same is left =
     let one : w ≡ first = is ∙ ap (λ (z : List Watch). get_or z 0 w) all in
     let others : after ≡ rest = left ∙ ap (λ (z : List Watch). remove z 0) all in

@@ -21,7 +21,9 @@ pub among_after : (ops : List Op) (new mid old : List ℕ) → AreAmong new (num
 among_after ops new mid old f g n k = among_append (numbers_put ops) (numbers_put ops) mid old (among_same (numbers_put ops)) g n (f n k)
 
 -- with more operations done the value is lawful
-pub replayed_lawful : (b : BuiltAt) (ops : List Op) (t : Shape) (large : ℕ) → IsLawfulBuilt b → Fit (contents b.tree) ops → contents t ≡ replay (contents b.tree) ops → AreAmong (numbers t) (numbers_put ops ++ numbers b.tree)
+pub replayed_lawful : (b : BuiltAt) (ops : List Op) (t : Shape) (large : ℕ) → IsLawfulBuilt b
+    → Fit (contents b.tree) ops → contents t ≡ replay (contents b.tree) ops
+    → AreAmong (numbers t) (numbers_put ops ++ numbers b.tree)
     → IsLawfulBuilt (record b { done = b.done ++ ops; tree = t; large = large })
 replayed_lawful b ops t large k fit held among =
     let items = map (λ (i : Item). i.number) b.items in

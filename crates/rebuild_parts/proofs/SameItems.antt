@@ -61,7 +61,9 @@ own_in i m n = own i.label n
     one : (j : Item) → (Member j m → AreAllFrom (j ∷ []) m) × (AreAllFrom (j ∷ []) m → Member j m)
     one j = ((λ is z q. elim q [ inl e ↦ subst (λ w. Member w m) (sym e) is | inr none ↦ absurd none ]), (λ k. k j (inl refl)))
 
-    own : (x : Label) → (x ≡ Dropped → ⊥) → (Member (record i { label = x }) m → AreAllFrom (kept (record i { label = x } ∷ [])) m) × (AreAllFrom (kept (record i { label = x } ∷ [])) m → Member (record i { label = x }) m)
+    own : (x : Label) → (x ≡ Dropped → ⊥)
+        → (Member (record i { label = x }) m → AreAllFrom (kept (record i { label = x } ∷ [])) m) ×
+        (AreAllFrom (kept (record i { label = x } ∷ [])) m → Member (record i { label = x }) m)
     own Live d = one (record i { label = Live })
     own Suspended d = one (record i { label = Suspended })
     own Dropped d = absurd (d refl)

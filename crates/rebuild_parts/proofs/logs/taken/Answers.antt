@@ -13,5 +13,6 @@ returns-then-not-is_same-clause-other c = λ w ws none all same.
 
 pub returns-clause-some : goal.returns-clause-some
 returns-clause-some c =
-    first_taken c.args.watches.now.items c.remove-log.new.self.items c.in_ok-first._rest.now c.in_ok-first.first.now c.remove-log.result c.args.path.now (sym c.deref.ensures.value ∙ c.in_ok-first.ensures.cases.0)
+    first_taken c.args.watches.now.items c.remove-log.new.self.items c.in_ok-first._rest.now c.in_ok-first.first.now
+    c.remove-log.result c.args.path.now (sym c.deref.ensures.value ∙ c.in_ok-first.ensures.cases.0)
     (c.is_same.ensures.0 c.if-not-is_same.false) c.remove-log.ensures.value c.remove-log.ensures.items

@@ -6,6 +6,8 @@ use Rattle.rebuild_parts.proofs.built.Built.new.Goals as goal
 
 pub invariant_of-result : goal.invariant_of-result
 invariant_of-result c = (
-  subst (λ (ops : List Op). IsLawfulBuilt (record { ticket = c.args.job.ticket; items = c.args.job.items; done = ops; tree = c.args.tree; large = c.args.large })) (sym c.new.ensures.items) (record { fit = tt; replayed = c.requires.held; numbers = c.requires.numbers }),
+  subst (λ (ops : List Op). IsLawfulBuilt (record
+      { ticket = c.args.job.ticket; items = c.args.job.items; done = ops; tree = c.args.tree; large = c.args.large }))
+      (sym c.new.ensures.items) (record { fit = tt; replayed = c.requires.held; numbers = c.requires.numbers }),
   criteria_balanced c.args.large c.args.tree c.requires.criteria,
 )

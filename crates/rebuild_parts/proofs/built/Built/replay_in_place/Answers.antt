@@ -14,6 +14,8 @@ invariant_of-result c =
     let ops = c.args.ops.now in
     let tree : c.args.self.tree ≡ b.tree = sym (ap (λ (x : BuiltAt). x.tree) c.self.view_is) in
     let fit = subst (λ (t : Shape). Fit (contents t) ops) tree c.requires in (
-      subst (λ (os : List Op). IsLawfulBuilt (record b { done = os; tree = c.in_ok-tree.tree; large = c.args.large })) (sym c.in_ok-extend_from_slice.ensures.items) (replayed_lawful b ops c.in_ok-tree.tree c.args.large c.self.invariant.0 fit c.in_ok-tree.ensures.contents c.in_ok-tree.ensures.numbers),
+      subst (λ (os : List Op). IsLawfulBuilt (record b { done = os; tree = c.in_ok-tree.tree; large = c.args.large }))
+          (sym c.in_ok-extend_from_slice.ensures.items) (replayed_lawful b ops c.in_ok-tree.tree c.args.large
+          c.self.invariant.0 fit c.in_ok-tree.ensures.contents c.in_ok-tree.ensures.numbers),
       c.in_ok-tree.ensures.balance,
     )

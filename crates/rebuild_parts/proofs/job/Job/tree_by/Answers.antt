@@ -35,4 +35,6 @@ pub returns-clause-numbers : goal.returns-clause-numbers
 returns-clause-numbers g c =
     let all : c.as_slice.result.now ≡ c.self.inside.items.value = c.as_slice.ensures ∙ c.deref.ensures in
     let items = ap (λ (j : JobAt). j.items) c.self.view_is in
-    IfOk-weaker c.build.result _ (AreNumbersOf c.args.self.now.items) (λ t k. subst (λ (xs : List Item). AreNumbersOf xs t) (all ∙ items) (numbers_of c.as_slice.result.now t k)) c.build.ensures.numbers
+    IfOk-weaker c.build.result _ (AreNumbersOf c.args.self.now.items)
+    (λ t k. subst (λ (xs : List Item). AreNumbersOf xs t) (all ∙ items) (numbers_of c.as_slice.result.now t k))
+    c.build.ensures.numbers
