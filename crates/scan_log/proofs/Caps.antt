@@ -32,7 +32,9 @@ in_range-capped low high (negsuc n) l h = elim (cases_lt n 999999999999999999) [
       let is : min n 999999999999999999 ≡ 999999999999999999 = omega arith in
       let far : int_le low (negsuc 999999999999999999) ≡ false = grind (arith, ints) in
       let farther : int_le low (negsuc n) ≡ false = grind (arith, ints) in
-      ap (λ (m : ℕ). in_range low high (negsuc m)) is ∙ out _ (int_le (negsuc 999999999999999999) high) (negsuc 999999999999999999) (inl far) ∙ sym (out _ (int_le (negsuc n) high) (negsuc n) (inl farther))
+      ap (λ (m : ℕ). in_range low high (negsuc m)) is
+      ∙ out _ (int_le (negsuc 999999999999999999) high) (negsuc 999999999999999999) (inl far)
+      ∙ sym (out _ (int_le (negsuc n) high) (negsuc n) (inl farther))
 ]
 
 -- a numeral's number, as far as it counts, is in the range where the numeral is read

@@ -57,7 +57,9 @@ result_err-place_of format f g h =
     result_err-three (coordinate format f) (coordinate format g) (coordinate format h) (λ x y z. record { x = x; y = y; z = z; intensity = 0 })
     ∙ rw (result_err-number_in (lowest format) (highest format) f, result_err-number_in (lowest format) (highest format) g, result_err-number_in (lowest format) (highest format) h, orelse-None) refl
 
-coordinates_more : (format : Format) (f g h : List ℕ) (rest : List (List ℕ)) → coordinates_fault format (f ∷ g ∷ h ∷ rest) ≡ coordinates_fault format (f ∷ g ∷ h ∷ []) orelse coordinates_fault format rest
+coordinates_more : (format : Format) (f g h : List ℕ) (rest : List (List ℕ))
+    → coordinates_fault format (f ∷ g ∷ h ∷ rest)
+    ≡ coordinates_fault format (f ∷ g ∷ h ∷ []) orelse coordinates_fault format rest
 coordinates_more format f g h rest =
     ap (λ (d : Option LogCause). nf f orelse d) (ap (λ (d : Option LogCause). nf g orelse d) (ap (λ (d : Option LogCause). d orelse coordinates_fault format rest) (sym (orelse-None (nf h)))
     ∙ refl) ∙ sym (orelse_assoc (nf g) (nf h orelse None) (coordinates_fault format rest))) ∙ sym (orelse_assoc (nf f) (nf g orelse (nf h orelse None)) (coordinates_fault format rest))
@@ -134,7 +136,9 @@ box_more : (format : Format) (a b c d e f : List ℕ) (rest : List (List ℕ)) �
     ≡ ((corner_fault format a orelse (corner_fault format b orelse corner_fault format c))
     orelse ((corner_fault format d orelse (corner_fault format e orelse corner_fault format f)) orelse box_check a b c d e f))
     orelse boxes_fault format rest
-box_more format a b c d e f rest = regroup (corner_fault format a) (corner_fault format b) (corner_fault format c) (corner_fault format d) (corner_fault format e) (corner_fault format f) (box_check a b c d e f) (boxes_fault format rest)
+box_more format a b c d e f rest =
+    regroup (corner_fault format a) (corner_fault format b) (corner_fault format c) (corner_fault format d)
+    (corner_fault format e) (corner_fault format f) (box_check a b c d e f) (boxes_fault format rest)
   where
     regroup : (a b c d e f g h : Option LogCause) → a orelse b orelse c orelse d orelse e orelse f orelse g orelse h
         ≡ ((a orelse (b orelse c)) orelse ((d orelse (e orelse f)) orelse g)) orelse h
@@ -201,7 +205,8 @@ result_err-points : (format : Format) (before room : ℕ) (args : List (List ℕ
     → result_err (few_scanned_of format (min 262144 room) args) ≡ points_fault format before args
 result_err-points format before room args h =
     result_err-few_scanned_of format (min 262144 room) args
-    ∙ ap (λ (b : Bool). fault_unless (are_groups (width format) args) WrongCount orelse fault_unless b TooManyPoints orelse scanned_fault format args) (room_test (length args / width format) before room h)
+    ∙ ap (λ (b : Bool). fault_unless (are_groups (width format) args) WrongCount orelse fault_unless b TooManyPoints
+    orelse scanned_fault format args) (room_test (length args / width format) before room h)
 
 result_err-expiry_of : (args : List (List ℕ)) → result_err (expiry_of args) ≡ expire_fault args
 unfolding expiry_of

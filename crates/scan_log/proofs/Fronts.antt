@@ -26,7 +26,8 @@ with_front-more front x (Err e) = refl
 
 -- the first point is that of the first three fields, each of which is read in turn
 pub first_place_is : (format : Format) (fields : List (List ℕ)) → 3 ≤ length fields → first_place format fields
-    ≡ (first_coordinate format fields >>= λ x. first_coordinate format (drop 1 fields) >>= λ y. first_coordinate format (drop 1 (drop 1 fields)) >>= λ z. Ok (record { x = x; y = y; z = z; intensity = 0 }))
+    ≡ (first_coordinate format fields >>= λ x. first_coordinate format (drop 1 fields) >>= λ y. first_coordinate format
+    (drop 1 (drop 1 fields)) >>= λ z. Ok (record { x = x; y = y; z = z; intensity = 0 }))
 unfolding place_of
 first_place_is format [] h = absurd (omega arith)
 first_place_is format (f ∷ []) h = absurd (omega arith)

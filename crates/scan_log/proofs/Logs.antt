@@ -28,10 +28,12 @@ texts lines = map (λ l. l.1) lines
 -- numbers are all that numbered lines have more
 texts-kept_from : (n : ℕ) (lines : List (List ℕ)) → texts (kept_from n lines) ≡ filter is_kept_line lines
 texts-kept_from n [] = refl
-texts-kept_from n (line ∷ lines) = elim (is_kept_line line) as (λ b. texts (cond b ((n, line) ∷ kept_from (n + 1) lines) (kept_from (n + 1) lines)) ≡ cond b (line ∷ filter is_kept_line lines) (filter is_kept_line lines)) [
-  | true ↦ ap (λ (ls : List (List ℕ)). line ∷ ls) (texts-kept_from (n + 1) lines)
-  | false ↦ texts-kept_from (n + 1) lines
-]
+texts-kept_from n (line ∷ lines) =
+    elim (is_kept_line line) as (λ b. texts (cond b ((n, line) ∷ kept_from (n + 1) lines) (kept_from (n + 1) lines))
+    ≡ cond b (line ∷ filter is_kept_line lines) (filter is_kept_line lines)) [
+      | true ↦ ap (λ (ls : List (List ℕ)). line ∷ ls) (texts-kept_from (n + 1) lines)
+      | false ↦ texts-kept_from (n + 1) lines
+    ]
 
 -- what was read of a line
 off_line : {A : Type 0} (n : ℕ) (r : Result A LogCause) (x : A) → on_line n r ≡ Ok x → r ≡ Ok x

@@ -58,4 +58,9 @@ commands_lines format (c ∷ cs) h = omega (arith, line_feeds-written_line (comm
 -- one line for the header, and one for each command
 pub script_lines : (s : ScriptAt) → IsScript s → line_feeds (script_text s) ≡ length s.commands + 1
 script_lines s h =
-    omega (arith, line_feeds-written_line (header_fields s.format s.sizes) (flat_map (command_text s.format) s.commands) (headers_fields s.format s.sizes h.sizes), commands_lines s.format s.commands h.each)
+    omega (
+      arith,
+      line_feeds-written_line (header_fields s.format s.sizes) (flat_map (command_text s.format) s.commands)
+          (headers_fields s.format s.sizes h.sizes),
+      commands_lines s.format s.commands h.each,
+    )
