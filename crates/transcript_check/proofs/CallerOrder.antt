@@ -112,7 +112,9 @@ all_follow c m (d ∷ cs) (n ∷ marks) own good l = (may_by (command_caller c) 
     at : (x : ℕ) → AllLate x (Some m) (d ∷ cs) (n ∷ marks) → Concerns x d → IsLater m d n
     at x k is = later m d n (k.0 (concerns_for x d is))
 
-    may_by : (o : Option ℕ) → IfSome o IsCaller → ((x : ℕ) → IsCaller x → is_own_or_none x o ≡ true → AllLate x (Some m) (d ∷ cs) (n ∷ marks)) → MatchOption o (IsLater m d n) (λ k. Concerns k d → IsLater m d n)
+    may_by : (o : Option ℕ) → IfSome o IsCaller
+        → ((x : ℕ) → IsCaller x → is_own_or_none x o ≡ true → AllLate x (Some m) (d ∷ cs) (n ∷ marks))
+        → MatchOption o (IsLater m d n) (λ k. Concerns k d → IsLater m d n)
     may_by (Some k) own l = λ is. at k (l k own (caller_same k k refl)) is
     may_by None own l = at (caller_of d) (l (caller_of d) (is_caller d good.0) refl) (for_concerns (caller_of d) d (of_caller d))
 

@@ -176,7 +176,8 @@ other_few s marked_lines j script many o =
     omega (arith, other_within (lines_under s (marks_of marked_lines)) (line_texts marked_lines) j (right ∙ sym (lines ∙ many)) o, lines, many, script.few)
 
 -- a transcript with a line that isn't its reply's isn't legal
-legal_no_other : (s : ScriptAt) (out : List ℕ) (lines : List (List ℕ)) (marks : List ℕ) (j : ℕ) → IsScript s → AreLegalLines s out → out ≡ joined_lines lines → SpellMarks (heads s.commands) lines marks
+legal_no_other : (s : ScriptAt) (out : List ℕ) (lines : List (List ℕ)) (marks : List ℕ) (j : ℕ) → IsScript s
+    → AreLegalLines s out → out ≡ joined_lines lines → SpellMarks (heads s.commands) lines marks
     → IsFirstOther (script_lines s marks) lines j → ⊥
 legal_no_other s out lines marks j script l cut spelled o =
     let same = legal_same s out lines marks script l cut spelled in
@@ -206,7 +207,9 @@ other_once right lines j k o p = elim (cases_order o.before p.before) [
 ]
 
 -- the lines and marks of two readings to the end are the same
-same_reading : (s : ScriptAt) (out : List ℕ) (P Q : List (List ℕ) → List ℕ → Type 0) (p : IsSpelled (heads s.commands) out P) (q : IsSpelled (heads s.commands) out Q) → AreSame p.lines q.lines p.marks q.marks
+same_reading : (s : ScriptAt) (out : List ℕ) (P Q : List (List ℕ) → List ℕ → Type 0)
+    (p : IsSpelled (heads s.commands) out P) (q : IsSpelled (heads s.commands) out Q)
+    → AreSame p.lines q.lines p.marks q.marks
 same_reading s out P Q p q = same_spelled (heads s.commands) p.lines q.lines p.marks q.marks p.spelled q.spelled (sym p.cut ∙ q.cut)
 
 not_both : (s : ScriptAt) (out : List ℕ) (j : ℕ) (P : List (List ℕ) → List ℕ → Type 0) → IsUnspelled (heads s.commands) out j → IsSpelled (heads s.commands) out P → ⊥
@@ -229,7 +232,9 @@ other_same s out j k p q =
     (subst (λ (ls : List (List ℕ)). IsFirstOther (script_lines s q.marks) ls k) (sym same.lines) q.holds.1) in
     other_once (script_lines s p.marks) p.lines j k p.holds.1 there
 
-illegal_never : (s : ScriptAt) (out : List ℕ) (Q : List (List ℕ) → List ℕ → Type 0) (p : IsSpelled (heads s.commands) out (IsIllegal s)) (q : IsSpelled (heads s.commands) out Q) → IsLegal (plain s.commands) q.marks → ⊥
+illegal_never : (s : ScriptAt) (out : List ℕ) (Q : List (List ℕ) → List ℕ → Type 0)
+    (p : IsSpelled (heads s.commands) out (IsIllegal s)) (q : IsSpelled (heads s.commands) out Q)
+    → IsLegal (plain s.commands) q.marks → ⊥
 illegal_never s out Q p q legal = p.holds (subst (IsLegal (plain s.commands)) (sym (same_reading s out (IsIllegal s) Q p q).marks) legal)
 
 other_never : (s : ScriptAt) (out : List ℕ) (j : ℕ) → IsScript s → IsSpelled (heads s.commands) out (IsOther s j) → IsSpelled (heads s.commands) out (IsWhole s out) → ⊥
@@ -238,7 +243,9 @@ other_never s out j script p q = legal_no_other s out p.lines p.marks j script (
 -- a transcript has one verdict
 pub one_verdict : (s : ScriptAt) (out : List ℕ) (v w : Verdict) → IsScript s → IsVerdict s out v → IsVerdict s out w → w ≡ v
 one_verdict s out (Unspelled j) (Unspelled k) script p q =
-    ap (λ (n : ℕ). Unspelled n) (q.place ∙ ap (λ n. n + 1) (stops_once (heads s.commands) q.lines p.lines q.marks p.marks q.rest p.rest q.before p.before (sym q.cut ∙ p.cut) q.stops p.stops) ∙ sym p.place)
+    ap (λ (n : ℕ). Unspelled n) (q.place
+    ∙ ap (λ n. n + 1) (stops_once (heads s.commands) q.lines p.lines q.marks p.marks q.rest p.rest q.before
+    p.before (sym q.cut ∙ p.cut) q.stops p.stops) ∙ sym p.place)
 one_verdict s out (Unspelled j) Marks script p q = absurd (not_both s out j (IsIllegal s) p q)
 one_verdict s out (Unspelled j) (Differs k) script p q = absurd (not_both s out j (IsOther s k) p q)
 one_verdict s out (Unspelled j) Legal script p q = absurd (not_both s out j (IsWhole s out) p q)
@@ -269,16 +276,22 @@ legal_verdict s out v script is = (
 )
 
 -- the verdicts on all lines, by what was found of the script without its poses
-pub illegal_verdict : (s : ScriptAt) (marked_lines : List MarkedLine) → SpellMarks (heads s.commands) (line_texts marked_lines) (marks_of marked_lines) → (IsLegal (plain s.commands) (marks_of marked_lines) → ⊥)
+pub illegal_verdict : (s : ScriptAt) (marked_lines : List MarkedLine)
+    → SpellMarks (heads s.commands) (line_texts marked_lines) (marks_of marked_lines)
+    → (IsLegal (plain s.commands) (marks_of marked_lines) → ⊥)
     → IsVerdict s (joined_lines (line_texts marked_lines)) Marks
 illegal_verdict s marked_lines spelled never = record { lines = line_texts marked_lines; marks = marks_of marked_lines; cut = refl; spelled = spelled; holds = never }
 
-pub other_verdict : (s : ScriptAt) (marked_lines : List MarkedLine) (j : ℕ) → SpellMarks (heads s.commands) (line_texts marked_lines) (marks_of marked_lines) → IsLegal (plain s.commands) (marks_of marked_lines)
+pub other_verdict : (s : ScriptAt) (marked_lines : List MarkedLine) (j : ℕ)
+    → SpellMarks (heads s.commands) (line_texts marked_lines) (marks_of marked_lines)
+    → IsLegal (plain s.commands) (marks_of marked_lines)
     → IsFirstOther (lines_under (plain_script s) (marks_of marked_lines)) (line_texts marked_lines) j → IsVerdict s (joined_lines (line_texts marked_lines)) (Differs j)
 other_verdict s marked_lines j spelled legal other =
     record { lines = line_texts marked_lines; marks = marks_of marked_lines; cut = refl; spelled = spelled; holds = (legal, rw (plain_lines s (marks_of marked_lines)) at other) }
 
-pub whole_verdict : (s : ScriptAt) (marked_lines : List MarkedLine) → SpellMarks (heads s.commands) (line_texts marked_lines) (marks_of marked_lines) → IsLegal (plain s.commands) (marks_of marked_lines)
+pub whole_verdict : (s : ScriptAt) (marked_lines : List MarkedLine)
+    → SpellMarks (heads s.commands) (line_texts marked_lines) (marks_of marked_lines)
+    → IsLegal (plain s.commands) (marks_of marked_lines)
     → line_texts marked_lines ≡ lines_under (plain_script s) (marks_of marked_lines) → IsVerdict s (joined_lines (line_texts marked_lines)) Legal
 whole_verdict s marked_lines spelled legal same = record {
   lines = line_texts marked_lines;
@@ -289,5 +302,7 @@ whole_verdict s marked_lines spelled legal same = record {
 }
 
 -- there is a line for each command without poses, and one for the end
-pub marked_plain : (s : ScriptAt) (marked_lines : List MarkedLine) → SpellMarks (heads s.commands) (line_texts marked_lines) (marks_of marked_lines) → length marked_lines ≡ length (plain s.commands) + 1
+pub marked_plain : (s : ScriptAt) (marked_lines : List MarkedLine)
+    → SpellMarks (heads s.commands) (line_texts marked_lines) (marks_of marked_lines)
+    → length marked_lines ≡ length (plain s.commands) + 1
 marked_plain s marked_lines spelled = marked_long s.commands marked_lines spelled ∙ omega (arith, plain_long s)

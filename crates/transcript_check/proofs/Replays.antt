@@ -74,7 +74,9 @@ pub record SoFar (s : ScriptAt) (marked_lines : List MarkedLine) (us : List Mark
   pub same : (j : ℕ) (d : Placed) → j < k → (get_or places j d).place < first → SameAt s marked_lines (get_or places j d).place
   pub other : first < length marked_lines → SameAt s marked_lines first → ⊥
 
-pub so_far_start : (s : ScriptAt) (marked_lines : List MarkedLine) (us : List Marked) (places : List Placed) (held : MapAt) (level first : ℕ) → held ≡ no_points → level ≡ 0 → first ≡ length marked_lines → SoFar s marked_lines us places 0 held level first
+pub so_far_start : (s : ScriptAt) (marked_lines : List MarkedLine) (us : List Marked) (places : List Placed)
+    (held : MapAt) (level first : ℕ) → held ≡ no_points → level ≡ 0 → first ≡ length marked_lines
+    → SoFar s marked_lines us places 0 held level first
 so_far_start s marked_lines us places held level first is zero_is all = rw (zero_is, all) (record {
   low = omega arith;
   map = is;
@@ -85,7 +87,8 @@ so_far_start s marked_lines us places held level first is zero_is all = rw (zero
 })
 
 -- the mark at a place is no more than there are updates
-mark_within : (s : ScriptAt) (marked_lines : List MarkedLine) (us : List Marked) (places : List Placed) (k : ℕ) (p : Placed) → IsGiven s marked_lines us places → k < length places → p ≡ get_or places k p
+mark_within : (s : ScriptAt) (marked_lines : List MarkedLine) (us : List Marked) (places : List Placed) (k : ℕ)
+    (p : Placed) → IsGiven s marked_lines us places → k < length places → p ≡ get_or places k p
     → (p.mark ≤ length us) × (p.place < length marked_lines) × (slice_get (marks_of marked_lines) p.place ≡ Some p.mark)
 mark_within s marked_lines us places k p given below is =
     let marks = marks_of marked_lines in
@@ -97,7 +100,8 @@ mark_within s marked_lines us places k p given below is =
     (omega (arith, all, read, long), omega (arith, within, length-map marked_lines (λ (t : MarkedLine). t.mark)), placed)
 
 -- the level is no more than the mark at the place
-level_low : (s : ScriptAt) (marked_lines : List MarkedLine) (us : List Marked) (places : List Placed) (k : ℕ) (held : MapAt) (level first : ℕ) (p : Placed) → SoFar s marked_lines us places k held level first
+level_low : (s : ScriptAt) (marked_lines : List MarkedLine) (us : List Marked) (places : List Placed) (k : ℕ)
+    (held : MapAt) (level first : ℕ) (p : Placed) → SoFar s marked_lines us places k held level first
     → k < length places → p ≡ get_or places k p → level ≤ p.mark
 level_low s marked_lines us places k held level first p so below is = subst (λ (q : Placed). level ≤ q.mark) (sym is) (so.later k p (omega arith) below)
 
@@ -112,7 +116,8 @@ room_to s marked_lines us places k held level first mark given so up =
     (omega (arith, ap points_in_all (changes_history s.commands (marks_of marked_lines) us given.updates), points_of_history s.commands (marks_of marked_lines), given.script.room)))
 
 -- the map at the mark
-pub held_to : (s : ScriptAt) (marked_lines : List MarkedLine) (us : List Marked) (places : List Placed) (k : ℕ) (held new : MapAt) (level first mark : ℕ) → SoFar s marked_lines us places k held level first
+pub held_to : (s : ScriptAt) (marked_lines : List MarkedLine) (us : List Marked) (places : List Placed) (k : ℕ)
+    (held new : MapAt) (level first mark : ℕ) → SoFar s marked_lines us places k held level first
     → level ≤ mark → (z : Sizes) → z ≡ s.sizes → new ≡ fold_from z.voxel (changes_of (take (mark - level) (drop level us))) held
     → new ≡ fold s.sizes.voxel (take mark (changes_of us))
 held_to s marked_lines us places k held new level first mark so up z sizes is =
@@ -159,7 +164,8 @@ abbrev pub blank_place : Placed
 blank_place = record { mark = 0; place = 0 }
 
 -- what is given, of an equal list
-pub given_of : (s : ScriptAt) (marked_lines : List MarkedLine) (us : List Marked) (places ats : List Placed) → IsPlainScript s → IsLegal s.commands (marks_of marked_lines) → length marked_lines ≡ length s.commands + 1
+pub given_of : (s : ScriptAt) (marked_lines : List MarkedLine) (us : List Marked) (places ats : List Placed)
+    → IsPlainScript s → IsLegal s.commands (marks_of marked_lines) → length marked_lines ≡ length s.commands + 1
     → updates_of us ≡ marked_updates s.commands (marks_of marked_lines) → ats ≡ places → IsNonDecreasingBy (λ (p : Placed). p.mark) places → All (IsPlaced (marks_of marked_lines)) places
     → ((i m : ℕ) → slice_get (marks_of marked_lines) i ≡ Some m → Contains places (record { mark = m; place = i })) → IsGiven s marked_lines us ats
 given_of s marked_lines us places ats script legal many updates same order placed all =
@@ -215,7 +221,8 @@ so_far_same s marked_lines us places k held new level first p given so below is 
     }
 
 -- one place more, before the line named and not that of its reply
-pub so_far_other : (s : ScriptAt) (marked_lines : List MarkedLine) (us : List Marked) (places : List Placed) (k : ℕ) (held new : MapAt) (level first : ℕ) (p : Placed) → IsGiven s marked_lines us places
+pub so_far_other : (s : ScriptAt) (marked_lines : List MarkedLine) (us : List Marked) (places : List Placed) (k : ℕ)
+    (held new : MapAt) (level first : ℕ) (p : Placed) → IsGiven s marked_lines us places
     → SoFar s marked_lines us places k held level first → k < length places → p ≡ get_or places k p → new ≡ fold s.sizes.voxel (take p.mark (changes_of us))
     → p.place < first → (SameAt s marked_lines p.place → ⊥) → SoFar s marked_lines us places (k + 1) new p.mark p.place
 so_far_other s marked_lines us places k held new level first p given so below is map lower never =
@@ -275,9 +282,13 @@ first_is s marked_lines us places k held level first given so all below = record
 }
 
 -- from the comparison of the line with the text of its reply
-pub same_by : (s : ScriptAt) (marked_lines : List MarkedLine) (us : List Marked) (places : List Placed) (new : MapAt) (p : Placed) (t : MarkedLine) (same : Bool) (format : Format) → IsGiven s marked_lines us places
+pub same_by : (s : ScriptAt) (marked_lines : List MarkedLine) (us : List Marked) (places : List Placed) (new : MapAt)
+    (p : Placed) (t : MarkedLine) (same : Bool) (format : Format) → IsGiven s marked_lines us places
     → new ≡ fold s.sizes.voxel (take p.mark (changes_of us)) → p.place < length marked_lines → slice_get (marks_of marked_lines) p.place ≡ Some p.mark → t ≡ get_or marked_lines p.place t
-    → format ≡ s.format → Decides same (t.line.now ≡ reply_text format (slice_get s.commands p.place) (reply_at new.items (slice_get s.commands p.place) t.mark)) → Decides same (SameAt s marked_lines p.place)
+    → format ≡ s.format
+    → Decides same (t.line.now
+    ≡ reply_text format (slice_get s.commands p.place) (reply_at new.items (slice_get s.commands p.place) t.mark))
+    → Decides same (SameAt s marked_lines p.place)
 same_by s marked_lines us places new p t same format given is below placed here version given_d =
     let d : Decides same (t.line.now ≡ reply_text s.format (slice_get s.commands p.place) (reply_at new.items (slice_get s.commands p.place) t.mark)) = rw version at given_d in
     let at = same_as s marked_lines us places new p.place p.mark t given is below placed in

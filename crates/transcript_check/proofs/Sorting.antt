@@ -63,7 +63,9 @@ has_put : (k m : ℕ) (u : Update) (hs : List (ℕ × Update)) → filter (has k
 has_put k m u [] = refl
 has_put k m u (h ∷ hs) = go (nat_lt h.0 m) refl (has_put k m u hs)
   where
-    swap : (a b : Bool) → (a ≡ true → b ≡ true → ⊥) → (rest : List (ℕ × Update)) → cond b (h ∷ cond a ((m, u) ∷ rest) rest) (cond a ((m, u) ∷ rest) rest) ≡ cond a ((m, u) ∷ cond b (h ∷ rest) rest) (cond b (h ∷ rest) rest)
+    swap : (a b : Bool) → (a ≡ true → b ≡ true → ⊥) → (rest : List (ℕ × Update))
+        → cond b (h ∷ cond a ((m, u) ∷ rest) rest) (cond a ((m, u) ∷ rest) rest)
+        ≡ cond a ((m, u) ∷ cond b (h ∷ rest) rest) (cond b (h ∷ rest) rest)
     swap true true f rest = absurd (f refl refl)
     swap true false f rest = refl
     swap false true f rest = refl
@@ -73,7 +75,9 @@ has_put k m u (h ∷ hs) = go (nat_lt h.0 m) refl (has_put k m u hs)
         → filter (has k) (cond b (h ∷ put_update m u hs) ((m, u) ∷ h ∷ hs)) ≡ filter (has k) ((m, u) ∷ h ∷ hs)
     go true e r =
         ap (λ (rest : List (ℕ × Update)). cond (has k h) (h ∷ rest) rest) r
-        ∙ swap (nat_eq m k) (has k h) (λ p q. let low : h.0 < m = grind (arith, nat_tests) in let one : m ≡ k = grind (arith, nat_tests) in let two : h.0 ≡ k = grind (arith, nat_tests) in absurd (omega arith)) (filter (has k) hs)
+        ∙ swap (nat_eq m k) (has k h) (λ p q. let low : h.0 < m = grind (arith, nat_tests) in let one : m ≡ k =
+        grind (arith, nat_tests) in let two : h.0 ≡ k = grind (arith, nat_tests) in absurd (omega arith))
+        (filter (has k) hs)
     go false e r = refl
 
 rising_if : (m : ℕ) (made : Option Update) (hs : List (ℕ × Update)) → Rising hs → Rising (put_if m made hs)
@@ -155,7 +159,9 @@ has_updates k [] = refl
 has_updates k (u ∷ us) = go (nat_eq u.mark k) (has_updates k us)
   where
     go : (b : Bool) → filter (has k) (updates_of us) ≡ updates_of (filter (λ (u : Marked). nat_eq u.mark k) us)
-        → cond b ((u.mark, u.update.now) ∷ filter (has k) (updates_of us)) (filter (has k) (updates_of us)) ≡ updates_of (cond b (u ∷ filter (λ (u : Marked). nat_eq u.mark k) us) (filter (λ (u : Marked). nat_eq u.mark k) us))
+        → cond b ((u.mark, u.update.now) ∷ filter (has k) (updates_of us)) (filter (has k) (updates_of us))
+        ≡ updates_of
+        (cond b (u ∷ filter (λ (u : Marked). nat_eq u.mark k) us) (filter (λ (u : Marked). nat_eq u.mark k) us))
     go true r = ap (λ (hs : List (ℕ × Update)). (u.mark, u.update.now) ∷ hs) r
     go false r = r
 
@@ -191,7 +197,8 @@ has_sorted k [] (y ∷ ys) long s = absurd (omega arith)
 has_sorted k (x ∷ xs) ys long s =
     let probe : Marked = record { mark = k; update = x.update } in
     has_updates k ys
-    ∙ ap updates_of (sym (filter_agree (ties by_mark probe) (λ (u : Marked). nat_eq u.mark k) (λ u. tie_is probe u) ys) ∙ s probe ∙ filter_agree (ties by_mark probe) (λ (u : Marked). nat_eq u.mark k) (λ u. tie_is probe u) (x ∷ xs))
+    ∙ ap updates_of (sym (filter_agree (ties by_mark probe) (λ (u : Marked). nat_eq u.mark k) (λ u. tie_is probe u) ys)
+    ∙ s probe ∙ filter_agree (ties by_mark probe) (λ (u : Marked). nat_eq u.mark k) (λ u. tie_is probe u) (x ∷ xs))
     ∙ sym (has_updates k (x ∷ xs))
 
 -- so the updates are in the order of their marks
@@ -205,7 +212,9 @@ sorted_updates cs marks xs ys is long up stable =
 pub update_more : (us all : List Marked) (caller : ℕ) (u : Marked) (from to : List Command) (marks rest : List ℕ) → all ≡ us ++ u ∷ []
     → from ≡ Change caller u.update.now ∷ to → marks ≡ u.mark ∷ rest → updates_of all ++ plain_updates to rest ≡ updates_of us ++ plain_updates from marks
 update_more us all caller u from to marks rest grown e f =
-    rw (grown, e, f) (ap (λ (hs : List (ℕ × Update)). hs ++ plain_updates to rest) (map_push (λ (u : Marked). (u.mark, u.update.now)) us u) ∙ append_assoc (updates_of us) ((u.mark, u.update.now) ∷ []) (plain_updates to rest))
+    rw (grown, e, f) (ap (λ (hs : List (ℕ × Update)). hs ++ plain_updates to rest)
+    (map_push (λ (u : Marked). (u.mark, u.update.now)) us u)
+    ∙ append_assoc (updates_of us) ((u.mark, u.update.now) ∷ []) (plain_updates to rest))
 
 skipped : (c : Command) (m : ℕ) (to : List Command) (rest : List ℕ) → ((caller : ℕ) (u : Update) → c ≡ Change caller u → ⊥) → plain_updates (c ∷ to) (m ∷ rest) ≡ plain_updates to rest
 skipped c m to rest other = rw (makes_none c other) refl

@@ -71,24 +71,36 @@ loop-at-preserved g c =
     let below : k < length ats = omega arith in
     let is : p ≡ get_or ats k p = get_or_default ats k blank_place p below in
     let here = here_at s marked_lines us ats k (g.M.HeldMap.holds c.loop-at.map) c.loop-at.level c.loop-at.first given far below in
-    let map = held_to s marked_lines us ats k (g.M.HeldMap.holds c.loop-at.map) (g.M.HeldMap.holds c.in_ok-map.map) c.loop-at.level c.loop-at.first p.mark far here.up _ c.settings-settings.ensures c.in_ok-map.ensures in
+    let map =
+    held_to s marked_lines us ats k (g.M.HeldMap.holds c.loop-at.map) (g.M.HeldMap.holds c.in_ok-map.map)
+    c.loop-at.level c.loop-at.first p.mark far here.up _ c.settings-settings.ensures c.in_ok-map.ensures in
     let t = get_or marked_lines p.place blank in
     let at : t ≡ get_or marked_lines p.place t = get_or_default marked_lines p.place blank t here.place in
     elim c.if-at-first.branch [
       | then-at-first+in_ok-is_right_line+then-not-branch v ↦
           let e = v.command_at-command.ensures ∙ ap (λ (cs : List Command). slice_get cs p.place) c.commands-commands.ensures.all in
-          let d = same_by s marked_lines us ats (g.M.HeldMap.holds c.in_ok-map.map) p t v.in_ok-is_right_line.field-0 c.format-format.result given map here.place here.placed at c.format-format.ensures (rw e at v.in_ok-is_right_line.ensures) in
+          let d =
+          same_by s marked_lines us ats (g.M.HeldMap.holds c.in_ok-map.map) p t v.in_ok-is_right_line.field-0
+          c.format-format.result given map here.place here.placed at c.format-format.ensures
+          (rw e at v.in_ok-is_right_line.ensures) in
           record {
             given = given;
-            far = rw v.first-is (so_far_other s marked_lines us ats k (g.M.HeldMap.holds c.loop-at.map) (g.M.HeldMap.holds c.in_ok-map.map) c.loop-at.level c.loop-at.first p given far below is map v.if-at-first.true
+            far =
+                rw v.first-is (so_far_other s marked_lines us ats k (g.M.HeldMap.holds c.loop-at.map) (g.M.HeldMap.holds c.in_ok-map.map) c.loop-at.level c.loop-at.first p given far below is map v.if-at-first.true
                 (λ same. let yes = d.1 same in let never = v.if-not-branch.true in cc));
           }
       | then-at-first+in_ok-is_right_line+else-not-branch v ↦
           let e = v.command_at-command.ensures ∙ ap (λ (cs : List Command). slice_get cs p.place) c.commands-commands.ensures.all in
-          let d = same_by s marked_lines us ats (g.M.HeldMap.holds c.in_ok-map.map) p t v.in_ok-is_right_line.field-0 c.format-format.result given map here.place here.placed at c.format-format.ensures (rw e at v.in_ok-is_right_line.ensures) in
+          let d =
+          same_by s marked_lines us ats (g.M.HeldMap.holds c.in_ok-map.map) p t v.in_ok-is_right_line.field-0
+          c.format-format.result given map here.place here.placed at c.format-format.ensures
+          (rw e at v.in_ok-is_right_line.ensures) in
           record {
             given = given;
-            far = rw v.first-is (so_far_same s marked_lines us ats k (g.M.HeldMap.holds c.loop-at.map) (g.M.HeldMap.holds c.in_ok-map.map) c.loop-at.level c.loop-at.first p given far below is map (λ low. d.0 v.if-not-branch.false));
+            far =
+                rw v.first-is (so_far_same s marked_lines us ats k (g.M.HeldMap.holds c.loop-at.map)
+                (g.M.HeldMap.holds c.in_ok-map.map) c.loop-at.level c.loop-at.first p given far below is map
+                (λ low. d.0 v.if-not-branch.false));
           }
       | else-at-first v ↦
           record {
