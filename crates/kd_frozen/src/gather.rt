@@ -10,7 +10,7 @@ use kd_tree::Tree;
 use map_items::{Item, Label, NoMemory, Tag};
 use point_geom::{Axis, Cuboid};
 
-/// Puts the live items of the tree, which owes this action, after the cells.
+/// Puts the live items of the tree, for which this action is pending, after the cells.
 pub(crate) fn gather(tree: &Tree, pending: Tag, cells: &mut Vec<Cell>) -> Result<(), NoMemory>
     ensures { OnOk result (items_of cells.new.items ≡ items_of cells.old.items ++ live_items (walk pending tree.now)) }
 {

@@ -64,7 +64,7 @@ went_right false None None rest e = cc
 went_right false None (Some p) rest e = (refl, cc)
 went_right false (Some p) q rest e = cc
 
--- a tree that is a fork and owes nothing, taken apart
+-- a tree that is a fork with no pending action, taken apart
 module _ (t : Shape) (h : Head) (l r : Shape) (f : Fork) (rest : List Side) (is : t ≡ fork h l r) (keep : h.pending ≡ keep_tag) (parts : Some f ≡ pushed t) where
   taken : Some f ≡ pushed (fork h l r)
   taken = parts ∙ ap pushed is

@@ -15,7 +15,7 @@ use Rattle.map_update.specs.declared.draft.Draft.{Draft}
 use Rattle.kd_tree.specs.declared.limits.TheConstants.{MAX_LEVELS, MAX_NODES}
 use Rattle.op_logger.specs.declared.log.TheConstants.{MAX_LOGGED}
 
--- The work watches these parts: they are lawful in its tree, which is balanced outside them, and each number is below the next one.
+-- The draft watches these parts: they are lawful in its tree, which is balanced outside them, and each number is below the next one.
 pub record IsDraft (large next last : ℕ) (ps : List PartAt) (w : Draft) : Type 0 where
   pub watched : w.watches ≡ watches_of ps
   pub parts : AreLawfulParts large next last w.tree ps
@@ -50,7 +50,7 @@ pub record IsStill (ops : ℕ) (x : Watch) (ws : List Watch) : Type 0 where
   pub path : watch.path ≡ x.path
   pub few : length watch.log ≤ length x.log + 2 * ops
 
--- The second work is the first after at most so many operations, of which so many put a point.
+-- The second draft is the first after at most so many operations, of which so many put a point.
 pub record IsDrafted (puts ops : ℕ) (v w : Draft) : Type 0 where
   pub low : levels w.tree ≤ levels v.tree + puts
   pub few : nodes w.tree ≤ nodes v.tree + puts
@@ -62,7 +62,7 @@ abbrev pub with_op : Op → Shape → List Watch → List Watch
 with_op (Mark c a) t ws = with_marks c a t ws
 with_op (Put n p) t ws = with_puts n p t ws
 
--- the work after the operation, where nothing is rebuilt
+-- the draft after the operation, where nothing is rebuilt
 abbrev pub plain_draft : Op → Draft → Draft
 plain_draft op w = record { tree = unrebuilt op w.tree; watches = with_op op w.tree w.watches }
 

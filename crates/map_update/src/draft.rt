@@ -1,4 +1,4 @@
-//! Work on a tree beside watched subtrees. Each operation either crosses them, and is logged, or they are forgotten before.
+//! A tree in work beside watched subtrees. Each operation either crosses them, and is logged, or they are forgotten before.
 ghost use Rattle.std.specs.Prelude.{◌≡◌, ℕ, ◌<◌, ◌≤◌, List, Some, length, IfOk, IfSome, IsNone, ◌↔◌};
 ghost use Rattle.std.specs.List.{remove};
 ghost use Rattle.node_labels.specs.Labels.{keep_tag};
@@ -29,11 +29,11 @@ pub struct Draft {
     pub watches: Watches,
 }
 
-/// What an operation makes of the work. Where memory runs out, the work is dropped.
+/// What an operation makes of the draft. Where memory runs out, the draft is dropped.
 pub type Drafted = Result<Draft, NoMemory>;
 
 impl Draft {
-    // The work after this action on the chosen items.
+    // The draft after this action on the chosen items.
     pub(crate) fn marked<L: Ledger>(
         self,
         alloc: Global,
@@ -55,7 +55,7 @@ impl Draft {
         Ok(Draft { tree, watches })
     }
 
-    // The work after the point was put under the number. A full tree is rebuilt before.
+    // The draft after the point was put under the number. A full tree is rebuilt before.
     pub(crate) fn put<L: Ledger>(
         self,
         alloc: Global,
@@ -80,7 +80,7 @@ impl Draft {
         Ok(Draft { tree, watches })
     }
 
-    // The work with room for one more point, and in each log for what that may add.
+    // The draft with room for one more point, and in each log for what that may add.
     fn with_room<L: Ledger>(self, alloc: Global, large: u32, steps: &mut Steps<L>) -> Drafted
         requires draft { (next : ℕ) × IsLawfulDraft large next self }
         requires few { length (contents self.tree) < MAX_NODES }
@@ -108,7 +108,7 @@ impl Draft {
         })
     }
 
-    // The work without the subtrees whose logs have no room for two operations: each is rebuilt where it stands, in order.
+    // The draft without the subtrees whose logs have no room for two operations: each is rebuilt where it stands, in order.
     fn without_full<L: Ledger>(self, alloc: Global, large: u32, steps: &mut Steps<L>) -> Drafted
         requires draft { (next : ℕ) × IsLawfulDraft large next self }
         ensures contents { IfOk result (λ w. contents w.tree ≡ contents self.tree) }
@@ -127,7 +127,7 @@ impl Draft {
         draft.without_full(alloc, large, steps)
     }
 
-    // The work without the subtree that is watched at this place of the list: it is rebuilt where it stands. A rebuilt copy is no
+    // The draft without the subtree that is watched at this place of the list: it is rebuilt where it stands. A rebuilt copy is no
     // larger, so the tree has room for it, and all others stay watched.
     fn without<L: Ledger>(
         self,

@@ -20,10 +20,10 @@ use point_geom::Point;
 use std::alloc::Global;
 use std::sync::ledger::Ledger;
 
-/// The work after the update, where `next` points were submitted before. What crosses a watched subtree is logged for
+/// The draft after the update, where `next` points were submitted before. What crosses a watched subtree is logged for
 /// it; one whose log has no room for two operations more is rebuilt where it is before, and forgotten. On an
 /// operation's way, what breaches a criterion is rebuilt if it is smaller than `large` and nothing in it is watched. On
-/// `NoMemory` the work is dropped. The time is that of the operations, by the subtrees that they meet; of a scan that
+/// `NoMemory` the draft is dropped. The time is that of the operations, by the subtrees that they meet; of a scan that
 /// of few passes over what it meets.
 pub fn changed<L: Ledger>(
     alloc: Global,

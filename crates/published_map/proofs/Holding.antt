@@ -54,14 +54,14 @@ with_true s k [] new a = (new, tt)
 with_true s k (h ∷ hs) new a =
     cond_both (k.slot == h.slot) (k ∷ hs) (h ∷ with_marked_subtree k hs) (AreTrueOf s) (λ _. (new, a.1)) (λ _. (a.0, with_true s k hs new a.1))
 
--- a hold comes into its slot
+-- what is marked comes into its slot
 pub true_with : (s : StateAt) (k : MarkedSubtreeAt) (hs ks : List MarkedSubtreeAt) → IsTrueOf s k → AreTrueOf s hs → ks ≡ with_marked_subtree k hs → AreTrueOf s ks
 true_with s k hs ks new a is = subst (AreTrueOf s) (sym is) (with_true s k hs new a)
 
 some_marked : (a b : MarkedSubtreeAt) → ◌≡◌ {A = Option MarkedSubtreeAt} (Some a) (Some b) → a ≡ b
 some_marked a b e = cc
 
--- the hold of the ticket has what the part of it held
+-- what is marked of the ticket has what its part held
 pub true_found : (s : StateAt) (ticket : ℕ) (hs : List MarkedSubtreeAt) (h : MarkedSubtreeAt) → marked_subtree_of ticket hs ≡ Some h → AreTrueOf s hs → AreItemsOf ticket h.items s.parts
 true_found s ticket [] h e a = absurd cc
 true_found s ticket (k ∷ hs) h e a =

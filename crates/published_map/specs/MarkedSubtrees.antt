@@ -11,21 +11,21 @@ pub record MarkedSubtreeAt : Type 0 where
   pub ticket : ℕ
   pub items : List Item
 
--- The hold is true of the state: its ticket was given, and if the subtree of that ticket is still there, it held these items.
+-- What is marked is true of the state: its ticket was given, and if the subtree of that ticket is still there, it held these items.
 pub record IsTrueOf (s : StateAt) (h : MarkedSubtreeAt) : Type 0 where
   pub given : h.ticket ≤ s.last
   pub items : AreItemsOf h.ticket h.items s.parts
 
--- each of the holds is true of the state
+-- each of these is true of the state
 abbrev pub AreTrueOf : StateAt → List MarkedSubtreeAt → Type 0
 AreTrueOf s [] = Unit {0}
 AreTrueOf s (h ∷ hs) = IsTrueOf s h × AreTrueOf s hs
 
--- the hold of the ticket, if there is one
+-- what has the ticket, if anything has
 abbrev pub marked_subtree_of : ℕ → List MarkedSubtreeAt → Option MarkedSubtreeAt
 marked_subtree_of ticket hs = find (λ h. ticket == h.ticket) hs
 
--- the holds, with this one in the place of that of its slot
+-- these, with this one in the place of that of its slot
 abbrev pub with_marked_subtree : MarkedSubtreeAt → List MarkedSubtreeAt → List MarkedSubtreeAt
 with_marked_subtree k [] = k ∷ []
 with_marked_subtree k (h ∷ hs) = if k.slot == h.slot then k ∷ hs else h ∷ with_marked_subtree k hs

@@ -45,7 +45,7 @@ pub fn marked_subtree_of<L: MapName>(
     marked.iter().find(|subtree| ticket == subtree.ticket)
 }
 
-/// Replaces what this slot has, so that there are no more than slots.
+/// Replaces what is marked of this slot, so that there is no more than one of each.
 pub fn keep_marked_subtree<L: MapName>(
     marked: &mut Vec<MarkedSubtree<L>>,
     subtree: MarkedSubtree<L>,
@@ -59,7 +59,7 @@ pub fn keep_marked_subtree<L: MapName>(
     }
 }
 
-// The index of the slot's.
+// The index of what is marked of the slot.
 fn index_of<L: MapName>(marked: &[MarkedSubtree<L>], slot: u8) -> Option<usize>
     ensures low { IfSome result (λ i. i < length marked.now) }
     ensures taken { IfSome result (λ i. (h : MarkedSubtreeAt) → h.slot ≡ slot → with_marked_subtree h marked.now ≡ slice_set marked.now i h) }

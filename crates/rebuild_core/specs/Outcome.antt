@@ -30,5 +30,5 @@ pub record IsLeftByUpdate (u : Update) (s : StateAt) (ps : List PartAt) (t : Sha
 pub record MakesNodes (u : Update) (s : StateAt) (before after : ℕ) : Type 0 where
   -- one operation that rebuilds nothing makes at most five for each node that it enters, and one more
   pub nodes_made : (op : Op) → IsUnrebuiltUpdate u op s → after ≤ before + (5 * entered_nodes op s.tree + 1)
-  -- one point that is turned away makes none
+  -- one point that is rejected makes none
   pub no_nodes_made : (p : Place) → u ≡ Thin (p ∷ []) → IsRejectedFrom s p → after ≡ before

@@ -38,7 +38,7 @@ fn joined<L: Ledger>(rt: &impl Abort, alloc: Global, steps: &mut Steps<L>) -> Tr
     made(rt, Tree::pull_up(alloc, parts, steps))
 }
 
-// The tree with what its top owes done to both children.
+// The tree with its top's pending action done to both children.
 pub fn pushed<L: Ledger>(rt: &impl Abort, alloc: Global, tree: Tree, steps: &mut Steps<L>) -> Tree {
     let Some(parts) = made(rt, tree.push_down(alloc, steps)) else {
         panic!(rt; "no top");
@@ -134,7 +134,7 @@ fn a_child_that_is_put_back_owes_the_pending_action(rt: HostRuntime) {
     is_suspended(&rt, alloc, &tree, 40);
 }
 
-// The left child by itself doesn't know of what is owed to it.
+// The left child by itself doesn't know what is pending for it.
 fn is_live_left(rt: &impl Abort, tree: &Tree) {
     let left = Path::root().down(Side::Left);
     let live = tree.subtree_at(&left).map(|t| t.counts().live);
