@@ -19,7 +19,7 @@ pub trait Growing {
     fn tree(&self) -> &Tree;
 
     /// Puts a scan's points, and deletes what is left then.
-    fn reclaim<L: Ledger, R>(&mut self, at: &mut Bench<'_, L, R>, scan: &Scan) -> Result<(), Stop>;
+    fn take_in<L: Ledger, R>(&mut self, at: &mut Bench<'_, L, R>, scan: &Scan) -> Result<(), Stop>;
 }
 
 /// How long a map takes to take in scans that lie so.
@@ -57,7 +57,7 @@ fn take_in_all<M: Growing, L: Ledger, R: Threads + Sync>(
     let mut sum = 0;
     for scan in scans {
         sum = looked(at, look, sum, map.tree(), &scan.points)?;
-        map.reclaim(at, scan)?;
+        map.take_in(at, scan)?;
     }
     Ok(sum)
 }

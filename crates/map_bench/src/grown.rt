@@ -112,7 +112,7 @@ impl Growing for Grown {
         &self.tree
     }
 
-    fn reclaim<L: Ledger, R>(&mut self, at: &mut Bench<'_, L, R>, scan: &Scan) -> Result<(), Stop> {
+    fn take_in<L: Ledger, R>(&mut self, at: &mut Bench<'_, L, R>, scan: &Scan) -> Result<(), Stop> {
         let held = self.held(at.alloc, &mut at.steps)?;
         let done = self.change(at.alloc, scan, &mut at.steps);
         // A version that is dropped gives its nodes' memory to the next scan.

@@ -50,7 +50,7 @@ impl Growing for Robot {
         self.state.version().tree()
     }
 
-    fn reclaim<L: Ledger, R>(&mut self, at: &mut Bench<'_, L, R>, scan: &Scan) -> Result<(), Stop> {
+    fn take_in<L: Ledger, R>(&mut self, at: &mut Bench<'_, L, R>, scan: &Scan) -> Result<(), Stop> {
         let points = scan.points.copy(at.alloc)?;
         let update = if self.thins {
             Update::Thin(points)

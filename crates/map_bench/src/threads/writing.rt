@@ -33,7 +33,7 @@ fn take_in_all<L: MapName, R: Wait + Clock>(
     times: &mut Times,
 ) -> Result<(), Stop> {
     for scan in stage.plan.before.as_slice() {
-        reclaim(rt, stage, pass, scan, times)?;
+        take_in(rt, stage, pass, scan, times)?;
     }
     times.clear();
     stage.plan.begin();
@@ -51,7 +51,7 @@ fn take_in_beside<L: MapName, R: Wait + Clock>(
     for scan in stage.plan.beside.as_slice() {
         pause(rt, stage.plan.company.pause);
         let begun = Instant::now(rt);
-        reclaim(rt, stage, pass, scan, times)?;
+        take_in(rt, stage, pass, scan, times)?;
         let took = since(rt, begun)?;
         pause(rt, stage.plan.company.turn.saturating_sub(took));
     }
@@ -65,7 +65,7 @@ fn pause<R: Clock>(rt: &R, time: Duration) {
 }
 
 // Adds a scan, and deletes what is left then.
-fn reclaim<L: MapName, R: Wait + Clock>(
+fn take_in<L: MapName, R: Wait + Clock>(
     rt: &R,
     stage: &Stage<'_, L>,
     pass: &mut Pass<L>,
