@@ -21,7 +21,7 @@
 
 namespace corv {
 
-/// When an EndlessMap is renewed: once its Map has had so many points, or so many updates. Both leave room for what comes while the
+/// When an EndlessMap is renewed: once its Map has had this many points, or this many updates. Both leave room for what comes while the
 /// new Map is made: a Map takes 4,194,304 points and 1,048,576 updates.
 struct EndlessOptions {
     std::uint32_t points = 3000000;
@@ -95,7 +95,7 @@ Map in_order(const Items &items, std::uint32_t voxel, std::uint32_t large) {
     return map;
 }
 
-/// Rebuilds at once what got uneven in a Map that no other thread has.
+/// Rebuilds at once what got unbalanced in a Map that no other thread has.
 inline void make_even(Map &map) {
     // More subtrees than a Map has slots for aren't expected; a bound, so that this ends whatever comes.
     for (int turn = 0; turn < 64; ++turn) {
@@ -152,7 +152,7 @@ bool is_ready(const std::future<T> &future) {
 /// subtrees on a second thread, so there is nothing to detach. As a Map it is called by one thread at a time.
 ///
 /// **Numbers.** A point's number is how many points `add` and `thin` had submitted before it since the EndlessMap was made, whether they
-/// are still held or not: 0 for the first point, 64 bits, never given again, the same before and after a renewal. A refused update
+/// are still in the map or not: 0 for the first point, 64 bits, never given again, the same before and after a renewal. A refused update
 /// takes no numbers. `expire(n)`, `items(n)`, the order of items and of hits that are equally far go by them.
 ///
 /// **Time.** No update waits for the second thread. The one that goes on with the new Map does at most two kept updates on it first. Where
@@ -161,13 +161,14 @@ bool is_ready(const std::future<T> &future) {
 ///
 /// **Memory.** While a renewal is under way there are two Maps, and the updates that came since it began.
 ///
-/// **Faults.** A refused update leaves what is held as it was, as with a Map. Where the second thread has no memory, or there is no
+/// **Faults.** A refused update changes nothing, as with a Map. Where the second thread has no memory, or there is no
 /// thread, the renewal is given up and begun again some updates later. Only an update that comes when the Map has no room left is
 /// Refused as CORV_TOO_MANY_POINTS or CORV_TOO_MANY_UPDATES: it may be tried again when a renewal has come to its end, and so
-/// never where it has more than 4,194,304 points together with those that are held.
+/// never where it has more than 4,194,304 points together with those in the map.
 class EndlessMap : public detail::EndlessAsked<EndlessMap> {
 public:
-    /// Holds nothing. Its voxels have edges of 1 to 1,000,000 mm; subtrees of so many nodes, 16 to 1,000,000, count as large.
+    /// Has no points. Its voxels have edges of 1 to 1,000,000 mm. Subtrees of `large` nodes or more, 16 to 1,000,000, are rebuilt on the
+    /// second thread: 1,500 is a good choice.
     EndlessMap(std::uint32_t voxel, std::uint32_t large, EndlessOptions options = {})
         : voxel_(voxel), large_(large), options_(options), now_{Map(voxel, large), {}} {}
 
@@ -177,7 +178,7 @@ public:
     /// Waits for what is under way on the second thread, which is at most what a renewal takes.
     ~EndlessMap() = default;
 
-    /// Each point is held, live, under the next number.
+    /// Each point is put in, live, under the next number.
     void add(List<Point> points) { update(&Map::add, points); }
     /// Each point takes the next number, and of its voxel's live points the one nearest to the centre stays.
     void thin(List<Point> points) { update(&Map::thin, points); }
@@ -188,14 +189,14 @@ public:
     /// What is suspended in the boxes is live again.
     void restore(List<Box> boxes) { update(&Map::restore, boxes); }
 
-    /// What is held under a number below this one is dropped for good: exactly that, whatever was renewed or suspended since.
+    /// What has a number below this one is dropped for good: exactly that, whatever was renewed or suspended since.
     void expire(std::uint64_t number) {
         before_update();
         auto kept = kept_while_renewing(number);
         done([&] { now_.owner.expire(now_.numbers.below(number, now_.owner.totals().points)); }, kept);
     }
 
-    /// A view of what is held now.
+    /// A view of the map as it is now.
     EndlessView view() { return EndlessView({now_.owner.view(), now_.numbers}); }
 
     /// How often it was renewed.
@@ -345,7 +346,7 @@ private:
         }
     }
 
-    // Gives the next uneven subtree out to be rebuilt, if none is out.
+    // Hands the next unbalanced subtree out to be rebuilt, if none is out.
     void give_out() {
         if (building_.valid()) return;
         if (auto job = now_.owner.detach(1)) building_ = detail::on_second_thread([](Job job) { return job.build(); }, std::move(*job));
@@ -361,7 +362,7 @@ private:
     std::uint32_t voxel_, large_;
     EndlessOptions options_;
     Numbered<Map> now_;
-    std::future<Built> building_;        // an uneven subtree of it
+    std::future<Built> building_;        // an unbalanced subtree of it
     std::future<Numbered<Map>> making_;  // the new Map, on the second thread
     std::optional<Numbered<Map>> next_;  // or in hand
     Kept kept_;                          // what is to be done on it

@@ -19,7 +19,7 @@ struct EndlessHit {
     std::uint64_t dist2_high, dist2_low, number;
 };
 
-/// A point that is held, under its number of 64 bits.
+/// A point of the map, under its number of 64 bits.
 struct EndlessItem {
     Point point;
     std::uint64_t number;
@@ -92,7 +92,7 @@ struct Numbered {
 template <class Self>
 class EndlessAsked {
 public:
-    /// The k nearest live points, from 1 to 256, or all where there are fewer; no farther than so many millimetres where that is given.
+    /// The k nearest live points, from 1 to 256, or all where there are fewer; at most `within` millimetres away where that is given.
     std::vector<EndlessHit> nearest(const Place &place, std::uint32_t k, std::optional<std::uint64_t> within = {}) {
         std::vector<EndlessHit> hits;
         nearest(place, k, within, hits);
@@ -159,7 +159,7 @@ private:
 
 }  // namespace detail
 
-/// What an EndlessMap held when the view was made, for a thread that asks while the map goes on. Its numbers are the EndlessMap's, also
+/// An EndlessMap as it was when the view was made, for a thread that asks while the map goes on. Its numbers are the EndlessMap's, also
 /// when that was renewed since.
 class EndlessView : public detail::EndlessAsked<EndlessView> {
 public:

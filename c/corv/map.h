@@ -1,15 +1,15 @@
 /* The map, for C and C++. Numbers are whole millimetres.
  *
- * A handle (corv_map, corv_view, corv_job, corv_built, corv_frozen) is a struct that is all zeros before the call that fills it, and is filled
- * until the call that frees it, or that takes what it holds. A call that is refused answers why, and leaves every handle as it was,
- * but for what is said at corv_map_swap.
+ * A handle (corv_map, corv_view, corv_job, corv_built, corv_frozen) is a struct that is all zeros before the call that fills it, and is
+ * filled until the call that frees it, or that takes its content. A refused call returns why, and leaves every handle as it was,
+ * except for what is said at corv_map_swap.
  *
- * What the caller owes, and all of it: each pointer is to memory of its type that is there for the whole call, is aligned, is not
- * null (also where a length is 0), and overlaps no other argument; memory that a call only writes may hold anything, but for
- * handles; a handle begins as zeros, is never copied, and its fields are neither read nor written; one call at a time has a handle,
- * and a handle that goes to another thread goes there by a lock, or by that thread's start or join; what a handle holds is freed
- * before the handle's memory goes; no call is made in a signal handler, nor in the forked child of a process with threads; malloc,
- * realloc and free are one allocator's. All else is checked, and answered by a status. */
+ * What the caller must see to: each pointer is to memory of its type that is there for the whole call, is aligned, is not null (also
+ * where a length is 0), and overlaps no other argument; memory that a call only writes may contain anything, handles excepted; a
+ * handle begins as zeros, is never copied, and its fields are neither read nor written; one call at a time has a handle, and a handle
+ * that goes to another thread goes there by a lock, or by that thread's start or join; a handle is freed before its memory goes; no
+ * call is made in a signal handler, nor in the forked child of a process with threads; malloc, realloc and free are one allocator's.
+ * All else is checked, and a status says so. */
 #ifndef CORV_MAP_H
 #define CORV_MAP_H
 #include <stdbool.h>
@@ -21,9 +21,9 @@ extern "C" {
 
 /* A map. */
 typedef struct { void *at; bool full; } corv_map;
-/* What a map held when the view was made. */
+/* A map as it was when the view was made. */
 typedef struct { void *at; bool full; } corv_view;
-/* A subtree of a map, given out to be rebuilt. */
+/* A subtree of a map, handed out to be rebuilt. */
 typedef struct { void *at; bool full; } corv_job;
 /* That subtree, rebuilt. */
 typedef struct { void *at; bool full; } corv_built;
@@ -37,7 +37,7 @@ typedef struct { int64_t x, y, z; uint16_t intensity; } corv_point;
 typedef struct { corv_place lo, hi; } corv_box;
 /* A live point that was found, under its number. Its squared distance is dist2_high * 2^64 + dist2_low. */
 typedef struct { corv_point point; uint64_t dist2_high, dist2_low; uint32_t number; } corv_hit;
-/* A point that is held, under its number: live where suspended is 0, suspended where it is 1. */
+/* A point of the map, under its number: live where suspended is 0, suspended where it is 1. */
 typedef struct { corv_point point; uint32_t number, suspended; } corv_item;
 /* A cluster: the least number in it, and how many points it has. */
 typedef struct { uint32_t number, points; } corv_cluster;
@@ -47,11 +47,11 @@ typedef struct { corv_place lo; uint64_t side, ball, step; } corv_region;
 /* How many updates were made, how many points they submitted, and how many of those are live and how many suspended. */
 typedef struct { uint64_t updates; uint32_t points, live, suspended; } corv_totals;
 
-/* What a call answers. Where more than one cause is there, it is the first in the order in which a call's comment names them. */
+/* What a call returns. Where there is more than one cause, it is the first in the order in which a call's comment names them. */
 enum {
     CORV_DONE = 0,
     CORV_NO_MEMORY = 1,         /* there was no memory */
-    CORV_EMPTY = 2,             /* a handle that should be filled holds nothing */
+    CORV_EMPTY = 2,             /* a handle that should be filled is empty */
     CORV_FULL = 3,              /* a handle that should be empty is filled */
     CORV_BAD_NUMBER = 4,        /* a number is not one that the call takes */
     CORV_NO_ROOM = 5,           /* an array is too short */
@@ -62,18 +62,19 @@ enum {
     CORV_NOTHING_TO_DETACH = 10, /* no subtree is to be rebuilt */
     CORV_STALE = 11,            /* the built subtree's place in the map is there no more */
     CORV_BEHIND = 12,           /* more than 64 operations are left to be done on the built subtree */
-    CORV_NO_LINE = 13           /* no line of a log says an update */
+    CORV_NO_LINE = 13           /* an update can't be written as a line of a log */
 };
 
-/* Makes a map that holds nothing. Its voxels have edges of 1 to 1,000,000, and of 16 to 1,000,000 nodes on a subtree is large.
+/* Makes a map without points. Its voxels have edges of 1 to 1,000,000 mm. A subtree is large from so many nodes on, 16 to 1,000,000:
+ * updates rebuild what is smaller, and what is large waits for corv_map_detach. Where nobody calls that, take 1,000,000.
  * FULL, BAD_NUMBER, NO_MEMORY. */
 int32_t corv_map_new(uint32_t voxel, uint32_t large, corv_map *map);
-/* Lets go of what the handle holds, if anything, and leaves it empty. So do the other four. */
+/* Frees the handle's content, if there is any, and leaves it empty. So do the other four. */
 void corv_map_free(corv_map *map);
 
-/* Updates. Points are held under the next numbers, which count all that were submitted, from 0.
+/* Updates. A point's number is how many points were submitted before it, from 0, whether they are still in the map or not.
  * EMPTY, OUT_OF_RANGE or BAD_BOX, TOO_MANY_UPDATES, TOO_MANY_POINTS, and at any step NO_MEMORY. */
-/* Each point in turn is held, live. */
+/* Each point in turn is put in, live. */
 int32_t corv_map_add(corv_map *map, const corv_point *points, size_t n);
 /* Each point in turn takes a number, and of its voxel the live point that is nearest to the centre stays. */
 int32_t corv_map_thin(corv_map *map, const corv_point *points, size_t n);
@@ -86,10 +87,10 @@ int32_t corv_map_restore(corv_map *map, const corv_box *boxes, size_t n);
 /* What is live or suspended under a number below this one is dropped for good. */
 int32_t corv_map_expire(corv_map *map, uint32_t number);
 
-/* Questions. An answer of several points is written to the front of the array, and how many they are to the count, which is 0 where
- * the call is refused. What else the array held may be lost. */
+/* Questions. Results are written to the front of the array, and how many they are to count, which is 0 where the call is refused. The
+ * rest of the array may be overwritten. */
 /* The k nearest live points, or all where there are fewer: by distance, then by x, y and z, then by number. k is from 1 to 256,
- * and room at least k. They are within so many millimetres, up to 4,398,046,511,104, or however far where that is below 0.
+ * and room at least k. within is the greatest distance that counts, in millimetres, up to 4,398,046,511,104; below 0 there is none.
  * EMPTY, BAD_NUMBER, NO_ROOM, OUT_OF_RANGE, NO_MEMORY (never for k up to 16). */
 int32_t corv_map_nearest(corv_map *map, const corv_place *place, uint32_t k, int64_t within, corv_hit *hits, size_t room, size_t *count);
 /* The same for each place: the first place's hits, and right behind them the next one's. counts says how many each place has.
@@ -120,7 +121,7 @@ int32_t corv_map_ball_items(corv_map *map, const corv_place *place, uint64_t r, 
 /* EMPTY. */
 int32_t corv_map_totals(corv_map *map, corv_totals *totals);
 
-/* Makes a view of what the map holds now. It stays as it is while the map goes on, and is asked in another thread without a lock.
+/* Makes a view of the map as it is now. It stays so while the map changes, and is asked in another thread without a lock.
  * Views of one map are handles of their own: each thread that asks has one. FULL (the view), EMPTY (the map), NO_MEMORY. */
 int32_t corv_map_view(corv_map *map, corv_view *view);
 /* Makes another view of the same. FULL (the copy), EMPTY (the view), NO_MEMORY. */
@@ -156,8 +157,8 @@ void corv_frozen_free(corv_frozen *frozen);
 int32_t corv_frozen_nearest(corv_frozen *frozen, const corv_place *place, uint32_t k, int64_t within, corv_hit *hits, size_t room, size_t *count);
 int32_t corv_frozen_nearest_each(corv_frozen *frozen, const corv_place *places, size_t n, uint32_t k, int64_t within, corv_hit *hits, size_t room, uint32_t *counts, size_t counts_room, size_t *count);
 
-/* Makes a map that holds what the view shows, so that a map goes on that comes to its limits: the suspended points under the numbers
- * from 0 on, and behind them the live ones, each kind in the order of its numbers. Its updates are counted anew: 3 at most. It can
+/* Makes a map of the view's points, to go on with where a map comes to its limits: the suspended points get the numbers from 0 on,
+ * and the live ones those behind them, each kind in the order of its numbers. Its updates are counted anew: 3 at most. It can
  * be made in another thread than the map's. FULL (the map), EMPTY (the view), BAD_NUMBER, NO_MEMORY. */
 int32_t corv_view_renew(corv_view *view, uint32_t voxel, uint32_t large, corv_map *map);
 /* Writes the lines of the log of version 2 that say the map's updates from this one on, which are counted from 0: before the first
@@ -170,22 +171,22 @@ int32_t corv_view_renew(corv_view *view, uint32_t voxel, uint32_t large, corv_ma
  * made), TOO_MANY_UPDATES (with it there are more than 65,536 lines), NO_ROOM; at any update NO_MEMORY. */
 int32_t corv_map_log(corv_map *map, uint64_t from, char *bytes, size_t room, size_t *count, uint64_t *next);
 
-/* Large subtrees are rebuilt beside the updates, on threads of the caller's: detach (in the map's thread), build (in any, while
- * the map goes on), swap (in the map's thread). Where a swap answers BEHIND: replay (in any thread), and swap again. Nothing of it
- * changes what the map holds. */
-/* Gives out the subtree of the slot, from 1 to 4: the one that was given out under it before and is not yet swapped in, which makes
- * that one stale, or else the first large one that is to be rebuilt. EMPTY (the map), FULL (the job), BAD_NUMBER,
- * NOTHING_TO_DETACH, NO_MEMORY. */
+/* Large subtrees are rebuilt while updates go on, on threads of the caller's: detach (in the map's thread), build (in any, while
+ * the map goes on), swap (in the map's thread). Where a swap returns BEHIND: replay (in any thread), and swap again. Nothing of it
+ * changes a result. */
+/* Hands out the first large subtree that is to be rebuilt, since it is unbalanced or half of it is dropped points, under a slot from 1
+ * to 4. Where the slot's one isn't swapped in yet, that is handed out once more, and what was built of it is stale.
+ * EMPTY (the map), FULL (the job), BAD_NUMBER, NOTHING_TO_DETACH, NO_MEMORY. */
 int32_t corv_map_detach(corv_map *map, uint32_t slot, corv_job *job);
 /* Rebuilds the subtree, and leaves the job empty. EMPTY (the job), FULL (the built subtree), NO_MEMORY. */
 int32_t corv_job_build(corv_job *job, corv_built *built);
 void corv_job_free(corv_job *job);
-/* Does on the built subtree the operations that the last swap that answered BEHIND put beside it, if there are any. EMPTY, NO_MEMORY. */
+/* Does on the built subtree the operations that the last swap that returned BEHIND handed it, if there are any. EMPTY, NO_MEMORY. */
 int32_t corv_built_replay(corv_built *built);
 void corv_built_free(corv_built *built);
 /* Puts the built subtree in its place, after the operations that it has missed since, and leaves the handle empty. A swap that isn't
- * forced, where force is 0, does at most 64 of those: where there are more it answers BEHIND, and puts them beside the built
- * subtree, to be replayed. Where its place is there no more the subtree is STALE, and stays in its handle, only to be freed.
+ * forced, where force is 0, does at most 64 of those: where there are more it returns BEHIND, and hands them to the built subtree, to
+ * be replayed. Where its place is there no more the subtree is STALE, and stays in its handle, only to be freed.
  * When to swap: between the queries and the update. Queries leave time to build or to replay, and add no operation. Right after an
  * update its operations are missing, so a program that tries only there is BEHIND after each scan of more than 64 points.
  * EMPTY (either), STALE, BEHIND, NO_MEMORY. */

@@ -1,7 +1,7 @@
 // The map, for C++17: map.h with owners that free what they hold, moves in place of copies, and refusals that are thrown.
 //
 // An owner has its handle in memory of its own, so that it may be moved and the handle never is. What map.h asks of a caller is seen
-// to here, but for this: one thread at a time calls a Map, View, Frozen, Job or Built, and one that goes to another thread goes there by a
+// to here, except for this: one thread at a time calls a Map, View, Frozen, Job or Built, and one that goes to another thread goes there by a
 // lock, or by that thread's start or join. So nothing here is const: a View or a copy of a Frozen is cheap, and each thread that asks has
 // one of its own.
 //
@@ -33,7 +33,7 @@ using Item = corv_item;
 using Cluster = corv_cluster;
 using Totals = corv_totals;
 
-/// A call was refused, and everything is as it was. Where memory ran out it is std::bad_alloc instead.
+/// A call was refused, and everything is as it was. Where there was no memory it is std::bad_alloc instead.
 class Refused : public std::runtime_error {
 public:
     explicit Refused(std::int32_t status) : std::runtime_error(text(status)), status_(status) {}
@@ -129,7 +129,7 @@ struct FrozenCalls {
 
 }  // namespace detail
 
-/// Values that stand side by side and are the caller's: a std::vector, a std::array, or a pointer and a count.
+/// The caller's values, one after the other in memory: a std::vector, a std::array, or a pointer and a count.
 template <class T>
 class List {
 public:
@@ -147,7 +147,7 @@ private:
     std::size_t size_;
 };
 
-/// Values that stand side by side, for a loop.
+/// Values that are one after the other in memory, for a loop.
 template <class T>
 struct Range {
     const T *first, *last;
@@ -210,7 +210,7 @@ struct Found {
 template <class Calls>
 class Searched {
 public:
-    /// The k nearest live points, from 1 to 256, or all where there are fewer; no farther than so many millimetres where that is given.
+    /// The k nearest live points, from 1 to 256, or all where there are fewer; at most `within` millimetres away where that is given.
     std::vector<Hit> nearest(const Place &place, std::uint32_t k, std::optional<std::uint64_t> within = {}) {
         std::vector<Hit> hits;
         nearest(place, k, within, hits);
@@ -384,7 +384,7 @@ private:
     Frozen() = default;
 };
 
-/// What a map held when the view was made, for a thread that asks while the map goes on.
+/// A map as it was when the view was made, for a thread that asks while the map goes on.
 class View : public Asked<detail::ViewCalls> {
 public:
     /// What is live in it, to be asked many times. In any thread.
@@ -409,7 +409,7 @@ private:
 /// A subtree, rebuilt, to be swapped in.
 class Built {
 public:
-    /// Does what the last swap that was behind put beside it. In any thread.
+    /// Does the operations that the last swap, which was behind, handed it. In any thread.
     void replay() { detail::check(corv_built_replay(handle_.get())); }
 
 private:
@@ -419,7 +419,7 @@ private:
     detail::Owned<corv_built, corv_built_free> handle_;
 };
 
-/// A subtree that is given out, to be rebuilt.
+/// A subtree that is handed out, to be rebuilt.
 class Job {
 public:
     /// Builds it, in any thread, and leaves the job empty.
@@ -441,10 +441,11 @@ enum class Swapped { done, behind, stale };
 /// A map.
 class Map : public Asked<detail::MapCalls> {
 public:
-    /// Holds nothing. Its voxels have edges of 1 to 1,000,000 mm; subtrees of so many nodes, 16 to 1,000,000, count as large.
+    /// Has no points. Its voxels have edges of 1 to 1,000,000 mm. Subtrees of `large` nodes or more, 16 to 1,000,000, wait for `detach`, and
+    /// updates rebuild what is smaller. Where nobody calls that, take 1,000,000.
     Map(std::uint32_t voxel, std::uint32_t large) { detail::check(corv_map_new(voxel, large, get())); }
 
-    /// Holds what the view shows, under new numbers: the suspended points first, and then the live ones, each in their order.
+    /// Has the view's points, under new numbers: the suspended points first, and then the live ones, each in their order.
     Map(View &view, std::uint32_t voxel, std::uint32_t large) {
         detail::check(corv_view_renew(view.get(), voxel, large, get()));
     }
@@ -465,7 +466,7 @@ public:
         }
     }
 
-    /// Each point is held, live, under the next number.
+    /// Each point is put in, live, under the next number.
     void add(List<Point> points) { update(corv_map_add, points); }
     /// Each point takes the next number, and of its voxel's live points the one nearest to the centre stays.
     void thin(List<Point> points) { update(corv_map_thin, points); }
@@ -475,10 +476,10 @@ public:
     void suspend(List<Box> boxes) { update(corv_map_suspend, boxes); }
     /// What is suspended in the boxes is live again.
     void restore(List<Box> boxes) { update(corv_map_restore, boxes); }
-    /// What is held under a number below this one is dropped for good.
+    /// What has a number below this one is dropped for good.
     void expire(std::uint32_t number) { detail::check(corv_map_expire(get(), number)); }
 
-    /// A view of what the map holds now.
+    /// A view of the map as it is now.
     View view() {
         View view;
         detail::check(corv_map_view(get(), view.get()));
@@ -492,8 +493,8 @@ public:
         return frozen;
     }
 
-    /// Gives out a large subtree to be rebuilt, if there is one, in a slot from 1 to 4. What the slot gave out before, and isn't
-    /// swapped in yet, is given out once more, and what was built of it is stale.
+    /// Hands out a large subtree that is to be rebuilt, if there is one, under a slot from 1 to 4. Where the slot's one isn't swapped in
+    /// yet, that is handed out once more, and what was built of it is stale.
     std::optional<Job> detach(std::uint32_t slot) {
         Job job;
         auto status = corv_map_detach(get(), slot, job.handle_.get());

@@ -63,8 +63,8 @@ private:
     std::uint32_t given_ = 0;
 };
 
-/// Takes so many points in, which stand `stride` numbers apart: x, y, z, and where `intensity` is a place behind these, that. KITTI's
-/// scans are put_all(scan, numbers, count, 4, 3, 65535).
+/// Takes `count` points in, which begin `stride` numbers apart: x, y, z, and where `intensity` isn't 0, the intensity, that many numbers
+/// after x, times `scale`. KITTI's scans are put_all(scan, numbers, count, 4, 3, 65535).
 template <class Real>
 void put_all(Scan &scan, const Real *numbers, std::size_t count, std::size_t stride = 3, std::size_t intensity = 0, double scale = 1) {
     for (; count != 0; --count, numbers += stride) scan.put(numbers[0], numbers[1], numbers[2], intensity ? numbers[intensity] * scale : 0);

@@ -6,9 +6,9 @@
 //     map.thin(scan);
 //     recorder.record(map);  // after each scan, in the map's thread
 //
-// Replayed, the log leads to what the map held when it was last recorded. Questions that are put behind it, as lines, are answered as
-// the map answered them then; only how many updates there were is told otherwise, since an update of no point or box has no line, and one of
-// more than 262,144 has several.
+// Replayed, the log leads to the map as it was when it was last recorded. Questions that are put behind it, as lines, get the replies
+// that the map gave then; only the counts of updates may differ, since an update of no point or box has no line, and one of more than
+// 262,144 has several.
 #ifndef CORV_RECORDER_HPP
 #define CORV_RECORDER_HPP
 #include "map.hpp"
@@ -35,7 +35,7 @@ public:
     }
 
     /// Writes what was done to the map since it was last recorded, in whole lines, and flushes the stream. A map of fewer updates than
-    /// were written is another one, and refused with CORV_BAD_NUMBER. Where the map refuses it, or memory runs out, what isn't written yet
+    /// were written is another one, and refused with CORV_BAD_NUMBER. Where the map refuses it, or there is no memory, what isn't written yet
     /// is so the next time. Where the stream fails, it throws std::ios_base::failure, and then throws at each call until another log is
     /// begun, since it isn't known what of the last lines was written: what is behind the last line feed is to be left out when that
     /// log is read.

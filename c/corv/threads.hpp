@@ -17,7 +17,7 @@
 
 namespace corv {
 
-/// What `nearest_each` of a View or a Frozen returns, worked out on so many threads, this one among them, each with a copy of its own.
+/// What `nearest_each` of a View or a Frozen returns, worked out on `threads` threads, this one among them, each with a copy of its own.
 /// Where places are refused it is the first one's refusal that is thrown, and there are no hits.
 template <class Owner>
 void nearest_each(Owner &owner, List<Place> places, std::uint32_t k, std::optional<std::uint64_t> within, Hits &hits,
@@ -66,7 +66,7 @@ void nearest_each(Owner &owner, List<Place> places, std::uint32_t k, std::option
 }
 
 /// The newest view of a map: one thread updates the map and shows it, and any threads ask for it. None of them waits for an update, or
-/// for a search: the lock is held for as long as a view is moved or copied.
+/// for a search: the lock is taken for as long as a view is moved or copied.
 class Newest {
 public:
     explicit Newest(Map &map) : view_(map.view()) {}
