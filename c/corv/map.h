@@ -65,7 +65,7 @@ enum {
     CORV_NO_LINE = 13           /* an update can't be written as a line of a log */
 };
 
-/* Makes a map without points. Its voxels have edges of 1 to 1,000,000 mm. A subtree is large from so many nodes on, 16 to 1,000,000:
+/* Makes a map without points. Its voxels have edges of 1 to 1,000,000 mm. A subtree is large from `large` nodes on, 16 to 1,000,000:
  * updates rebuild what is smaller, and what is large waits for corv_map_detach. Where nobody calls that, take 1,000,000.
  * FULL, BAD_NUMBER, NO_MEMORY. */
 int32_t corv_map_new(uint32_t voxel, uint32_t large, corv_map *map);

@@ -11,7 +11,7 @@ from ._points import numpy
 Hit = namedtuple("Hit", "number x y z intensity squared")
 Hit.__doc__ = "A live point that was found, under its number, and its squared distance."
 Item = namedtuple("Item", "number x y z intensity suspended")
-Item.__doc__ = "A point that is held, under its number: live, or suspended."
+Item.__doc__ = "A point of the map, under its number: live, or suspended."
 Cluster = namedtuple("Cluster", "number points")
 Cluster.__doc__ = "A cluster: the least number in it, and how many points it has."
 Found = namedtuple("Found", "count first")
@@ -19,7 +19,7 @@ Found.__doc__ = "How many there are of what was looked for, and the first of the
 
 
 def blank(kind, count):
-    """Memory for so many structs, at least one: what has their address, and itself."""
+    """Memory for `count` structs, at least one: what has their address, and itself."""
     size = max(1, count) * ctypes.sizeof(kind)
     if numpy is not None:
         memory = numpy.empty(size, numpy.uint8)
@@ -34,7 +34,7 @@ class Answer:
     kind = None
 
     def _columns(self, form, at):
-        """A column of the structs, whose field begins so many bytes in."""
+        """A column of the structs, whose field begins `at` bytes in."""
         size = ctypes.sizeof(self.kind)
         if numpy is not None:
             return numpy.ndarray(self._found, form, self._memory, at, (size,))
@@ -73,7 +73,7 @@ class Answer:
 
 
 class Items(Answer):
-    """Points by their numbers: `numbers`, `points`, `intensities`, `suspended`, and `x`, `y`, `z`, one beside the other.
+    """Points by their numbers: `numbers`, `points`, `intensities`, `suspended`, and `x`, `y`, `z`, one after the other.
 
     items[i] is the i-th of them, and a loop goes through them all.
     """
@@ -117,7 +117,7 @@ class Hits(Answer):
     """The hits of places, one place's behind the other's.
 
     `counts` tells how many each place has; `numbers`, `points`, `intensities`, `squared`, and `x`, `y`, `z` are of all hits. hits[i]
-    is a list of the i-th place's. Given as `out` to a call, its memory is used again, and what its arrays held is lost.
+    is a list of the i-th place's. Given as `out` to a call, its memory is used again, and its arrays are overwritten.
     """
 
     kind = _library.Hit
@@ -128,7 +128,7 @@ class Hits(Answer):
         self._reserve(0, 1)
 
     def _reserve(self, places, k):
-        """Takes memory for the hits of so many places, unless there is enough. It has none of them yet."""
+        """Takes memory for the hits of `places` places, unless there is enough. It has none of them yet."""
         if places * k > self._room or places > self._places:
             self._room, self._places = max(1, places * k), max(1, places)
             self._address, self._memory = blank(self.kind, self._room)

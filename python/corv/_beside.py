@@ -1,4 +1,4 @@
-"""What goes beside a map, from scan to scan: a thread that rebuilds, and a file that records."""
+"""What goes with a map, from scan to scan: a thread that rebuilds, and a file that records."""
 
 from concurrent.futures import ThreadPoolExecutor
 
@@ -6,7 +6,8 @@ from ._map import Swapped
 
 
 class Rebuilder:
-    """Rebuilds what got uneven in a map, on a thread beside it: `step()` between two scans puts in place what was built.
+    """Rebuilds large subtrees of a map that got unbalanced, on a thread of its own: `step()` before and after each update puts in
+    place what was built.
 
     It changes how fast the map answers, and never what.
     """
@@ -47,7 +48,7 @@ def replayed(built):
 class Recorder:
     """Writes what happens to a map to a file that is open for bytes, as a log: by `record(map)` after each scan.
 
-    Replayed, the log leads to what the map held when it was last recorded. It has 65,536 lines at most; what would be behind these is
+    Replayed, the log leads to the map as it was when it was last recorded. It has 65,536 lines at most; what would be behind these is
     refused as TooManyUpdates, and so it is time to renew the map, and to record the new one with a recorder of its own.
     """
 

@@ -6,7 +6,7 @@ import os
 from ctypes import POINTER, byref, c_bool, c_char_p, c_int32, c_int64, c_size_t, c_uint16, c_uint32, c_uint64, c_void_p
 from pathlib import Path
 
-SERIES = "0.1"  # the library's versions that have what stands here
+SERIES = "0.1"  # the library's versions that have what is here
 
 
 class Handle(ctypes.Structure):
@@ -61,7 +61,7 @@ class Status(enum.IntEnum):
 
 
 class Error(Exception):
-    """A call was refused, and everything is as it was. Where memory ran out it is MemoryError instead."""
+    """A call was refused, and everything is as it was. Where there was no memory it is MemoryError instead."""
 
 
 class Closed(Error, ValueError):
@@ -141,7 +141,7 @@ def signatures():
 
 
 def name_of_library():
-    """The library that CORV_LIBRARY names; or the one that pip put beside the package, or tools/install below it; or the system's."""
+    """The library that CORV_LIBRARY names; or the one that pip put next to the package, or tools/install below it; or the system's."""
     here = Path(__file__).resolve()
     installed = [top / "lib/libcorv.so" for top in [*here.parents][4:5]]
     found = [str(name) for name in (here.with_name("libcorv.so"), *installed) if name.exists()]

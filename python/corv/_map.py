@@ -1,4 +1,4 @@
-"""The map and its views, and what is rebuilt beside it."""
+"""The map and its views, and its subtrees that are rebuilt while it goes on."""
 
 import ctypes
 import enum
@@ -64,7 +64,7 @@ class Searched(Owner):
     """A map, a view or a frozen index, searched for the nearest points."""
 
     def nearest(self, places, k=1, within=None, *, threads=1, out=None):
-        """The k nearest live points to each place, from 1 to 256, or all where there are fewer; no farther than so many millimetres.
+        """The k nearest live points to each place, from 1 to 256, or all where there are fewer; at most `within` millimetres away.
 
         By distance, then by x, y and z, then by number. `out` is an answer whose memory is used again.
         """
@@ -81,7 +81,7 @@ class Searched(Owner):
         return hits
 
     def _nearest(self, given, first, count, k, within, hits):
-        """Has the hits of so many places from the first on written where they have room in any case, and returns how many."""
+        """Has the hits of `count` places from the first on written where they have room in any case, and returns how many."""
         found = ctypes.c_size_t()
         at = hits._address + ctypes.sizeof(hits.kind) * first * min(k, 256)
         room = (max(1, count * min(k, 256)), hits._counts_address + 4 * first, max(1, count), byref(found))
@@ -137,7 +137,7 @@ class Asked(Searched):
             return self._list("box_items", self.count(box), most, given, unsigned(start, 32, "a number"))
 
     def ball(self, place, radius, start=0, most=None):
-        """The same of the live points at most so many millimetres from a place."""
+        """The same of the live points at most `radius` millimetres from a place."""
         given, radius, start = one_place(place), unsigned(radius, 64, "a radius"), unsigned(start, 32, "a number")
         with self._lock:
             # How many there are isn't known before: room for few is tried first, and for all that is live where they fill it.
@@ -147,7 +147,7 @@ class Asked(Searched):
             return self._list("ball_items", self.totals().live, most, given, radius, start)
 
     def _list(self, call, room, most, *words):
-        """Makes a call that writes items, of which there are so many at most, or as many as are wanted."""
+        """Makes a call that writes items, of which there are `room` at most, or as many as are wanted."""
         room = room if most is None else min(room, unsigned(most, 32, "most"))
         items, found = Items(room), ctypes.c_size_t()
         self._call(call, *words, items._address, room, byref(found))
@@ -155,11 +155,11 @@ class Asked(Searched):
         return items
 
     def lonely(self, radius, most=256):
-        """How many live points have no other live one within so many millimetres, and the first `most` of them by number, from 1 to 256."""
+        """How many live points have no other live one within `radius` mm, and the first `most` of them by number, from 1 to 256."""
         return self._found("lonely", Items(256), radius, most)
 
     def clusters(self, radius, most=256):
-        """How many clusters there are of live points, by steps of at most so many millimetres, and the first `most` of them by their
+        """How many clusters there are of live points, by steps of at most `radius` millimetres, and the first `most` of them by their
         least numbers, from 1 to 256."""
         count, clusters = self._found("clusters", Clusters(), radius, most)
         return Found(count, [Cluster(cluster.number, cluster.points) for cluster in clusters._memory[: clusters._found]])
@@ -196,7 +196,7 @@ class Frozen(Searched):
 
 
 class View(Asked):
-    """What a map held when the view was made, for a thread that asks while the map goes on."""
+    """A map as it was when the view was made, for a thread that asks while the map goes on."""
 
     _kind = "view"
 
@@ -209,7 +209,7 @@ class View(Asked):
     _another = copy
 
     def renew(self, voxel=500, large=1500):
-        """Makes a map that holds what the view shows, so that a map goes on that comes to its limits. In any thread.
+        """Makes a map of the view's points, to go on with where a map comes to its limits. In any thread.
 
         It has new numbers: the suspended points have those from 0 on, and behind them come the live ones, each kind in its order.
         """
@@ -220,10 +220,10 @@ class View(Asked):
 
 
 class Map(Asked):
-    """A map. It holds nothing at first; of the points that are thinned one stays in each voxel.
+    """A map. It has no points at first; of the points that are thinned one stays in each voxel.
 
-    Voxels have edges of 1 to 1,000,000 mm; subtrees of so many nodes, 16 to 1,000,000, are large: they are rebuilt by a Rebuilder, if
-    there is one, and by updates only where the tree comes to its bounds.
+    Voxels have edges of 1 to 1,000,000 mm. Subtrees of `large` nodes or more, 16 to 1,000,000, are rebuilt by a Rebuilder, if there is
+    one, and by updates only where the tree comes to its bounds. Without a Rebuilder take 1,000,000, or questions get slower.
     """
 
     _kind = "map"
@@ -233,7 +233,7 @@ class Map(Asked):
         check(LIBRARY.corv_map_new(unsigned(voxel, 32, "an edge"), unsigned(large, 32, "large"), self._handle))
 
     def add(self, points):
-        """Each point is held, live, under the next number."""
+        """Each point is put in, live, under the next number."""
         self._update("add", points_of(points))
 
     def thin(self, points):
@@ -253,7 +253,7 @@ class Map(Asked):
         self._update("restore", boxes_of(boxes))
 
     def expire(self, number):
-        """What is held under a number below this one is dropped for good."""
+        """What has a number below this one is dropped for good."""
         self._call("expire", unsigned(number, 32, "a number"))
 
     def _update(self, call, given):
@@ -281,7 +281,7 @@ class Map(Asked):
                 first = upto.value
 
     def view(self):
-        """A view of what the map holds now."""
+        """A view of the map as it is now."""
         view = View()
         self._call("view", view._handle)
         return view
@@ -289,7 +289,7 @@ class Map(Asked):
     _another = view
 
     def detach(self, slot=1):
-        """Gives out a large subtree to be rebuilt, in a slot from 1 to 4; None where there is none."""
+        """Hands out a large subtree that is to be rebuilt, under a slot from 1 to 4; None where there is none."""
         job = Job()
         with self._lock:
             status = LIBRARY.corv_map_detach(self._handle, unsigned(slot, 32, "a slot"), job._handle)
@@ -325,5 +325,5 @@ class Built(Owner):
     _kind = "built"
 
     def replay(self):
-        """Does what the last swap that was behind put beside it, in any thread."""
+        """Does the operations that the last swap, which was behind, handed it, in any thread."""
         self._call("replay")

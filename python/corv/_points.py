@@ -22,7 +22,7 @@ WANTED_INTENSITIES = "corv: as many intensities are wanted as there are points"
 
 
 class Memory(namedtuple("Memory", "address count keep")):
-    """So many values that stand side by side, and what keeps them there: given to a call itself, it is kept until the call is done."""
+    """Values one after the other in memory, and what keeps them there: given to a call itself, it is kept until the call is done."""
 
     _as_parameter_ = property(lambda self: self.address)
 
@@ -118,7 +118,7 @@ def is_row(value):
 
 
 class Rows:
-    """Rows of so many numbers without numpy, one behind the other."""
+    """Rows of `width` numbers without numpy, one behind the other."""
 
     def __init__(self, flat, width):
         self.flat, self.width = flat, width
@@ -207,13 +207,13 @@ def memory(rows):
 
 
 def rows(flat, width):
-    """Numbers that stand side by side, such as array.array("q"), as rows: a memoryview that the calls take."""
+    """Numbers one after the other in memory, such as array.array("q"), as rows: a memoryview that the calls take."""
     view = memoryview(flat).cast("B")
     return view.cast("q", (len(view) // (8 * width), width))
 
 
 def unsigned(number, bits, what):
-    """A whole number of so many bits; ctypes would cut it."""
+    """A whole number that fits in `bits` bits; ctypes would cut it."""
     number = operator.index(number)
     if not 0 <= number < 1 << bits:
         raise BadNumber(f"corv: {what} can't be {number}")
