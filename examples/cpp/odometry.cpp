@@ -1,11 +1,12 @@
-// Odometry's turn on the map. The points nearest to each scan's are looked up on four threads, from which odometry would work out where
-// the robot is, and then the scan is put into the map. Where many are looked up between two updates, a frozen index is searched.
-// Meanwhile another thread rebuilds what has become unbalanced.
+// What odometry does with the map, scan by scan. The points nearest to a scan's are found on four threads, from which odometry would work
+// out where the robot is, and then the scan is put into the map. Where many are searched for between two updates, a frozen index of the
+// map is searched. Meanwhile another thread rebuilds what has become unbalanced.
 //
 //     odometry < LOG > TRANSCRIPT
 //
-// A line `nears` of the log is a scan that is asked for, and a line `thin` or `add` one that is taken in. What is printed is what
-// `mapper run --serial` prints of the same log. Standard error says how long the map took, and how many rebuilt subtrees were swapped in.
+// A line `nears` of the log is a scan whose nearest points are wanted, and a line `thin` or `add` one that is put into the map. What is
+// printed is what `mapper run --serial` prints of the same log. Standard error says how long the map took, and how many rebuilt subtrees
+// were swapped in.
 #include "log.hpp"
 #include <corv/threads.hpp>
 

@@ -1,13 +1,14 @@
 // Odometry from nothing but scans, which is what the map is for. A lidar goes once round a made town. Each scan is put where it fits the
-// map best, point to plane: each of its points is asked for the 5 nearest of the map, through which a plane goes, and the pose is moved
-// until the points lie on their planes. As each scan is asked for several times, it is a frozen index of the map that is asked. Then the
-// scan is thinned into the map. At the end the way is held against the true one. How many threads ask changes the time, and no digit of
-// the way.
+// map best, point to plane: for each of its points the map's 5 nearest are found, through which a plane goes, and the pose is moved
+// until the points lie on their planes. As this is done several times for each scan, a frozen index of the map is searched. Then the
+// scan is thinned into the map. At the end the way is compared with the true one. How many threads search changes the time, and no digit
+// of the way.
 //
 //     registration [scans N] [noise MM] [threads N] [seed N] [finer N] [way FILE]
 //
-// `noise` is the lidar's. `finer` has the map count in so many parts of a millimetre, to see what whole ones cost. `way` writes each scan's
-// true place, the one found and how far they are apart, and then the map's live points, in millimetres, for examples/cpp/draw_way.
+// `noise` is the lidar's, one standard deviation. With `finer 100` the map counts in hundredths of a millimetre, to see what whole ones
+// cost. `way` writes each scan's true place, the one found and how far they are apart, and then the map's live points, in millimetres,
+// for examples/cpp/draw_way.
 #include <corv/metres.hpp>
 #include <corv/threads.hpp>
 
@@ -127,7 +128,7 @@ private:
     std::vector<Block> blocks_;
 };
 
-// What the map counts in: so many of it are a metre.
+// How many of the map's units are a metre.
 double a_metre = 1000;
 
 Vec metres(const corv::Point &point) { return {double(point.x) / a_metre, double(point.y) / a_metre, double(point.z) / a_metre}; }
@@ -179,7 +180,7 @@ private:
     double sums_[6][7] = {};
 };
 
-// A scan as it lies in the map at a pose, every so-manieth point of it.
+// A scan as it lies in the map at a pose: every `step`th point of it.
 void put(corv::Scan &scan, const std::vector<std::array<float, 3>> &points, const Pose &pose, std::size_t step) {
     scan.clear();
     for (std::size_t i = 0; i < points.size(); i += step) {
@@ -236,6 +237,7 @@ int main(int argc, char **argv) try {
     check_way();
     Town town;
     std::mt19937 draw(unsigned(std::stoul(words["seed"])));
+    // Voxels of 0.3 m. No update waits for the rebuilding of 1,500 nodes or more; as an index is searched, nothing needs them balanced.
     corv::Map map(std::uint32_t(0.3 * a_metre), 1500);
     corv::Scan scan;
     Pose before = Town::at_scan(0), now = before;

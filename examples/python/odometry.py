@@ -1,10 +1,10 @@
 #!/usr/bin/env python3
-"""Odometry's turn on the map, as examples/cpp/odometry.cpp has it: the points nearest to each scan's are looked up, and then the scan
+"""What odometry does with the map, as examples/cpp/odometry.cpp has it: the points nearest to each scan's are found, and then the scan
 is put into the map. Meanwhile a second thread rebuilds what has become unbalanced.
 
     odometry.py < LOG > TRANSCRIPT
 
-The log is read first, as arrays. What is printed is what `mapper run --serial` prints of it. How long the map took is told on
+The log is read first, as arrays. What is printed is what `mapper run --serial` prints of it. How long the map took is printed on
 standard error.
 """
 

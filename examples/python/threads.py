@@ -17,7 +17,7 @@ TURNS = 10
 
 
 def drawn(count):
-    """So many places in a box of 200 by 200 by 6 metres."""
+    """This many places in a box of 200 by 200 by 6 metres."""
     draw = random.Random(count)
     return corv.rows(array.array("q", (draw.randint(-far, far) for _ in range(count) for far in (100_000, 100_000, 3_000))), 3)
 
@@ -41,7 +41,7 @@ def timed(work):
 
 
 def together(view, places, count):
-    """Asks on so many threads, each all of the places."""
+    """Asks on this many threads, each all of the places."""
     threads = [threading.Thread(target=ask, args=(view.copy(), places)) for _ in range(count)]
     for thread in threads:
         thread.start()
