@@ -208,7 +208,7 @@ class View(Asked):
 
     _another = copy
 
-    def renew(self, voxel=500, large=1500):
+    def renew(self, voxel=500, large=1_000_000):
         """Makes a map of the view's points, to go on with where a map comes to its limits. In any thread.
 
         It has new numbers: the suspended points have those from 0 on, and behind them come the live ones, each kind in its order.
@@ -228,7 +228,7 @@ class Map(Asked):
 
     _kind = "map"
 
-    def __init__(self, voxel=500, large=1500):
+    def __init__(self, voxel=500, large=1_000_000):
         super().__init__()
         check(LIBRARY.corv_map_new(unsigned(voxel, 32, "an edge"), unsigned(large, 32, "large"), self._handle))
 
