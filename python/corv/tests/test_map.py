@@ -161,7 +161,7 @@ class Answers(unittest.TestCase):
         small.add([(1, 2, 3, 4)])
         small.delete([(0, 0, 0, 9, 9, 9)])
         text, end = small.log()
-        self.assertEqual(text.decode().split(), "ikdmap 2 voxel 500 large 1500 @1 add 1 2 3 4 @1 delete 0 0 0 9 9 9".split())
+        self.assertEqual(text.decode().split(), "ikdmap 2 voxel 500 large 1000000 @1 add 1 2 3 4 @1 delete 0 0 0 9 9 9".split())
         self.assertEqual((end, small.log(2), small.log(1).text.split()[1]), (2, (b"", 2), b"delete"))
         with self.assertRaises(corv.BadNumber):
             small.log(3)
