@@ -1,8 +1,8 @@
 //! What the lock guards. What a turn returns to be dropped is dropped once the lock is given back.
-ghost use Rattle.std.specs.Prelude.{◌≡◌, ◌≤◌, None, IfErr, IfOk, OnErr, OnOk};
+ghost use Rattle.std.specs.Prelude.{◌≡◌, ◌≤◌, None, IfErr, IfOk, IfSome, OnErr, OnOk};
 ghost use mathlib.Core.List.{IsPrefix};
 ghost use Rattle.rebuild_core.specs.Lawful.{IsLawful};
-ghost use Rattle.rebuild_core.specs.Steps.{IsFault, entered};
+ghost use Rattle.rebuild_core.specs.Steps.{IsFault, IsSettleStep, entered};
 ghost use Rattle.shown_versions.specs.Marks.{Added, Grown, IsMade};
 ghost use Rattle.published_map.specs.Answers.{Updated};
 
@@ -60,7 +60,9 @@ where
 
 impl<L: MapName> Locked<L> {
     /// `None` where it can't be shared once more.
-    pub fn version(&self) -> Option<Arc<Version>> {
+    pub fn version(&self) -> Option<Arc<Version>>
+        ensures { IfSome result (λ v. v.value ≡ self.now.state.version) }
+    {
         Arc::try_clone(self.state.version()).ok()
     }
 
@@ -124,7 +126,8 @@ impl<L: MapName> Locked<L> {
         pass: &mut Pass<L>,
         update: Update,
     ) -> (Result<u64, StateFault>, Option<Arc<Version>>)
-        ensures { Updated L.voxel result.0 pass.old pass.new update }
+        ensures updated { Updated L.voxel result.0 pass.old pass.new update }
+        ensures same { OnErr result.0 (self.new.state ≡ self.old.state) }
     {
         let former = self.version();
         let _history = self.state.history();
@@ -172,7 +175,8 @@ impl<L: MapName> Locked<L> {
         rt: &R,
         alloc: Global,
     ) -> (Result<(), NoMemory>, Option<Arc<Version>>)
-        ensures { self.new.state.history ≡ self.old.state.history }
+        ensures settled { OnOk result.0 (IsSettleStep self.old.state self.new.state) }
+        ensures same { OnErr result.0 (self.new.state ≡ self.old.state) }
     {
         let former = self.version();
         let done = match self.state.plan_settle(alloc) {
@@ -187,7 +191,8 @@ impl<L: MapName> Locked<L> {
     pub(crate) fn step<R: Wait>(&mut self, rt: &R, planned: Planned) -> Result<(), NoMemory>
         requires lawful { IsLawful (entered planned self.old.state) }
         requires none { planned.entry ≡ None }
-        ensures { self.new.state.history ≡ self.old.state.history }
+        ensures entered { OnOk result (self.new.state ≡ entered planned self.old.state) }
+        ensures same { OnErr result (self.new.state ≡ self.old.state) }
     {
         let (marks, state, writer) = (&mut self.marks, &mut self.state, &mut self.writer);
         take_step(rt, marks, state, writer, planned)?;

@@ -1,9 +1,10 @@
 //! The turns of the lock that workers take. None takes time by the number of points in a detached subtree.
-ghost use Rattle.std.specs.Prelude.{◌≡◌, ◌≤◌, true, IfErr, IfOk, IfSome};
+ghost use Rattle.std.specs.Prelude.{◌≡◌, ◌≤◌, ◌↔◌, true, IfErr, IfOk, IfSome, IsNone, OnErr, OnOk};
 ghost use Rattle.rebuild_parts.specs.Built.{CanBeDoneOn};
-ghost use Rattle.rebuild_core.specs.Desk.{IsAskCause};
+ghost use Rattle.rebuild_core.specs.Detach.{IsDetachStep, IsLogAfter, IsLogFault, IsNoDetach};
+ghost use Rattle.rebuild_core.specs.Swap.{IsNear, IsSwapStep};
 ghost use Rattle.kd_update.specs.Detached.{AreItemsOf};
-ghost use Rattle.published_map.specs.Late.{IsLateCause};
+ghost use Rattle.published_map.specs.Late.{IsLateCause, IsLateThere};
 
 use crate::locked::Locked;
 use crate::marked_subtree::{MarkedSubtree, keep_marked_subtree, marked_subtree_of};
@@ -23,6 +24,10 @@ impl<L: MapName> Locked<L> {
     ) -> Result<Option<(Snapshot, Mark<L>)>, NoMemory>
         requires slot_from { 1 ≤ slot }
         requires slot_to { slot ≤ 4 }
+        ensures none { IfOk result (λ o. IsNone o ↔ IsNoDetach slot self.old.state) }
+        ensures detached { IfOk result (λ o. IfSome o (λ r. IsDetachStep slot self.old.state r.0 self.new.state)) }
+        ensures stays { IfOk result (λ o. IsNone o → self.new.state ≡ self.old.state) }
+        // On `NoMemory` too.
         ensures history { self.new.state.history ≡ self.old.state.history }
         ensures ticket { IfOk result (λ o. IfSome o (λ r. 1 ≤ r.0.ticket)) }
         ensures mark { IfOk result (λ o. IfSome o (λ r. r.1.items ≡ r.0.items)) }
@@ -85,9 +90,12 @@ impl<L: MapName> Locked<L> {
         most: u32,
     ) -> SwapOrLate
         requires of { mark.now.items ≡ built.items }
-        ensures history { self.new.state.history ≡ self.old.state.history }
+        ensures swapped { OnOk result (IsSwapStep built self.old.state self.new.state) }
+        ensures near { OnOk result (IsNear built most self.old.state) }
 
         ensures refused { IfErr result (IsLateCause built most) }
+        ensures behind { IfErr result (IsLateThere built most self.old.state) }
+        ensures same { OnErr result (self.new.state ≡ self.old.state) }
     {
         if !self.is_known(built.ticket(), mark) {
             return Err(Late::Stale { built });
@@ -102,9 +110,10 @@ impl<L: MapName> Locked<L> {
     }
 
     pub fn log_after(&self, alloc: Global, built: &Built) -> Result<Ops, LogAsk>
+        ensures after { IfOk result (IsLogAfter built.now self.now.state) }
         ensures fit { IfOk result (CanBeDoneOn built.now) }
 
-        ensures refused { IfErr result (IsAskCause built.now) }
+        ensures refused { IfErr result (IsLogFault built.now self.now.state) }
     {
         self.state.log_after(alloc, built)
     }
