@@ -105,6 +105,45 @@ fn callers_run_beside_each_other(rt: HostRuntime) {
     holds(&rt, "the end", out.bytes().ends_with(rest.as_bytes()));
 }
 
+// It holds each caller up after its reply until all eight were replied to.
+#[derive(Drop)]
+struct AllEight {
+    replied: AtomicU64,
+    missed: AtomicBool,
+}
+
+impl Gate for AllEight {
+    fn before_build(&self, _ticket: u64) {}
+
+    fn replied(&self, _caller: u8, _index: u32) {
+        self.replied.fetch_add(1, Ordering::SeqCst);
+        for _ in 0..TURNS {
+            let is_over = self.missed.load(Ordering::SeqCst);
+            if is_over || 8 <= self.replied.load(Ordering::SeqCst) {
+                return;
+            }
+            yield_now();
+        }
+        self.missed.store(true, Ordering::SeqCst);
+    }
+}
+
+#[test]
+fn each_of_eight_callers_has_a_thread_of_its_own(rt: HostRuntime) {
+    let log = "ikdmap 1 voxel 200 large 1500\n\
+               @1 near 1 0 0 0\n@2 near 1 0 0 0\n@3 near 1 0 0 0\n@4 near 1 0 0 0\n\
+               @5 near 1 0 0 0\n@6 near 1 0 0 0\n@7 near 1 0 0 0\n@8 near 1 0 0 0\n";
+    let gate = AllEight {
+        replied: AtomicU64::new(0),
+        missed: AtomicBool::new(false),
+    };
+    let out = done(&rt, rt.alloc(), log, &gate);
+    holds(&rt, "all came", !gate.missed.load(Ordering::SeqCst));
+    let want = b"@1 near 0\n@2 near 0\n@3 near 0\n@4 near 0\n\
+                 @5 near 0\n@6 near 0\n@7 near 0\n@8 near 0\nend 0 live 0 suspended 0\n";
+    are_bytes(&rt, "the transcript", out.bytes(), want);
+}
+
 // It looks whether each command is told under the caller that the script names for it.
 #[derive(Drop)]
 struct Names {
