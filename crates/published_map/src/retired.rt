@@ -48,16 +48,8 @@ impl<L: MapName> Retired<L> {
     ) -> Option<Arc<Version>>
         ensures same { state.new ≡ state.old }
     {
-        let spent = replace(&mut self.former, former);
-        let by_update = replace(&mut self.by_update, true);
-        match spent {
-            Some(version) if by_update => {
-                state.recycle(version);
-                None
-            }
-            Some(version) => replace(&mut self.replaced, Some(version)),
-            None => None,
-        }
+        let spent = self.retire(state, former, true)?;
+        replace(&mut self.replaced, Some(spent))
     }
 
     /// As `after_update`, but a version before it that a swap or settling replaced is returned.
@@ -68,10 +60,22 @@ impl<L: MapName> Retired<L> {
     ) -> Option<Arc<Version>>
         ensures same { state.new ≡ state.old }
     {
+        self.retire(state, former, false)
+    }
+
+    // The version before `former`, unless an update replaced it and it became memory of the next.
+    fn retire(
+        &mut self,
+        state: &mut MapState,
+        former: Option<Arc<Version>>,
+        by_update: bool,
+    ) -> Option<Arc<Version>>
+        ensures same { state.new ≡ state.old }
+    {
         let spent = replace(&mut self.former, former);
-        let by_update = replace(&mut self.by_update, false);
+        let of_update = replace(&mut self.by_update, by_update);
         match spent {
-            Some(version) if by_update => {
+            Some(version) if of_update => {
                 state.recycle(version);
                 None
             }
