@@ -154,10 +154,10 @@ pub fn cubes(
     points: u32,
     draws: &mut Draws,
 ) -> Result<Cuboids, NoMemory> {
-    let scans = (points / POINTS_OF_SCAN).max(1);
+    let places = places(alloc, count, points, draws)?;
     let mut cubes = Cuboids::new(alloc);
-    for place in 0..count {
-        cubes.push(cube(&draws.point(place % scans)))?;
+    for place in places.as_slice() {
+        cubes.push(cube(place))?;
     }
     Ok(cubes)
 }
