@@ -18,6 +18,9 @@ use std::sync::ledger::Ledger;
 /// does the same.
 pub const LARGE: u32 = 1_000_000;
 
+// Done, or memory ran out.
+type Done = Result<(), NoMemory>;
+
 /// A tree whose numbers lie below the next one.
 #[derive(Drop)]
 pub struct Grown {
@@ -50,12 +53,7 @@ impl Grown {
         }
     }
 
-    fn change<L: Ledger>(
-        &mut self,
-        alloc: Global,
-        scan: &Scan,
-        steps: &mut Steps<L>,
-    ) -> Result<(), NoMemory> {
+    fn change<L: Ledger>(&mut self, alloc: Global, scan: &Scan, steps: &mut Steps<L>) -> Done {
         self.put_all(alloc, &scan.points, steps)?;
         match &scan.left {
             None => Ok(()),
@@ -64,12 +62,7 @@ impl Grown {
     }
 
     // Where too few numbers are left for all of them, none is put.
-    fn put_all<L: Ledger>(
-        &mut self,
-        alloc: Global,
-        points: &Points,
-        steps: &mut Steps<L>,
-    ) -> Result<(), NoMemory> {
+    fn put_all<L: Ledger>(&mut self, alloc: Global, points: &Points, steps: &mut Steps<L>) -> Done {
         let points = points.as_slice();
         let next = self.next;
         if points.len() > (MAX_POINTS - next) as usize {
@@ -83,12 +76,7 @@ impl Grown {
     }
 
     // Deletes what a choice chooses, as `delete` does.
-    fn delete<L: Ledger>(
-        &mut self,
-        alloc: Global,
-        choice: &Choice,
-        steps: &mut Steps<L>,
-    ) -> Result<(), NoMemory> {
+    fn delete<L: Ledger>(&mut self, alloc: Global, choice: &Choice, steps: &mut Steps<L>) -> Done {
         delete(alloc, &mut self.tree, choice, steps)
     }
 }
@@ -99,7 +87,7 @@ pub fn delete<L: Ledger>(
     tree: &mut Tree,
     choice: &Choice,
     steps: &mut Steps<L>,
-) -> Result<(), NoMemory>
+) -> Done
     ensures { (n : ℕ) → Contains (numbers tree.new) n → Contains (numbers tree.old) n }
 {
     let old = mem::replace(tree, Tree::empty());
