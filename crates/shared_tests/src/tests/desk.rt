@@ -96,9 +96,9 @@ impl<R: Wait + Abort> Trial<R> for AddedMeanwhile {
     fn run<L: MapName>(&self, at: &Site<'_, L, R>, passes: &mut [Pass<L>]) {
         let none = made(at.rt, at.shared.detach(at.rt, at.alloc, 1));
         holds(at.rt, "nothing to detach", none.is_none());
-        added(at, passes, 1, 41);
+        added(at, passes, 1..41);
         let built = first(at);
-        added(at, passes, 41, self.last);
+        added(at, passes, 41..self.last);
         if self.last < 106 {
             is_swapped(at, built);
         } else {
@@ -147,9 +147,9 @@ struct ToldMeanwhile;
 
 impl<R: Wait + Abort> Trial<R> for ToldMeanwhile {
     fn run<L: MapName>(&self, at: &Site<'_, L, R>, passes: &mut [Pass<L>]) {
-        added(at, passes, 1, 41);
+        added(at, passes, 1..41);
         let built = first(at);
-        added(at, passes, 41, 106);
+        added(at, passes, 41..106);
         let built = told(at, built);
         let done = at.shared.swap_or_log(at.rt, at.alloc, built, 0);
         holds(at.rt, "it is swapped in", done.is_ok());
@@ -185,7 +185,7 @@ fn refuse<L: MapName, R: Wait + Abort>(at: &Site<'_, L, R>, lent: Built) {
 
 impl<R: Wait + Abort> Trial<R> for Lent {
     fn run<L: MapName>(&self, at: &Site<'_, L, R>, passes: &mut [Pass<L>]) {
-        added(at, passes, 1, 41);
+        added(at, passes, 1..41);
         let mut built = self.built.lock(at.rt);
         let lent = found(at.rt, built.take());
         refuse(at, lent);
@@ -200,7 +200,7 @@ struct Lender;
 
 impl<R: Wait + Abort> Trial<R> for Lender {
     fn run<L: MapName>(&self, at: &Site<'_, L, R>, passes: &mut [Pass<L>]) {
-        added(at, passes, 2, 42);
+        added(at, passes, 2..42);
         let built = Mutex::new(Some(first(at)));
         tried(at.rt, at.alloc, 1, &Lent { built });
     }
@@ -237,14 +237,14 @@ fn renew<L: MapName>(rt: &impl Abort, passes: &mut [Pass<L>]) {
 
 impl<R: Wait + Abort> Trial<R> for KeptMeanwhile {
     fn run<L: MapName>(&self, at: &Site<'_, L, R>, passes: &mut [Pass<L>]) {
-        added(at, passes, 1, 41);
+        added(at, passes, 1..41);
         renew(at.rt, passes);
         let built = first(at);
         let near = deleted(at.rt, at.alloc, cuboid(at.rt, 10, 1, 1));
         updated(at, passes, 0, near);
         is_swapped(at, built);
         // The step after a swap is the one that drops what was before it.
-        added(at, passes, 41, 42);
+        added(at, passes, 41..42);
         let pass = found(at.rt, passes.get(1));
         assert_kept(at.rt, at.alloc, pass.version());
     }

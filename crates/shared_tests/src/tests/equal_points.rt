@@ -67,7 +67,7 @@ struct PointsInARow;
 
 impl<R: Wait + Abort> Trial<R> for PointsInARow {
     fn run<L: MapName>(&self, at: &Site<'_, L, R>, passes: &mut [Pass<L>]) {
-        added(at, passes, 1, 41);
+        added(at, passes, 1..41);
         let pass = found(at.rt, passes.get_mut(0));
         holds(at.rt, "a breach", is_breached(pass.version(), 16));
         made(at.rt, at.shared.settle(at.rt, at.alloc));

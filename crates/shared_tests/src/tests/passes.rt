@@ -48,7 +48,7 @@ fn deletes<L: MapName, R: Wait + Abort>(at: &Site<'_, L, R>, passes: &mut [Pass<
 
 impl<R: Wait + Abort> Trial<R> for TwoCallers {
     fn run<L: MapName>(&self, at: &Site<'_, L, R>, passes: &mut [Pass<L>]) {
-        same(at.rt, "the first mark", added(at, passes, 1, 2), 1);
+        same(at.rt, "the first mark", added(at, passes, 1..2), 1);
         assert!(at.rt; are_distinct(passes));
         at.shared.meet(at.rt, passes);
         assert_found(at.rt, near(at, passes, 1, 1));
@@ -89,9 +89,9 @@ fn is_renewed<L: MapName>(rt: &impl Abort, passes: &mut [Pass<L>]) {
 impl<R: Wait + Abort> Trial<R> for NewPass {
     fn run<L: MapName>(&self, at: &Site<'_, L, R>, passes: &mut [Pass<L>]) {
         assert_empty(at.rt, near(at, passes, 1, 1), 0);
-        added(at, passes, 1, 2);
+        added(at, passes, 1..2);
         is_renewed(at.rt, passes);
-        added(at, passes, 2, 3);
+        added(at, passes, 2..3);
         let reply = in_box(at, passes, 1);
         same(at.rt, "the mark", reply.mark, 2);
         same(at.rt, "the count", reply.count, 2);

@@ -61,7 +61,7 @@ fn too_many(rt: &impl Abort, alloc: Global) -> Update {
 
 impl<R: Wait + Abort> Trial<R> for TooMany {
     fn run<L: MapName>(&self, at: &Site<'_, L, R>, passes: &mut [Pass<L>]) {
-        added(at, passes, 1, 2);
+        added(at, passes, 1..2);
         let pass = found(at.rt, passes.get_mut(1));
         let points = too_many(at.rt, at.alloc);
         let answer = at.shared.update(at.rt, at.alloc, pass, points);

@@ -1,20 +1,16 @@
 //! What a worker asks of a map that counts and refuses, and of one that grows.
 ghost use Rattle.std.specs.Prelude.{◌≡◌, ◌≤◌, IfErr};
-ghost use Rattle.kd_tree.specs.Counter.{IsBlankOf};
 ghost use Rattle.rebuild_core.specs.Desk.{IsSwapCause};
 
 use crate::tests::assertions::{found, holds, made, same};
 use crate::tests::unbalanced::{add, with_forty, with_two_breaches};
-use kd_tree::Steps;
 use map_fold::{NoMemory, Ops, Points, Settings};
 use point_geom::Point;
 use rebuild_core::{Built, Desk, Job, LogAsk, MapState, StateFault, SwapFault, SwapLeft};
 use rebuild_worker::{Bell, CountDesk, FreeGate, Gate, HoldGate, pair, work};
 use std::alloc::Global;
-use std::marker::Brand;
 use std::process::Abort;
 use std::sync::atomic::{AtomicU64, Ordering};
-use std::sync::ledger::{Blank, Ledger};
 use std::sync::{Mutex, Wait};
 use std::thread::{Threads, join, sleep};
 use std::time::{Clock, Duration};
@@ -175,7 +171,7 @@ impl Desk for BusyDesk {
             let fault = SwapFault::NoMemory;
             return Err(SwapLeft { built, fault });
         }
-        busy.swapped::<Brand>(Blank::new(1), alloc, built, force)
+        busy.swapped(alloc, built, force)
     }
 }
 
@@ -198,19 +194,11 @@ impl Busy {
     }
 
     // Swaps the value in, or notes how many operations it was behind.
-    fn swapped<L: Ledger>(
-        &mut self,
-        blank: Blank,
-        alloc: Global,
-        built: Built,
-        force: bool,
-    ) -> Result<(), SwapLeft>
-        requires blank { IsBlankOf L.name L.parts blank }
+    fn swapped(&mut self, alloc: Global, built: Built, force: bool) -> Done<SwapLeft>
         ensures handed_back { IfErr result (λ l. l.built ≡ built) }
         ensures refused { IfErr result (λ l. IsSwapCause built force l.fault) }
     {
-        let mut steps: Steps<L> = Steps::new(blank);
-        let Err(swap) = self.state.swap(alloc, built, force, &mut steps) else {
+        let Err(swap) = self.state.swap_uncounted(alloc, built, force) else {
             return Ok(());
         };
         if let SwapFault::Behind { left } = swap.fault {

@@ -11,6 +11,7 @@ use published_map::{Ended, MapName, Opened, Pass, Shared};
 use rebuild_core::MapState;
 use std::alloc::Global;
 use std::marker::Brand;
+use std::ops::Range;
 use std::process::Abort;
 use std::sync::Wait;
 use std::sync::ledger::Blank;
@@ -106,14 +107,13 @@ pub fn updated<L: MapName, R: Wait + Abort>(
     made(at.rt, at.shared.update(at.rt, at.alloc, pass, update))
 }
 
-// The first caller adds the points (x, 0, 0), from the first on and before the last.
+// The first caller adds the points (x, 0, 0).
 pub fn added<L: MapName, R: Wait + Abort>(
     at: &Site<'_, L, R>,
     passes: &mut [Pass<L>],
-    first: i64,
-    last: i64,
+    xs: Range<i64>,
 ) -> u64 {
-    let points = row(at.rt, at.alloc, first, last);
+    let points = row(at.rt, at.alloc, xs.start, xs.end);
     updated(at, passes, 0, points)
 }
 
