@@ -1,5 +1,6 @@
 // The work of `mapper drive N` in plain Rust: generated scans are thinned into a tree and asked for, and what is left behind
-// is deleted.
+// is deleted. Where nodes are shared by versions, the version before each update is held during it.
+use crate::pointers::held;
 use crate::{live_of, near, Draws, Hit, Map, KEEP, POINTS_OF_SCAN};
 
 const WITHIN: u128 = 2_000;
@@ -20,6 +21,7 @@ pub fn summary(scans: u32) -> String {
         map.thin(&points);
         hits += near_robot(&map, scan, u128::MAX) + near_robot(&map, scan, WITHIN * WITHIN);
         if scan % 10 == 9 {
+            let _before = held(&map.tree);
             map.leave(scan);
         }
     }

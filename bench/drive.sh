@@ -1,5 +1,6 @@
 #!/usr/bin/env bash
-# How long the program takes for generated scans, and the most memory that it holds at a time, beside a plain tree.
+# How long the program takes for generated scans, and the most memory that it holds at a time, beside a plain tree, changed in
+# place, and beside the same tree with nodes that versions share.
 #
 #   bench/drive.sh [PROGRAM]
 #
@@ -15,6 +16,7 @@ program=$(realpath "${1:-$here/../crates/mapper_cli/out/mapper_cli}")
 folder=$(mktemp -d)
 trap 'rm -rf "$folder"' EXIT
 rustc --edition 2021 -O -o "$folder/plain" "$here/plain.rs"
+rustc --edition 2021 -O --cfg shared -o "$folder/versions" "$here/plain.rs"
 
 # Runs a command three times on a file and prints the row: measure NAME FILE COMMAND..
 measure() {
@@ -39,8 +41,10 @@ printf '%-22s %9s %9s\n' words seconds MB
 for scans in ${DRIVES:-20 60 200}; do
     measure "drive $scans" /dev/null "$program" drive "$scans"
     cp "$folder/out" "$folder/drive$scans"
-    measure '  plain' /dev/null "$folder/plain" drive "$scans" 0
-    cmp "$folder/out" "$folder/drive$scans"
+    for tree in plain versions; do
+        measure "  $tree" /dev/null "$folder/$tree" drive "$scans" 0
+        cmp "$folder/out" "$folder/drive$scans"
+    done
 done
 for scans in ${LOGS:-200}; do
     measure "make $scans" /dev/null "$program" make "$scans"
