@@ -54,8 +54,8 @@ private:
     int swapped_ = 0;
 };
 
-// Queries between two updates. Freezing the map costs about what is saved by then searching an index for one place in four points: so
-// an index is made once that many places were searched for, as while a scan's pose is found.
+// Queries between two updates. Freezing the map costs about what is saved by then searching an index for one place for each two to four
+// points: so an index is made once one place for each four points was searched for, as while a scan's pose is found.
 class Questions {
 public:
     explicit Questions(corv::Map &map) : map_(map) {}
