@@ -2,10 +2,9 @@
 ghost use Rattle.std.specs.Prelude.{length};
 ghost use Rattle.map_c.specs.Answers.{AreTold, IsCount, IsCountRefusal, IsInside, IsInsideRefusal, IsNearest, IsNearestEach, IsNearestEachRefusal, IsNearestRefusal, IsTold, items_in};
 
+use crate::handles::macros::ask;
 use crate::searching::{search, search_each};
-use crate::{
-    Bounds, DONE, Handle, Hit, Item, Place, Refusal, Totals, count_in_box, list, totals_of,
-};
+use crate::{Bounds, DONE, Handle, Hit, Item, Place, Totals, count_in_box, list, totals_of};
 use std::alloc::Global;
 
 /// Writes the k nearest live points, the nearest first, and how many they are.
@@ -24,18 +23,10 @@ pub extern "C" fn corv_map_nearest(
         map.old.held.content map.new.held.content count.new result }
 {
     *count = 0;
-    let Some(content) = map.take(alloc) else {
-        return Refusal::Empty.status();
-    };
-    let found = search(alloc, &content, place, k, within, hits);
-    *map = Handle::of(content);
-    match found {
-        Err(refusal) => refusal.status(),
-        Ok(n) => {
-            *count = n;
-            DONE
-        }
-    }
+    *count = ask!(alloc, map, |content| {
+        search(alloc, &content, place, k, within, hits)
+    });
+    DONE
 }
 
 /// `corv_map_nearest` for each place: the first place's hits, and right after them the next one's, with how many each place has.
@@ -55,18 +46,10 @@ pub extern "C" fn corv_map_nearest_each(
         map.old.held.content map.new.held.content count.new result }
 {
     *count = 0;
-    let Some(content) = map.take(alloc) else {
-        return Refusal::Empty.status();
-    };
-    let found = search_each(alloc, &content, places, k, within, hits, counts);
-    *map = Handle::of(content);
-    match found {
-        Err(refusal) => refusal.status(),
-        Ok(n) => {
-            *count = n;
-            DONE
-        }
-    }
+    *count = ask!(alloc, map, |content| {
+        search_each(alloc, &content, places, k, within, hits, counts)
+    });
+    DONE
 }
 
 /// Counts the live points in a box.
@@ -81,18 +64,8 @@ pub extern "C" fn corv_map_count(
         map.old.held.content map.new.held.content live.new result }
 {
     *live = 0;
-    let Some(content) = map.take(alloc) else {
-        return Refusal::Empty.status();
-    };
-    let counted = count_in_box(&content, bounds);
-    *map = Handle::of(content);
-    match counted {
-        Err(refusal) => refusal.status(),
-        Ok(n) => {
-            *live = n;
-            DONE
-        }
-    }
+    *live = ask!(alloc, map, |content| count_in_box(&content, bounds));
+    DONE
 }
 
 /// Writes the live points in a box by number, the first `most` where there are more, and how many they are.
@@ -110,18 +83,10 @@ pub extern "C" fn corv_map_inside(
         map.old.held.content map.new.held.content count.new result }
 {
     *count = 0;
-    let Some(content) = map.take(alloc) else {
-        return Refusal::Empty.status();
-    };
-    let listed = list(alloc, &content, bounds, most, items);
-    *map = Handle::of(content);
-    match listed {
-        Err(refusal) => refusal.status(),
-        Ok(n) => {
-            *count = n;
-            DONE
-        }
-    }
+    *count = ask!(alloc, map, |content| {
+        list(alloc, &content, bounds, most, items)
+    });
+    DONE
 }
 
 /// How many updates there were, how many points, and how many of those are live and suspended.
@@ -129,16 +94,6 @@ pub extern "C" fn corv_map_inside(
 pub extern "C" fn corv_map_totals(alloc: Global, map: &mut Handle, totals: &mut Totals) -> i32
     ensures { AreTold map.old.held.content map.new.held.content totals.new result }
 {
-    let Some(content) = map.take(alloc) else {
-        return Refusal::Empty.status();
-    };
-    let told = totals_of(&content);
-    *map = Handle::of(content);
-    match told {
-        None => Refusal::Empty.status(),
-        Some(told) => {
-            *totals = told;
-            DONE
-        }
-    }
+    *totals = ask!(alloc, map, |content| totals_of(&content));
+    DONE
 }

@@ -4,6 +4,7 @@ ghost use Rattle.map_c.specs.Answers.{IsTold};
 ghost use Rattle.map_c.specs.Status.{code};
 ghost use Rattle.map_c.specs.Balls.{IsBall, IsBallAsked, IsBallRefusal};
 
+use crate::handles::macros::ask;
 use crate::handles::writing::write_items;
 use crate::{Content, DONE, Handle, Item, Place, Refusal, read_place, shown};
 use map_fold::{MAX_FOUND, MAX_WITHIN};
@@ -27,18 +28,10 @@ pub extern "C" fn corv_map_ball(
         map.old.held.content map.new.held.content count.new result }
 {
     *count = 0;
-    let Some(content) = map.take(alloc) else {
-        return Refusal::Empty.status();
-    };
-    let found = list_ball(alloc, &content, place, r, most, items);
-    *map = Handle::of(content);
-    match found {
-        Err(refusal) => refusal.status(),
-        Ok(n) => {
-            *count = n;
-            DONE
-        }
-    }
+    *count = ask!(alloc, map, |content| {
+        list_ball(alloc, &content, place, r, most, items)
+    });
+    DONE
 }
 
 /// `corv_map_ball`, on a view.

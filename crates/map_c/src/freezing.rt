@@ -5,6 +5,7 @@ ghost use Rattle.map_c.specs.Frozen.{IsCopyOf, IsCopyRefusal, IsFrozen, IsFrozen
 ghost use Rattle.map_c.specs.Status.{code};
 ghost use Rattle.map_c.specs.declared.handles.content.Content.TheVariants as is;
 
+use crate::handles::macros::ask;
 use crate::searching::{search_each_frozen, search_frozen};
 use crate::{Content, DONE, Handle, Hit, Index, Place, Refusal, boxed, frozen_index, shown};
 use kd_frozen::Frozen;
@@ -23,18 +24,8 @@ pub extern "C" fn corv_map_freeze(alloc: Global, map: &mut Handle, frozen: &mut 
     if !frozen.is_empty() {
         return Refusal::Full.status();
     }
-    let Some(content) = map.take(alloc) else {
-        return Refusal::Empty.status();
-    };
-    let made = index_of(alloc, &content);
-    *map = Handle::of(content);
-    match made {
-        Err(refusal) => refusal.status(),
-        Ok(index) => {
-            *frozen = Handle::of(index);
-            DONE
-        }
-    }
+    *frozen = Handle::of(ask!(alloc, map, |content| index_of(alloc, &content)));
+    DONE
 }
 
 fn index_of(alloc: Global, content: &Content) -> Result<Box<Content>, Refusal>
@@ -75,18 +66,8 @@ pub extern "C" fn corv_frozen_copy(alloc: Global, frozen: &mut Handle, copy: &mu
     if !copy.is_empty() {
         return Refusal::Full.status();
     }
-    let Some(content) = frozen.take(alloc) else {
-        return Refusal::Empty.status();
-    };
-    let made = copy_of(alloc, &content);
-    *frozen = Handle::of(content);
-    match made {
-        Err(refusal) => refusal.status(),
-        Ok(index) => {
-            *copy = Handle::of(index);
-            DONE
-        }
-    }
+    *copy = Handle::of(ask!(alloc, frozen, |content| copy_of(alloc, &content)));
+    DONE
 }
 
 fn copy_of(alloc: Global, content: &Content) -> Result<Box<Content>, Refusal>
@@ -130,18 +111,10 @@ pub extern "C" fn corv_frozen_nearest(
         frozen.old.held.content frozen.new.held.content count.new result }
 {
     *count = 0;
-    let Some(content) = frozen.take(alloc) else {
-        return Refusal::Empty.status();
-    };
-    let found = search_frozen(alloc, &content, place, k, within, hits);
-    *frozen = Handle::of(content);
-    match found {
-        Err(refusal) => refusal.status(),
-        Ok(n) => {
-            *count = n;
-            DONE
-        }
-    }
+    *count = ask!(alloc, frozen, |content| {
+        search_frozen(alloc, &content, place, k, within, hits)
+    });
+    DONE
 }
 
 /// As of a map.
@@ -161,16 +134,8 @@ pub extern "C" fn corv_frozen_nearest_each(
         frozen.old.held.content frozen.new.held.content count.new result }
 {
     *count = 0;
-    let Some(content) = frozen.take(alloc) else {
-        return Refusal::Empty.status();
-    };
-    let found = search_each_frozen(alloc, &content, places, k, within, hits, counts);
-    *frozen = Handle::of(content);
-    match found {
-        Err(refusal) => refusal.status(),
-        Ok(n) => {
-            *count = n;
-            DONE
-        }
-    }
+    *count = ask!(alloc, frozen, |content| {
+        search_each_frozen(alloc, &content, places, k, within, hits, counts)
+    });
+    DONE
 }

@@ -6,6 +6,7 @@ pub(crate) mod detached_job;
 pub(crate) mod forms;
 pub(crate) mod handle;
 pub(crate) mod listing;
+pub(crate) mod macros;
 pub(crate) mod parts;
 pub(crate) mod raw_content;
 pub(crate) mod reading;

@@ -5,6 +5,7 @@ ghost use Rattle.map_c.specs.Neighbours.{AreClusters, AreClustersRefusal, AreLon
 ghost use Rattle.map_c.specs.Status.{code, done};
 
 use crate::balls::is_asked;
+use crate::handles::macros::ask;
 use crate::handles::writing::write_items;
 use crate::{Cluster, Content, DONE, Handle, Item, Refusal, shown};
 use map_fold::Group;
@@ -37,19 +38,12 @@ pub extern "C" fn corv_map_lonely(
 {
     *found = 0;
     *count = 0;
-    let Some(content) = map.take(alloc) else {
-        return Refusal::Empty.status();
-    };
-    let listed = list_lonely(alloc, &content, r, most, items);
-    *map = Handle::of(content);
-    match listed {
-        Err(refusal) => refusal.status(),
-        Ok(listed) => {
-            *found = listed.found;
-            *count = listed.count;
-            DONE
-        }
-    }
+    let listed = ask!(alloc, map, |content| {
+        list_lonely(alloc, &content, r, most, items)
+    });
+    *found = listed.found;
+    *count = listed.count;
+    DONE
 }
 
 fn list_lonely(
@@ -117,19 +111,12 @@ pub extern "C" fn corv_map_clusters(
 {
     *found = 0;
     *count = 0;
-    let Some(content) = map.take(alloc) else {
-        return Refusal::Empty.status();
-    };
-    let listed = list_clusters(alloc, &content, r, most, groups);
-    *map = Handle::of(content);
-    match listed {
-        Err(refusal) => refusal.status(),
-        Ok(listed) => {
-            *found = listed.found;
-            *count = listed.count;
-            DONE
-        }
-    }
+    let listed = ask!(alloc, map, |content| {
+        list_clusters(alloc, &content, r, most, groups)
+    });
+    *found = listed.found;
+    *count = listed.count;
+    DONE
 }
 
 fn list_clusters(

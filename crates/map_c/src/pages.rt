@@ -4,6 +4,7 @@ ghost use Rattle.map_c.specs.Answers.{IsTold};
 ghost use Rattle.map_c.specs.Pages.{IsBallPage, IsBallPageRefusal, IsBoxPage, IsBoxPageRefusal, IsPage, IsPageRefusal};
 ghost use Rattle.map_c.specs.Status.{code};
 
+use crate::handles::macros::ask;
 use crate::handles::reading::read_box;
 use crate::handles::writing::write_items;
 use crate::{Bounds, Content, DONE, Handle, Item, Place, Refusal, read_place, shown};
@@ -25,18 +26,10 @@ pub extern "C" fn corv_map_items(
         map.old.held.content map.new.held.content count.new result }
 {
     *count = 0;
-    let Some(content) = map.take(alloc) else {
-        return Refusal::Empty.status();
-    };
-    let listed = list_items(alloc, &content, from, items);
-    *map = Handle::of(content);
-    match listed {
-        Err(refusal) => refusal.status(),
-        Ok(n) => {
-            *count = n;
-            DONE
-        }
-    }
+    *count = ask!(alloc, map, |content| {
+        list_items(alloc, &content, from, items)
+    });
+    DONE
 }
 
 fn list_items(
@@ -87,18 +80,10 @@ pub extern "C" fn corv_map_box_items(
         map.old.held.content map.new.held.content count.new result }
 {
     *count = 0;
-    let Some(content) = map.take(alloc) else {
-        return Refusal::Empty.status();
-    };
-    let listed = list_box(alloc, &content, bounds, from, items);
-    *map = Handle::of(content);
-    match listed {
-        Err(refusal) => refusal.status(),
-        Ok(n) => {
-            *count = n;
-            DONE
-        }
-    }
+    *count = ask!(alloc, map, |content| {
+        list_box(alloc, &content, bounds, from, items)
+    });
+    DONE
 }
 
 fn list_box(
@@ -154,18 +139,10 @@ pub extern "C" fn corv_map_ball_items(
         map.old.held.content map.new.held.content count.new result }
 {
     *count = 0;
-    let Some(content) = map.take(alloc) else {
-        return Refusal::Empty.status();
-    };
-    let listed = list_ball(alloc, &content, place, r, from, items);
-    *map = Handle::of(content);
-    match listed {
-        Err(refusal) => refusal.status(),
-        Ok(n) => {
-            *count = n;
-            DONE
-        }
-    }
+    *count = ask!(alloc, map, |content| {
+        list_ball(alloc, &content, place, r, from, items)
+    });
+    DONE
 }
 
 fn list_ball(

@@ -4,6 +4,7 @@ ghost use Rattle.map_c.specs.Regions.{AreRightRules, IsBegun, IsBeginRefusal, Is
 ghost use Rattle.map_c.specs.Status.{code, done};
 ghost use Rattle.map_c.specs.declared.handles.refusal.Refusal.TheVariants.{BadNumber};
 
+use crate::handles::macros::or_status;
 use crate::{Bounds, DONE, Place, Refusal, Region, read_place};
 use local_region::RegionRules;
 use point_geom::{Corner, Cuboid};
@@ -23,13 +24,8 @@ pub extern "C" fn corv_region_begin(
     ensures refused { result ≢ done → IsBeginRefusal side ball step place.now result }
     ensures same { result ≢ done → region.new ≡ region.old }
 {
-    match begun(side, ball, step, place) {
-        Err(refusal) => refusal.status(),
-        Ok(begun) => {
-            *region = begun;
-            DONE
-        }
-    }
+    *region = or_status!(begun(side, ball, step, place));
+    DONE
 }
 
 fn begun(side: u64, ball: u64, step: u64, place: &Place) -> Result<Region, Refusal>
@@ -57,14 +53,10 @@ pub extern "C" fn corv_region_move(
     ensures same { result ≢ done → region.new ≡ region.old }
 {
     *count = 0;
-    match moved(alloc, region, place, boxes) {
-        Err(refusal) => refusal.status(),
-        Ok(to) => {
-            *region = to.region;
-            *count = to.count;
-            DONE
-        }
-    }
+    let to = or_status!(moved(alloc, region, place, boxes));
+    *region = to.region;
+    *count = to.count;
+    DONE
 }
 
 /// Where a region is after a move, and how many boxes left it.

@@ -4,6 +4,7 @@ ghost use Rattle.map_items.specs.Sizes.{AreSizes};
 ghost use Rattle.map_c.specs.Renewal.{IsRenewRefusal, IsRenewed, IsRenewedOf};
 ghost use Rattle.map_c.specs.Status.{code, done};
 
+use crate::handles::macros::ask;
 use crate::{Content, DONE, Handle, Map, Refusal, boxed, shown};
 use map_fold::{NoMemory, Settings};
 use map_renewal::renewed;
@@ -29,18 +30,10 @@ pub extern "C" fn corv_view_renew(
     if !map.is_empty() {
         return Refusal::Full.status();
     }
-    let Some(content) = view.take(alloc) else {
-        return Refusal::Empty.status();
-    };
-    let made = renewed_from(alloc, &content, voxel, large);
-    *view = Handle::of(content);
-    match made {
-        Err(refusal) => refusal.status(),
-        Ok(made) => {
-            *map = Handle::of(made);
-            DONE
-        }
-    }
+    *map = Handle::of(ask!(alloc, view, |content| {
+        renewed_from(alloc, &content, voxel, large)
+    }));
+    DONE
 }
 
 fn renewed_from(

@@ -5,6 +5,7 @@ ghost use Rattle.map_c.specs.Forms.{boxes_at, points_at};
 ghost use Rattle.map_c.specs.Maps.{IsAnswer, IsBoxesAnswer, IsUpdated, IsPointsAnswer, IsUpdateRefusal};
 ghost use Rattle.map_c.specs.Status.{code};
 
+use crate::handles::macros::or_status;
 use crate::{Bounds, Content, Handle, Point, Refusal, read_boxes, read_points, status_of};
 use map_fold::Update;
 use std::alloc::Global;
@@ -17,10 +18,8 @@ pub extern "C" fn corv_map_add(alloc: Global, map: &mut Handle, all: &[Point]) -
     if map.is_empty() {
         return Refusal::Empty.status();
     }
-    match read_points(alloc, all) {
-        Err(refusal) => refusal.status(),
-        Ok(points) => updated(alloc, map, Update::Add(points)),
-    }
+    let points = or_status!(read_points(alloc, all));
+    updated(alloc, map, Update::Add(points))
 }
 
 /// Adds points, and keeps of each one's voxel the one nearest to its centre.
@@ -31,10 +30,8 @@ pub extern "C" fn corv_map_thin(alloc: Global, map: &mut Handle, all: &[Point]) 
     if map.is_empty() {
         return Refusal::Empty.status();
     }
-    match read_points(alloc, all) {
-        Err(refusal) => refusal.status(),
-        Ok(points) => updated(alloc, map, Update::Thin(points)),
-    }
+    let points = or_status!(read_points(alloc, all));
+    updated(alloc, map, Update::Thin(points))
 }
 
 /// Drops for good what is in each box.
@@ -45,10 +42,8 @@ pub extern "C" fn corv_map_delete(alloc: Global, map: &mut Handle, boxes: &[Boun
     if map.is_empty() {
         return Refusal::Empty.status();
     }
-    match read_boxes(alloc, boxes) {
-        Err(refusal) => refusal.status(),
-        Ok(boxes) => updated(alloc, map, Update::Delete(boxes)),
-    }
+    let boxes = or_status!(read_boxes(alloc, boxes));
+    updated(alloc, map, Update::Delete(boxes))
 }
 
 /// Hides what is live in each box.
@@ -59,10 +54,8 @@ pub extern "C" fn corv_map_suspend(alloc: Global, map: &mut Handle, boxes: &[Bou
     if map.is_empty() {
         return Refusal::Empty.status();
     }
-    match read_boxes(alloc, boxes) {
-        Err(refusal) => refusal.status(),
-        Ok(boxes) => updated(alloc, map, Update::Suspend(boxes)),
-    }
+    let boxes = or_status!(read_boxes(alloc, boxes));
+    updated(alloc, map, Update::Suspend(boxes))
 }
 
 /// Shows again what was hidden in each box.
@@ -73,10 +66,8 @@ pub extern "C" fn corv_map_restore(alloc: Global, map: &mut Handle, boxes: &[Bou
     if map.is_empty() {
         return Refusal::Empty.status();
     }
-    match read_boxes(alloc, boxes) {
-        Err(refusal) => refusal.status(),
-        Ok(boxes) => updated(alloc, map, Update::Restore(boxes)),
-    }
+    let boxes = or_status!(read_boxes(alloc, boxes));
+    updated(alloc, map, Update::Restore(boxes))
 }
 
 /// Drops for good what is held under a number below this one.

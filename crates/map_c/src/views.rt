@@ -7,6 +7,7 @@ ghost use Rattle.map_c.specs.declared.handles.content.Content.TheVariants as is;
 use crate::asking::{
     corv_map_count, corv_map_inside, corv_map_nearest, corv_map_nearest_each, corv_map_totals,
 };
+use crate::handles::macros::ask;
 use crate::{Bounds, Content, DONE, Handle, Hit, Item, Place, Refusal, Totals, View, boxed, shown};
 use map_fold::NoMemory;
 use rebuild_core::Version;
@@ -21,18 +22,8 @@ pub extern "C" fn corv_map_view(alloc: Global, map: &mut Handle, view: &mut Hand
     if !view.is_empty() {
         return Refusal::Full.status();
     }
-    let Some(content) = map.take(alloc) else {
-        return Refusal::Empty.status();
-    };
-    let made = view_of(alloc, &content);
-    *map = Handle::of(content);
-    match made {
-        Err(refusal) => refusal.status(),
-        Ok(seen) => {
-            *view = Handle::of(seen);
-            DONE
-        }
-    }
+    *view = Handle::of(ask!(alloc, map, |content| view_of(alloc, &content)));
+    DONE
 }
 
 fn view_of(alloc: Global, content: &Content) -> Result<Box<Content>, Refusal>

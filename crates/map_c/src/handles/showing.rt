@@ -1,10 +1,12 @@
 //! What a handle shows: its map as it is now, or its view; and the frozen index that it holds.
-ghost use Rattle.std.specs.Prelude.{◌≡◌, IfSome, IsNone, None, Some};
-ghost use Rattle.map_c.specs.Answers.{AreTotals, shown_in};
+ghost use Rattle.std.specs.Prelude.{◌≡◌, IfErr, IfOk, IfSome, IsNone, None, Some};
+ghost use Rattle.map_c.specs.Answers.{AreTotals, IsTotalsRefusal, shown_in};
 ghost use Rattle.map_c.specs.Frozen.{frozen_in};
+ghost use Rattle.map_c.specs.Status.{code};
 
 use crate::handles::content::Content;
 use crate::handles::forms::Totals;
+use crate::handles::refusal::Refusal;
 use kd_frozen::Frozen;
 use rebuild_core::Version;
 use std::sync::Arc;
@@ -39,14 +41,16 @@ pub fn frozen_index(content: &Content) -> Option<&Arc<Frozen>>
     }
 }
 
-/// How much there is of it.
-pub fn totals_of(content: &Content) -> Option<Totals>
-    ensures some { IfSome result (AreTotals (Some content.now)) }
-    ensures none { IsNone result → shown_in (Some content.now) ≡ None }
+/// How much there is of what is shown.
+pub fn totals_of(content: &Content) -> Result<Totals, Refusal>
+    ensures totals { IfOk result (AreTotals (Some content.now)) }
+    ensures refused { IfErr result (λ r. IsTotalsRefusal (Some content.now) (code r)) }
 {
-    let version = shown(content)?;
+    let Some(version) = shown(content) else {
+        return Err(Refusal::Empty);
+    };
     let counts = version.counts();
-    Some(Totals {
+    Ok(Totals {
         updates: version.len(),
         points: version.next(),
         live: counts.live,
