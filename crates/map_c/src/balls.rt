@@ -63,9 +63,7 @@ fn list_ball(
     ensures found { IfOk result (IsBall (Some content.now) place.now r most items.new) }
     ensures refused { IfErr result (λ c. IsBallRefusal (Some content.now) place.now r most (length items.old) (code c)) }
 {
-    let Some(version) = shown(content) else {
-        return Err(Refusal::Empty);
-    };
+    let version = shown(content)?;
     if !is_asked(r, most) {
         return Err(Refusal::BadNumber);
     }

@@ -32,10 +32,8 @@ fn index_of(alloc: Global, content: &Content) -> Result<Box<Content>, Refusal>
     ensures made { IfOk result (λ index. IsFrozen (Some content.now) (Some index.value)) }
     ensures refused { IfErr result (λ r. IsViewRefusal (Some content.now) None (code r)) }
 {
-    match shown(content) {
-        None => Err(Refusal::Empty),
-        Some(version) => Ok(made_of(alloc, version)?),
-    }
+    let version = shown(content)?;
+    Ok(made_of(alloc, version)?)
 }
 
 fn made_of(alloc: Global, version: &Version) -> Result<Box<Content>, NoMemory>
@@ -74,10 +72,8 @@ fn copy_of(alloc: Global, content: &Content) -> Result<Box<Content>, Refusal>
     ensures made { IfOk result (λ copy. IsCopyOf (Some content.now) (Some copy.value)) }
     ensures refused { IfErr result (λ r. IsCopyRefusal (Some content.now) None (code r)) }
 {
-    match frozen_index(content) {
-        None => Err(Refusal::Empty),
-        Some(frozen) => Ok(shared(alloc, frozen)?),
-    }
+    let frozen = frozen_index(content)?;
+    Ok(shared(alloc, frozen)?)
 }
 
 fn shared(alloc: Global, frozen: &Arc<Frozen>) -> Result<Box<Content>, NoMemory>

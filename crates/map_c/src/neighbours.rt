@@ -56,9 +56,7 @@ fn list_lonely(
     ensures found { IfOk result (λ l. AreLonely (Some content.now) r most l.found items.new l.count) }
     ensures refused { IfErr result (λ c. AreLonelyRefusal (Some content.now) r most (length items.old) (code c)) }
 {
-    let Some(version) = shown(content) else {
-        return Err(Refusal::Empty);
-    };
+    let version = shown(content)?;
     if !is_asked(r, most) {
         return Err(Refusal::BadNumber);
     }
@@ -129,9 +127,7 @@ fn list_clusters(
     ensures found { IfOk result (λ l. AreClusters (Some content.now) r most l.found groups.new l.count) }
     ensures refused { IfErr result (λ c. AreClustersRefusal (Some content.now) r most (length groups.old) (code c)) }
 {
-    let Some(version) = shown(content) else {
-        return Err(Refusal::Empty);
-    };
+    let version = shown(content)?;
     if !is_asked(r, most) {
         return Err(Refusal::BadNumber);
     }

@@ -41,9 +41,7 @@ fn list_items(
     ensures found { IfOk result (IsPage (Some content.now) from items.new) }
     ensures refused { IfErr result (λ r. IsPageRefusal (Some content.now) (code r)) }
 {
-    let Some(version) = shown(content) else {
-        return Err(Refusal::Empty);
-    };
+    let version = shown(content)?;
     let found = items_from(alloc, version.tree(), from, items.len())?;
     write_items(found.as_slice(), items);
     Ok(found.len())
@@ -96,9 +94,7 @@ fn list_box(
     ensures found { IfOk result (IsBoxPage (Some content.now) bounds.now from items.new) }
     ensures refused { IfErr result (λ r. IsBoxPageRefusal (Some content.now) bounds.now (code r)) }
 {
-    let Some(version) = shown(content) else {
-        return Err(Refusal::Empty);
-    };
+    let version = shown(content)?;
     let cuboid = read_box(bounds)?;
     let found = box_items(alloc, version.tree(), &cuboid, from, items.len())?;
     write_items(found.as_slice(), items);
@@ -156,9 +152,7 @@ fn list_ball(
     ensures found { IfOk result (IsBallPage (Some content.now) place.now r from items.new) }
     ensures refused { IfErr result (λ c. IsBallPageRefusal (Some content.now) place.now r (code c)) }
 {
-    let Some(version) = shown(content) else {
-        return Err(Refusal::Empty);
-    };
+    let version = shown(content)?;
     if MAX_WITHIN < r {
         return Err(Refusal::BadNumber);
     }

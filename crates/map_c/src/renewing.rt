@@ -45,9 +45,7 @@ fn renewed_from(
     ensures made { IfOk result (λ made. IsRenewed voxel large (Some content.now) (Some made.value)) }
     ensures refused { IfErr result (λ r. IsRenewRefusal voxel large (Some content.now) None (code r)) }
 {
-    let Some(version) = shown(content) else {
-        return Err(Refusal::Empty);
-    };
+    let version = shown(content)?;
     if voxel < 1 || 1_000_000 < voxel || large < 16 || 1_000_000 < large {
         return Err(Refusal::BadNumber);
     }

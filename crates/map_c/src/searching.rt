@@ -24,10 +24,8 @@ pub fn search(
     ensures found { IfOk result (IsNearest (items_in (Some content.now)) place.now k within hits.new) }
     ensures refused { IfErr result (λ r. IsNearestRefusal (items_in (Some content.now)) place.now k within (length hits.old) (code r)) }
 {
-    match shown(content) {
-        None => Err(Refusal::Empty),
-        Some(version) => search_in(alloc, version.tree(), place, k, within, hits),
-    }
+    let version = shown(content)?;
+    search_in(alloc, version.tree(), place, k, within, hits)
 }
 
 /// The same of the frozen index.
@@ -42,10 +40,8 @@ pub fn search_frozen(
     ensures found { IfOk result (IsNearest (frozen_in (Some content.now)) place.now k within hits.new) }
     ensures refused { IfErr result (λ r. IsNearestRefusal (frozen_in (Some content.now)) place.now k within (length hits.old) (code r)) }
 {
-    match frozen_index(content) {
-        None => Err(Refusal::Empty),
-        Some(index) => search_in(alloc, &**index, place, k, within, hits),
-    }
+    let index = frozen_index(content)?;
+    search_in(alloc, &**index, place, k, within, hits)
 }
 
 fn search_in<S: Searched>(
@@ -81,10 +77,8 @@ pub fn search_each(
     ensures found { IfOk result (IsNearestEach (items_in (Some content.now)) places.now k within hits.new counts.new) }
     ensures refused { IfErr result (λ r. IsNearestEachRefusal (items_in (Some content.now)) places.now k within (length hits.old) (length counts.old) (code r)) }
 {
-    match shown(content) {
-        None => Err(Refusal::Empty),
-        Some(version) => { search_each_in(alloc, version.tree(), places, k, within, hits, counts) }
-    }
+    let version = shown(content)?;
+    search_each_in(alloc, version.tree(), places, k, within, hits, counts)
 }
 
 /// The same of the frozen index.
@@ -100,10 +94,8 @@ pub fn search_each_frozen(
     ensures found { IfOk result (IsNearestEach (frozen_in (Some content.now)) places.now k within hits.new counts.new) }
     ensures refused { IfErr result (λ r. IsNearestEachRefusal (frozen_in (Some content.now)) places.now k within (length hits.old) (length counts.old) (code r)) }
 {
-    match frozen_index(content) {
-        None => Err(Refusal::Empty),
-        Some(index) => search_each_in(alloc, &**index, places, k, within, hits, counts),
-    }
+    let index = frozen_index(content)?;
+    search_each_in(alloc, &**index, places, k, within, hits, counts)
 }
 
 fn search_each_in<S: Searched>(

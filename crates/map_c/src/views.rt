@@ -30,10 +30,8 @@ fn view_of(alloc: Global, content: &Content) -> Result<Box<Content>, Refusal>
     ensures made { IfOk result (λ view. IsViewOf (Some content.now) (Some view.value)) }
     ensures refused { IfErr result (λ r. IsViewRefusal (Some content.now) None (code r)) }
 {
-    match shown(content) {
-        None => Err(Refusal::Empty),
-        Some(version) => Ok(seen(alloc, version)?),
-    }
+    let version = shown(content)?;
+    Ok(seen(alloc, version)?)
 }
 
 fn seen(alloc: Global, version: &Arc<Version>) -> Result<Box<Content>, NoMemory>

@@ -18,9 +18,7 @@ pub fn count_in_box(content: &Content, bounds: &Bounds) -> Result<u32, Refusal>
     ensures counted { IfOk result (IsCount (Some content.now) bounds.now) }
     ensures refused { IfErr result (λ r. IsCountRefusal (Some content.now) bounds.now (code r)) }
 {
-    let Some(version) = shown(content) else {
-        return Err(Refusal::Empty);
-    };
+    let version = shown(content)?;
     let cuboid = read_box(bounds)?;
     Ok(count_in(version.tree(), &cuboid))
 }
@@ -36,9 +34,7 @@ pub fn list(
     ensures found { IfOk result (IsInside (Some content.now) bounds.now most items.new) }
     ensures refused { IfErr result (λ r. IsInsideRefusal (Some content.now) bounds.now most (length items.old) (code r)) }
 {
-    let Some(version) = shown(content) else {
-        return Err(Refusal::Empty);
-    };
+    let version = shown(content)?;
     if !is_most(most) {
         return Err(Refusal::BadNumber);
     }

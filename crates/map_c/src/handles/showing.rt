@@ -1,8 +1,9 @@
 //! What a handle shows: its map as it is now, or its view; and the frozen index that it holds.
-ghost use Rattle.std.specs.Prelude.{◌≡◌, IfErr, IfOk, IfSome, IsNone, None, Some};
+ghost use Rattle.std.specs.Prelude.{◌≡◌, IfErr, IfOk, None, Some};
 ghost use Rattle.map_c.specs.Answers.{AreTotals, IsTotalsRefusal, shown_in};
 ghost use Rattle.map_c.specs.Frozen.{frozen_in};
 ghost use Rattle.map_c.specs.Status.{code};
+ghost use Rattle.map_c.specs.declared.handles.refusal.Refusal.TheVariants.{Empty};
 
 use crate::handles::content::Content;
 use crate::handles::forms::Totals;
@@ -11,33 +12,35 @@ use kd_frozen::Frozen;
 use rebuild_core::Version;
 use std::sync::Arc;
 
-/// The version that is shown, if one is.
-pub fn shown(content: &Content) -> Option<&Arc<Version>>
-    ensures some { IfSome result (λ v. shown_in (Some content.now) ≡ Some v.now.value) }
-    ensures none { IsNone result → shown_in (Some content.now) ≡ None }
+/// The version that is shown; `Empty`, if none is.
+pub fn shown(content: &Content) -> Result<&Arc<Version>, Refusal>
+    ensures shown { IfOk result (λ v. shown_in (Some content.now) ≡ Some v.now.value) }
+    ensures refused { IfErr result (λ r. (r ≡ Empty) × (shown_in (Some content.now) ≡ None)) }
 {
     match content {
         Content::Map(kept) => {
             let _lawful = kept.state.history();
-            Some(kept.state.version())
+            Ok(kept.state.version())
         }
-        Content::View(seen) => Some(&seen.version),
-        Content::Job(_) | Content::Built(_) | Content::Frozen(_) | Content::Nothing => None,
+        Content::View(seen) => Ok(&seen.version),
+        Content::Job(_) | Content::Built(_) | Content::Frozen(_) | Content::Nothing => {
+            Err(Refusal::Empty)
+        }
     }
 }
 
-/// The frozen index, if it holds one.
-pub fn frozen_index(content: &Content) -> Option<&Arc<Frozen>>
-    ensures some { IfSome result (λ f. frozen_in (Some content.now) ≡ Some f.now.value) }
-    ensures none { IsNone result → frozen_in (Some content.now) ≡ None }
+/// The frozen index that it holds; `Empty`, if it holds none.
+pub fn frozen_index(content: &Content) -> Result<&Arc<Frozen>, Refusal>
+    ensures frozen { IfOk result (λ f. frozen_in (Some content.now) ≡ Some f.now.value) }
+    ensures refused { IfErr result (λ r. (r ≡ Empty) × (frozen_in (Some content.now) ≡ None)) }
 {
     match content {
-        Content::Frozen(index) => Some(&index.frozen),
+        Content::Frozen(index) => Ok(&index.frozen),
         Content::Map(_)
         | Content::View(_)
         | Content::Job(_)
         | Content::Built(_)
-        | Content::Nothing => None,
+        | Content::Nothing => Err(Refusal::Empty),
     }
 }
 
@@ -46,9 +49,7 @@ pub fn totals_of(content: &Content) -> Result<Totals, Refusal>
     ensures totals { IfOk result (AreTotals (Some content.now)) }
     ensures refused { IfErr result (λ r. IsTotalsRefusal (Some content.now) (code r)) }
 {
-    let Some(version) = shown(content) else {
-        return Err(Refusal::Empty);
-    };
+    let version = shown(content)?;
     let counts = version.counts();
     Ok(Totals {
         updates: version.len(),
