@@ -31,6 +31,13 @@ pub record IsBall (c : Option Content) (p : Place) (r most : ℕ) (items : List 
   pub list : take count items ≡ ball_items version p r most
   pub number : count ≡ length (ball_items version p r most)
 
+-- why nothing within r millimetres is looked for
+abbrev pub IsAskRefusal : Option Content → ℕ → ℕ → ℕ → ℤ → Type 0
+IsAskRefusal c r most room status =
+    ((status ≡ empty) × (shown_in c ≡ None))
+    ⊎ ((status ≡ bad_number) × (IsBallAsked r most → ⊥))
+    ⊎ ((status ≡ no_room) × (room < most))
+
 -- why they aren't listed
 abbrev pub IsBallRefusal : Option Content → Place → ℕ → ℕ → ℕ → ℤ → Type 0
 IsBallRefusal c p r most room status =

@@ -1,15 +1,17 @@
 //! The live points of a ball, written where C wants them.
-ghost use Rattle.std.specs.Prelude.{◌≡◌, IfErr, IfOk, Some, false, length, true};
-ghost use Rattle.map_c.specs.Answers.{IsTold};
+ghost use Rattle.std.specs.Prelude.{◌≡◌, ◌≤◌, IfErr, IfOk, OnOk, Some, false, length, true};
+ghost use Rattle.map_c.specs.Answers.{IsTold, shown_in};
 ghost use Rattle.map_c.specs.Status.{code};
-ghost use Rattle.map_c.specs.Balls.{IsBall, IsBallAsked, IsBallRefusal};
+ghost use Rattle.map_c.specs.Balls.{IsAskRefusal, IsBall, IsBallAsked, IsBallRefusal};
 
 use crate::handles::macros::ask;
 use crate::handles::writing::write_items;
 use crate::{Content, DONE, Handle, Item, Place, Refusal, read_place, shown};
 use map_fold::{MAX_FOUND, MAX_WITHIN};
 use neighbour_sets::in_ball;
+use rebuild_core::Version;
 use std::alloc::Global;
+use std::sync::Arc;
 
 /// Writes the live points at most `r` millimetres from a place by number, the first `most` where there are more, and how many they
 /// are.
@@ -63,21 +65,35 @@ fn list_ball(
     ensures found { IfOk result (IsBall (Some content.now) place.now r most items.new) }
     ensures refused { IfErr result (λ c. IsBallRefusal (Some content.now) place.now r most (length items.old) (code c)) }
 {
+    let version = shown_if_asked(content, r, most, items.len())?;
+    let point = read_place(place)?;
+    let found = in_ball(alloc, version.tree(), &point, r, most)?;
+    Ok(write_items(found.as_slice(), items))
+}
+
+/// The version that is shown, if so many points may be asked for within this radius, and have room.
+pub(crate) fn shown_if_asked(
+    content: &Content,
+    r: u64,
+    most: u32,
+    room: usize,
+) -> Result<&Arc<Version>, Refusal>
+    ensures shown { IfOk result (λ v. shown_in (Some content.now) ≡ Some v.now.value) }
+    ensures asked { OnOk result (IsBallAsked r most) }
+    ensures room { OnOk result (most ≤ room) }
+    ensures refused { IfErr result (λ c. IsAskRefusal (Some content.now) r most room (code c)) }
+{
     let version = shown(content)?;
     if !is_asked(r, most) {
         return Err(Refusal::BadNumber);
     }
-    if items.len() < most as usize {
+    if room < most as usize {
         return Err(Refusal::NoRoom);
     }
-    let point = read_place(place)?;
-    let found = in_ball(alloc, version.tree(), &point, r, most)?;
-    write_items(found.as_slice(), items);
-    Ok(found.len())
+    Ok(version)
 }
 
-/// Whether a ball may have this radius, and `most` may be asked for.
-pub(crate) fn is_asked(r: u64, most: u32) -> bool
+fn is_asked(r: u64, most: u32) -> bool
     ensures yes { result ≡ true → IsBallAsked r most }
     ensures no { result ≡ false → IsBallAsked r most → ⊥ }
 {

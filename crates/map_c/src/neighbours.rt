@@ -4,10 +4,10 @@ ghost use Rattle.map_c.specs.Answers.{IsTold};
 ghost use Rattle.map_c.specs.Neighbours.{AreClusters, AreClustersRefusal, AreLonely, AreLonelyRefusal, c_cluster};
 ghost use Rattle.map_c.specs.Status.{code, done};
 
-use crate::balls::is_asked;
+use crate::balls::shown_if_asked;
 use crate::handles::macros::ask;
 use crate::handles::writing::write_items;
-use crate::{Cluster, Content, DONE, Handle, Item, Refusal, shown};
+use crate::{Cluster, Content, DONE, Handle, Item, Refusal};
 use map_fold::Group;
 use neighbour_sets::{clusters, lonely};
 use std::alloc::Global;
@@ -56,18 +56,11 @@ fn list_lonely(
     ensures found { IfOk result (λ l. AreLonely (Some content.now) r most l.found items.new l.count) }
     ensures refused { IfErr result (λ c. AreLonelyRefusal (Some content.now) r most (length items.old) (code c)) }
 {
-    let version = shown(content)?;
-    if !is_asked(r, most) {
-        return Err(Refusal::BadNumber);
-    }
-    if items.len() < most as usize {
-        return Err(Refusal::NoRoom);
-    }
+    let version = shown_if_asked(content, r, most, items.len())?;
     let all = lonely(alloc, version.tree(), r, most)?;
-    write_items(all.items.as_slice(), items);
     Ok(Listed {
         found: all.count,
-        count: all.items.len(),
+        count: write_items(all.items.as_slice(), items),
     })
 }
 
@@ -127,18 +120,11 @@ fn list_clusters(
     ensures found { IfOk result (λ l. AreClusters (Some content.now) r most l.found groups.new l.count) }
     ensures refused { IfErr result (λ c. AreClustersRefusal (Some content.now) r most (length groups.old) (code c)) }
 {
-    let version = shown(content)?;
-    if !is_asked(r, most) {
-        return Err(Refusal::BadNumber);
-    }
-    if groups.len() < most as usize {
-        return Err(Refusal::NoRoom);
-    }
+    let version = shown_if_asked(content, r, most, groups.len())?;
     let all = clusters(alloc, version.tree(), r, most)?;
-    write_clusters(all.groups.as_slice(), groups);
     Ok(Listed {
         found: all.count,
-        count: all.groups.len(),
+        count: write_clusters(all.groups.as_slice(), groups),
     })
 }
 
@@ -161,14 +147,16 @@ pub extern "C" fn corv_view_clusters(
     corv_map_clusters(alloc, view, r, most, found, groups, count)
 }
 
-fn write_clusters(found: &[Group], groups: &mut [Cluster])
+fn write_clusters(found: &[Group], groups: &mut [Cluster]) -> usize
     requires { length found.now ≤ length groups.old }
+    ensures count { result ≡ length found.now }
     ensures written { take (length found.now) groups.new ≡ map c_cluster found.now }
     ensures length { length groups.new ≡ length groups.old }
 {
     for i in 0..found.len() {
         groups[i] = cluster_of(&found[i]);
     }
+    found.len()
 }
 
 fn cluster_of(group: &Group) -> Cluster

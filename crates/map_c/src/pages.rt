@@ -43,8 +43,7 @@ fn list_items(
 {
     let version = shown(content)?;
     let found = items_from(alloc, version.tree(), from, items.len())?;
-    write_items(found.as_slice(), items);
-    Ok(found.len())
+    Ok(write_items(found.as_slice(), items))
 }
 
 /// `corv_map_items`, on a view.
@@ -97,8 +96,7 @@ fn list_box(
     let version = shown(content)?;
     let cuboid = read_box(bounds)?;
     let found = box_items(alloc, version.tree(), &cuboid, from, items.len())?;
-    write_items(found.as_slice(), items);
-    Ok(found.len())
+    Ok(write_items(found.as_slice(), items))
 }
 
 /// `corv_map_box_items`, on a view.
@@ -158,8 +156,7 @@ fn list_ball(
     }
     let point = read_place(place)?;
     let found = ball_items(alloc, version.tree(), &point, r, from, items.len())?;
-    write_items(found.as_slice(), items);
-    Ok(found.len())
+    Ok(write_items(found.as_slice(), items))
 }
 
 /// `corv_map_ball_items`, on a view.

@@ -76,10 +76,9 @@ fn moved(alloc: Global, region: &Region, place: &Place, boxes: &mut [Bounds]) ->
     }
     let point = read_place(place)?;
     let moved = from.moved(alloc, &point)?;
-    write_boxes(moved.removed.as_slice(), boxes);
     Ok(To {
         region: region_of(&moved.region),
-        count: moved.removed.len(),
+        count: write_boxes(moved.removed.as_slice(), boxes),
     })
 }
 
@@ -122,14 +121,16 @@ fn region_of(region: &local_region::Region) -> Region
     }
 }
 
-fn write_boxes(found: &[Cuboid], boxes: &mut [Bounds])
+fn write_boxes(found: &[Cuboid], boxes: &mut [Bounds]) -> usize
     requires { length found.now ≤ length boxes.old }
+    ensures count { result ≡ length found.now }
     ensures written { take (length found.now) boxes.new ≡ map c_box found.now }
     ensures length { length boxes.new ≡ length boxes.old }
 {
     for i in 0..found.len() {
         boxes[i] = box_of(&found[i]);
     }
+    found.len()
 }
 
 fn box_of(cuboid: &Cuboid) -> Bounds

@@ -43,8 +43,7 @@ pub fn list(
     }
     let cuboid = read_box(bounds)?;
     let found = in_cuboid(alloc, version.tree(), &cuboid, most)?;
-    write_items(found.as_slice(), items);
-    Ok(found.len())
+    Ok(write_items(found.as_slice(), items))
 }
 
 fn is_most(most: u32) -> bool

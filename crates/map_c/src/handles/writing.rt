@@ -16,15 +16,17 @@ pub fn write_hits(found: &[map_fold::Hit], at: usize, hits: &mut [Hit])
     }
 }
 
-/// Writes the items.
-pub fn write_items(found: &[map_items::Item], items: &mut [Item])
+/// Writes the items, and returns how many they are.
+pub fn write_items(found: &[map_items::Item], items: &mut [Item]) -> usize
     requires { length found.now ≤ length items.old }
+    ensures count { result ≡ length found.now }
     ensures written { take (length found.now) items.new ≡ map c_item found.now }
     ensures length { length items.new ≡ length items.old }
 {
     for i in 0..found.len() {
         items[i] = item_of(&found[i]);
     }
+    found.len()
 }
 
 fn hit_of(hit: &map_fold::Hit) -> Hit
