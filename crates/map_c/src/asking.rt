@@ -5,6 +5,7 @@ ghost use Rattle.map_c.specs.Answers.{AreTold, IsCount, IsCountRefusal, IsInside
 use crate::handles::macros::ask;
 use crate::searching::{search, search_each};
 use crate::{Bounds, DONE, Handle, Hit, Item, Place, Totals, count_in_box, list, totals_of};
+use kd_tree::Tree;
 use std::alloc::Global;
 
 /// Writes the k nearest live points, the nearest first, and how many they are.
@@ -24,7 +25,7 @@ pub extern "C" fn corv_map_nearest(
 {
     *count = 0;
     *count = ask!(alloc, map, |content| {
-        search(alloc, &content, place, k, within, hits)
+        search::<Tree>(alloc, &content, place, k, within, hits)
     });
     DONE
 }
@@ -47,7 +48,7 @@ pub extern "C" fn corv_map_nearest_each(
 {
     *count = 0;
     *count = ask!(alloc, map, |content| {
-        search_each(alloc, &content, places, k, within, hits, counts)
+        search_each::<Tree>(alloc, &content, places, k, within, hits, counts)
     });
     DONE
 }

@@ -6,7 +6,7 @@ ghost use Rattle.map_c.specs.Status.{code};
 ghost use Rattle.map_c.specs.declared.handles.content.Content.TheVariants as is;
 
 use crate::handles::macros::ask;
-use crate::searching::{search_each_frozen, search_frozen};
+use crate::searching::{search, search_each};
 use crate::{Content, DONE, Handle, Hit, Index, Place, Refusal, boxed, frozen_index, shown};
 use kd_frozen::Frozen;
 use map_fold::NoMemory;
@@ -108,7 +108,7 @@ pub extern "C" fn corv_frozen_nearest(
 {
     *count = 0;
     *count = ask!(alloc, frozen, |content| {
-        search_frozen(alloc, &content, place, k, within, hits)
+        search::<Frozen>(alloc, &content, place, k, within, hits)
     });
     DONE
 }
@@ -131,7 +131,7 @@ pub extern "C" fn corv_frozen_nearest_each(
 {
     *count = 0;
     *count = ask!(alloc, frozen, |content| {
-        search_each_frozen(alloc, &content, places, k, within, hits, counts)
+        search_each::<Frozen>(alloc, &content, places, k, within, hits, counts)
     });
     DONE
 }

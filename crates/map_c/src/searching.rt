@@ -2,18 +2,17 @@
 ghost use Rattle.std.specs.Prelude.{◌≡◌, ◌+◌, ◌*◌, ◌<◌, ◌≤◌, ◌⊎◌, ◌≤ℤ◌, ◌++◌, All, Any, IfErr, IfOk, OnOk, Some, None, false, length, pos, take, true};
 ghost use Rattle.std.specs.Option.{ForSome};
 ghost use Rattle.kd_search.specs.Query.{IsQuery};
-ghost use Rattle.map_c.specs.Answers.{AreSearchesRefusal, IsNearest, IsNearestEach, IsNearestEachRefusal, IsNearestRefusal, IsSearch, IsSearchRefusal, all_hits, hit_counts, items_in, nearest_hits, within_at};
+ghost use Rattle.map_c.specs.Answers.{IsNearest, IsNearestEach, IsNearestEachRefusal, IsNearestRefusal, IsSearch, all_hits, hit_counts, nearest_hits, within_at};
 ghost use Rattle.map_c.specs.Forms.{IsRightPlace};
-ghost use Rattle.map_c.specs.Frozen.{frozen_in};
 ghost use Rattle.map_c.specs.Status.{code, no_memory, out_of_range};
 
 use crate::searched::Searched;
-use crate::{Content, Hit, Place, Refusal, frozen_index, read_place, shown, write_hits};
+use crate::{Content, Hit, Place, Refusal, read_place, write_hits};
 use map_fold::{MAX_FOUND, MAX_WITHIN};
 use std::alloc::Global;
 
-/// The k nearest to a place of what is shown, from the front of the hits on, and how many they are.
-pub fn search(
+/// The k nearest to a place of what is searched in the content, from the front of the hits on, and how many they are.
+pub fn search<S: Searched>(
     alloc: Global,
     content: &Content,
     place: &Place,
@@ -21,40 +20,10 @@ pub fn search(
     within: i64,
     hits: &mut [Hit],
 ) -> Result<usize, Refusal>
-    ensures found { IfOk result (IsNearest (items_in (Some content.now)) place.now k within hits.new) }
-    ensures refused { IfErr result (λ r. IsNearestRefusal (items_in (Some content.now)) place.now k within (length hits.old) (code r)) }
+    ensures found { IfOk result (IsNearest (S.held_in (Some content.now)) place.now k within hits.new) }
+    ensures refused { IfErr result (λ r. IsNearestRefusal (S.held_in (Some content.now)) place.now k within (length hits.old) (code r)) }
 {
-    let version = shown(content)?;
-    search_in(alloc, version.tree(), place, k, within, hits)
-}
-
-/// The same of the frozen index.
-pub fn search_frozen(
-    alloc: Global,
-    content: &Content,
-    place: &Place,
-    k: u32,
-    within: i64,
-    hits: &mut [Hit],
-) -> Result<usize, Refusal>
-    ensures found { IfOk result (IsNearest (frozen_in (Some content.now)) place.now k within hits.new) }
-    ensures refused { IfErr result (λ r. IsNearestRefusal (frozen_in (Some content.now)) place.now k within (length hits.old) (code r)) }
-{
-    let index = frozen_index(content)?;
-    search_in(alloc, &**index, place, k, within, hits)
-}
-
-fn search_in<S: Searched>(
-    alloc: Global,
-    searched: &S,
-    place: &Place,
-    k: u32,
-    within: i64,
-    hits: &mut [Hit],
-) -> Result<usize, Refusal>
-    ensures found { IfOk result (IsNearest (Some (S.items searched.now)) place.now k within hits.new) }
-    ensures refused { IfErr result (λ r. IsSearchRefusal place.now k within (length hits.old) (code r)) }
-{
+    let searched = S::in_content(content)?;
     if !is_search(k, within) {
         return Err(Refusal::BadNumber);
     }
@@ -65,7 +34,7 @@ fn search_in<S: Searched>(
 }
 
 /// Those of each place in turn, one behind the other, and how many each place has.
-pub fn search_each(
+pub fn search_each<S: Searched>(
     alloc: Global,
     content: &Content,
     places: &[Place],
@@ -74,42 +43,10 @@ pub fn search_each(
     hits: &mut [Hit],
     counts: &mut [u32],
 ) -> Result<usize, Refusal>
-    ensures found { IfOk result (IsNearestEach (items_in (Some content.now)) places.now k within hits.new counts.new) }
-    ensures refused { IfErr result (λ r. IsNearestEachRefusal (items_in (Some content.now)) places.now k within (length hits.old) (length counts.old) (code r)) }
+    ensures found { IfOk result (IsNearestEach (S.held_in (Some content.now)) places.now k within hits.new counts.new) }
+    ensures refused { IfErr result (λ r. IsNearestEachRefusal (S.held_in (Some content.now)) places.now k within (length hits.old) (length counts.old) (code r)) }
 {
-    let version = shown(content)?;
-    search_each_in(alloc, version.tree(), places, k, within, hits, counts)
-}
-
-/// The same of the frozen index.
-pub fn search_each_frozen(
-    alloc: Global,
-    content: &Content,
-    places: &[Place],
-    k: u32,
-    within: i64,
-    hits: &mut [Hit],
-    counts: &mut [u32],
-) -> Result<usize, Refusal>
-    ensures found { IfOk result (IsNearestEach (frozen_in (Some content.now)) places.now k within hits.new counts.new) }
-    ensures refused { IfErr result (λ r. IsNearestEachRefusal (frozen_in (Some content.now)) places.now k within (length hits.old) (length counts.old) (code r)) }
-{
-    let index = frozen_index(content)?;
-    search_each_in(alloc, &**index, places, k, within, hits, counts)
-}
-
-fn search_each_in<S: Searched>(
-    alloc: Global,
-    searched: &S,
-    places: &[Place],
-    k: u32,
-    within: i64,
-    hits: &mut [Hit],
-    counts: &mut [u32],
-) -> Result<usize, Refusal>
-    ensures found { IfOk result (IsNearestEach (Some (S.items searched.now)) places.now k within hits.new counts.new) }
-    ensures refused { IfErr result (λ r. AreSearchesRefusal places.now k within (length hits.old) (length counts.old) (code r)) }
-{
+    let searched = S::in_content(content)?;
     if !is_search(k, within) {
         return Err(Refusal::BadNumber);
     }
