@@ -5,7 +5,7 @@ ghost use Rattle.map_c.specs.Status.{code};
 ghost use Rattle.map_c.specs.Balls.{IsAskRefusal, IsBall, IsBallAsked, IsBallRefusal};
 
 use crate::handles::macros::ask;
-use crate::handles::writing::write_items;
+use crate::handles::writing::write_all;
 use crate::{Content, DONE, Handle, Item, Place, Refusal, read_place, shown};
 use map_fold::{MAX_FOUND, MAX_WITHIN};
 use neighbour_sets::in_ball;
@@ -68,7 +68,7 @@ fn list_ball(
     let version = shown_if_asked(content, r, most, items.len())?;
     let point = read_place(place)?;
     let found = in_ball(alloc, version.tree(), &point, r, most)?;
-    Ok(write_items(found.as_slice(), items))
+    Ok(write_all(found.as_slice(), items))
 }
 
 /// The version that is shown, if so many points may be asked for within this radius, and have room.

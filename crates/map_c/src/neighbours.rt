@@ -1,12 +1,12 @@
 //! Live points that have no other near them, and those that chains of short steps join.
-ghost use Rattle.std.specs.Prelude.{◌≡◌, ◌≢◌, ◌≤◌, IfErr, IfOk, Some, length, map, take};
+ghost use Rattle.std.specs.Prelude.{◌≡◌, ◌≢◌, IfErr, IfOk, Some, length};
 ghost use Rattle.map_c.specs.Answers.{IsTold};
 ghost use Rattle.map_c.specs.Neighbours.{AreClusters, AreClustersRefusal, AreLonely, AreLonelyRefusal, c_cluster};
 ghost use Rattle.map_c.specs.Status.{code, done};
 
 use crate::balls::shown_if_asked;
 use crate::handles::macros::ask;
-use crate::handles::writing::write_items;
+use crate::handles::writing::{ToC, write_all};
 use crate::{Cluster, Content, DONE, Handle, Item, Refusal};
 use map_fold::Group;
 use neighbour_sets::{clusters, lonely};
@@ -60,7 +60,7 @@ fn list_lonely(
     let all = lonely(alloc, version.tree(), r, most)?;
     Ok(Listed {
         found: all.count,
-        count: write_items(all.items.as_slice(), items),
+        count: write_all(all.items.as_slice(), items),
     })
 }
 
@@ -124,7 +124,7 @@ fn list_clusters(
     let all = clusters(alloc, version.tree(), r, most)?;
     Ok(Listed {
         found: all.count,
-        count: write_clusters(all.groups.as_slice(), groups),
+        count: write_all(all.groups.as_slice(), groups),
     })
 }
 
@@ -147,23 +147,13 @@ pub extern "C" fn corv_view_clusters(
     corv_map_clusters(alloc, view, r, most, found, groups, count)
 }
 
-fn write_clusters(found: &[Group], groups: &mut [Cluster]) -> usize
-    requires { length found.now ≤ length groups.old }
-    ensures count { result ≡ length found.now }
-    ensures written { take (length found.now) groups.new ≡ map c_cluster found.now }
-    ensures length { length groups.new ≡ length groups.old }
-{
-    for i in 0..found.len() {
-        groups[i] = cluster_of(&found[i]);
-    }
-    found.len()
-}
+impl ToC<Cluster> for Group {
+    ghost in_c = { c_cluster };
 
-fn cluster_of(group: &Group) -> Cluster
-    ensures { result ≡ c_cluster group.now }
-{
-    Cluster {
-        number: group.least,
-        points: group.size,
+    fn to_c(&self) -> Cluster {
+        Cluster {
+            number: self.least,
+            points: self.size,
+        }
     }
 }

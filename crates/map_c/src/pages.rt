@@ -6,7 +6,7 @@ ghost use Rattle.map_c.specs.Status.{code};
 
 use crate::handles::macros::ask;
 use crate::handles::reading::read_box;
-use crate::handles::writing::write_items;
+use crate::handles::writing::write_all;
 use crate::{Bounds, Content, DONE, Handle, Item, Place, Refusal, read_place, shown};
 use item_lists::{ball_items, box_items, items_from};
 use map_fold::MAX_WITHIN;
@@ -43,7 +43,7 @@ fn list_items(
 {
     let version = shown(content)?;
     let found = items_from(alloc, version.tree(), from, items.len())?;
-    Ok(write_items(found.as_slice(), items))
+    Ok(write_all(found.as_slice(), items))
 }
 
 /// `corv_map_items`, on a view.
@@ -96,7 +96,7 @@ fn list_box(
     let version = shown(content)?;
     let cuboid = read_box(bounds)?;
     let found = box_items(alloc, version.tree(), &cuboid, from, items.len())?;
-    Ok(write_items(found.as_slice(), items))
+    Ok(write_all(found.as_slice(), items))
 }
 
 /// `corv_map_box_items`, on a view.
@@ -156,7 +156,7 @@ fn list_ball(
     }
     let point = read_place(place)?;
     let found = ball_items(alloc, version.tree(), &point, r, from, items.len())?;
-    Ok(write_items(found.as_slice(), items))
+    Ok(write_all(found.as_slice(), items))
 }
 
 /// `corv_map_ball_items`, on a view.

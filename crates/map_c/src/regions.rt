@@ -1,10 +1,11 @@
 //! Regions, which are the caller's own numbers: they are checked at each move.
-ghost use Rattle.std.specs.Prelude.{◌≡◌, ◌≢◌, ◌<◌, ◌≤◌, IfErr, IfOk, length, map, take};
+ghost use Rattle.std.specs.Prelude.{◌≡◌, ◌≢◌, ◌<◌, IfErr, IfOk, length};
 ghost use Rattle.map_c.specs.Regions.{AreRightRules, IsBegun, IsBeginRefusal, IsMove, IsMoveRefusal, IsRightRegion, c_box, c_region, region_at, rules_at};
 ghost use Rattle.map_c.specs.Status.{code, done};
 ghost use Rattle.map_c.specs.declared.handles.refusal.Refusal.TheVariants.{BadNumber};
 
 use crate::handles::macros::or_status;
+use crate::handles::writing::{ToC, write_all};
 use crate::{Bounds, DONE, Place, Refusal, Region, read_place};
 use local_region::RegionRules;
 use point_geom::{Corner, Cuboid};
@@ -78,7 +79,7 @@ fn moved(alloc: Global, region: &Region, place: &Place, boxes: &mut [Bounds]) ->
     let moved = from.moved(alloc, &point)?;
     Ok(To {
         region: region_of(&moved.region),
-        count: write_boxes(moved.removed.as_slice(), boxes),
+        count: write_all(moved.removed.as_slice(), boxes),
     })
 }
 
@@ -121,24 +122,14 @@ fn region_of(region: &local_region::Region) -> Region
     }
 }
 
-fn write_boxes(found: &[Cuboid], boxes: &mut [Bounds]) -> usize
-    requires { length found.now ≤ length boxes.old }
-    ensures count { result ≡ length found.now }
-    ensures written { take (length found.now) boxes.new ≡ map c_box found.now }
-    ensures length { length boxes.new ≡ length boxes.old }
-{
-    for i in 0..found.len() {
-        boxes[i] = box_of(&found[i]);
-    }
-    found.len()
-}
+impl ToC<Bounds> for Cuboid {
+    ghost in_c = { c_box };
 
-fn box_of(cuboid: &Cuboid) -> Bounds
-    ensures { result ≡ c_box cuboid.now }
-{
-    Bounds {
-        lo: place_of(cuboid.lo()),
-        hi: place_of(cuboid.hi()),
+    fn to_c(&self) -> Bounds {
+        Bounds {
+            lo: place_of(self.lo()),
+            hi: place_of(self.hi()),
+        }
     }
 }
 

@@ -8,7 +8,7 @@ use crate::handles::forms::{Bounds, Item};
 use crate::handles::reading::read_box;
 use crate::handles::refusal::Refusal;
 use crate::handles::showing::shown;
-use crate::handles::writing::write_items;
+use crate::handles::writing::write_all;
 use kd_search::{count_in, in_cuboid};
 use map_fold::MAX_FOUND;
 use std::alloc::Global;
@@ -43,7 +43,7 @@ pub fn list(
     }
     let cuboid = read_box(bounds)?;
     let found = in_cuboid(alloc, version.tree(), &cuboid, most)?;
-    Ok(write_items(found.as_slice(), items))
+    Ok(write_all(found.as_slice(), items))
 }
 
 fn is_most(most: u32) -> bool

@@ -1,4 +1,4 @@
-//! Hits and items, written where C wants them.
+//! What was found, written where C wants it.
 ghost use Rattle.std.specs.Prelude.{◌≡◌, ◌+◌, ◌≤◌, ◌++◌, length, map, take};
 ghost use Rattle.map_c.specs.Answers.{c_hit, c_item, c_point, c_suspended};
 
@@ -16,15 +16,24 @@ pub fn write_hits(found: &[map_fold::Hit], at: usize, hits: &mut [Hit])
     }
 }
 
-/// Writes the items, and returns how many they are.
-pub fn write_items(found: &[map_items::Item], items: &mut [Item]) -> usize
-    requires { length found.now ≤ length items.old }
+/// What C has a struct for.
+pub trait ToC<C> {
+    /// That struct.
+    ghost in_c: { Self → C };
+
+    fn to_c(&self) -> C
+        ensures { result ≡ in_c self.now };
+}
+
+/// Writes each of them as C has it, from the front on, and returns how many they are.
+pub fn write_all<C: Drop, T: ToC<C>>(found: &[T], out: &mut [C]) -> usize
+    requires { length found.now ≤ length out.old }
     ensures count { result ≡ length found.now }
-    ensures written { take (length found.now) items.new ≡ map c_item found.now }
-    ensures length { length items.new ≡ length items.old }
+    ensures written { take (length found.now) out.new ≡ map T.in_c found.now }
+    ensures length { length out.new ≡ length out.old }
 {
     for i in 0..found.len() {
-        items[i] = item_of(&found[i]);
+        out[i] = found[i].to_c();
     }
     found.len()
 }
@@ -41,13 +50,15 @@ fn hit_of(hit: &map_fold::Hit) -> Hit
     }
 }
 
-fn item_of(item: &map_items::Item) -> Item
-    ensures { result ≡ c_item item.now }
-{
-    Item {
-        point: point_of(&item.point),
-        number: item.number,
-        suspended: suspended(item.label),
+impl ToC<Item> for map_items::Item {
+    ghost in_c = { c_item };
+
+    fn to_c(&self) -> Item {
+        Item {
+            point: point_of(&self.point),
+            number: self.number,
+            suspended: suspended(self.label),
+        }
     }
 }
 
