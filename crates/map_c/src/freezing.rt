@@ -1,13 +1,12 @@
-//! Frozen indexes, made, searched, copied and freed. They don't follow the map's updates.
-ghost use Rattle.std.specs.Prelude.{◌≡◌, IfErr, IfOk, None, Some, length};
-ghost use Rattle.map_c.specs.Answers.{IsNearest, IsNearestEach, IsNearestEachRefusal, IsNearestRefusal, IsTold, IsViewRefusal};
-ghost use Rattle.map_c.specs.Frozen.{IsCopyOf, IsCopyRefusal, IsFrozen, IsFrozenOf, IsMadeInto, frozen_in};
+//! Frozen indexes, made, copied and freed. They don't follow the map's updates.
+ghost use Rattle.std.specs.Prelude.{◌≡◌, IfErr, IfOk, None, Some};
+ghost use Rattle.map_c.specs.Answers.{IsViewRefusal};
+ghost use Rattle.map_c.specs.Frozen.{IsCopyOf, IsCopyRefusal, IsFrozen, IsFrozenOf, IsMadeInto};
 ghost use Rattle.map_c.specs.Status.{code};
 ghost use Rattle.map_c.specs.declared.handles.content.Content.TheVariants as is;
 
 use crate::handles::macros::ask;
-use crate::searching::{search, search_each};
-use crate::{Content, DONE, Handle, Hit, Index, Place, Refusal, boxed, frozen_index, shown};
+use crate::{Content, DONE, Handle, Index, Refusal, boxed, frozen_index, shown};
 use kd_frozen::Frozen;
 use map_fold::NoMemory;
 use rebuild_core::Version;
@@ -89,49 +88,4 @@ pub extern "C" fn corv_frozen_free(alloc: Global, frozen: &mut Handle)
     ensures { frozen.new.held.content ≡ None }
 {
     let _content = frozen.take(alloc);
-}
-
-/// As of a map, of what the index holds.
-#[unsafe(no_mangle)]
-pub extern "C" fn corv_frozen_nearest(
-    alloc: Global,
-    frozen: &mut Handle,
-    place: &Place,
-    k: u32,
-    within: i64,
-    hits: &mut [Hit],
-    count: &mut usize,
-) -> i32
-    ensures { IsTold (IsNearest (frozen_in frozen.old.held.content) place.now k within hits.new count.new)
-        (IsNearestRefusal (frozen_in frozen.old.held.content) place.now k within (length hits.old))
-        frozen.old.held.content frozen.new.held.content count.new result }
-{
-    *count = 0;
-    *count = ask!(alloc, frozen, |content| {
-        search::<Frozen>(alloc, &content, place, k, within, hits)
-    });
-    DONE
-}
-
-/// As of a map.
-#[unsafe(no_mangle)]
-pub extern "C" fn corv_frozen_nearest_each(
-    alloc: Global,
-    frozen: &mut Handle,
-    places: &[Place],
-    k: u32,
-    within: i64,
-    hits: &mut [Hit],
-    counts: &mut [u32],
-    count: &mut usize,
-) -> i32
-    ensures { IsTold (IsNearestEach (frozen_in frozen.old.held.content) places.now k within hits.new counts.new count.new)
-        (IsNearestEachRefusal (frozen_in frozen.old.held.content) places.now k within (length hits.old) (length counts.old))
-        frozen.old.held.content frozen.new.held.content count.new result }
-{
-    *count = 0;
-    *count = ask!(alloc, frozen, |content| {
-        search_each::<Frozen>(alloc, &content, places, k, within, hits, counts)
-    });
-    DONE
 }

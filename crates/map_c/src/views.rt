@@ -1,14 +1,11 @@
-//! Views, made and freed. A question to a view is the one to a map.
-ghost use Rattle.std.specs.Prelude.{◌≡◌, IfErr, IfOk, None, Some, length};
-ghost use Rattle.map_c.specs.Answers.{AreTold, IsCount, IsCountRefusal, IsInside, IsInsideRefusal, IsNearest, IsNearestEach, IsNearestEachRefusal, IsNearestRefusal, IsTold, IsViewOf, IsViewRefusal, IsViewed, items_in};
+//! Views, made, copied and freed.
+ghost use Rattle.std.specs.Prelude.{◌≡◌, IfErr, IfOk, None, Some};
+ghost use Rattle.map_c.specs.Answers.{IsViewOf, IsViewRefusal, IsViewed};
 ghost use Rattle.map_c.specs.Status.{code};
 ghost use Rattle.map_c.specs.declared.handles.content.Content.TheVariants as is;
 
-use crate::asking::{
-    corv_map_count, corv_map_inside, corv_map_nearest, corv_map_nearest_each, corv_map_totals,
-};
 use crate::handles::macros::ask;
-use crate::{Bounds, Content, DONE, Handle, Hit, Item, Place, Refusal, Totals, View, boxed, shown};
+use crate::{Content, DONE, Handle, Refusal, View, boxed, shown};
 use map_fold::NoMemory;
 use rebuild_core::Version;
 use std::alloc::Global;
@@ -55,80 +52,4 @@ pub extern "C" fn corv_view_free(alloc: Global, view: &mut Handle)
     ensures { view.new.held.content ≡ None }
 {
     let _content = view.take(alloc);
-}
-
-/// `corv_map_nearest`, on a view.
-#[unsafe(no_mangle)]
-pub extern "C" fn corv_view_nearest(
-    alloc: Global,
-    view: &mut Handle,
-    place: &Place,
-    k: u32,
-    within: i64,
-    hits: &mut [Hit],
-    count: &mut usize,
-) -> i32
-    ensures { IsTold (IsNearest (items_in view.old.held.content) place.now k within hits.new count.new)
-        (IsNearestRefusal (items_in view.old.held.content) place.now k within (length hits.old))
-        view.old.held.content view.new.held.content count.new result }
-{
-    corv_map_nearest(alloc, view, place, k, within, hits, count)
-}
-
-/// `corv_map_nearest_each`, on a view.
-#[unsafe(no_mangle)]
-pub extern "C" fn corv_view_nearest_each(
-    alloc: Global,
-    view: &mut Handle,
-    places: &[Place],
-    k: u32,
-    within: i64,
-    hits: &mut [Hit],
-    counts: &mut [u32],
-    count: &mut usize,
-) -> i32
-    ensures { IsTold (IsNearestEach (items_in view.old.held.content) places.now k within hits.new counts.new count.new)
-        (IsNearestEachRefusal (items_in view.old.held.content) places.now k within (length hits.old) (length counts.old))
-        view.old.held.content view.new.held.content count.new result }
-{
-    corv_map_nearest_each(alloc, view, places, k, within, hits, counts, count)
-}
-
-/// `corv_map_count`, on a view.
-#[unsafe(no_mangle)]
-pub extern "C" fn corv_view_count(
-    alloc: Global,
-    view: &mut Handle,
-    bounds: &Bounds,
-    live: &mut u32,
-) -> i32
-    ensures { IsTold (IsCount view.old.held.content bounds.now live.new) (IsCountRefusal view.old.held.content bounds.now)
-        view.old.held.content view.new.held.content live.new result }
-{
-    corv_map_count(alloc, view, bounds, live)
-}
-
-/// `corv_map_inside`, on a view.
-#[unsafe(no_mangle)]
-pub extern "C" fn corv_view_inside(
-    alloc: Global,
-    view: &mut Handle,
-    bounds: &Bounds,
-    most: u32,
-    items: &mut [Item],
-    count: &mut usize,
-) -> i32
-    ensures { IsTold (IsInside view.old.held.content bounds.now most items.new count.new)
-        (IsInsideRefusal view.old.held.content bounds.now most (length items.old))
-        view.old.held.content view.new.held.content count.new result }
-{
-    corv_map_inside(alloc, view, bounds, most, items, count)
-}
-
-/// `corv_map_totals`, on a view.
-#[unsafe(no_mangle)]
-pub extern "C" fn corv_view_totals(alloc: Global, view: &mut Handle, totals: &mut Totals) -> i32
-    ensures { AreTold view.old.held.content view.new.held.content totals.new result }
-{
-    corv_map_totals(alloc, view, totals)
 }

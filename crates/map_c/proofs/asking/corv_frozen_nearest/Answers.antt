@@ -4,7 +4,7 @@ use Rattle.map_c.specs.Answers.{IsNearest, IsNearestRefusal}
 use Rattle.map_c.specs.Frozen.{frozen_in}
 use Rattle.map_c.specs.Status.{code}
 use Rattle.map_c.proofs.Told.{refused_told}
-use Rattle.map_c.proofs.freezing.corv_frozen_nearest.Goals as goal
+use Rattle.map_c.proofs.asking.corv_frozen_nearest.Goals as goal
 
 pub returns-in-Err : goal.returns-in-Err
 returns-in-Err c =
