@@ -2,7 +2,7 @@
 use crate::tests::assertions::{found, holds, made};
 use crate::tests::draws::Draws;
 use crate::tests::looks::live;
-use crate::tests::steps::{new_map, update};
+use crate::tests::steps::{on_new_map, update};
 use map_fold::{Items, Settings, Update};
 use rebuild_core::{MapState, Version};
 use std::alloc::Global;
@@ -37,10 +37,10 @@ fn three_scans(rt: &impl Abort, alloc: Global, state: &mut MapState, draws: &mut
 
 #[test]
 fn a_held_version_stays_while_others_nodes_are_reused(rt: HostRuntime) {
-    let alloc = rt.alloc();
-    let mut state = new_map(&rt, alloc, Settings::new(1, 1_500));
-    stay_the_same(&rt, alloc, &mut state);
-    holds(&rt, "many are live", live(&state) > 200);
+    on_new_map(&rt, rt.alloc(), Settings::new(1, 1_500), |alloc, state| {
+        stay_the_same(&rt, alloc, state);
+        holds(&rt, "many are live", live(state) > 200);
+    });
 }
 
 fn stay_the_same(rt: &impl Abort, alloc: Global, state: &mut MapState) {

@@ -1,7 +1,7 @@
 //! What a map holds, listed by number: of a row of 200 points some are hidden, and most of the first hundred are gone.
 use crate::tests::assertions::{made, same};
 use crate::tests::looks::cuboid;
-use crate::tests::steps::{add, new_map, row_box, update};
+use crate::tests::steps::{add, on_new_map, row_box, update};
 use item_lists::{ball_items, box_items, items_from};
 use map_fold::{Items, Settings, Update};
 use point_geom::Point;
@@ -39,12 +39,12 @@ const IN_BALL: &[Page] = &[
 
 #[test]
 fn what_is_held_is_listed_by_number(rt: HostRuntime) {
-    let alloc = rt.alloc();
-    let mut state = new_map(&rt, alloc, Settings::new(200, 16));
-    fill(&rt, alloc, &mut state);
-    lists_what_is_held(&rt, alloc, &state);
-    lists_a_box(&rt, alloc, &state);
-    lists_a_ball(&rt, alloc, &state);
+    on_new_map(&rt, rt.alloc(), Settings::new(200, 16), |alloc, state| {
+        fill(&rt, alloc, state);
+        lists_what_is_held(&rt, alloc, state);
+        lists_a_box(&rt, alloc, state);
+        lists_a_ball(&rt, alloc, state);
+    });
 }
 
 fn fill(rt: &impl Abort, alloc: Global, state: &mut MapState) {

@@ -1,7 +1,7 @@
 //! The history of a map, written as a log and read again.
 use crate::tests::assertions::{holds, made, same};
 use crate::tests::looks::{live, suspended};
-use crate::tests::steps::{new_map, row, row_box, updated};
+use crate::tests::steps::{new_map, on_new_map, row, row_box, updated};
 use history_log::{LogFault, LogPart, Stop, history_lines, history_log};
 use map_fold::{Cuboids, Settings, Update};
 use point_geom::{Point, voxel};
@@ -22,13 +22,13 @@ const LOG: &str = "ikdmap 2 voxel 2 large 16
 
 #[test]
 fn a_history_is_read_again_as_the_same_map(rt: HostRuntime) {
-    let alloc = rt.alloc();
-    let mut state = new_map(&rt, alloc, Settings::new(2, 16));
-    fill(&rt, alloc, &mut state);
-    is_written(&rt, alloc, &state);
-    is_written_in_parts(&rt, alloc, &state);
-    is_read_again(&rt, alloc, &state);
-    has_no_line(&rt, alloc, &mut state);
+    on_new_map(&rt, rt.alloc(), Settings::new(2, 16), |alloc, state| {
+        fill(&rt, alloc, state);
+        is_written(&rt, alloc, state);
+        is_written_in_parts(&rt, alloc, state);
+        is_read_again(&rt, alloc, state);
+        has_no_line(&rt, alloc, state);
+    });
 }
 
 fn fill(rt: &impl Abort, alloc: Global, state: &mut MapState) {

@@ -1,31 +1,23 @@
 //! Detached subtrees.
 use crate::tests::assertions::{found, holds, made, same};
 use crate::tests::draws::Draws;
-use crate::tests::looks::{cuboid, is_breached, live, logged, suspended};
+use crate::tests::looks::{is_breached, live, logged, suspended};
 use crate::tests::steps::{
-    add, built, detached, is_balanced, is_of, is_stale, new_map, row, settled, swap_ends, swapped,
-    update,
+    add, built, detached, is_balanced, is_of, is_stale, new_map, on_new_map, row, row_box, settled,
+    swap_ends, swapped, update,
 };
-use map_fold::{Cuboids, Points, Settings, Update};
+use map_fold::{Points, Settings, Update};
 use point_geom::Point;
 use rebuild_core::{Built, Job, MapState, SwapFault};
 use std::alloc::Global;
 use std::process::Abort;
 
-// The box that holds the points (x, 0, 0), from the first on and before the last.
-fn across(rt: &impl Abort, alloc: Global, first: i64, last: i64) -> Cuboids {
-    let cuboid = cuboid(rt, (first, 0, 0), (last, 1, 1));
-    let mut boxes = Cuboids::new(alloc);
-    made(rt, boxes.push(cuboid));
-    boxes
-}
-
 #[test]
 fn what_expires_in_a_detached_subtree_is_logged(rt: HostRuntime) {
-    let alloc = rt.alloc();
-    let mut state = new_map(&rt, alloc, Settings::new(200, 16));
-    expires_meanwhile(&rt, alloc, &mut state);
-    holds_the_later(&rt, alloc, &state);
+    on_new_map(&rt, rt.alloc(), Settings::new(200, 16), |alloc, state| {
+        expires_meanwhile(&rt, alloc, state);
+        holds_the_later(&rt, alloc, state);
+    });
 }
 
 fn holds_the_later(rt: &impl Abort, alloc: Global, state: &MapState) {
@@ -46,10 +38,10 @@ fn expires_meanwhile(rt: &impl Abort, alloc: Global, state: &mut MapState) {
 
 #[test]
 fn an_action_that_is_pushed_into_a_detached_subtree_is_logged(rt: HostRuntime) {
-    let alloc = rt.alloc();
-    let mut state = new_map(&rt, alloc, Settings::new(200, 16));
-    pushes_meanwhile(&rt, alloc, &mut state);
-    has_three_live(&rt, alloc, &mut state);
+    on_new_map(&rt, rt.alloc(), Settings::new(200, 16), |alloc, state| {
+        pushes_meanwhile(&rt, alloc, state);
+        has_three_live(&rt, alloc, state);
+    });
 }
 
 fn has_three_live(rt: &impl Abort, alloc: Global, state: &mut MapState) {
@@ -79,20 +71,20 @@ fn leaning(rt: &impl Abort, alloc: Global, state: &mut MapState) -> Job {
 }
 
 fn pushes(rt: &impl Abort, alloc: Global, state: &mut MapState) {
-    let all = across(rt, alloc, 0, 100);
+    let all = row_box(rt, alloc, 0, 100);
     update(rt, alloc, state, Update::Suspend(all));
     same(rt, "operations", logged(state, 1), Some(0));
-    let three = across(rt, alloc, 30, 33);
+    let three = row_box(rt, alloc, 30, 33);
     update(rt, alloc, state, Update::Restore(three));
     same(rt, "operations", logged(state, 1), Some(2));
 }
 
 #[test]
 fn a_value_behind_catches_up_and_a_stale_one_is_refused(rt: HostRuntime) {
-    let alloc = rt.alloc();
-    let mut state = new_map(&rt, alloc, Settings::new(200, 16));
-    catches_up(&rt, alloc, &mut state);
-    refuses_the_second_of_three(&rt, alloc, &mut state);
+    on_new_map(&rt, rt.alloc(), Settings::new(200, 16), |alloc, state| {
+        catches_up(&rt, alloc, state);
+        refuses_the_second_of_three(&rt, alloc, state);
+    });
 }
 
 fn first_built(rt: &impl Abort, alloc: Global, state: &mut MapState) -> Built {

@@ -1,6 +1,6 @@
 //! Where a state refuses an update, and stays as it was.
 use crate::tests::assertions::{made, same};
-use crate::tests::steps::{new_map, update, updated};
+use crate::tests::steps::{on_new_map, update, updated};
 use map_fold::{Cuboids, Points, Settings, Update};
 use point_geom::Point;
 use rebuild_core::{LogAsk, MapState, StateFault, SwapFault};
@@ -10,10 +10,10 @@ use std::process::Abort;
 
 #[test]
 fn a_new_state_refuses_more_points_than_there_may_be(rt: HostRuntime) {
-    let alloc = rt.alloc();
-    let mut state = new_map(&rt, alloc, Settings::new(200, 5_000));
-    refuses_too_many(&rt, alloc, &mut state);
-    is_new(&rt, &state);
+    on_new_map(&rt, rt.alloc(), Settings::new(200, 5_000), |alloc, state| {
+        refuses_too_many(&rt, alloc, state);
+        is_new(&rt, state);
+    });
 }
 
 fn refuses_too_many(rt: &impl Abort, alloc: Global, state: &mut MapState) {
@@ -42,10 +42,10 @@ fn is_new(rt: &impl Abort, state: &MapState) {
 
 #[test]
 fn a_full_history_refuses_the_next_update(rt: HostRuntime) {
-    let alloc = rt.alloc();
-    let mut state = new_map(&rt, alloc, Settings::new(200, 5_000));
-    fills_its_history(&rt, alloc, &mut state);
-    refuses_the_next(&rt, alloc, &mut state);
+    on_new_map(&rt, rt.alloc(), Settings::new(200, 5_000), |alloc, state| {
+        fills_its_history(&rt, alloc, state);
+        refuses_the_next(&rt, alloc, state);
+    });
 }
 
 fn fills_its_history(rt: &impl Abort, alloc: Global, state: &mut MapState) {

@@ -1,6 +1,6 @@
 //! A new map of what another one holds.
 use crate::tests::assertions::{holds, made, same};
-use crate::tests::steps::{add, new_map, row_box, update};
+use crate::tests::steps::{add, on_new_map, row_box, update};
 use kd_search::{count_in, nearest};
 use map_fold::{Hit, Item, Label, Settings, Update};
 use map_renewal::renewed;
@@ -14,10 +14,10 @@ const XS: &[i64] = &[2, 3, 0, 1, 4, 6, 7, 8, 9];
 
 #[test]
 fn a_renewed_map_holds_the_same_points_and_answers_the_same(rt: HostRuntime) {
-    let alloc = rt.alloc();
-    let mut state = new_map(&rt, alloc, Settings::new(200, 16));
-    fill(&rt, alloc, &mut state);
-    is_renewed(&rt, alloc, &mut state);
+    on_new_map(&rt, rt.alloc(), Settings::new(200, 16), |alloc, state| {
+        fill(&rt, alloc, state);
+        is_renewed(&rt, alloc, state);
+    });
 }
 
 // Of ten points two are hidden, and one is gone.

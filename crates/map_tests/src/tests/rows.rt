@@ -1,7 +1,7 @@
 //! Points in a row, and points at one place.
 use crate::tests::assertions::{holds, made, same};
 use crate::tests::looks::{is_breached, live};
-use crate::tests::steps::{add_row, new_map, row, settled, update, updated};
+use crate::tests::steps::{add_row, on_new_map, row, settled, update, updated};
 use kd_search::nearest;
 use map_fold::{Hit, Points, Settings, Update};
 use point_geom::Point;
@@ -12,9 +12,9 @@ use std::process::Abort;
 // That it is found whole is seen by a stored run.
 #[test]
 fn a_rising_row_fills_all_levels(rt: HostRuntime) {
-    let alloc = rt.alloc();
-    let mut state = new_map(&rt, alloc, Settings::new(200, 16));
-    rises(&rt, alloc, &mut state);
+    on_new_map(&rt, rt.alloc(), Settings::new(200, 16), |alloc, state| {
+        rises(&rt, alloc, state);
+    });
 }
 
 fn rises(rt: &impl Abort, alloc: Global, state: &mut MapState) {
@@ -29,9 +29,9 @@ fn rises(rt: &impl Abort, alloc: Global, state: &mut MapState) {
 
 #[test]
 fn equal_points_are_settled_and_found_by_number(rt: HostRuntime) {
-    let alloc = rt.alloc();
-    let mut state = new_map(&rt, alloc, Settings::new(200, 1_500));
-    settles_equal_points(&rt, alloc, &mut state);
+    on_new_map(&rt, rt.alloc(), Settings::new(200, 1_500), |alloc, state| {
+        settles_equal_points(&rt, alloc, state);
+    });
 }
 
 fn settles_equal_points(rt: &impl Abort, alloc: Global, state: &mut MapState) {
@@ -68,11 +68,11 @@ fn are_numbered(rt: &impl Abort, found: &[Hit]) {
 
 #[test]
 fn a_row_that_is_settled_takes_one_more_point(rt: HostRuntime) {
-    let alloc = rt.alloc();
-    let mut state = new_map(&rt, alloc, Settings::new(200, 16));
-    settles_a_row(&rt, alloc, &mut state);
-    takes_one_more(&rt, alloc, &mut state);
-    finds_the_last(&rt, alloc, &state);
+    on_new_map(&rt, rt.alloc(), Settings::new(200, 16), |alloc, state| {
+        settles_a_row(&rt, alloc, state);
+        takes_one_more(&rt, alloc, state);
+        finds_the_last(&rt, alloc, state);
+    });
 }
 
 fn settles_a_row(rt: &impl Abort, alloc: Global, state: &mut MapState) {

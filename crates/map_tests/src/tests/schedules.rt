@@ -2,8 +2,8 @@
 use crate::tests::assertions::{holds, made, same};
 use crate::tests::looks::{cuboid, live, logged, suspended};
 use crate::tests::steps::{
-    add, add_row, add_row_and, built, detached, is_balanced, is_of, is_stale, new_map, settled,
-    swap_ends, update,
+    add, add_row, add_row_and, built, detached, is_balanced, is_of, is_stale, new_map, on_new_map,
+    settled, swap_ends, update,
 };
 use kd_search::nearest;
 use map_fold::{Cuboids, Points, Settings, Update};
@@ -37,9 +37,9 @@ fn swaps(rt: &impl Abort, alloc: Global, state: &mut MapState, job: Job, force: 
 
 #[test]
 fn a_value_is_stale_once_its_map_was_settled(rt: HostRuntime) {
-    let alloc = rt.alloc();
-    let mut state = new_map(&rt, alloc, Settings::new(200, 16));
-    settles_meanwhile(&rt, alloc, &mut state);
+    on_new_map(&rt, rt.alloc(), Settings::new(200, 16), |alloc, state| {
+        settles_meanwhile(&rt, alloc, state);
+    });
 }
 
 fn settles_meanwhile(rt: &impl Abort, alloc: Global, state: &mut MapState) {
@@ -78,9 +78,9 @@ fn job_of_another(rt: &impl Abort, alloc: Global) -> Job {
 
 #[test]
 fn a_forced_swap_does_all_that_is_left(rt: HostRuntime) {
-    let alloc = rt.alloc();
-    let mut state = new_map(&rt, alloc, Settings::new(200, 16));
-    grows_meanwhile(&rt, alloc, &mut state);
+    on_new_map(&rt, rt.alloc(), Settings::new(200, 16), |alloc, state| {
+        grows_meanwhile(&rt, alloc, state);
+    });
 }
 
 fn grows_meanwhile(rt: &impl Abort, alloc: Global, state: &mut MapState) {
@@ -91,11 +91,11 @@ fn grows_meanwhile(rt: &impl Abort, alloc: Global, state: &mut MapState) {
 
 #[test]
 fn what_was_deleted_meanwhile_stays_so(rt: HostRuntime) {
-    let alloc = rt.alloc();
-    let mut state = new_map(&rt, alloc, Settings::new(200, 16));
-    empties_meanwhile(&rt, alloc, &mut state);
-    stays_empty(&rt, alloc, &mut state);
-    holds_only(&rt, alloc, &state, 40);
+    on_new_map(&rt, rt.alloc(), Settings::new(200, 16), |alloc, state| {
+        empties_meanwhile(&rt, alloc, state);
+        stays_empty(&rt, alloc, state);
+        holds_only(&rt, alloc, state, 40);
+    });
 }
 
 fn empties_meanwhile(rt: &impl Abort, alloc: Global, state: &mut MapState) {
@@ -126,9 +126,9 @@ fn holds_only(rt: &impl Abort, alloc: Global, state: &MapState, number: u32) {
 
 #[test]
 fn a_voxel_that_was_thinned_meanwhile_keeps_its_winner(rt: HostRuntime) {
-    let alloc = rt.alloc();
-    let mut state = new_map(&rt, alloc, Settings::new(200, 16));
-    thins_meanwhile(&rt, alloc, &mut state);
+    on_new_map(&rt, rt.alloc(), Settings::new(200, 16), |alloc, state| {
+        thins_meanwhile(&rt, alloc, state);
+    });
 }
 
 fn thins_meanwhile(rt: &impl Abort, alloc: Global, state: &mut MapState) {
@@ -149,9 +149,9 @@ fn thin_at(rt: &impl Abort, alloc: Global, state: &mut MapState, point: Point) {
 
 #[test]
 fn a_part_that_is_detached_afresh_takes_only_its_new_value(rt: HostRuntime) {
-    let alloc = rt.alloc();
-    let mut state = new_map(&rt, alloc, Settings::new(200, 16));
-    detaches_afresh(&rt, alloc, &mut state);
+    on_new_map(&rt, rt.alloc(), Settings::new(200, 16), |alloc, state| {
+        detaches_afresh(&rt, alloc, state);
+    });
 }
 
 fn detaches_afresh(rt: &impl Abort, alloc: Global, state: &mut MapState) {
@@ -169,9 +169,9 @@ const NEARLY_FULL: u32 = 65_535;
 
 #[test]
 fn a_part_whose_log_is_full_is_forgotten(rt: HostRuntime) {
-    let alloc = rt.alloc();
-    let mut state = new_map(&rt, alloc, Settings::new(200, 16));
-    fills_a_log(&rt, alloc, &mut state);
+    on_new_map(&rt, rt.alloc(), Settings::new(200, 16), |alloc, state| {
+        fills_a_log(&rt, alloc, state);
+    });
 }
 
 fn fills_a_log(rt: &impl Abort, alloc: Global, state: &mut MapState) {
@@ -218,10 +218,10 @@ fn are_logged(rt: &impl Abort, state: &MapState, left: u32, right: u32) {
 
 #[test]
 fn what_two_detached_subtrees_met_is_done_on_both(rt: HostRuntime) {
-    let alloc = rt.alloc();
-    let mut state = new_map(&rt, alloc, Settings::new(200, 16));
-    swaps_both(&rt, alloc, &mut state);
-    holds_three(&rt, alloc, &state);
+    on_new_map(&rt, rt.alloc(), Settings::new(200, 16), |alloc, state| {
+        swaps_both(&rt, alloc, state);
+        holds_three(&rt, alloc, state);
+    });
 }
 
 // Both are detached at once.

@@ -3,7 +3,7 @@ ghost use Rattle.std.specs.Prelude.{◌≡◌};
 
 use crate::tests::assertions::{found, holds, made, same};
 use crate::tests::looks::live;
-use crate::tests::steps::{add_row_and, built, new_map, swap_ends, update};
+use crate::tests::steps::{add_row_and, built, new_map, on_new_map, swap_ends, update};
 use map_fold::{NoMemory, Settings, Update};
 use rebuild_core::{Built, Job, MapState, Snapshot, SwapFault};
 use std::alloc::Global;
@@ -39,9 +39,9 @@ fn given_a_list(rt: &impl Abort, alloc: Global, state: &mut MapState) -> Result<
 
 #[test]
 fn a_value_fits_a_subtree_that_nobody_has_listed(rt: HostRuntime) {
-    let alloc = rt.alloc();
-    let mut state = new_map(&rt, alloc, Settings::new(200, 16));
-    fits(&rt, alloc, &mut state);
+    on_new_map(&rt, rt.alloc(), Settings::new(200, 16), |alloc, state| {
+        fits(&rt, alloc, state);
+    });
 }
 
 fn fits(rt: &impl Abort, alloc: Global, state: &mut MapState) {
@@ -99,9 +99,9 @@ fn value_of_another(rt: &impl Abort, alloc: Global) -> Built {
 
 #[test]
 fn a_list_takes_the_place_of_the_tree(rt: HostRuntime) {
-    let alloc = rt.alloc();
-    let mut state = new_map(&rt, alloc, Settings::new(200, 16));
-    takes_its_own(&rt, alloc, &mut state);
+    on_new_map(&rt, rt.alloc(), Settings::new(200, 16), |alloc, state| {
+        takes_its_own(&rt, alloc, state);
+    });
 }
 
 fn takes_its_own(rt: &impl Abort, alloc: Global, state: &mut MapState) {

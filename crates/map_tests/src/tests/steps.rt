@@ -85,6 +85,19 @@ pub fn new_map(rt: &impl Abort, alloc: Global, settings: Settings) -> MapState {
     made(rt, MapState::new(alloc, settings))
 }
 
+// Tries this on a new map.
+pub fn on_new_map<R: Abort, F: FnOnce(Global, &mut MapState)>(
+    rt: &R,
+    alloc: Global,
+    settings: Settings,
+    trial: F,
+)
+    requires { F.IsAlwaysCallable trial }
+{
+    let mut state = new_map(rt, alloc, settings);
+    trial(alloc, &mut state);
+}
+
 pub fn settled(rt: &impl Abort, alloc: Global, state: &mut MapState) {
     made(rt, state.settle(alloc));
 }
