@@ -21,44 +21,41 @@ pub fn compare(
     holds(rt, "the counts", version.counts() == plain.counts());
     let query = draws.point(rt);
     let cuboid = draws.cuboid(rt);
-    compare_items(rt, alloc, version, plain);
-    compare_nearest(rt, alloc, version, plain, &query);
-    compare_in_cuboid(rt, alloc, version, plain, &cuboid);
+    let both = Both { version, plain };
+    both.hold_the_same(rt, alloc);
+    both.find_the_same(rt, alloc, &query);
+    both.show_the_same(rt, alloc, &cuboid);
     let count = count_in(version.tree(), &cuboid);
     same(rt, "the count", count, plain.count_in(&cuboid));
 }
 
-fn compare_items(rt: &impl Abort, alloc: Global, version: &Version, plain: &PlainMap) {
-    let items = made(rt, version.tree().flatten(alloc));
-    let want = made(rt, plain.items(alloc));
-    let are_same = items.as_slice() == want.as_slice();
-    holds(rt, "what both hold", are_same);
+#[derive(Drop)]
+struct Both<'a> {
+    version: &'a Version,
+    plain: &'a PlainMap,
 }
 
-fn compare_nearest(
-    rt: &impl Abort,
-    alloc: Global,
-    version: &Version,
-    plain: &PlainMap,
-    query: &Point,
-) {
-    let found = made(rt, nearest(alloc, version.tree(), 5, query, Some(6)));
-    let want = made(rt, plain.nearest(alloc, 5, query, Some(6)));
-    let are_same = found.as_slice() == want.as_slice();
-    holds(rt, "the nearest", are_same);
-}
+impl Both<'_> {
+    fn hold_the_same(&self, rt: &impl Abort, alloc: Global) {
+        let items = made(rt, self.version.tree().flatten(alloc));
+        let want = made(rt, self.plain.items(alloc));
+        let are_same = items.as_slice() == want.as_slice();
+        holds(rt, "what both hold", are_same);
+    }
 
-fn compare_in_cuboid(
-    rt: &impl Abort,
-    alloc: Global,
-    version: &Version,
-    plain: &PlainMap,
-    cuboid: &Cuboid,
-) {
-    let found = made(rt, in_cuboid(alloc, version.tree(), cuboid, 7));
-    let want = made(rt, plain.in_cuboid(alloc, cuboid, 7));
-    let are_same = found.as_slice() == want.as_slice();
-    holds(rt, "what the box shows", are_same);
+    fn find_the_same(&self, rt: &impl Abort, alloc: Global, query: &Point) {
+        let found = made(rt, nearest(alloc, self.version.tree(), 5, query, Some(6)));
+        let want = made(rt, self.plain.nearest(alloc, 5, query, Some(6)));
+        let are_same = found.as_slice() == want.as_slice();
+        holds(rt, "the nearest", are_same);
+    }
+
+    fn show_the_same(&self, rt: &impl Abort, alloc: Global, cuboid: &Cuboid) {
+        let found = made(rt, in_cuboid(alloc, self.version.tree(), cuboid, 7));
+        let want = made(rt, self.plain.in_cuboid(alloc, cuboid, 7));
+        let are_same = found.as_slice() == want.as_slice();
+        holds(rt, "what the box shows", are_same);
+    }
 }
 
 // Does to the plain map what the update says.

@@ -37,10 +37,7 @@ fn three_scans(rt: &impl Abort, alloc: Global, state: &mut MapState, draws: &mut
 
 #[test]
 fn a_held_version_stays_while_others_nodes_are_reused(rt: HostRuntime) {
-    on_new_map(&rt, rt.alloc(), Settings::new(1, 1_500), |alloc, state| {
-        stay_the_same(&rt, alloc, state);
-        holds(&rt, "many are live", live(state) > 200);
-    });
+    on_new_map(&rt, rt.alloc(), Settings::new(1, 1_500), stay_the_same);
 }
 
 fn stay_the_same(rt: &impl Abort, alloc: Global, state: &mut MapState) {
@@ -52,6 +49,7 @@ fn stay_the_same(rt: &impl Abort, alloc: Global, state: &mut MapState) {
         found(rt, held.push(one).ok());
         assert_all_same(rt, alloc, held.as_slice());
     }
+    holds(rt, "many are live", live(state) > 200);
 }
 
 fn held_now(rt: &impl Abort, alloc: Global, state: &MapState) -> Held {

@@ -1,9 +1,9 @@
 //! What a map holds, listed by number: of a row of 200 points some are hidden, and most of the first hundred are gone.
 use crate::tests::assertions::{made, same};
 use crate::tests::looks::cuboid;
-use crate::tests::steps::{add, on_new_map, row_box, update};
+use crate::tests::steps::{fill, on_new_map};
 use item_lists::{ball_items, box_items, items_from};
-use map_fold::{Items, Settings, Update};
+use map_fold::{Items, Settings};
 use point_geom::Point;
 use rebuild_core::MapState;
 use std::alloc::Global;
@@ -39,20 +39,14 @@ const IN_BALL: &[Page] = &[
 
 #[test]
 fn what_is_held_is_listed_by_number(rt: HostRuntime) {
-    on_new_map(&rt, rt.alloc(), Settings::new(200, 16), |alloc, state| {
-        fill(&rt, alloc, state);
-        lists_what_is_held(&rt, alloc, state);
-        lists_a_box(&rt, alloc, state);
-        lists_a_ball(&rt, alloc, state);
-    });
+    on_new_map(&rt, rt.alloc(), Settings::new(200, 16), lists_all);
 }
 
-fn fill(rt: &impl Abort, alloc: Global, state: &mut MapState) {
-    add(rt, alloc, state, 0, 200);
-    let gone = row_box(rt, alloc, 5, 100);
-    update(rt, alloc, state, Update::Delete(gone));
-    let hidden = row_box(rt, alloc, 110, 115);
-    update(rt, alloc, state, Update::Suspend(hidden));
+fn lists_all(rt: &impl Abort, alloc: Global, state: &mut MapState) {
+    fill(rt, alloc, state, 200, ((5, 100), (110, 115)));
+    lists_what_is_held(rt, alloc, state);
+    lists_a_box(rt, alloc, state);
+    lists_a_ball(rt, alloc, state);
 }
 
 fn lists_what_is_held(rt: &impl Abort, alloc: Global, state: &MapState) {

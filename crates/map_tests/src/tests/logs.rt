@@ -22,13 +22,15 @@ const LOG: &str = "ikdmap 2 voxel 2 large 16
 
 #[test]
 fn a_history_is_read_again_as_the_same_map(rt: HostRuntime) {
-    on_new_map(&rt, rt.alloc(), Settings::new(2, 16), |alloc, state| {
-        fill(&rt, alloc, state);
-        is_written(&rt, alloc, state);
-        is_written_in_parts(&rt, alloc, state);
-        is_read_again(&rt, alloc, state);
-        has_no_line(&rt, alloc, state);
-    });
+    on_new_map(&rt, rt.alloc(), Settings::new(2, 16), is_written_and_read);
+}
+
+fn is_written_and_read(rt: &impl Abort, alloc: Global, state: &mut MapState) {
+    fill(rt, alloc, state);
+    is_written(rt, alloc, state);
+    is_written_in_parts(rt, alloc, state);
+    is_read_again(rt, alloc, state);
+    has_no_line(rt, alloc, state);
 }
 
 fn fill(rt: &impl Abort, alloc: Global, state: &mut MapState) {

@@ -14,10 +14,7 @@ use std::process::Abort;
 
 #[test]
 fn what_expires_in_a_detached_subtree_is_logged(rt: HostRuntime) {
-    on_new_map(&rt, rt.alloc(), Settings::new(200, 16), |alloc, state| {
-        expires_meanwhile(&rt, alloc, state);
-        holds_the_later(&rt, alloc, state);
-    });
+    on_new_map(&rt, rt.alloc(), Settings::new(200, 16), expires_meanwhile);
 }
 
 fn holds_the_later(rt: &impl Abort, alloc: Global, state: &MapState) {
@@ -34,14 +31,12 @@ fn expires_meanwhile(rt: &impl Abort, alloc: Global, state: &mut MapState) {
     same(rt, "operations", logged(state, 1), Some(1));
     let built = built(rt, alloc, job);
     swap_ends(rt, alloc, state, built, false, None);
+    holds_the_later(rt, alloc, state);
 }
 
 #[test]
 fn an_action_that_is_pushed_into_a_detached_subtree_is_logged(rt: HostRuntime) {
-    on_new_map(&rt, rt.alloc(), Settings::new(200, 16), |alloc, state| {
-        pushes_meanwhile(&rt, alloc, state);
-        has_three_live(&rt, alloc, state);
-    });
+    on_new_map(&rt, rt.alloc(), Settings::new(200, 16), pushes_meanwhile);
 }
 
 fn has_three_live(rt: &impl Abort, alloc: Global, state: &mut MapState) {
@@ -57,6 +52,7 @@ fn pushes_meanwhile(rt: &impl Abort, alloc: Global, state: &mut MapState) {
     let built = built(rt, alloc, job);
     holds(rt, "a breach", is_breached(state, 16));
     swap_ends(rt, alloc, state, built, true, None);
+    has_three_live(rt, alloc, state);
 }
 
 // Settles a row and puts points more at its end. Its right child leans to the right then, and is detached.
@@ -81,10 +77,7 @@ fn pushes(rt: &impl Abort, alloc: Global, state: &mut MapState) {
 
 #[test]
 fn a_value_behind_catches_up_and_a_stale_one_is_refused(rt: HostRuntime) {
-    on_new_map(&rt, rt.alloc(), Settings::new(200, 16), |alloc, state| {
-        catches_up(&rt, alloc, state);
-        refuses_the_second_of_three(&rt, alloc, state);
-    });
+    on_new_map(&rt, rt.alloc(), Settings::new(200, 16), catches_up);
 }
 
 fn first_built(rt: &impl Abort, alloc: Global, state: &mut MapState) -> Built {
@@ -102,6 +95,7 @@ fn catches_up(rt: &impl Abort, alloc: Global, state: &mut MapState) {
     let first = caught_up(rt, alloc, state, first);
     swap_ends(rt, alloc, state, first, false, None);
     same(rt, "live points", live(state), 105);
+    refuses_the_second_of_three(rt, alloc, state);
 }
 
 // The value, which is 65 operations behind.

@@ -1,7 +1,7 @@
 //! Where a state refuses an update, and stays as it was.
 use crate::tests::assertions::{made, same};
-use crate::tests::steps::{on_new_map, update, updated};
-use map_fold::{Cuboids, Points, Settings, Update};
+use crate::tests::steps::{equal_points, on_new_map, update, updated};
+use map_fold::{Cuboids, Settings, Update};
 use point_geom::Point;
 use rebuild_core::{LogAsk, MapState, StateFault, SwapFault};
 use std::alloc::Global;
@@ -10,27 +10,16 @@ use std::process::Abort;
 
 #[test]
 fn a_new_state_refuses_more_points_than_there_may_be(rt: HostRuntime) {
-    on_new_map(&rt, rt.alloc(), Settings::new(200, 5_000), |alloc, state| {
-        refuses_too_many(&rt, alloc, state);
-        is_new(&rt, state);
-    });
+    on_new_map(&rt, rt.alloc(), Settings::new(200, 5_000), refuses_too_many);
 }
 
 fn refuses_too_many(rt: &impl Abort, alloc: Global, state: &mut MapState) {
-    let points = too_many(rt, alloc);
+    let points = equal_points(rt, alloc, made(rt, Point::new(0, 0, 0)), 4_194_305);
     let answer = updated(alloc, state, 1, Update::Add(points));
     let (next, asked) = (0, 4_194_305);
     let want = StateFault::TooManyPoints { next, asked };
     same(rt, "the fault", answer.err(), Some(want));
-}
-
-fn too_many(rt: &impl Abort, alloc: Global) -> Points {
-    let point = made(rt, Point::new(0, 0, 0));
-    let mut points = Points::new(alloc);
-    for _ in 0..4_194_305u32 {
-        made(rt, points.push(point));
-    }
-    points
+    is_new(rt, state);
 }
 
 fn is_new(rt: &impl Abort, state: &MapState) {
@@ -42,10 +31,7 @@ fn is_new(rt: &impl Abort, state: &MapState) {
 
 #[test]
 fn a_full_history_refuses_the_next_update(rt: HostRuntime) {
-    on_new_map(&rt, rt.alloc(), Settings::new(200, 5_000), |alloc, state| {
-        fills_its_history(&rt, alloc, state);
-        refuses_the_next(&rt, alloc, state);
-    });
+    on_new_map(&rt, rt.alloc(), Settings::new(200, 5_000), refuses_the_next);
 }
 
 fn fills_its_history(rt: &impl Abort, alloc: Global, state: &mut MapState) {
@@ -55,6 +41,7 @@ fn fills_its_history(rt: &impl Abort, alloc: Global, state: &mut MapState) {
 }
 
 fn refuses_the_next(rt: &impl Abort, alloc: Global, state: &mut MapState) {
+    fills_its_history(rt, alloc, state);
     let nothing = Update::Delete(Cuboids::new(alloc));
     let answer = updated(alloc, state, 2, nothing);
     let want = StateFault::TooManyUpdates { len: 1_048_576 };

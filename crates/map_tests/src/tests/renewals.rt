@@ -1,6 +1,6 @@
 //! A new map of what another one holds.
 use crate::tests::assertions::{holds, made, same};
-use crate::tests::steps::{add, on_new_map, row_box, update};
+use crate::tests::steps::{fill, on_new_map, row_box, update};
 use kd_search::{count_in, nearest};
 use map_fold::{Hit, Item, Label, Settings, Update};
 use map_renewal::renewed;
@@ -14,22 +14,12 @@ const XS: &[i64] = &[2, 3, 0, 1, 4, 6, 7, 8, 9];
 
 #[test]
 fn a_renewed_map_holds_the_same_points_and_answers_the_same(rt: HostRuntime) {
-    on_new_map(&rt, rt.alloc(), Settings::new(200, 16), |alloc, state| {
-        fill(&rt, alloc, state);
-        is_renewed(&rt, alloc, state);
-    });
-}
-
-// Of ten points two are hidden, and one is gone.
-fn fill(rt: &impl Abort, alloc: Global, state: &mut MapState) {
-    add(rt, alloc, state, 0, 10);
-    let hidden = row_box(rt, alloc, 2, 4);
-    update(rt, alloc, state, Update::Suspend(hidden));
-    let gone = row_box(rt, alloc, 5, 6);
-    update(rt, alloc, state, Update::Delete(gone));
+    on_new_map(&rt, rt.alloc(), Settings::new(200, 16), is_renewed);
 }
 
 fn is_renewed(rt: &impl Abort, alloc: Global, old: &mut MapState) {
+    // Of ten points two are hidden, and one is gone.
+    fill(rt, alloc, old, 10, ((5, 6), (2, 4)));
     let settings = Settings::new(300, 17);
     let mut new = made(rt, renewed(alloc, old.version(), settings));
     is_as_told(rt, alloc, old, &mut new);
@@ -38,8 +28,10 @@ fn is_renewed(rt: &impl Abort, alloc: Global, old: &mut MapState) {
 fn is_as_told(rt: &impl Abort, alloc: Global, old: &mut MapState, new: &mut MapState) {
     holds_all(rt, alloc, new);
     answers_as(rt, alloc, old, new);
-    restore(rt, alloc, old);
-    restore(rt, alloc, new);
+    let shown = row_box(rt, alloc, 0, 10);
+    update(rt, alloc, old, Update::Restore(shown));
+    let shown = row_box(rt, alloc, 0, 10);
+    update(rt, alloc, new, Update::Restore(shown));
     answers_as(rt, alloc, old, new);
 }
 
@@ -60,11 +52,6 @@ fn are_in_order(rt: &impl Abort, items: &[Item]) {
         let is_hidden = item.label == Label::Suspended;
         same(rt, "whether it is hidden", is_hidden, number < 2);
     }
-}
-
-fn restore(rt: &impl Abort, alloc: Global, state: &mut MapState) {
-    let hidden = row_box(rt, alloc, 0, 10);
-    update(rt, alloc, state, Update::Restore(hidden));
 }
 
 // Both find the same points, whose numbers are others.

@@ -1,9 +1,9 @@
 //! Points in a row, and points at one place.
 use crate::tests::assertions::{holds, made, same};
 use crate::tests::looks::{is_breached, live};
-use crate::tests::steps::{add_row, on_new_map, row, settled, update, updated};
+use crate::tests::steps::{add_row, equal_points, on_new_map, row, settled, update, updated};
 use kd_search::nearest;
-use map_fold::{Hit, Points, Settings, Update};
+use map_fold::{Hit, Settings, Update};
 use point_geom::Point;
 use rebuild_core::MapState;
 use std::alloc::Global;
@@ -12,9 +12,7 @@ use std::process::Abort;
 // That it is found whole is seen by a stored run.
 #[test]
 fn a_rising_row_fills_all_levels(rt: HostRuntime) {
-    on_new_map(&rt, rt.alloc(), Settings::new(200, 16), |alloc, state| {
-        rises(&rt, alloc, state);
-    });
+    on_new_map(&rt, rt.alloc(), Settings::new(200, 16), rises);
 }
 
 fn rises(rt: &impl Abort, alloc: Global, state: &mut MapState) {
@@ -29,27 +27,22 @@ fn rises(rt: &impl Abort, alloc: Global, state: &mut MapState) {
 
 #[test]
 fn equal_points_are_settled_and_found_by_number(rt: HostRuntime) {
-    on_new_map(&rt, rt.alloc(), Settings::new(200, 1_500), |alloc, state| {
-        settles_equal_points(&rt, alloc, state);
-    });
+    on_new_map(
+        &rt,
+        rt.alloc(),
+        Settings::new(200, 1_500),
+        settles_equal_points,
+    );
 }
 
 fn settles_equal_points(rt: &impl Abort, alloc: Global, state: &mut MapState) {
     let place = made(rt, Point::new(3, 3, 3));
-    let points = equal_points(rt, alloc, place);
+    let points = equal_points(rt, alloc, place, 5_000);
     update(rt, alloc, state, Update::Add(points));
     settled(rt, alloc, state);
     holds(rt, "no breach", !is_breached(state, 10));
     same(rt, "live points", live(state), 5_000);
     finds_by_number(rt, alloc, state, &place);
-}
-
-fn equal_points(rt: &impl Abort, alloc: Global, place: Point) -> Points {
-    let mut points = Points::new(alloc);
-    for _ in 0..5_000 {
-        made(rt, points.push(place));
-    }
-    points
 }
 
 fn finds_by_number(rt: &impl Abort, alloc: Global, state: &MapState, place: &Point) {
@@ -68,11 +61,7 @@ fn are_numbered(rt: &impl Abort, found: &[Hit]) {
 
 #[test]
 fn a_row_that_is_settled_takes_one_more_point(rt: HostRuntime) {
-    on_new_map(&rt, rt.alloc(), Settings::new(200, 16), |alloc, state| {
-        settles_a_row(&rt, alloc, state);
-        takes_one_more(&rt, alloc, state);
-        finds_the_last(&rt, alloc, state);
-    });
+    on_new_map(&rt, rt.alloc(), Settings::new(200, 16), takes_one_more);
 }
 
 fn settles_a_row(rt: &impl Abort, alloc: Global, state: &mut MapState) {
@@ -85,10 +74,12 @@ fn settles_a_row(rt: &impl Abort, alloc: Global, state: &mut MapState) {
 }
 
 fn takes_one_more(rt: &impl Abort, alloc: Global, state: &mut MapState) {
+    settles_a_row(rt, alloc, state);
     let points = row(rt, alloc, 0, 1);
     let mark = made(rt, updated(alloc, state, 8, Update::Add(points)));
     same(rt, "the second mark", mark, 2);
     same(rt, "live points", live(state), 41);
+    finds_the_last(rt, alloc, state);
 }
 
 // The point of number 40, at 5 from the query.

@@ -3,7 +3,7 @@ use crate::tests::assertions::{holds, made, same};
 use crate::tests::looks::{cuboid, live, logged, suspended};
 use crate::tests::steps::{
     add, add_row, add_row_and, built, detached, is_balanced, is_of, is_stale, new_map, on_new_map,
-    settled, swap_ends, update,
+    row_box, settled, swap_ends, update,
 };
 use kd_search::nearest;
 use map_fold::{Cuboids, Points, Settings, Update};
@@ -37,9 +37,7 @@ fn swaps(rt: &impl Abort, alloc: Global, state: &mut MapState, job: Job, force: 
 
 #[test]
 fn a_value_is_stale_once_its_map_was_settled(rt: HostRuntime) {
-    on_new_map(&rt, rt.alloc(), Settings::new(200, 16), |alloc, state| {
-        settles_meanwhile(&rt, alloc, state);
-    });
+    on_new_map(&rt, rt.alloc(), Settings::new(200, 16), settles_meanwhile);
 }
 
 fn settles_meanwhile(rt: &impl Abort, alloc: Global, state: &mut MapState) {
@@ -62,7 +60,8 @@ fn a_value_fits_another_map_and_is_stale_where_it_holds_another_point(rt: HostRu
 
 // So ends the swap of a value of a map whose last point is at 40, in another, whose last point is at this place.
 fn ends_elsewhere(rt: &impl Abort, alloc: Global, last: i64, fault: Option<SwapFault>) {
-    let job = job_of_another(rt, alloc);
+    let mut first = new_map(rt, alloc, Settings::new(200, 16));
+    let job = begun(rt, alloc, &mut first, 40);
     let mut other = new_map(rt, alloc, Settings::new(200, 16));
     begun(rt, alloc, &mut other, last);
     let built = built(rt, alloc, job);
@@ -70,17 +69,9 @@ fn ends_elsewhere(rt: &impl Abort, alloc: Global, last: i64, fault: Option<SwapF
     same(rt, "live points", live(&other), 40);
 }
 
-// The first job of a map whose last point is at 40.
-fn job_of_another(rt: &impl Abort, alloc: Global) -> Job {
-    let mut state = new_map(rt, alloc, Settings::new(200, 16));
-    begun(rt, alloc, &mut state, 40)
-}
-
 #[test]
 fn a_forced_swap_does_all_that_is_left(rt: HostRuntime) {
-    on_new_map(&rt, rt.alloc(), Settings::new(200, 16), |alloc, state| {
-        grows_meanwhile(&rt, alloc, state);
-    });
+    on_new_map(&rt, rt.alloc(), Settings::new(200, 16), grows_meanwhile);
 }
 
 fn grows_meanwhile(rt: &impl Abort, alloc: Global, state: &mut MapState) {
@@ -91,18 +82,16 @@ fn grows_meanwhile(rt: &impl Abort, alloc: Global, state: &mut MapState) {
 
 #[test]
 fn what_was_deleted_meanwhile_stays_so(rt: HostRuntime) {
-    on_new_map(&rt, rt.alloc(), Settings::new(200, 16), |alloc, state| {
-        empties_meanwhile(&rt, alloc, state);
-        stays_empty(&rt, alloc, state);
-        holds_only(&rt, alloc, state, 40);
-    });
+    on_new_map(&rt, rt.alloc(), Settings::new(200, 16), empties_meanwhile);
 }
 
 fn empties_meanwhile(rt: &impl Abort, alloc: Global, state: &mut MapState) {
     let job = begun(rt, alloc, state, 40);
-    let all = boxes(rt, alloc, 0, 100, 1);
-    update(rt, alloc, state, Update::Delete(all));
+    let gone = row_box(rt, alloc, 0, 100);
+    update(rt, alloc, state, Update::Delete(gone));
     swaps(rt, alloc, state, job, false, 0);
+    stays_empty(rt, alloc, state);
+    holds_only(rt, alloc, state, 40);
 }
 
 // Until a point is added.
@@ -126,9 +115,7 @@ fn holds_only(rt: &impl Abort, alloc: Global, state: &MapState, number: u32) {
 
 #[test]
 fn a_voxel_that_was_thinned_meanwhile_keeps_its_winner(rt: HostRuntime) {
-    on_new_map(&rt, rt.alloc(), Settings::new(200, 16), |alloc, state| {
-        thins_meanwhile(&rt, alloc, state);
-    });
+    on_new_map(&rt, rt.alloc(), Settings::new(200, 16), thins_meanwhile);
 }
 
 fn thins_meanwhile(rt: &impl Abort, alloc: Global, state: &mut MapState) {
@@ -149,9 +136,7 @@ fn thin_at(rt: &impl Abort, alloc: Global, state: &mut MapState, point: Point) {
 
 #[test]
 fn a_part_that_is_detached_afresh_takes_only_its_new_value(rt: HostRuntime) {
-    on_new_map(&rt, rt.alloc(), Settings::new(200, 16), |alloc, state| {
-        detaches_afresh(&rt, alloc, state);
-    });
+    on_new_map(&rt, rt.alloc(), Settings::new(200, 16), detaches_afresh);
 }
 
 fn detaches_afresh(rt: &impl Abort, alloc: Global, state: &mut MapState) {
@@ -169,9 +154,7 @@ const NEARLY_FULL: u32 = 65_535;
 
 #[test]
 fn a_part_whose_log_is_full_is_forgotten(rt: HostRuntime) {
-    on_new_map(&rt, rt.alloc(), Settings::new(200, 16), |alloc, state| {
-        fills_a_log(&rt, alloc, state);
-    });
+    on_new_map(&rt, rt.alloc(), Settings::new(200, 16), fills_a_log);
 }
 
 fn fills_a_log(rt: &impl Abort, alloc: Global, state: &mut MapState) {
@@ -188,8 +171,8 @@ fn fill_its_log(rt: &impl Abort, alloc: Global, state: &mut MapState) {
     let many = boxes(rt, alloc, 1, 2, NEARLY_FULL);
     update(rt, alloc, state, Update::Restore(many));
     same(rt, "operations", logged(state, 1), Some(NEARLY_FULL));
-    let one = boxes(rt, alloc, 1, 2, 1);
-    update(rt, alloc, state, Update::Delete(one));
+    let gone = row_box(rt, alloc, 1, 2);
+    update(rt, alloc, state, Update::Delete(gone));
     same(rt, "operations", logged(state, 1), None);
 }
 
@@ -218,10 +201,7 @@ fn are_logged(rt: &impl Abort, state: &MapState, left: u32, right: u32) {
 
 #[test]
 fn what_two_detached_subtrees_met_is_done_on_both(rt: HostRuntime) {
-    on_new_map(&rt, rt.alloc(), Settings::new(200, 16), |alloc, state| {
-        swaps_both(&rt, alloc, state);
-        holds_three(&rt, alloc, state);
-    });
+    on_new_map(&rt, rt.alloc(), Settings::new(200, 16), swaps_both);
 }
 
 // Both are detached at once.
@@ -236,16 +216,17 @@ fn swaps_both(rt: &impl Abort, alloc: Global, state: &mut MapState) {
     let right = built(rt, alloc, right);
     swap_ends(rt, alloc, state, right, true, None);
     swap_ends(rt, alloc, state, left, true, None);
+    holds_three(rt, alloc, state);
 }
 
 // An action that is done above both isn't logged at either, until it is handed down.
 fn meets_both(rt: &impl Abort, alloc: Global, state: &mut MapState) {
     holds(rt, "nothing to detach", is_balanced(rt, alloc, state, 3));
-    let all = boxes(rt, alloc, -100, 100, 1);
-    update(rt, alloc, state, Update::Suspend(all));
+    let hidden = row_box(rt, alloc, -100, 100);
+    update(rt, alloc, state, Update::Suspend(hidden));
     are_logged(rt, state, 0, 0);
-    let three = boxes(rt, alloc, 30, 33, 1);
-    update(rt, alloc, state, Update::Restore(three));
+    let shown = row_box(rt, alloc, 30, 33);
+    update(rt, alloc, state, Update::Restore(shown));
     are_logged(rt, state, 1, 2);
 }
 

@@ -39,9 +39,7 @@ fn given_a_list(rt: &impl Abort, alloc: Global, state: &mut MapState) -> Result<
 
 #[test]
 fn a_value_fits_a_subtree_that_nobody_has_listed(rt: HostRuntime) {
-    on_new_map(&rt, rt.alloc(), Settings::new(200, 16), |alloc, state| {
-        fits(&rt, alloc, state);
-    });
+    on_new_map(&rt, rt.alloc(), Settings::new(200, 16), fits);
 }
 
 fn fits(rt: &impl Abort, alloc: Global, state: &mut MapState) {
@@ -99,9 +97,7 @@ fn value_of_another(rt: &impl Abort, alloc: Global) -> Built {
 
 #[test]
 fn a_list_takes_the_place_of_the_tree(rt: HostRuntime) {
-    on_new_map(&rt, rt.alloc(), Settings::new(200, 16), |alloc, state| {
-        takes_its_own(&rt, alloc, state);
-    });
+    on_new_map(&rt, rt.alloc(), Settings::new(200, 16), takes_its_own);
 }
 
 fn takes_its_own(rt: &impl Abort, alloc: Global, state: &mut MapState) {

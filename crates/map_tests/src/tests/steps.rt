@@ -86,7 +86,7 @@ pub fn new_map(rt: &impl Abort, alloc: Global, settings: Settings) -> MapState {
 }
 
 // Tries this on a new map.
-pub fn on_new_map<R: Abort, F: FnOnce(Global, &mut MapState)>(
+pub fn on_new_map<R: Abort, F: FnOnce(&R, Global, &mut MapState)>(
     rt: &R,
     alloc: Global,
     settings: Settings,
@@ -95,7 +95,7 @@ pub fn on_new_map<R: Abort, F: FnOnce(Global, &mut MapState)>(
     requires { F.IsAlwaysCallable trial }
 {
     let mut state = new_map(rt, alloc, settings);
-    trial(alloc, &mut state);
+    trial(rt, alloc, &mut state);
 }
 
 pub fn settled(rt: &impl Abort, alloc: Global, state: &mut MapState) {
@@ -150,6 +150,15 @@ pub fn row_box(rt: &impl Abort, alloc: Global, first: i64, last: i64) -> Cuboids
     boxes
 }
 
+// So many points at one place.
+pub fn equal_points(rt: &impl Abort, alloc: Global, place: Point, count: u32) -> Points {
+    let mut points = Points::new(alloc);
+    for _ in 0..count {
+        made(rt, points.push(place));
+    }
+    points
+}
+
 // The first caller makes the update.
 pub fn update(rt: &impl Abort, alloc: Global, state: &mut MapState, update: Update) {
     made(rt, updated(alloc, state, 1, update));
@@ -159,6 +168,24 @@ pub fn update(rt: &impl Abort, alloc: Global, state: &mut MapState, update: Upda
 pub fn add(rt: &impl Abort, alloc: Global, state: &mut MapState, first: i64, last: i64) {
     let points = row(rt, alloc, first, last);
     update(rt, alloc, state, Update::Add(points));
+}
+
+// Points (x, 0, 0), from the first on and before the last.
+pub type Range = (i64, i64);
+
+// Adds the points from 0 on and before the last, and deletes some of them and hides others.
+pub fn fill(
+    rt: &impl Abort,
+    alloc: Global,
+    state: &mut MapState,
+    last: i64,
+    (gone, hidden): (Range, Range),
+) {
+    add(rt, alloc, state, 0, last);
+    let gone = row_box(rt, alloc, gone.0, gone.1);
+    update(rt, alloc, state, Update::Delete(gone));
+    let hidden = row_box(rt, alloc, hidden.0, hidden.1);
+    update(rt, alloc, state, Update::Suspend(hidden));
 }
 
 pub fn add_row(rt: &impl Abort, alloc: Global, state: &mut MapState, xs: &[i64]) {
