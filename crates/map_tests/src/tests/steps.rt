@@ -1,59 +1,29 @@
-//! Steps of a state, each on a ledger of its own.
+//! Steps of a state, whose new nodes nobody counts.
 ghost use Rattle.std.specs.Prelude.{◌≤◌};
-ghost use Rattle.kd_tree.specs.Counter.{IsBlankOf};
 
 use crate::tests::assertions::{found, made, same};
 use crate::tests::looks::cuboid;
-use kd_tree::Steps;
 use map_fold::{Cuboids, Points, Settings, Update};
 use point_geom::Point;
 use rebuild_core::{Built, Job, LogAsk, MapState, StateFault, SwapFault, SwapLeft};
 use std::alloc::Global;
-use std::marker::Brand;
 use std::process::Abort;
-use std::sync::ledger::{Blank, Ledger};
 
 // The mark of an update.
 pub type Updated = Result<u64, StateFault>;
-
-// A caller, and its update.
-type Own = (u8, Update);
 
 pub fn updated(alloc: Global, state: &mut MapState, caller: u8, update: Update) -> Updated
     requires caller_from { 1 ≤ caller }
     requires caller_to { caller ≤ 8 }
 {
-    entered::<Brand>(alloc, state, (caller, update), Blank::new(1))
-}
-
-fn entered<L: Ledger>(alloc: Global, state: &mut MapState, own: Own, blank: Blank) -> Updated
-    requires caller_from { 1 ≤ own.0 }
-    requires caller_to { own.0 ≤ 8 }
-    requires blank { IsBlankOf L.name L.parts blank }
-{
-    let mut steps: Steps<L> = Steps::new(blank);
-    let (caller, update) = own;
-    state.update(alloc, caller, update, &mut steps)
+    state.update_uncounted(alloc, caller, update)
 }
 
 // Done, or why not.
 pub type Swapped = Result<(), SwapLeft>;
 
 pub fn swapped(alloc: Global, state: &mut MapState, built: Built, force: bool) -> Swapped {
-    swapped_by::<Brand>(alloc, state, built, force, Blank::new(1))
-}
-
-fn swapped_by<L: Ledger>(
-    alloc: Global,
-    state: &mut MapState,
-    built: Built,
-    force: bool,
-    blank: Blank,
-) -> Swapped
-    requires blank { IsBlankOf L.name L.parts blank }
-{
-    let mut steps: Steps<L> = Steps::new(blank);
-    state.swap(alloc, built, force, &mut steps)
+    state.swap_uncounted(alloc, built, force)
 }
 
 // The value is swapped in, or it is refused for the fault.
