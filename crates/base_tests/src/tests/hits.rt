@@ -1,9 +1,23 @@
-//! Hits that are no longer in order.
+//! Lists of hits, also those that are no longer in order.
 ghost use Rattle.std.specs.Prelude.{◌≤◌};
 
 use crate::tests::assertions::{holds, made};
 use map_fold::{Hit, Hits};
+use point_geom::Point;
+use std::alloc::Global;
 use std::process::Abort;
+
+// The one point of this number, so far away, squared.
+pub fn one_hit(rt: &impl Abort, alloc: Global, number: u32, point: Point, dist2: u128) -> Hits {
+    let hit = Hit {
+        number,
+        point,
+        dist2,
+    };
+    let mut hits = Hits::new(alloc);
+    made(rt, hits.push(hit));
+    hits
+}
 
 fn put(rt: &impl Abort, hits: &mut Hits, k: usize, hit: Hit) {
     assert!(rt; 1 <= k && hits.len() <= k);

@@ -1,6 +1,7 @@
 //! Logs and lines, by hand.
 use crate::tests::assertions::{are_bytes, holds, made, same};
-use map_fold::{Hit, Hits, NearReply, Settings};
+use crate::tests::hits::one_hit;
+use map_fold::{NearReply, Settings};
 use point_geom::Point;
 use scan_log::{Command, Format, ParseFault, Reply, Script, parse, reply_line};
 use std::alloc::Global;
@@ -50,7 +51,8 @@ fn the_smallest_run_is_read_and_told(rt: HostRuntime) {
 
 // What the run writes. A reply to no command is none of its lines.
 fn told(rt: &impl Abort, alloc: Global, add: &Command, near: &Command) -> Vec<u8> {
-    let hits = one_hit(rt, alloc);
+    let point = made(rt, Point::new(1, 2, 3));
+    let hits = one_hit(rt, alloc, 0, point, 14);
     let found = Reply::Near(NearReply { mark: 1, hits });
     let totals = Reply::Totals {
         mark: 1,
@@ -68,18 +70,6 @@ fn told(rt: &impl Abort, alloc: Global, add: &Command, near: &Command) -> Vec<u8
 
 fn tell(rt: &impl Abort, out: &mut Vec<u8>, command: Option<&Command>, reply: &Reply) {
     made(rt, reply_line(out, Format::One, command, reply));
-}
-
-fn one_hit(rt: &impl Abort, alloc: Global) -> Hits {
-    let point = made(rt, Point::new(1, 2, 3));
-    let hit = Hit {
-        number: 0,
-        point,
-        dist2: 14,
-    };
-    let mut hits = Hits::new(alloc);
-    made(rt, hits.push(hit));
-    hits
 }
 
 #[test]

@@ -1,8 +1,9 @@
 //! The searches that version 2 alone has, by hand.
 use crate::tests::assertions::{made, same};
+use crate::tests::hits::one_hit;
 use crate::tests::reading::{WIDE_HEADER, read};
 use crate::tests::written::{found, is_told, is_written_as};
-use map_fold::{ClusterReply, Group, Groups, Hit, HitLists, Hits, NearsReply};
+use map_fold::{ClusterReply, Group, Groups, HitLists, Hits, NearsReply};
 use point_geom::Point;
 use scan_log::Reply;
 use std::alloc::Global;
@@ -25,14 +26,7 @@ fn each_search_is_written_as_it_was_read(rt: HostRuntime) {
 
 fn hits(rt: &impl Abort, alloc: Global, number: u32) -> Hits {
     let point = made(rt, Point::new(1, 0, -1)).with_intensity(9);
-    let hit = Hit {
-        number,
-        point,
-        dist2: 4,
-    };
-    let mut hits = Hits::new(alloc);
-    made(rt, hits.push(hit));
-    hits
+    one_hit(rt, alloc, number, point, 4)
 }
 
 #[test]

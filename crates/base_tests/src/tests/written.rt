@@ -292,12 +292,12 @@ fn what_is_found_in_a_box_is_told_after_its_number(rt: HostRuntime) {
 #[test]
 fn a_reply_of_another_kind_has_no_line(rt: HostRuntime) {
     let alloc = rt.alloc();
-    let done = Reply::Done { mark: 1 };
-    let boxed = b"@2 box 1 4 -5 6 1000000001 -5 7";
-    is_told(&rt, alloc, WIDE_HEADER, boxed, done, b"");
     // A box is no ball.
     let inside = Reply::Inside(found(&rt, alloc, 6));
     is_told(&rt, alloc, WIDE_HEADER, b"@2 ball 1 5 0 0 0", inside, b"");
+    let done = Reply::Done { mark: 1 };
+    let boxed = b"@2 box 1 4 -5 6 1000000001 -5 7";
+    is_told(&rt, alloc, WIDE_HEADER, boxed, done, b"");
 }
 
 // Seven points, of which this one is listed.
