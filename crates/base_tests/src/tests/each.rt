@@ -1,17 +1,15 @@
 //! Many searches at once beside single ones: with a greatest distance, and none at all.
-ghost use Rattle.std.specs.Prelude.{◌≤◌};
-ghost use Rattle.std.specs.Option.{ForSome};
+ghost use Rattle.kd_search.specs.Query.{IsQuery};
 
 use crate::tests::assertions::{made, same};
 use crate::tests::grown::restored;
 use batch_near::nearest_each;
 use kd_search::nearest;
 use kd_tree::Tree;
-use map_fold::Points;
+use map_fold::{HitLists, Points};
 use point_geom::Point;
 use std::alloc::Global;
 use std::process::Abort;
-use std::thread::Threads;
 
 fn drawn(state: u32) -> u32 {
     state.wrapping_mul(1_664_525).wrapping_add(1_013_904_223)
@@ -48,23 +46,23 @@ fn each_list_is_what_a_single_search_finds(rt: HostRuntime) {
         (0, 1, None),
     ] {
         let queries = Points::from(cloud(&rt, alloc, count, 7));
-        are_as_single(&rt, alloc, &tree, &queries, k, within);
+        let lists = made(&rt, nearest_each(&rt, alloc, &tree, k, &queries, within));
+        are_as_single(&rt, alloc, &lists, &tree, &queries, k, within);
     }
 }
 
-fn are_as_single<R: Threads + Sync + Abort>(
-    rt: &R,
+/// Each list is what one search of the tree finds.
+pub fn are_as_single(
+    rt: &impl Abort,
     alloc: Global,
+    lists: &HitLists,
     tree: &Tree,
     queries: &Points,
     k: u32,
     within: Option<u64>,
 )
-    requires k_to { k ≤ 256 }
-    requires k_from { 1 ≤ k }
-    requires within_to { ForSome within (λ r. r ≤ 4398046511104) }
+    requires { IsQuery k within }
 {
-    let lists = made(rt, nearest_each(rt, alloc, tree, k, queries, within));
     same(rt, "lists", lists.len(), queries.len());
     for (list, query) in lists.as_slice().iter().zip(queries.as_slice()) {
         let want = made(rt, nearest(alloc, tree, k, query, within));

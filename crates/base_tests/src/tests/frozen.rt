@@ -1,12 +1,8 @@
 //! Frozen indexes beside the tree that they were made of: equal points, lines, lattices, corners of space, one point and none, asked
 //! from among the points and from far outside; and boxes that cut what is found.
-ghost use Rattle.std.specs.Prelude.{◌≡◌, ◌≤◌};
-ghost use Rattle.std.specs.Option.{ForSome};
-ghost use Rattle.map_fold.specs.Answers.{inside_all};
-ghost use Rattle.kd_tree.specs.Contents.{contents};
-
 use crate::tests::assertions::{made, same};
 use crate::tests::draw::Draw;
+use crate::tests::each::are_as_single;
 use crate::tests::grown::grown;
 use crate::tests::places::{Place, at};
 use batch_near::frozen_nearest_each;
@@ -17,7 +13,6 @@ use map_fold::{Points, Tag};
 use point_geom::{Cuboid, Point};
 use std::alloc::Global;
 use std::process::Abort;
-use std::thread::Threads;
 
 // The last coordinate there is.
 const FAR: i64 = 1_099_511_627_776;
@@ -105,27 +100,11 @@ fn finds_as_the_tree(rt: &impl Abort, alloc: Global, points: &[Point]) {
 fn from_place(rt: &impl Abort, alloc: Global, tree: &Tree, frozen: &Frozen, q: &Point) {
     for within in [None, Some(0), Some(3), Some(60), Some(4_398_046_511_104)] {
         for k in 1..18 {
-            is_as_the_tree(rt, alloc, tree, frozen, k, q, within);
+            let got = made(rt, frozen.nearest(alloc, k, q, within));
+            let want = made(rt, nearest(alloc, tree, k, q, within));
+            assert_eq!(rt; got.as_slice(), want.as_slice());
         }
     }
-}
-
-fn is_as_the_tree(
-    rt: &impl Abort,
-    alloc: Global,
-    tree: &Tree,
-    frozen: &Frozen,
-    k: u32,
-    q: &Point,
-    within: Option<u64>,
-)
-    requires k_from { 1 ≤ k }
-    requires k_to { k ≤ 256 }
-    requires within_to { ForSome within (λ r. r ≤ 4398046511104) }
-{
-    let got = made(rt, frozen.nearest(alloc, k, q, within));
-    let want = made(rt, nearest(alloc, tree, k, q, within));
-    assert_eq!(rt; got.as_slice(), want.as_slice());
 }
 
 #[test]
@@ -143,40 +122,16 @@ fn what_is_beside_a_frozen_box_is_found_too(rt: HostRuntime) {
 
 fn freezes_a_box(rt: &impl Abort, alloc: Global, tree: &Tree, cuboid: &Cuboid, q: &Point) {
     let frozen = made(rt, Frozen::inside(alloc, tree, cuboid));
-    same(
-        rt,
-        "how many",
-        frozen.len(),
-        count_in(tree, cuboid) as usize,
-    );
+    let count = count_in(tree, cuboid) as usize;
+    same(rt, "how many", frozen.len(), count);
     for within in [None, Some(0), Some(3), Some(60)] {
         for k in 1..18 {
-            is_as_beside(rt, alloc, tree, cuboid, &frozen, k, q, within);
+            let got = nearest_beside(alloc, tree, cuboid, &frozen, k, q, within);
+            let got = made(rt, got);
+            let want = made(rt, nearest(alloc, tree, k, q, within));
+            assert_eq!(rt; got.as_slice(), want.as_slice());
         }
     }
-}
-
-fn is_as_beside(
-    rt: &impl Abort,
-    alloc: Global,
-    tree: &Tree,
-    cuboid: &Cuboid,
-    frozen: &Frozen,
-    k: u32,
-    q: &Point,
-    within: Option<u64>,
-)
-    requires k_from { 1 ≤ k }
-    requires k_to { k ≤ 256 }
-    requires within_to { ForSome within (λ r. r ≤ 4398046511104) }
-    requires frozen { frozen.now ≡ inside_all (contents tree.now) cuboid.now }
-{
-    let got = made(
-        rt,
-        nearest_beside(alloc, tree, cuboid, frozen, k, q, within),
-    );
-    let want = made(rt, nearest(alloc, tree, k, q, within));
-    assert_eq!(rt; got.as_slice(), want.as_slice());
 }
 
 #[test]
@@ -189,29 +144,8 @@ fn each_list_of_many_places_is_what_one_search_finds(rt: HostRuntime) {
     // Above 16 hits, or for fewer than 256 places, lists aren't filled where they are.
     for (count, k, within) in [(300, 17, Some(3)), (255, 16, None), (256, 16, Some(3))] {
         let queries = Points::from(draw.points(&rt, alloc, count));
-        are_as_single(&rt, alloc, &frozen, &queries, k, within);
-    }
-}
-
-fn are_as_single<R: Threads + Sync + Abort>(
-    rt: &R,
-    alloc: Global,
-    frozen: &Frozen,
-    queries: &Points,
-    k: u32,
-    within: Option<u64>,
-)
-    requires k_to { k ≤ 256 }
-    requires k_from { 1 ≤ k }
-    requires within_to { ForSome within (λ r. r ≤ 4398046511104) }
-{
-    let lists = made(
-        rt,
-        frozen_nearest_each(rt, alloc, frozen, k, queries, within),
-    );
-    same(rt, "lists", lists.len(), queries.len());
-    for (list, query) in lists.as_slice().iter().zip(queries.as_slice()) {
-        let want = made(rt, frozen.nearest(alloc, k, query, within));
-        assert_eq!(rt; list.as_slice(), want.as_slice());
+        let lists = frozen_nearest_each(&rt, alloc, &frozen, k, &queries, within);
+        let lists = made(&rt, lists);
+        are_as_single(&rt, alloc, &lists, &tree, &queries, k, within);
     }
 }
