@@ -49,15 +49,9 @@ fn box_from(format: Format, x: &[u8], fields: &mut Fields) -> Result<Cuboid, Log
     ensures value { boxes_of format (x.now ∷ fields.old) ≡ with_boxes format result fields.new }
     ensures fewer { OnOk result (length fields.new < length fields.old) }
 {
-    let Some(y) = fields.next() else {
-        return Err(LogCause::WrongCount);
-    };
-    let Some(z) = fields.next() else {
-        return Err(LogCause::WrongCount);
-    };
-    let Some((far_x, far_y, far_z)) = fields.three() else {
-        return Err(LogCause::WrongCount);
-    };
+    let y = fields.field()?;
+    let z = fields.field()?;
+    let (far_x, far_y, far_z) = fields.three()?;
     cuboid(format, x, y, z, far_x, far_y, far_z)
 }
 

@@ -169,9 +169,7 @@ fn expiry(fields: Fields) -> Result<Update, LogCause>
     ensures { result ≡ expiry_of fields.entry }
 {
     let mut fields = fields;
-    let Some(number) = fields.next() else {
-        return Err(LogCause::WrongCount);
-    };
+    let number = fields.field()?;
     if fields.next().is_some() {
         return Err(LogCause::WrongCount);
     }

@@ -1,6 +1,7 @@
 //! The fields of a line.
-ghost use Rattle.std.specs.Prelude.{◌≡◌, List, ℕ, [], ◌∷◌, length, drop, if◌then◌else◌, OnOk, IfOk};
+ghost use Rattle.std.specs.Prelude.{◌≡◌, List, ℕ, [], ◌∷◌, length, drop, if◌then◌else◌, OnOk, IfOk, MatchResult};
 ghost use Rattle.std.specs.Option.{MatchOption};
+ghost use Rattle.scan_log.specs.declared.fault.LogCause.TheVariants.{WrongCount};
 ghost use Rattle.scan_log.specs.Lines.{fields_of};
 ghost use Rattle.scan_log.specs.Reading.{AreTooFew, first_coordinate, first_intensity, first_number};
 ghost use Rattle.scan_log.specs.Scripts.{IsLogCoordinate};
@@ -62,14 +63,24 @@ impl<'a> Fields<'a> {
         Some(self.rest)
     }
 
-    /// The next three fields. Costs their length.
-    pub fn three(&mut self) -> Option<(&'a [u8], &'a [u8], &'a [u8])>
-        ensures { MatchOption result (AreTooFew self.old) (λ t. self.old ≡ t.0.now ∷ t.1.now ∷ t.2.now ∷ self.new) }
+    /// The next field, without which their count is wrong. Costs its length.
+    pub fn field(&mut self) -> Result<&'a [u8], LogCause>
+        ensures { MatchResult result (λ field. self.old ≡ field.now ∷ self.new) (λ cause. (cause ≡ WrongCount) × (self.old ≡ [])) }
     {
-        let first = self.next()?;
-        let second = self.next()?;
-        let third = self.next()?;
-        Some((first, second, third))
+        match self.next() {
+            Some(field) => Ok(field),
+            None => Err(LogCause::WrongCount),
+        }
+    }
+
+    /// The next three fields, without which their count is wrong. Costs their length.
+    pub fn three(&mut self) -> Result<(&'a [u8], &'a [u8], &'a [u8]), LogCause>
+        ensures { MatchResult result (λ t. self.old ≡ t.0.now ∷ t.1.now ∷ t.2.now ∷ self.new) (λ cause. (cause ≡ WrongCount) × AreTooFew self.old) }
+    {
+        let first = self.field()?;
+        let second = self.field()?;
+        let third = self.field()?;
+        Ok((first, second, third))
     }
 
     /// The coordinate that the next field spells. Costs its length.

@@ -16,10 +16,10 @@ pub fn settings(header: &[u8]) -> Result<(Format, Settings), LogCause>
     ensures { result ≡ header_of (fields_of header.now) }
 {
     let mut fields = Fields::new(header);
-    let Some((program, version, voxel_word)) = fields.three() else {
+    let Ok((program, version, voxel_word)) = fields.three() else {
         return Err(LogCause::NoHeader);
     };
-    let Some((voxel, large_word, large)) = fields.three() else {
+    let Ok((voxel, large_word, large)) = fields.three() else {
         return Err(LogCause::NoHeader);
     };
     if fields.next().is_some() {

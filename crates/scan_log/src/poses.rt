@@ -12,16 +12,11 @@ const LONGEST_SIDE: u64 = 2_199_023_255_552;
 
 /// The pose that the fields behind `pose` spell.
 #[tactic(auto, unfolding(crate::specs::Reading::pose_of))]
-pub fn pose(caller: u8, fields: Fields) -> Result<Command, LogCause>
+pub fn pose(caller: u8, mut fields: Fields) -> Result<Command, LogCause>
     ensures { result ≡ pose_of caller fields.entry }
 {
-    let mut fields = fields;
-    let Some((side, ball, step)) = fields.three() else {
-        return Err(LogCause::WrongCount);
-    };
-    let Some((x, y, z)) = fields.three() else {
-        return Err(LogCause::WrongCount);
-    };
+    let (side, ball, step) = fields.three()?;
+    let (x, y, z) = fields.three()?;
     if fields.next().is_some() {
         return Err(LogCause::WrongCount);
     }

@@ -17,22 +17,15 @@ const MAX_PLACES_OF_COMMAND: usize = 262_144;
 
 /// The search for the nearest points that the fields behind `near` spell.
 #[tactic(auto, unfolding(crate::specs::Reading::near_of))]
-pub fn near(format: Format, caller: u8, fields: Fields) -> Result<Command, LogCause>
+pub fn near(format: Format, caller: u8, mut fields: Fields) -> Result<Command, LogCause>
     ensures { result ≡ near_of format caller fields.entry }
 {
-    let mut fields = fields;
-    let Some(k) = fields.next() else {
-        return Err(LogCause::WrongCount);
-    };
-    let Some((x, y, z)) = fields.three() else {
-        return Err(LogCause::WrongCount);
-    };
+    let k = fields.field()?;
+    let (x, y, z) = fields.three()?;
     let Some(word) = fields.next() else {
         return nearest(format, caller, k, x, y, z, None);
     };
-    let Some(distance) = fields.next() else {
-        return Err(LogCause::WrongCount);
-    };
+    let distance = fields.field()?;
     if fields.next().is_some() || !is_word(word, b"within") {
         return Err(LogCause::WrongCount);
     }
@@ -68,19 +61,12 @@ fn nearest(
 
 /// The search of a box that the fields behind `box` spell.
 #[tactic(auto, unfolding(crate::specs::Reading::inside_of))]
-pub fn inside(format: Format, caller: u8, fields: Fields) -> Result<Command, LogCause>
+pub fn inside(format: Format, caller: u8, mut fields: Fields) -> Result<Command, LogCause>
     ensures { result ≡ inside_of format caller fields.entry }
 {
-    let mut fields = fields;
-    let Some(k) = fields.next() else {
-        return Err(LogCause::WrongCount);
-    };
-    let Some((x, y, z)) = fields.three() else {
-        return Err(LogCause::WrongCount);
-    };
-    let Some((far_x, far_y, far_z)) = fields.three() else {
-        return Err(LogCause::WrongCount);
-    };
+    let k = fields.field()?;
+    let (x, y, z) = fields.three()?;
+    let (far_x, far_y, far_z) = fields.three()?;
     if fields.next().is_some() {
         return Err(LogCause::WrongCount);
     }
@@ -91,13 +77,10 @@ pub fn inside(format: Format, caller: u8, fields: Fields) -> Result<Command, Log
 
 /// The searches for the nearest points of several places that the fields behind `nears` spell.
 #[tactic(auto, unfolding(crate::specs::Reading::nears_of))]
-pub fn nears(alloc: Global, caller: u8, fields: Fields) -> Result<Command, LineFault>
+pub fn nears(alloc: Global, caller: u8, mut fields: Fields) -> Result<Command, LineFault>
     ensures { Gives result (nears_of caller fields.entry) }
 {
-    let mut fields = fields;
-    let Some(k) = fields.next() else {
-        return Err(LineFault::Bad(LogCause::WrongCount));
-    };
+    let k = fields.field()?;
     let count = groups(&fields, 3, MAX_PLACES_OF_COMMAND)?;
     let k = natural_in(1, 256, k)?;
     let points = all_points(alloc, Format::Two, count, fields)?;
@@ -106,19 +89,12 @@ pub fn nears(alloc: Global, caller: u8, fields: Fields) -> Result<Command, LineF
 
 /// The search of a ball that the fields behind `ball` spell.
 #[tactic(auto, unfolding(crate::specs::Reading::ball_of))]
-pub fn ball(caller: u8, fields: Fields) -> Result<Command, LogCause>
+pub fn ball(caller: u8, mut fields: Fields) -> Result<Command, LogCause>
     ensures { result ≡ ball_of caller fields.entry }
 {
-    let mut fields = fields;
-    let Some(k) = fields.next() else {
-        return Err(LogCause::WrongCount);
-    };
-    let Some(r) = fields.next() else {
-        return Err(LogCause::WrongCount);
-    };
-    let Some((x, y, z)) = fields.three() else {
-        return Err(LogCause::WrongCount);
-    };
+    let k = fields.field()?;
+    let r = fields.field()?;
+    let (x, y, z) = fields.three()?;
     if fields.next().is_some() {
         return Err(LogCause::WrongCount);
     }
@@ -135,16 +111,11 @@ pub fn ball(caller: u8, fields: Fields) -> Result<Command, LogCause>
 
 /// The count and the distance that the fields behind `lonely` or `clusters` spell.
 #[tactic(auto, unfolding(crate::specs::Reading::reach_of))]
-pub fn reach(fields: Fields) -> Result<(u32, u64), LogCause>
+pub fn reach(mut fields: Fields) -> Result<(u32, u64), LogCause>
     ensures { result ≡ reach_of fields.entry }
 {
-    let mut fields = fields;
-    let Some(k) = fields.next() else {
-        return Err(LogCause::WrongCount);
-    };
-    let Some(r) = fields.next() else {
-        return Err(LogCause::WrongCount);
-    };
+    let k = fields.field()?;
+    let r = fields.field()?;
     if fields.next().is_some() {
         return Err(LogCause::WrongCount);
     }
