@@ -9,6 +9,9 @@ use map_items::{MAX_POINTS, NoMemory, Settings, Update};
 use scan_log::{Command, Reply};
 use std::alloc::Global;
 
+/// A reply, or memory ran out.
+pub type Replied = Result<Reply, NoMemory>;
+
 /// A map that replays updates and replies to commands. How it stores its items, and so what that costs, is its own.
 pub trait HeldMap: Drop {
     ghost use Rattle.map_items.specs.Fold.{MapAt};
@@ -25,7 +28,7 @@ pub trait HeldMap: Drop {
         ensures { IfOk result (λ m. holds m ≡ step settings.now.voxel update.now (holds self)) };
 
     /// The reply with this mark, to the end where there is no command.
-    fn reply(&self, alloc: Global, command: Option<&Command>, mark: u64) -> Result<Reply, NoMemory>
+    fn reply(&self, alloc: Global, command: Option<&Command>, mark: u64) -> Replied
         requires plain { ForSome (option_copied command) IsPlain }
         requires points { (holds self.now).next ≤ MAX_POINTS }
         ensures { IfOk result (λ r. r ≡ reply_at (holds self.now).items (option_copied command.entry) mark) };

@@ -5,7 +5,7 @@ ghost use Rattle.kd_search.specs.Query.{IsQuery};
 ghost use Rattle.scan_log.specs.Plain.{IsPlain};
 ghost use Rattle.transcript_check.specs.MarkedLines.{reply_at};
 
-use crate::held_map::HeldMap;
+use crate::held_map::{HeldMap, Replied};
 use crate::neighbours::{ball_reply, tree_of};
 use map_fold::{BoxReply, ClusterReply, HitLists, NearReply, NearsReply, PlainMap};
 use map_items::{MAX_POINTS, NoMemory, Settings, Update};
@@ -30,12 +30,7 @@ impl HeldMap for PlainMap {
         PlainMap::apply(self, settings, update)
     }
 
-    fn reply(
-        &self,
-        alloc: Global,
-        command: Option<&Command>,
-        mark: u64,
-    ) -> Result<Reply, NoMemory> {
+    fn reply(&self, alloc: Global, command: Option<&Command>, mark: u64) -> Replied {
         match command {
             Some(command) => answer_to(alloc, self, command, mark),
             None => Ok(totals(self, mark)),

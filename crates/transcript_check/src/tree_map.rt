@@ -3,13 +3,13 @@ ghost use Rattle.std.specs.Prelude.{◌≡◌, ◌+◌, ◌≤◌, IfOk};
 ghost use Rattle.map_items.specs.Fold.{points_in, step};
 ghost use Rattle.kd_tree.specs.Counter.{IsBlankOf};
 
-use crate::held_map::HeldMap;
+use crate::held_map::{HeldMap, Replied};
 use crate::on_tree::{tree_reply, tree_totals};
 use kd_tree::{Scratch, Steps, Tree};
 use kd_update::Watches;
 use map_items::{MAX_LARGE, MAX_POINTS, NoMemory, Settings, Update};
 use map_update::{Draft, changed};
-use scan_log::{Command, Reply};
+use scan_log::Command;
 use std::alloc::Global;
 use std::marker::{Brand, Model};
 use std::sync::ledger::{Blank, Ledger};
@@ -69,12 +69,7 @@ impl HeldMap for TreeMap {
         self.apply_by::<Brand>(alloc, settings, update, Blank::new(1))
     }
 
-    fn reply(
-        &self,
-        alloc: Global,
-        command: Option<&Command>,
-        mark: u64,
-    ) -> Result<Reply, NoMemory> {
+    fn reply(&self, alloc: Global, command: Option<&Command>, mark: u64) -> Replied {
         let tree = &self.work.tree;
         match command {
             Some(command) => tree_reply(alloc, tree, mark, command),
