@@ -26,7 +26,7 @@ makes_none u s n k same = record { nodes_made = λ op unrebuilt. omega (arith, s
 pub makes_on : (u : Update) (s z : StateAt) (n m k : ℕ) → s ≡ z → k ≡ m → MakesNodes u s n m → MakesNodes u z n k
 makes_on u s z n m k is same made = subst (λ (x : StateAt). MakesNodes u x n k) is (subst (MakesNodes u s n) (sym same) made)
 
--- what the work on a copy promises, the plan promises of the state
+-- what a draft from a copy promises, the plan promises of the state
 pub plan_makes : (u : Update) (s z : StateAt) (t : Shape) (m n new : ℕ) (ws : List Watch) → s ≡ z → t ≡ s.tree → m ≡ n → ws ≡ watches_of s.parts
     → ((op : Op) → only_op s.next u ≡ Some op → HaveRoom ws → RebuildsNothing s.settings.large op t → new ≤ m + (5 * entered_nodes op t + 1))
     → ((p : Place) → u ≡ Thin (p ∷ []) → IsRejected s.settings.voxel (map_of t s.next) p → new ≡ m) → MakesNodes u z n new

@@ -37,7 +37,7 @@ slots_few from (p ∷ ps) low k = omega (arith, k.0, slots_few (p.slot + 1) ps (
 pub parts_few : (s : StateAt) → IsLawful s → length s.parts ≤ 4
 parts_few s k = omega (arith, slots_few 1 s.parts (omega arith) k.parts.slots)
 
--- what the work on a copy promises of one operation, the plan promises of the state
+-- what a draft from a copy promises of one operation, the plan promises of the state
 pub plan_shape : (u : Update) (op : Op) (s z : StateAt) (t new : Shape) (ws : List Watch) → s ≡ z → t ≡ s.tree
     → ws ≡ watches_of s.parts
     → (only_op s.next u ≡ Some op → HaveRoom ws → RebuildsNothing s.settings.large op t → new ≡ unrebuilt op t)

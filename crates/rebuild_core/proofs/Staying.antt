@@ -39,7 +39,7 @@ watched_one p [] m = absurd m
 watched_one p (q ∷ ps) (inl is) = inl (ap watch_of is)
 watched_one p (q ∷ ps) (inr m) = inr (watched_one p ps m)
 
--- what the work on a copy logs of one operation, the plan says of the parts
+-- what a draft from a copy logs of one operation, the plan says of the parts
 pub plan_logged : (u : Update) (op : Op) (s z : StateAt) (t : Shape) (ws : List Watch) (new : Draft) (logs : List LogPlan) → s ≡ z → t ≡ s.tree → ws ≡ watches_of s.parts
     → (only_op s.next u ≡ Some op → HaveRoom ws → RebuildsNothing s.settings.large op t → new ≡ plain_draft op (record { tree = t; watches = ws }))
     → ((qs : List PartAt) → AreLeft s.parts qs → new.watches ≡ watches_of qs → planned_parts logs s.parts ≡ qs) → IsUnrebuiltUpdate u op z → planned_parts logs z.parts ≡ logged_by op z.tree z.parts
@@ -102,7 +102,7 @@ plan_left s z t ws new logs more lawful is same seen draft plans =
     let here = subst (AreLeft s.parts) (sym (plans left.0 left.1 left.2.watched)) left.1 in
     subst (λ (x : StateAt). AreLeft x.parts (planned_parts logs x.parts)) is here
 
--- what the work watches on stays a part in the plan
+-- what a draft still watches stays a part in the plan
 pub plan_kept : (u : Update) (s z : StateAt) (t : Shape) (ws : List Watch) (new : Draft) (logs : List LogPlan) (more : ℕ) → IsLawful s → s ≡ z → t ≡ s.tree → ws ≡ watches_of s.parts
     → ((last : ℕ) (ps : List PartAt) → IsDraft s.settings.large s.next last ps (record { tree = t; watches = ws }) → IsDraftLeft s.settings.large more last ps new)
     → (HasRoomFor (points_in u) (record { tree = t; watches = ws }) → (x : Watch) → Member x ws → HasLogRoomFor (most_ops u) x → Member x.path (paths_in new.watches))

@@ -160,15 +160,15 @@ impl MapState {
     {
         let copy = self.copied(alloc, steps)?;
         let (settings, next) = (&self.settings, self.next);
-        let work = changed(alloc, copy, settings, next, update, scratch, steps)?;
-        let Draft { tree, watches } = work;
+        let draft = changed(alloc, copy, settings, next, update, scratch, steps)?;
+        let Draft { tree, watches } = draft;
         let logs = logs_of(alloc, self.parts.as_slice(), watches)?;
         Ok(PlanDraft { tree, logs })
     }
 
     fn copied<L: Ledger>(&self, alloc: Global, steps: &mut Steps<L>) -> Result<Draft, NoMemory>
-        ensures tree { IfOk result (λ w. w.tree ≡ self.now.state.tree) }
-        ensures watches { IfOk result (λ w. w.watches ≡ watches_of self.now.state.parts) }
+        ensures tree { IfOk result (λ d. d.tree ≡ self.now.state.tree) }
+        ensures watches { IfOk result (λ d. d.watches ≡ watches_of self.now.state.parts) }
         ensures nodes_made { steps.new ≡ steps.old }
     {
         let tree = self.tree.copy(alloc, steps)?;

@@ -13,15 +13,15 @@ use Rattle.rebuild_core.proofs.state.MapState.plan_draft.Goals as goal
 pub returns-in_err-copy-clause-nodes : goal.returns-in_err-copy-clause-nodes
 returns-in_err-copy-clause-nodes g c = makes_none _ _ _ _ c.in_err-copy.ensures.nodes_made
 
-pub returns-in_err-work-clause-nodes : goal.returns-in_err-work-clause-nodes
-returns-in_err-work-clause-nodes g c =
+pub returns-in_err-draft-clause-nodes : goal.returns-in_err-draft-clause-nodes
+returns-in_err-draft-clause-nodes g c =
     let is = ap (λ (x : Stored). x.state) c.self.view_is in
     let copy = c.in_ok-copy.ensures in
     plan_makes c.args.update.now (state_of c.self.inside) c.args.self.now.state c.in_ok-copy.copy.tree
     c.copied.new.steps c.args.steps.now c.changed.new.steps c.in_ok-copy.copy.watches is
     (copy.tree ∙ ap (λ (x : StateAt). x.tree) (sym is)) copy.nodes_made
     (copy.watches ∙ ap (λ (x : StateAt). watches_of x.parts) (sym is))
-    c.in_err-work.ensures.nodes_made c.in_err-work.ensures.no_nodes_made
+    c.in_err-draft.ensures.nodes_made c.in_err-draft.ensures.no_nodes_made
 
 pub returns-in_err-logs-clause-nodes : goal.returns-in_err-logs-clause-nodes
 returns-in_err-logs-clause-nodes g c =
@@ -31,7 +31,7 @@ returns-in_err-logs-clause-nodes g c =
     c.copied.new.steps c.args.steps.now c.changed.new.steps c.in_ok-copy.copy.watches is
     (copy.tree ∙ ap (λ (x : StateAt). x.tree) (sym is)) copy.nodes_made
     (copy.watches ∙ ap (λ (x : StateAt). watches_of x.parts) (sym is))
-    c.in_ok-work.ensures.nodes_made c.in_ok-work.ensures.no_nodes_made
+    c.in_ok-draft.ensures.nodes_made c.in_ok-draft.ensures.no_nodes_made
 
 pub returns-clause-nodes : goal.returns-clause-nodes
 returns-clause-nodes g c =
@@ -41,7 +41,7 @@ returns-clause-nodes g c =
     c.copied.new.steps c.args.steps.now c.changed.new.steps c.in_ok-copy.copy.watches is
     (copy.tree ∙ ap (λ (x : StateAt). x.tree) (sym is)) copy.nodes_made
     (copy.watches ∙ ap (λ (x : StateAt). watches_of x.parts) (sym is))
-    c.in_ok-work.ensures.nodes_made c.in_ok-work.ensures.no_nodes_made
+    c.in_ok-draft.ensures.nodes_made c.in_ok-draft.ensures.no_nodes_made
 
 pub returns-clause-leaves : goal.returns-clause-leaves
 returns-clause-leaves g c =
@@ -49,7 +49,7 @@ returns-clause-leaves g c =
     let z = c.args.self.now.state in
     let u = c.args.update.now in
     let t = c.in_ok-copy.copy.tree in
-    let new = c.in_ok-work.work in
+    let new = c.in_ok-draft.draft in
     let ws = c.in_ok-copy.copy.watches in
     let logs = c.in_ok-logs.logs.items in
     let lawful = c.self.invariant.0 in
@@ -57,12 +57,12 @@ returns-clause-leaves g c =
     let same = c.in_ok-copy.ensures.tree ∙ ap (λ (x : StateAt). x.tree) (sym is) in
     let seen = c.in_ok-copy.ensures.watches ∙ ap (λ (x : StateAt). watches_of x.parts) (sym is) in
     let plans = rw c.as_slice.ensures.value at c.in_ok-logs.ensures in
-    let work = c.in_ok-work.ensures in
+    let promised = c.in_ok-draft.ensures in
     record {
-      left = plan_left s z t ws new logs (s.next + points_in u) lawful is same seen work.draft plans;
-      kept = plan_kept u s z t ws new logs (s.next + points_in u) lawful is same seen work.draft work.kept plans;
-      logged = λ op. plan_logged u op s z t ws new logs is same seen (work.unrebuilt op) plans;
-      unrebuilt = λ op. plan_shape u op s z t new.tree ws is same seen (λ only room criteria. ap (λ (w : Draft). w.tree) (work.unrebuilt op only room criteria));
-      thinned = λ p. thinned_from u s z t new.tree (s.next + points_in u) p is lawful same work.stepped;
-      rejected = λ p one turned. work.rejected p one (turned_copy s z t p is same turned) ∙ same ∙ ap (λ (x : StateAt). x.tree) is;
+      left = plan_left s z t ws new logs (s.next + points_in u) lawful is same seen promised.draft plans;
+      kept = plan_kept u s z t ws new logs (s.next + points_in u) lawful is same seen promised.draft promised.kept plans;
+      logged = λ op. plan_logged u op s z t ws new logs is same seen (promised.unrebuilt op) plans;
+      unrebuilt = λ op. plan_shape u op s z t new.tree ws is same seen (λ only room criteria. ap (λ (d : Draft). d.tree) (promised.unrebuilt op only room criteria));
+      thinned = λ p. thinned_from u s z t new.tree (s.next + points_in u) p is lawful same promised.stepped;
+      rejected = λ p one turned. promised.rejected p one (turned_copy s z t p is same turned) ∙ same ∙ ap (λ (x : StateAt). x.tree) is;
     }
