@@ -4,7 +4,7 @@ ghost use Rattle.std.specs.Option.{option_copied};
 ghost use Rattle.transcript_check.specs.Heads.{head, heads, SpellMarks, IsMarked};
 ghost use Rattle.transcript_check.specs.Verdicts.{joined_lines};
 ghost use Rattle.transcript_check.specs.MarkedLines.{line_texts, marks_of, WasUnspelled};
-ghost use Rattle.transcript_check.specs.declared.lines.LineFault.TheVariants as stop;
+ghost use Rattle.transcript_check.specs.declared.lines.LineFault.TheVariants as fault;
 
 use crate::heads::mark_in;
 use map_items::NoMemory;
@@ -31,7 +31,7 @@ pub enum LineFault {
 }
 
 impl<T: Drop> From<AllocFailed<T>> for LineFault {
-    ghost from_gives = { λ _ e. e ≡ stop.NoMemory };
+    ghost from_gives = { λ _ e. e ≡ fault.NoMemory };
 
     fn from(_failed: AllocFailed<T>) -> LineFault {
         LineFault::NoMemory

@@ -16,7 +16,7 @@ use std::sync::ledger::{Blank, Ledger};
 
 /// A map whose items are in a tree that nobody else has: it keeps no version and no history, and detaches nothing.
 pub struct TreeMap {
-    work: Draft,
+    draft: Draft,
     next: u32,
     scratch: Scratch,
 }
@@ -29,16 +29,16 @@ impl Model for TreeMap {
 
     ghost Value = { MapAt };
 
-    ghost view = { λ m. map_of m.work.tree m.next };
+    ghost view = { λ m. map_of m.draft.tree m.next };
 
-    ghost invariant = { λ m. IsLawfulDraft MAX_LARGE m.next m.work };
+    ghost invariant = { λ m. IsLawfulDraft MAX_LARGE m.next m.draft };
 }
 
 // Manual `Drop`: a derived one is proved at every exit of every owner.
 impl Drop for TreeMap {
     fn drop(self) {
         let TreeMap {
-            work: _work,
+            draft: _draft,
             next: _next,
             scratch: _scratch,
         } = self;
@@ -53,7 +53,7 @@ impl HeldMap for TreeMap {
         let tree = Tree::empty();
         let watches = Watches::new(alloc);
         TreeMap {
-            work: Draft { tree, watches },
+            draft: Draft { tree, watches },
             next: 0,
             scratch: Scratch::new(alloc),
         }
@@ -70,7 +70,7 @@ impl HeldMap for TreeMap {
     }
 
     fn reply(&self, alloc: Global, command: Option<&Command>, mark: u64) -> Replied {
-        let tree = &self.work.tree;
+        let tree = &self.draft.tree;
         match command {
             Some(command) => tree_reply(alloc, tree, mark, command),
             None => Ok(tree_totals(tree, mark)),
@@ -92,16 +92,16 @@ impl TreeMap {
         ensures { IfOk result (λ m. m ≡ step settings.now.voxel update.now self) }
     {
         let TreeMap {
-            work,
+            draft,
             next,
             mut scratch,
         } = self;
         let mut steps: Steps<L> = Steps::new(blank);
         let wide = Settings::new(settings.voxel(), MAX_LARGE);
-        let work = changed(alloc, work, &wide, next, update, &mut scratch, &mut steps)?;
+        let draft = changed(alloc, draft, &wide, next, update, &mut scratch, &mut steps)?;
         let next = next + update.points() as u32;
         Ok(TreeMap {
-            work,
+            draft,
             next,
             scratch,
         })
