@@ -21,7 +21,7 @@ use Rattle.map_c.specs.contracts.handles.content.Index as index
 use Rattle.map_c.specs.contracts.handles.content.Map as kept
 use Rattle.map_c.specs.contracts.handles.content.View as seen
 use Rattle.map_c.specs.contracts.handles.built_subtree.BuiltSubtree as done
-use Rattle.map_c.specs.contracts.handles.detached_job.DetachedJob as work
+use Rattle.map_c.specs.contracts.handles.detached_job.DetachedJob as job
 
 ruleset items = (
   sendable,
@@ -63,8 +63,8 @@ kept_send = search (state_send, sendable, std.crosses) depth 40 fits 20000
 seen_send : IsSend seen.the_row
 seen_send = search (version_send, version_sync, sendable, std.crosses) depth 40 fits 20000
 
-work_send : IsSend work.the_row
-work_send = search items depth 40 fits 20000
+job_send : IsSend job.the_row
+job_send = search items depth 40 fits 20000
 
 done_send : IsSend done.the_row
 done_send = search items depth 40 fits 20000
@@ -87,4 +87,4 @@ index_send =
     ) depth 40 fits 20000
 
 pub content_send : IsSend the_row
-content_send = search (kept_send, seen_send, work_send, done_send, index_send, sendable, std.crosses) depth 40 fits 20000
+content_send = search (kept_send, seen_send, job_send, done_send, index_send, sendable, std.crosses) depth 40 fits 20000

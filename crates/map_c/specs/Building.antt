@@ -29,11 +29,11 @@ built_in (Some content.Nothing) = None
 
 -- The handle held a job, and the other holds the subtree that was built of it, with nothing to be done on it next.
 pub record IsJobBuilt (job built : Option Content) : Type 0 where
-  pub work : DetachedJob
+  pub detached : DetachedJob
   pub of : BuiltAt
-  pub held : job_in job ≡ Some work
-  pub holds : built ≡ Some (content.Built (record { built = of; left = []; large = work.large }))
-  pub made : IsBuiltOf work.job of
+  pub held : job_in job ≡ Some detached
+  pub holds : built ≡ Some (content.Built (record { built = of; left = []; large = detached.large }))
+  pub made : IsBuiltOf detached.job of
 
 -- why it isn't built into a handle that held this
 abbrev pub IsBuildRefusal : Option Content → Option Content → ℤ → Type 0

@@ -22,10 +22,10 @@ pub record IsDetached (slot : ℕ) (old new job : Option Content) : Type 0 where
   pub after : StateAt
   pub held : map_in old ≡ Some before
   pub holds : map_in new ≡ Some after
-  pub work : DetachedJob
-  pub out : job ≡ Some (content.Job work)
-  pub large : work.large ≡ before.settings.large
-  pub step : IsDetachStep slot before work.job after
+  pub detached : DetachedJob
+  pub out : job ≡ Some (content.Job detached)
+  pub large : detached.large ≡ before.settings.large
+  pub step : IsDetachStep slot before detached.job after
 
 -- the handle holds a map of which nothing is to be detached into the slot
 abbrev pub HasNoDetach : ℕ → Option Content → Type 0

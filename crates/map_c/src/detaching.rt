@@ -40,8 +40,8 @@ pub extern "C" fn corv_map_detach(
     *map = Handle::of(content);
     match detached {
         Err(refusal) => refusal.status(),
-        Ok(work) => {
-            *job = Handle::of(work);
+        Ok(made) => {
+            *job = Handle::of(made);
             DONE
         }
     }
@@ -51,7 +51,7 @@ pub extern "C" fn corv_map_detach(
 fn detached(alloc: Global, content: &mut Content, slot: u8) -> Result<Box<Content>, Refusal>
     requires slot_from { 1 ≤ slot }
     requires slot_to { slot ≤ 4 }
-    ensures detached { IfOk result (λ work. IsDetached slot (Some content.old) (Some content.new) (Some work.value)) }
+    ensures detached { IfOk result (λ job. IsDetached slot (Some content.old) (Some content.new) (Some job.value)) }
     ensures refused { IfErr result (λ r. IsDetachRefusal slot (Some content.old) None (code r)) }
     ensures same { OnErr result (content.new ≡ content.old) }
 {
@@ -59,15 +59,15 @@ fn detached(alloc: Global, content: &mut Content, slot: u8) -> Result<Box<Conten
     let Content::Map(kept) = content else {
         return Err(Refusal::Empty);
     };
-    let work = work_of(alloc, kept, slot)?;
-    *place = Content::Job(work);
+    let job = job_of(alloc, kept, slot)?;
+    *place = Content::Job(job);
     Ok(place)
 }
 
-fn work_of(alloc: Global, kept: &mut Map, slot: u8) -> Result<DetachedJob, Refusal>
+fn job_of(alloc: Global, kept: &mut Map, slot: u8) -> Result<DetachedJob, Refusal>
     requires slot_from { 1 ≤ slot }
     requires slot_to { slot ≤ 4 }
-    ensures detached { IfOk result (λ work. IsDetached slot (Some (is.Map kept.old)) (Some (is.Map kept.new)) (Some (is.Job work))) }
+    ensures detached { IfOk result (λ job. IsDetached slot (Some (is.Map kept.old)) (Some (is.Map kept.new)) (Some (is.Job job))) }
     ensures refused { IfErr result (λ r. IsDetachRefusal slot (Some (is.Map kept.old)) None (code r)) }
     ensures same { OnErr result (kept.new ≡ kept.old) }
 {
