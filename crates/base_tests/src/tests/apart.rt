@@ -125,7 +125,7 @@ fn put_back<L: Ledger>(rt: &impl Abort, alloc: Global, tree: Tree, blank: Blank)
 }
 
 #[test]
-fn a_child_that_is_put_back_owes_the_pending_action(rt: HostRuntime) {
+fn a_child_that_is_put_back_is_below_the_pending_action(rt: HostRuntime) {
     let alloc = rt.alloc();
     let tree = forty_after(&rt, alloc, Tag::SUSPEND);
     is_live_left(&rt, &tree);
@@ -138,5 +138,5 @@ fn a_child_that_is_put_back_owes_the_pending_action(rt: HostRuntime) {
 fn is_live_left(rt: &impl Abort, tree: &Tree) {
     let left = Path::root().down(Side::Left);
     let live = tree.subtree_at(&left).map(|t| t.counts().live);
-    same(rt, "live items of the left son", live, Some(19));
+    same(rt, "live items of the left child", live, Some(19));
 }
