@@ -1,5 +1,8 @@
 mod Asked
 mod Between
+mod CloseBounds
+mod Holes
+mod Hulls
 mod Laid
 mod Live
 mod Outside

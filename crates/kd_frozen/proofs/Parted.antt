@@ -1,9 +1,8 @@
 -- Segments that are parted.
-use Rattle.std.proofs.Common.{◌≡◌, ℕ, suc, ◌+◌, ◌^◌, ◌<◌, ◌≤ℤ◌, List, ◌∷◌, ◌++◌, length, take, drop, sym, ap, ◌∙◌, subst, arith, inl, inr, length-append}
+use Rattle.std.proofs.Common.{◌≡◌, ℕ, suc, ◌+◌, ◌<◌, ◌≤ℤ◌, List, ◌∷◌, ◌++◌, length, take, drop, sym, ap, ◌∙◌, subst, arith, inl, inr, length-append}
 use Rattle.std.proofs.lemmas.List.{drop-drop, map-append}
 use Rattle.point_geom.specs.Place.{Place}
 use Rattle.point_geom.specs.Axes.{on}
-use Rattle.point_geom.specs.Distances.{gap2}
 use Rattle.kd_search.specs.Points.{AreBelow, AreAbove}
 use Rattle.kd_search.proofs.Planes.{axis_gap, away_below, away_above}
 use Rattle.kd_frozen.specs.declared.cell.Cell.{Cell}
@@ -35,15 +34,14 @@ sides_of m left right c h k more e f g =
 
 -- the parts round a place that isn't above the plane
 pub left_near : (m left right : List Cell) (c : Cell) (q : Place) (s : Parts) → AreSides left right c → m ≡ left ++ c ∷ right → on c.axis q ≤ℤ on c.axis c.point
-    → s.gap ≡ gap2 (on c.axis q) (on c.axis c.point) → s.gap < 2 ^ 128 → s.top.now ≡ c → s.near.now ≡ left → s.far.now ≡ right → ArePartsOf m q s
-left_near m left right c q s k all side gap fits top near far = record {
+    → s.top.now ≡ c → s.near.now ≡ left → s.far.now ≡ right → ArePartsOf m q s
+left_near m left right c q s k all side top near far = record {
   left = items_of left;
   right = items_of right;
   items = ap items_of all ∙ map-append item_of left (c ∷ right) ∙ ap (λ i. items_of left ++ item_of i ∷ items_of right) (sym top);
   turned = inl (ap (λ z. items_of z ++ items_of right) (sym near) ∙ ap (λ z. items_of s.near.now ++ items_of z) (sym far));
-  top = rw (gap, top) (axis_gap c.axis q c.point);
-  fits = fits;
-  away = rw (gap, far) (away_above c.axis q c.point (items_of right) side k.above);
+  top = rw top (axis_gap c.axis q c.point);
+  away = rw (top, far) (away_above c.axis q c.point (items_of right) side k.above);
   near_parted = rw near k.left_parted;
   far_parted = rw far k.right_parted;
   shorter = rw (near, far) (omega (arith, ap length all, length-append left (c ∷ right)));
@@ -51,15 +49,14 @@ left_near m left right c q s k all side gap fits top near far = record {
 
 -- and round one that isn't below it
 pub right_near : (m left right : List Cell) (c : Cell) (q : Place) (s : Parts) → AreSides left right c → m ≡ left ++ c ∷ right → on c.axis c.point ≤ℤ on c.axis q
-    → s.gap ≡ gap2 (on c.axis q) (on c.axis c.point) → s.gap < 2 ^ 128 → s.top.now ≡ c → s.near.now ≡ right → s.far.now ≡ left → ArePartsOf m q s
-right_near m left right c q s k all side gap fits top near far = record {
+    → s.top.now ≡ c → s.near.now ≡ right → s.far.now ≡ left → ArePartsOf m q s
+right_near m left right c q s k all side top near far = record {
   left = items_of left;
   right = items_of right;
   items = ap items_of all ∙ map-append item_of left (c ∷ right) ∙ ap (λ i. items_of left ++ item_of i ∷ items_of right) (sym top);
   turned = inr (ap (λ z. items_of z ++ items_of right) (sym far) ∙ ap (λ z. items_of s.far.now ++ items_of z) (sym near));
-  top = rw (gap, top) (axis_gap c.axis q c.point);
-  fits = fits;
-  away = rw (gap, far) (away_below c.axis q c.point (items_of left) side k.below);
+  top = rw top (axis_gap c.axis q c.point);
+  away = rw (top, far) (away_below c.axis q c.point (items_of left) side k.below);
   near_parted = rw near k.right_parted;
   far_parted = rw far k.left_parted;
   shorter = rw (near, far) (omega (arith, ap length all, length-append left (c ∷ right)));

@@ -1,5 +1,5 @@
 -- What a segment's parts give, one after the other.
-use Rattle.std.proofs.Common.{◌≡◌, ℕ, ◌+◌, ◌<◌, get_or, length, drop, ◌≤◌, List, [], ◌∷◌, ◌++◌, take, sym, ap, ◌∙◌, subst, Option}
+use Rattle.std.proofs.Common.{◌≡◌, ℕ, ◌+◌, ◌^◌, ◌<◌, get_or, length, drop, ◌≤◌, List, [], ◌∷◌, ◌++◌, take, sym, ap, ◌∙◌, subst, Option}
 use Rattle.std.proofs.lemmas.List.{map-append, take-append-drop, take_more}
 use Rattle.std.proofs.lemmas.List.Elements.{All-cons, All-nil}
 use Rattle.point_geom.specs.Place.{Place}
@@ -14,7 +14,7 @@ use Rattle.kd_search.proofs.Bounds.{left_out}
 use Rattle.kd_frozen.specs.declared.cell.Cell.{Cell}
 use Rattle.kd_frozen.specs.declared.parts.Parts.{Parts}
 use Rattle.kd_frozen.specs.Cells.{item_of, items_of}
-use Rattle.kd_frozen.specs.Segments.{ArePartsOf}
+use Rattle.kd_frozen.specs.Segments.{ArePartsOf, plane_gap2}
 use Rattle.kd_frozen.proofs.Between.{between, far_distinct, front_once, near_distinct, one_more}
 
 pub near_once : (m : List Cell) (q : Place) (s : Parts) → ArePartsOf m q s → AreDistinct (items_of m) → AreDistinct (items_of s.near.now)
@@ -34,15 +34,16 @@ all_parts k q r m s hits one two three p d e f g =
     ∙ ap (λ z. take k (put_all (candidates z q r) hits)) (sym p.items)
 
 -- the near side alone, where the gap is beyond the bound
-pub near_alone : (k : ℕ) (q : Place) (r : Option ℕ) (m : List Cell) (s : Parts) (hits one : List Hit) (bound : ℕ) → ArePartsOf m q s → AreDistinct (items_of m)
-    → IsBound k r one bound → bound < s.gap → one ≡ take k (put_all (candidates (items_of s.near.now) q r) hits)
+pub near_alone : (k : ℕ) (q : Place) (r : Option ℕ) (m : List Cell) (s : Parts) (hits one : List Hit) (bound gap : ℕ) → ArePartsOf m q s → AreDistinct (items_of m)
+    → IsBound k r one bound → bound < gap → gap < 2 ^ 128 → gap ≡ plane_gap2 s.top.now q → one ≡ take k (put_all (candidates (items_of s.near.now) q r) hits)
     → one ≡ take k (put_all (candidates (items_of m) q r) hits)
-near_alone k q r m s hits one bound p d b beyond e =
-    let Far = λ (i : Item). s.gap ≤ dist2 q i.point in
-    let own : AreAway s.gap q (item_of s.top.now ∷ []) = All-cons Far (item_of s.top.now) [] p.top (All-nil Far) in
+near_alone k q r m s hits one bound gap p d b beyond fits is e =
+    let Far = λ (i : Item). gap ≤ dist2 q i.point in
+    let own : AreAway gap q (item_of s.top.now ∷ []) = All-cons Far (item_of s.top.now) [] (rw is p.top) (All-nil Far) in
+    let away : AreAway gap q (items_of s.far.now) = rw is p.away in
     all_parts k q r m s hits one one one p d e
-    (left_out k q r one bound s.gap (item_of s.top.now ∷ []) b beyond p.fits own)
-    (left_out k q r one bound s.gap (items_of s.far.now) b beyond p.fits p.away)
+    (left_out k q r one bound gap (item_of s.top.now ∷ []) b beyond fits own)
+    (left_out k q r one bound gap (items_of s.far.now) b beyond fits away)
 
 -- of a leaf, one cell more
 pub next_cell : (k : ℕ) (q : Place) (r : Option ℕ) (m : List Cell) (n : ℕ) (c : Cell) (hits one two : List Hit) → AreDistinct (items_of m) → n < length m → c ≡ get_or m n c

@@ -1,2 +1,4 @@
 pub mod Cells
+pub mod Close
 pub mod Segments
+pub mod Shortlist

@@ -1,8 +1,9 @@
 -- Segments that are parted by planes. Cited by private functions alone.
-use Rattle.std.specs.Prelude.{◌≤◌, ◌≡◌, ◌^◌, ℕ, zero, suc, ◌-◌, ◌/◌, ◌+◌, ◌<◌, List, [], ◌∷◌, ◌++◌, length, take, drop, IsPermutation}
+use Rattle.std.specs.Prelude.{◌≤◌, ◌≡◌, ℕ, zero, suc, ◌-◌, ◌/◌, ◌+◌, ◌<◌, List, [], ◌∷◌, ◌++◌, length, take, drop, IsPermutation}
 use Rattle.point_geom.specs.declared.axis.Axis.{Axis}
 use Rattle.point_geom.specs.Place.{Place}
-use Rattle.point_geom.specs.Distances.{dist2}
+use Rattle.point_geom.specs.Axes.{on}
+use Rattle.point_geom.specs.Distances.{dist2, gap2}
 use Rattle.map_items.specs.declared.item.Item.{Item}
 use Rattle.kd_search.specs.Points.{AreAway, AreBelow, AreAbove}
 use Rattle.kd_search.specs.Sides.{IsEitherWay}
@@ -43,6 +44,10 @@ pub record AreHalves (m : List Cell) (a : Axis) (left : List Cell) (top : Cell) 
   pub below : AreBelow a top.point (items_of left)
   pub above : AreAbove a top.point (items_of right)
 
+-- the square of what is between a place and a cell's plane
+abbrev pub plane_gap2 : Cell → Place → ℕ
+plane_gap2 c q = gap2 (on c.axis q) (on c.axis c.point)
+
 -- A segment is the cell in its middle, and what is before it and after it, one near and one far: of these the gap to the cell's
 -- plane is no more than the distance to any item. All are parted.
 pub record ArePartsOf (m : List Cell) (q : Place) (s : Parts) : Type 0 where
@@ -50,9 +55,8 @@ pub record ArePartsOf (m : List Cell) (q : Place) (s : Parts) : Type 0 where
   pub right : List Item
   pub items : items_of m ≡ left ++ item_of s.top.now ∷ right
   pub turned : IsEitherWay (left ++ right) (items_of s.near.now) (items_of s.far.now)
-  pub top : s.gap ≤ dist2 q s.top.now.point
-  pub fits : s.gap < 2 ^ 128
-  pub away : AreAway s.gap q (items_of s.far.now)
+  pub top : plane_gap2 s.top.now q ≤ dist2 q s.top.now.point
+  pub away : AreAway (plane_gap2 s.top.now q) q (items_of s.far.now)
   pub near_parted : AreParted s.near.now
   pub far_parted : AreParted s.far.now
   pub shorter : length s.near.now + length s.far.now < length m

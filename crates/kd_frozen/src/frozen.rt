@@ -11,14 +11,16 @@ ghost use Rattle.kd_search.specs.Query.{IsQuery};
 ghost use Rattle.kd_frozen.specs.Cells.{items_of};
 
 use crate::cell::Cell;
+use crate::close::search_close;
 use crate::gather::{gather, gather_inside};
+use crate::hull::{hull_of, is_close};
 use crate::lay::lay;
 use crate::search::add_from;
 use kd_search::{Found, Query};
 use kd_tree::Tree;
 use map_fold::Hits;
 use map_items::{NoMemory, Tag};
-use point_geom::{Cuboid, Point};
+use point_geom::{Cuboid, Extent, Point};
 use std::alloc::Global;
 use std::marker::Model;
 
@@ -27,7 +29,12 @@ use std::marker::Model;
 #[derive(Drop)]
 pub struct Frozen {
     cells: Vec<Cell>,
+    // A box that all are in.
+    hull: Extent,
 }
+
+// A list of hits takes no memory up to here.
+const FEW: usize = 16;
 
 impl Model for Frozen {
     ghost use Rattle.std.specs.Prelude.{List};
@@ -35,12 +42,13 @@ impl Model for Frozen {
     ghost use Rattle.kd_tree.specs.Contents.{AreDistinct, by_number};
     ghost use Rattle.kd_frozen.specs.Cells.{items_of};
     ghost use Rattle.kd_frozen.specs.Segments.{AreParted};
+    ghost use Rattle.kd_search.specs.Points.{AreIn};
 
     ghost Value = { List Item };
 
     ghost view = { λ f. by_number (items_of f.cells.items) };
 
-    ghost invariant = { λ f. AreParted f.cells.items × AreDistinct (items_of f.cells.items) };
+    ghost invariant = { λ f. AreParted f.cells.items × AreDistinct (items_of f.cells.items) × AreIn f.hull (items_of f.cells.items) };
 }
 
 impl Frozen {
@@ -119,7 +127,12 @@ impl Frozen {
         ensures nearest { OnOk result (AreNearest self.now query.now.k query.now.point query.now.within found.new.hits) }
         ensures inline { query.now.k ≤ 16 → IsOk result }
     {
-        add_from(self.cells.as_slice(), query, found)
+        let cells = self.cells.as_slice();
+        if query.k <= FEW && is_close(&self.hull, &query.point) {
+            search_close(cells, query, found);
+            return Ok(());
+        }
+        add_from(cells, query, found)
     }
 
     // Of cells in any order, which it moves.
@@ -129,6 +142,7 @@ impl Frozen {
     {
         let mut laid = Vec::with_capacity(alloc, cells.len())?;
         lay(cells, &mut laid)?;
-        Ok(Frozen { cells: laid })
+        let hull = hull_of(laid.as_slice());
+        Ok(Frozen { cells: laid, hull })
     }
 }

@@ -3,11 +3,15 @@
 
 mod beside;
 mod cell;
+mod close;
+mod distance;
 mod frozen;
 mod gather;
+mod hull;
 mod lay;
 mod parts;
 mod search;
+mod shortlist;
 
 pub use beside::nearest_beside;
 pub use frozen::Frozen;

@@ -1,23 +1,23 @@
 //! A segment, as it lies round a point.
-ghost use Rattle.std.specs.Prelude.{◌≡◌, ◌≤ℤ◌, true, false, IfSome};
+ghost use Rattle.std.specs.Prelude.{◌≡◌, ◌^◌, ◌<◌, ◌≤ℤ◌, true, false, IfSome};
 ghost use Rattle.point_geom.specs.Axes.{on};
-ghost use Rattle.kd_frozen.specs.Segments.{AreParted, ArePartsOf};
+ghost use Rattle.kd_frozen.specs.Segments.{AreParted, ArePartsOf, plane_gap2};
 
 use crate::cell::{Cell, LEAF};
+use crate::distance::{close_gap2, coordinate};
 use point_geom::{Point, dist2_on};
 
 /// The cell in the middle of a segment, the side of it on which the point is, and the other side.
 #[derive(Drop)]
 pub(crate) struct Parts<'a> {
     pub(crate) top: &'a Cell,
-    /// How far the cell's plane is from the point, in squared millimetres.
-    pub(crate) gap: u128,
     pub(crate) near: &'a [Cell],
     pub(crate) far: &'a [Cell],
 }
 
 impl<'a> Parts<'a> {
     /// The parts of a segment that is longer than a leaf.
+    #[inline]
     pub(crate) fn of(cells: &'a [Cell], q: &Point) -> Option<Parts<'a>>
         requires { AreParted cells.now }
         ensures { IfSome result (λ s. ArePartsOf cells.now q.now s) }
@@ -29,29 +29,44 @@ impl<'a> Parts<'a> {
         let Some((top, right)) = rest.split_first() else {
             return None;
         };
-        let gap = dist2_on(top.axis, q, &top.point);
         if is_below(q, top) {
             Some(Parts {
                 top,
-                gap,
                 near: left,
                 far: right,
             })
         } else {
             Some(Parts {
                 top,
-                gap,
                 near: right,
                 far: left,
             })
         }
     }
+
+    /// How far the plane is from the point, in squared millimetres.
+    pub(crate) fn gap2(&self, q: &Point) -> u128
+        ensures { result ≡ plane_gap2 self.now.top.now q.now }
+    {
+        dist2_on(self.top.axis, q, &self.top.point)
+    }
+
+    /// The same where it fits 64 bits.
+    #[inline]
+    pub(crate) fn close_gap2(&self, q: &Point) -> u64
+        requires { plane_gap2 self.now.top.now q.now < 2 ^ 64 }
+        ensures { result ≡ plane_gap2 self.now.top.now q.now }
+    {
+        let axis = self.top.axis;
+        close_gap2(coordinate(q, axis), coordinate(&self.top.point, axis))
+    }
 }
 
 // Whether the point is below the cell's plane.
+#[inline]
 fn is_below(q: &Point, cell: &Cell) -> bool
     ensures below { result ≡ true → on cell.now.axis q.now ≤ℤ on cell.now.axis cell.now.point }
     ensures above { result ≡ false → on cell.now.axis cell.now.point ≤ℤ on cell.now.axis q.now }
 {
-    q.on(cell.axis) < cell.point.on(cell.axis)
+    coordinate(q, cell.axis) < coordinate(&cell.point, cell.axis)
 }

@@ -25,8 +25,9 @@ pub(crate) fn add_from(cells: &[Cell], query: &Query, found: &mut Found) -> Resu
     let Some(parts) = Parts::of(cells, &query.point) else {
         return add_leaf(cells, query, found);
     };
+    let gap2 = parts.gap2(&query.point);
     add_from(parts.near, query, found)?;
-    if found.bound < parts.gap {
+    if found.bound < gap2 {
         return Ok(());
     }
     add(parts.top, query, found)?;

@@ -13,11 +13,11 @@ add_from-requires-2 t c =
     let p = c.in-Some.ensures in
     (omega (arith, p.shorter), (c.in_ok-add.ensures.bound, (p.far_parted, far_once c.args.cells.now c.args.query.now.point c.in-Some.parts p c.requires.distinct)))
 
-pub returns-then-found-parts-clause-found : goal.returns-then-found-parts-clause-found
-returns-then-found-parts-clause-found t c =
+pub returns-then-found-gap2-clause-found : goal.returns-then-found-gap2-clause-found
+returns-then-found-gap2-clause-found t c =
     let query = c.args.query.now in
-    near_alone query.k query.point query.within c.args.cells.now c.in-Some.parts c.args.found.now.hits c.add_from.new.found.hits c.add_from.new.found.bound
-    c.in-Some.ensures c.requires.distinct c.in_ok-add_from.ensures.bound c.if-found-parts.true c.in_ok-add_from.ensures.found
+    near_alone query.k query.point query.within c.args.cells.now c.in-Some.parts c.args.found.now.hits c.add_from.new.found.hits c.add_from.new.found.bound c.gap2-gap2.result
+    c.in-Some.ensures c.requires.distinct c.in_ok-add_from.ensures.bound c.if-found-gap2.true (omega arith) c.gap2-gap2.ensures c.in_ok-add_from.ensures.found
 
 pub returns-clause-found : goal.returns-clause-found
 returns-clause-found t c =

@@ -11,7 +11,7 @@ returns-then-is_below c =
     let right = c.in-Some.right.now in
     let top = c.in-Some.top.now in
     let k = sides_of m left right top _ c.requires (omega arith) refl s.front (sym own.0 ∙ s.back) in
-    left_near m left right top c.args.q.now _ k (s.by_index.0 ∙ ap (λ z. left ++ z) own.0) (c.is_below.ensures.below c.if-is_below.true) c.dist2_on-gap.ensures (omega arith) refl refl refl
+    left_near m left right top c.args.q.now _ k (s.by_index.0 ∙ ap (λ z. left ++ z) own.0) (c.is_below.ensures.below c.if-is_below.true) refl refl refl
 
 pub returns-else-is_below : goal.returns-else-is_below
 returns-else-is_below c =
@@ -22,4 +22,4 @@ returns-else-is_below c =
     let right = c.in-Some.right.now in
     let top = c.in-Some.top.now in
     let k = sides_of m left right top _ c.requires (omega arith) refl s.front (sym own.0 ∙ s.back) in
-    right_near m left right top c.args.q.now _ k (s.by_index.0 ∙ ap (λ z. left ++ z) own.0) (c.is_below.ensures.above c.if-is_below.false) c.dist2_on-gap.ensures (omega arith) refl refl refl
+    right_near m left right top c.args.q.now _ k (s.by_index.0 ∙ ap (λ z. left ++ z) own.0) (c.is_below.ensures.above c.if-is_below.false) refl refl refl

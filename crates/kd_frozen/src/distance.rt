@@ -1,0 +1,44 @@
+//! Squared distances that fit 64 bits.
+ghost use Rattle.std.specs.Prelude.{◌≡◌, ◌^◌, ◌<◌};
+ghost use Rattle.point_geom.specs.Axes.{on};
+ghost use Rattle.point_geom.specs.Place.{IsCoordinate};
+ghost use Rattle.point_geom.specs.Distances.{dist2, gap2};
+
+use point_geom::{Axis, Point};
+
+/// The squared distance, in squared millimetres.
+#[inline]
+pub(crate) fn close_dist2(a: &Point, b: &Point) -> u64
+    requires { dist2 a.now b.now < 2 ^ 64 }
+    ensures { result ≡ dist2 a.now b.now }
+{
+    let x = close_gap2(a.x(), b.x());
+    let y = close_gap2(a.y(), b.y());
+    let z = close_gap2(a.z(), b.z());
+    x + y + z
+}
+
+/// The square of what is between two coordinates.
+#[inline]
+pub(crate) fn close_gap2(a: i64, b: i64) -> u64
+    requires a_range { IsCoordinate a }
+    requires b_range { IsCoordinate b }
+    requires fits { gap2 a b < 2 ^ 64 }
+    ensures { result ≡ gap2 a b }
+{
+    let gap = a.abs_diff(b);
+    gap * gap
+}
+
+/// The point's coordinate on this axis. A choice of three numbers: that is faster here than the table of `Point::on`.
+#[inline]
+pub(crate) fn coordinate(p: &Point, axis: Axis) -> i64
+    ensures value { result ≡ on axis p.now }
+    ensures range { IsCoordinate result }
+{
+    match axis {
+        Axis::X => p.x(),
+        Axis::Y => p.y(),
+        Axis::Z => p.z(),
+    }
+}
