@@ -1,6 +1,7 @@
 //! The search where all squared distances fit 64 bits, for at most 16 hits.
 //!
-//! It finds what the search in `search` finds, and sooner: numbers are one word, and the list is short.
+//! It finds what the search in `search` finds, and sooner: numbers are one word, and the list is short. Each function takes the
+//! bound before it, and returns that after it.
 ghost use Rattle.std.specs.Prelude.{◌≡◌, ◌^◌, ◌<◌, ◌≤◌, [], ◌∷◌, take};
 ghost use Rattle.point_geom.specs.Distances.{dist2};
 ghost use Rattle.map_fold.specs.Answers.{candidates, put_hit};
@@ -17,14 +18,6 @@ use crate::parts::Parts;
 use crate::shortlist::{Near, Shortlist};
 use kd_search::{Found, Query};
 
-/// The nearest so far.
-#[derive(Drop)]
-pub(crate) struct Close {
-    list: Shortlist,
-    /// As of `Found`. All ones where that has more than 64 bits.
-    bound: u64,
-}
-
 /// Puts the hits of a segment where there are none yet.
 pub(crate) fn search_close(cells: &[Cell], query: &Query, found: &mut Found)
     requires k_to { query.now.k ≤ 16 }
@@ -36,84 +29,93 @@ pub(crate) fn search_close(cells: &[Cell], query: &Query, found: &mut Found)
     ensures bound { IsBound query.now.k query.now.within found.new.hits found.new.bound }
     ensures found { found.new.hits ≡ take query.now.k (put_all (candidates (items_of cells.now) query.now.point query.now.within) found.old.hits) }
 {
-    let Some(filler) = cells.first() else {
-        return;
-    };
-    let mut close = Close {
-        list: Shortlist::new(filler),
-        bound: found.bound.min(u64::MAX as u128) as u64,
-    };
-    add_from(cells, query, &mut close);
-    close.list.copy_to(&mut found.hits);
-    if close.bound < u64::MAX {
-        found.bound = close.bound as u128;
+    let mut list = Shortlist::new();
+    let bound = fill(cells, query, &mut list, found.bound);
+    list.copy_to(&mut found.hits);
+    if bound < u64::MAX {
+        found.bound = bound as u128;
     }
 }
 
-// Adds the hits of a segment to those that are held, of which the first k are kept.
-fn add_from(cells: &[Cell], query: &Query, close: &mut Close)
+/// Adds the hits of a segment to a list. All ones are returned where the bound has more than 64 bits.
+pub(crate) fn fill(cells: &[Cell], query: &Query, list: &mut Shortlist, bound: u128) -> u64
     requires k_to { query.now.k ≤ 16 }
-    requires bound { IsCloseBound query.now.k query.now.within close.old.list close.old.bound }
+    requires bound { IsBound query.now.k query.now.within list.old bound }
     requires parted { AreParted cells.now }
     requires distinct { AreDistinct (items_of cells.now) }
     requires close { AreClose query.now.point (items_of cells.now) }
-    ensures bound { IsCloseBound query.now.k query.now.within close.new.list close.new.bound }
-    ensures found { close.new.list ≡ take query.now.k (put_all (candidates (items_of cells.now) query.now.point query.now.within) close.old.list) }
+    ensures bound { IsCloseBound query.now.k query.now.within list.new result }
+    ensures found { list.new ≡ take query.now.k (put_all (candidates (items_of cells.now) query.now.point query.now.within) list.old) }
 {
-    let Some(parts) = Parts::of(cells, &query.point) else {
-        add_leaf(cells, query, close);
-        return;
-    };
-    let gap2 = parts.close_gap2(&query.point);
-    add_from(parts.near, query, close);
-    if close.bound < gap2 {
-        return;
-    }
-    add(parts.top, query, close);
-    add_from(parts.far, query, close);
+    let bound = bound.min(u64::MAX as u128) as u64;
+    add_from(cells, query, list, bound)
 }
 
-fn add_leaf(cells: &[Cell], query: &Query, close: &mut Close)
+// Adds the hits of a segment to those that are held, of which the first k are kept.
+fn add_from(cells: &[Cell], query: &Query, list: &mut Shortlist, bound: u64) -> u64
     requires k_to { query.now.k ≤ 16 }
-    requires bound { IsCloseBound query.now.k query.now.within close.old.list close.old.bound }
+    requires bound { IsCloseBound query.now.k query.now.within list.old bound }
+    requires parted { AreParted cells.now }
     requires distinct { AreDistinct (items_of cells.now) }
     requires close { AreClose query.now.point (items_of cells.now) }
-    ensures bound { IsCloseBound query.now.k query.now.within close.new.list close.new.bound }
-    ensures found { close.new.list ≡ take query.now.k (put_all (candidates (items_of cells.now) query.now.point query.now.within) close.old.list) }
+    ensures bound { IsCloseBound query.now.k query.now.within list.new result }
+    ensures found { list.new ≡ take query.now.k (put_all (candidates (items_of cells.now) query.now.point query.now.within) list.old) }
 {
-    for cell in cells {
-        add(cell, query, close);
+    let Some(parts) = Parts::of(cells, &query.point) else {
+        return add_leaf(cells, query, list, bound);
+    };
+    let gap2 = parts.close_gap2(&query.point);
+    let near_bound = add_from(parts.near, query, list, bound);
+    if near_bound < gap2 {
+        return near_bound;
     }
+    let top_bound = add(parts.top, query, list, near_bound);
+    add_from(parts.far, query, list, top_bound)
+}
+
+fn add_leaf(cells: &[Cell], query: &Query, list: &mut Shortlist, bound: u64) -> u64
+    requires k_to { query.now.k ≤ 16 }
+    requires bound { IsCloseBound query.now.k query.now.within list.old bound }
+    requires distinct { AreDistinct (items_of cells.now) }
+    requires close { AreClose query.now.point (items_of cells.now) }
+    ensures bound { IsCloseBound query.now.k query.now.within list.new result }
+    ensures found { list.new ≡ take query.now.k (put_all (candidates (items_of cells.now) query.now.point query.now.within) list.old) }
+{
+    let mut drawn = bound;
+    for cell in cells {
+        drawn = add(cell, query, list, drawn);
+    }
+    drawn
 }
 
 #[inline]
-fn add(cell: &Cell, query: &Query, close: &mut Close)
+fn add(cell: &Cell, query: &Query, list: &mut Shortlist, bound: u64) -> u64
     requires k_to { query.now.k ≤ 16 }
-    requires bound { IsCloseBound query.now.k query.now.within close.old.list close.old.bound }
+    requires bound { IsCloseBound query.now.k query.now.within list.old bound }
     requires close { dist2 query.now.point cell.now.point < 2 ^ 64 }
-    ensures bound { IsCloseBound query.now.k query.now.within close.new.list close.new.bound }
-    ensures found { close.new.list ≡ take query.now.k (put_all (candidates (item_of cell.now ∷ []) query.now.point query.now.within) close.old.list) }
+    ensures bound { IsCloseBound query.now.k query.now.within list.new result }
+    ensures found { list.new ≡ take query.now.k (put_all (candidates (item_of cell.now ∷ []) query.now.point query.now.within) list.old) }
 {
     let dist2 = close_dist2(&query.point, &cell.point);
-    if close.bound < dist2 {
-        return;
+    if bound < dist2 {
+        return bound;
     }
     let near = Near { cell: *cell, dist2 };
-    put(&near, query, close);
+    put(&near, query, list, bound)
 }
 
 // Puts a cell among those held, and draws the bound in.
 #[inline(never)]
-fn put(near: &Near, query: &Query, close: &mut Close)
+fn put(near: &Near, query: &Query, list: &mut Shortlist, bound: u64) -> u64
     requires k_to { query.now.k ≤ 16 }
-    requires bound { IsCloseBound query.now.k query.now.within close.old.list close.old.bound }
-    requires near { near.now.dist2 ≤ close.old.bound }
-    ensures bound { IsCloseBound query.now.k query.now.within close.new.list close.new.bound }
-    ensures found { close.new.list ≡ take query.now.k (put_hit (hit_at near.now) close.old.list) }
+    requires bound { IsCloseBound query.now.k query.now.within list.old bound }
+    requires near { near.now.dist2 ≤ bound }
+    ensures bound { IsCloseBound query.now.k query.now.within list.new result }
+    ensures found { list.new ≡ take query.now.k (put_hit (hit_at near.now) list.old) }
 {
-    close.list.put(query.k, near);
-    if close.list.len() < query.k {
-        return;
+    list.put(query.k, near);
+    if list.len() < query.k {
+        return bound;
     }
-    close.bound = close.bound.min(close.list.dist2_at(query.k - 1));
+    bound.min(list.dist2_at(query.k - 1))
 }

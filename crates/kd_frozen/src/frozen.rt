@@ -1,5 +1,5 @@
 //! The live items of a tree in one array.
-ghost use Rattle.std.specs.Prelude.{◌≡◌, ◌≤◌, ◌==◌, ℕ, [], length, IfOk, IsOk, OnOk};
+ghost use Rattle.std.specs.Prelude.{◌≡◌, ◌≤◌, ◌==◌, ℕ, [], false, length, true, IfOk, IsOk, OnOk};
 ghost use Rattle.std.specs.declared.option.Option.{Option};
 ghost use Rattle.point_geom.specs.Place.{Place};
 ghost use Rattle.map_items.specs.Contents.{live_items};
@@ -11,11 +11,12 @@ ghost use Rattle.kd_search.specs.Query.{IsQuery};
 ghost use Rattle.kd_frozen.specs.Cells.{items_of};
 
 use crate::cell::Cell;
-use crate::close::search_close;
+use crate::close::{fill, search_close};
 use crate::gather::{gather, gather_inside};
 use crate::hull::{hull_of, is_close};
 use crate::lay::lay;
 use crate::search::add_from;
+use crate::shortlist::Shortlist;
 use kd_search::{Found, Query};
 use kd_tree::Tree;
 use map_fold::Hits;
@@ -116,6 +117,28 @@ impl Frozen {
         };
         self.search(&query, &mut found)?;
         Ok(found.hits)
+    }
+
+    /// The same for k up to 16, into a list without a hit. It is false, and nothing is searched, for a greater k, and where q is so
+    /// far from some item that the square of that has more than 64 bits.
+    pub fn nearest_few(&self, k: u32, q: &Point, within: Option<u64>, hits: &mut Shortlist) -> bool
+        requires query { IsQuery k within }
+        requires none { hits.old ≡ [] }
+        ensures found { result ≡ true → hits.new ≡ nearest self.now k q.now within }
+        ensures nearest { result ≡ true → AreNearest self.now k q.now within hits.new }
+        ensures same { result ≡ false → hits.new ≡ hits.old }
+    {
+        let query = Query {
+            k: k as usize,
+            point: *q,
+            within,
+        };
+        let cells = self.cells.as_slice();
+        if query.k <= FEW && is_close(&self.hull, &query.point) {
+            let _bound = fill(cells, &query, hits, query.reach());
+            return true;
+        }
+        false
     }
 
     /// Puts the hits where there are none yet.

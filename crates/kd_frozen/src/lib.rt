@@ -15,3 +15,4 @@ mod shortlist;
 
 pub use beside::nearest_beside;
 pub use frozen::Frozen;
+pub use shortlist::Shortlist;

@@ -1,4 +1,4 @@
-//! The nearest cells so far, at most 16.
+//! The nearest so far, at most 16: cells, which are seen as hits.
 ghost use Rattle.std.specs.Prelude.{◌≡◌, ◌+◌, ◌<◌, ◌≤◌, [], get_or, length, slice_set, take};
 ghost use Rattle.std.specs.Ordering.{is_lt, nat_cmp, ordering_then};
 ghost use Rattle.point_geom.specs.Axes.{place_cmp};
@@ -10,6 +10,7 @@ ghost use Rattle.kd_frozen.specs.Shortlist.{hit_at, hits_of};
 
 use crate::cell::Cell;
 use map_fold::{Hit, Hits};
+use point_geom::{Axis, Point};
 use std::marker::Model;
 
 /// A cell, and its squared distance from the place, in squared millimetres.
@@ -19,9 +20,9 @@ pub(crate) struct Near {
     pub(crate) dist2: u64,
 }
 
-/// At most 16 cells in the order of hits. It takes no memory.
+/// At most 16 hits, the nearest first, as a search of a frozen index leaves them. It takes no memory.
 #[derive(Drop)]
-pub(crate) struct Shortlist {
+pub struct Shortlist {
     // From `len` on they mean nothing.
     nears: [Near; 16],
     len: usize,
@@ -41,24 +42,35 @@ impl Model for Shortlist {
 }
 
 impl Shortlist {
-    /// No cell. The one that is given fills the places.
-    pub(crate) fn new(filler: &Cell) -> Shortlist
+    /// No hit.
+    pub fn new() -> Shortlist
         ensures { result ≡ [] }
     {
-        let near = Near {
-            cell: *filler,
-            dist2: 0,
+        let cell = Cell {
+            point: Point::default(),
+            number: 0,
+            axis: Axis::X,
         };
+        let near = Near { cell, dist2: 0 };
         Shortlist {
             nears: [near; 16],
             len: 0,
         }
     }
 
-    pub(crate) fn len(&self) -> usize
+    pub fn len(&self) -> usize
         ensures { result ≡ length self.now }
     {
         self.len
+    }
+
+    /// The hit in this place.
+    pub fn hit(&self, place: usize) -> Hit
+        requires { place < length self.now }
+        ensures { (h : Hit) → result ≡ get_or self.now place h }
+    {
+        let nears = &self.nears[..self.len];
+        hit_of(&nears[place])
     }
 
     /// The squared distance of the cell in this place.
@@ -101,12 +113,18 @@ fn push_all(nears: &[Near], hits: &mut Hits)
     ensures { hits.new ≡ hits_of nears.now }
 {
     for near in nears {
-        let hit = Hit {
-            number: near.cell.number,
-            point: near.cell.point,
-            dist2: near.dist2 as u128,
-        };
-        hits.push(hit).unwrap();
+        hits.push(hit_of(near)).unwrap();
+    }
+}
+
+#[inline]
+fn hit_of(near: &Near) -> Hit
+    ensures { result ≡ hit_at near.now }
+{
+    Hit {
+        number: near.cell.number,
+        point: near.cell.point,
+        dist2: near.dist2 as u128,
     }
 }
 

@@ -1,12 +1,14 @@
 //! Frozen indexes beside the tree that they were made of: equal points, lines, lattices, corners of space, one point and none, asked
 //! from among the points and from far outside; and boxes that cut what is found.
-use crate::tests::assertions::{made, same};
+ghost use Rattle.std.specs.Prelude.{◌≤◌};
+
+use crate::tests::assertions::{holds, made, same};
 use crate::tests::draw::Draw;
 use crate::tests::each::are_as_single;
 use crate::tests::grown::grown;
 use crate::tests::places::{Place, at};
 use batch_near::frozen_nearest_each;
-use kd_frozen::{Frozen, nearest_beside};
+use kd_frozen::{Frozen, Shortlist, nearest_beside};
 use kd_search::{count_in, nearest};
 use kd_tree::Tree;
 use map_fold::{Points, Tag};
@@ -104,6 +106,36 @@ fn from_place(rt: &impl Abort, alloc: Global, tree: &Tree, frozen: &Frozen, q: &
             let want = made(rt, nearest(alloc, tree, k, q, within));
             assert_eq!(rt; got.as_slice(), want.as_slice());
         }
+    }
+}
+
+#[test]
+fn few_are_found_in_a_list_of_their_own(rt: HostRuntime) {
+    let alloc = rt.alloc();
+    let mut draw = Draw { state: 13 };
+    let points = draw.points(&rt, alloc, 200);
+    let tree = grown(&rt, alloc, points.as_slice(), Tag::KEEP);
+    let frozen = made(&rt, Frozen::of(alloc, &tree));
+    let q = draw.point(&rt);
+    are_few(&rt, alloc, &frozen, 1, &q);
+    are_few(&rt, alloc, &frozen, 16, &q);
+    let (mut many, mut far) = (Shortlist::new(), Shortlist::new());
+    let found_many = frozen.nearest_few(17, &q, None, &mut many);
+    let found_far = frozen.nearest_few(1, &at(&rt, CORNERS[0]), None, &mut far);
+    holds(&rt, "neither", !found_many && !found_far);
+}
+
+fn are_few(rt: &impl Abort, alloc: Global, frozen: &Frozen, k: u32, q: &Point)
+    requires k_from { 1 ≤ k }
+    requires k_to { k ≤ 256 }
+{
+    let mut few = Shortlist::new();
+    holds(rt, "few", frozen.nearest_few(k, q, None, &mut few));
+    let want = made(rt, frozen.nearest(alloc, k, q, None));
+    same(rt, "how many", few.len(), want.len());
+    for i in 0..few.len() {
+        let hit = few.hit(i);
+        assert_eq!(rt; Some(&hit), want.as_slice().get(i));
     }
 }
 

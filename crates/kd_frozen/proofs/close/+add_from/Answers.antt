@@ -8,35 +8,35 @@ close_gap2-gap2-requires t c =
     let p = c.in-Some.ensures in
     omega (arith, p.top, top_close c.args.cells.now c.args.query.now.point c.in-Some.parts p c.requires.close)
 
-pub add_from-requires : goal.add_from-requires
-add_from-requires t c =
+pub add_from-near_bound-requires : goal.add_from-near_bound-requires
+add_from-near_bound-requires t c =
     let m = c.args.cells.now in
     let q = c.args.query.now.point in
     let p = c.in-Some.ensures in
     (omega (arith, p.shorter), (c.requires.k_to, (c.requires.bound, (p.near_parted, (near_once m q c.in-Some.parts p c.requires.distinct, near_close m q c.in-Some.parts p c.requires.close)))))
 
-pub add-requires : goal.add-requires
-add-requires t c =
+pub add-top_bound-requires : goal.add-top_bound-requires
+add-top_bound-requires t c =
     record {
       k_to = c.requires.k_to;
-      bound = c.add_from.ensures.bound;
+      bound = c.add_from-near_bound.ensures.bound;
       close = top_close c.args.cells.now c.args.query.now.point c.in-Some.parts c.in-Some.ensures c.requires.close;
     }
 
-pub add_from-requires-2 : goal.add_from-requires-2
-add_from-requires-2 t c =
+pub add_from-requires : goal.add_from-requires
+add_from-requires t c =
     let m = c.args.cells.now in
     let q = c.args.query.now.point in
     let p = c.in-Some.ensures in
-    (omega (arith, p.shorter), (c.requires.k_to, (c.add.ensures.bound, (p.far_parted, (far_once m q c.in-Some.parts p c.requires.distinct, far_close m q c.in-Some.parts p c.requires.close)))))
+    (omega (arith, p.shorter), (c.requires.k_to, (c.add-top_bound.ensures.bound, (p.far_parted, (far_once m q c.in-Some.parts p c.requires.distinct, far_close m q c.in-Some.parts p c.requires.close)))))
 
-pub returns-then-close-gap2-clause-found : goal.returns-then-close-gap2-clause-found
-returns-then-close-gap2-clause-found t c =
+pub returns-then-near_bound-gap2-clause-found : goal.returns-then-near_bound-gap2-clause-found
+returns-then-near_bound-gap2-clause-found t c =
     let query = c.args.query.now in
-    close_near_alone query.k query.point query.within c.args.cells.now c.in-Some.parts c.args.close.now.list c.add_from.new.close.list c.add_from.new.close.bound c.close_gap2-gap2.result
-    c.in-Some.ensures c.requires.distinct c.add_from.ensures.bound c.if-close-gap2.true (omega arith) c.close_gap2-gap2.ensures c.add_from.ensures.found
+    close_near_alone query.k query.point query.within c.args.cells.now c.in-Some.parts c.args.list.now c.add_from-near_bound.new.list c.add_from-near_bound.result c.close_gap2-gap2.result
+    c.in-Some.ensures c.requires.distinct c.add_from-near_bound.ensures.bound c.if-near_bound-gap2.true (omega arith) c.close_gap2-gap2.ensures c.add_from-near_bound.ensures.found
 
 pub returns-clause-found : goal.returns-clause-found
 returns-clause-found t c =
     let query = c.args.query.now in
-    all_parts query.k query.point query.within c.args.cells.now c.in-Some.parts c.args.close.now.list _ _ _ c.in-Some.ensures c.requires.distinct c.add_from.ensures.found c.add.ensures.found c.add_from-2.ensures.found
+    all_parts query.k query.point query.within c.args.cells.now c.in-Some.parts c.args.list.now _ _ _ c.in-Some.ensures c.requires.distinct c.add_from-near_bound.ensures.found c.add-top_bound.ensures.found c.add_from.ensures.found

@@ -7,11 +7,11 @@ use Rattle.kd_frozen.specs.Cells.{item_of}
 use Rattle.kd_frozen.proofs.CloseBounds.{close_left_out}
 use Rattle.kd_frozen.proofs.close.add.Goals as goal
 
-pub returns-then-close-dist2-clause-found : goal.returns-then-close-dist2-clause-found
-returns-then-close-dist2-clause-found c =
+pub returns-then-bound-dist2-clause-found : goal.returns-then-bound-dist2-clause-found
+returns-then-bound-dist2-clause-found c =
     let query = c.args.query.now in
     let item = item_of c.args.cell.now in
     let gap = c.close_dist2-dist2.result in
     let Far = λ (i : Item). gap ≤ dist2 query.point i.point in
     let away : AreAway gap query.point (item ∷ []) = All-cons Far item [] (omega (arith, c.close_dist2-dist2.ensures)) (All-nil Far) in
-    close_left_out query.k query.point query.within c.args.close.now.list c.args.close.now.bound gap (item ∷ []) c.requires.bound c.if-close-dist2.true (omega arith) away
+    close_left_out query.k query.point query.within c.args.list.now c.args.bound gap (item ∷ []) c.requires.bound c.if-bound-dist2.true (omega arith) away

@@ -7,6 +7,6 @@ use Rattle.kd_frozen.proofs.close.add_leaf.Given as goal
 
 abbrev pub invariant-loop-cell : goal.invariant-loop-cell
 invariant-loop-cell l = record {
-  bound : IsCloseBound l.query.k l.query.within l.close.list l.close.bound;
-  found : l.close.list ≡ take l.query.k (put_all (candidates (items_of (take l.cell-index l.cells)) l.query.point l.query.within) l.fn.close.list);
+  bound : IsCloseBound l.query.k l.query.within l.list l.drawn;
+  found : l.list ≡ take l.query.k (put_all (candidates (items_of (take l.cell-index l.cells)) l.query.point l.query.within) l.fn.list);
 }

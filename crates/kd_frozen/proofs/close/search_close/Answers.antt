@@ -11,29 +11,29 @@ use Rattle.kd_frozen.proofs.close.search_close.Goals.{After-copy_to}
 found : (c : After-copy_to) → c.copy_to.new.hits ≡ take c.args.query.now.k (put_all (candidates (items_of c.args.cells.now) c.args.query.now.point c.args.query.now.within) c.args.found.now.hits)
 found c =
     let query = c.args.query.now in
-    let none : c.new.result ≡ c.args.found.now.hits = c.new.ensures ∙ sym c.requires.none in
-    c.copy_to.ensures ∙ c.add_from.ensures.found ∙ ap (λ (z : List Hit). take query.k (put_all (candidates (items_of c.args.cells.now) query.point query.within) z)) none
+    let none : c.new-list.result ≡ c.args.found.now.hits = c.new-list.ensures ∙ sym c.requires.none in
+    c.copy_to.ensures ∙ c.fill-bound.ensures.found ∙ ap (λ (z : List Hit). take query.k (put_all (candidates (items_of c.args.cells.now) query.point query.within) z)) none
 
-pub returns-then-close-lt18446744073709551615-clause-bound :
-    goal.returns-then-close-lt18446744073709551615-clause-bound
-returns-then-close-lt18446744073709551615-clause-bound c =
+pub returns-then-bound-lt18446744073709551615-clause-bound :
+    goal.returns-then-bound-lt18446744073709551615-clause-bound
+returns-then-bound-lt18446744073709551615-clause-bound c =
     let query = c.args.query.now in
-    let bound = c.add_from.new.close.bound in
+    let bound = c.fill-bound.result in
     subst (λ (z : List Hit). IsBound query.k query.within z bound) (sym c.copy_to.ensures)
-    (close_drew query.k query.within c.add_from.new.close.list bound c.add_from.ensures.bound c.if-close-lt18446744073709551615.true)
+    (close_drew query.k query.within c.fill-bound.new.list bound c.fill-bound.ensures.bound c.if-bound-lt18446744073709551615.true)
 
-pub returns-then-close-lt18446744073709551615-clause-found :
-    goal.returns-then-close-lt18446744073709551615-clause-found
-returns-then-close-lt18446744073709551615-clause-found c = found (goal.at.returns-then-close-lt18446744073709551615-clause-found c).After-copy_to
+pub returns-then-bound-lt18446744073709551615-clause-found :
+    goal.returns-then-bound-lt18446744073709551615-clause-found
+returns-then-bound-lt18446744073709551615-clause-found c = found (goal.at.returns-then-bound-lt18446744073709551615-clause-found c).After-copy_to
 
-pub returns-else-close-lt18446744073709551615-clause-bound :
-    goal.returns-else-close-lt18446744073709551615-clause-bound
-returns-else-close-lt18446744073709551615-clause-bound c =
+pub returns-else-bound-lt18446744073709551615-clause-bound :
+    goal.returns-else-bound-lt18446744073709551615-clause-bound
+returns-else-bound-lt18446744073709551615-clause-bound c =
     let query = c.args.query.now in
     let start = c.args.found.now.bound in
     subst (λ (z : List Hit). IsBound query.k query.within z start) (sym c.copy_to.ensures)
-    (close_kept query.k query.within c.args.found.now.hits c.add_from.new.close.list start c.add_from.new.close.bound query.some c.requires.none c.requires.bound c.add_from.ensures.bound)
+    (close_kept query.k query.within c.args.found.now.hits c.fill-bound.new.list start c.fill-bound.result query.some c.requires.none c.requires.bound c.fill-bound.ensures.bound)
 
-pub returns-else-close-lt18446744073709551615-clause-found :
-    goal.returns-else-close-lt18446744073709551615-clause-found
-returns-else-close-lt18446744073709551615-clause-found c = found (goal.at.returns-else-close-lt18446744073709551615-clause-found c).After-copy_to
+pub returns-else-bound-lt18446744073709551615-clause-found :
+    goal.returns-else-bound-lt18446744073709551615-clause-found
+returns-else-bound-lt18446744073709551615-clause-found c = found (goal.at.returns-else-bound-lt18446744073709551615-clause-found c).After-copy_to
