@@ -29,4 +29,4 @@ pub use handles::reading::{read_boxes, read_place, read_points};
 pub use handles::rebuilding::{build, replay};
 pub use handles::refusal::{DONE, Refusal, status_of};
 pub use handles::showing::{frozen_index, shown, totals_of};
-pub use handles::writing::write_hits;
+pub use handles::writing::{write_few, write_hits};

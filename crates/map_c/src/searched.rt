@@ -1,14 +1,15 @@
 //! What is searched for the nearest points: the tree that a handle shows, or the frozen index that it holds.
-ghost use Rattle.std.specs.Prelude.{◌≡◌, ◌≤◌, IfErr, IfOk, IsOk, None, Some};
+ghost use Rattle.std.specs.Prelude.{◌≡◌, ◌+◌, ◌≤◌, ◌++◌, length, map, take, IfErr, IfOk, IsOk, None, Some};
 ghost use Rattle.map_fold.specs.Answers.{nearest};
 ghost use Rattle.kd_tree.specs.Contents.{contents};
 ghost use Rattle.kd_search.specs.Query.{IsQuery};
+ghost use Rattle.map_c.specs.Answers.{c_hit};
 ghost use Rattle.map_c.specs.declared.handles.refusal.Refusal.TheVariants.{Empty};
 
-use crate::{Content, Refusal, frozen_index, shown};
-use kd_frozen::Frozen;
+use crate::{Content, Hit, Refusal, frozen_index, shown, write_few, write_hits};
+use kd_frozen::{Frozen, Shortlist};
 use kd_tree::Tree;
-use map_fold::{Hits, NoMemory};
+use map_fold::NoMemory;
 use point_geom::Point;
 use std::alloc::Global;
 
@@ -29,17 +30,22 @@ pub trait Searched {
         ensures held { IfOk result (λ s. held_in (Some content.now) ≡ Some (items s.now)) }
         ensures refused { IfErr result (λ r. (r ≡ Empty) × (held_in (Some content.now) ≡ None)) };
 
-    /// The first k live ones by squared distance from q, then by x, y and z, then by number; within the greatest distance, in
-    /// millimetres, where one is given.
-    fn nearest_to(
+    /// Writes the first k live ones by squared distance from q, then by x, y and z, then by number, from a place of the array on, and
+    /// returns where they end; within the greatest distance, in millimetres, where one is given.
+    fn write_nearest(
         &self,
         alloc: Global,
         k: u32,
         q: &Point,
         within: Option<u64>,
-    ) -> Result<Hits, NoMemory>
+        at: usize,
+        hits: &mut [Hit],
+    ) -> Result<usize, NoMemory>
         requires query { IsQuery k within }
-        ensures found { IfOk result (λ hits. hits ≡ nearest (items self.now) k q.now within) }
+        requires room { at + k ≤ length hits.old }
+        ensures list { IfOk result (λ n. take n hits.new ≡ take at hits.old ++ map c_hit (nearest (items self.now) k q.now within)) }
+        ensures count { IfOk result (λ n. n ≡ at + length (nearest (items self.now) k q.now within)) }
+        ensures length { length hits.new ≡ length hits.old }
         ensures inline { k ≤ 16 → IsOk result };
 }
 
@@ -55,14 +61,17 @@ impl Searched for Tree {
         Ok(version.tree())
     }
 
-    fn nearest_to(
+    fn write_nearest(
         &self,
         alloc: Global,
         k: u32,
         q: &Point,
         within: Option<u64>,
-    ) -> Result<Hits, NoMemory> {
-        kd_search::nearest(alloc, self, k, q, within)
+        at: usize,
+        hits: &mut [Hit],
+    ) -> Result<usize, NoMemory> {
+        let found = kd_search::nearest(alloc, self, k, q, within)?;
+        Ok(write_hits(found.as_slice(), at, hits))
     }
 }
 
@@ -78,13 +87,21 @@ impl Searched for Frozen {
         Ok(&**index)
     }
 
-    fn nearest_to(
+    // A list of hits that is moved would cost a tenth of the search.
+    fn write_nearest(
         &self,
         alloc: Global,
         k: u32,
         q: &Point,
         within: Option<u64>,
-    ) -> Result<Hits, NoMemory> {
-        self.nearest(alloc, k, q, within)
+        at: usize,
+        hits: &mut [Hit],
+    ) -> Result<usize, NoMemory> {
+        let mut few = Shortlist::new();
+        if self.nearest_few(k, q, within, &mut few) {
+            return Ok(write_few(&few, at, hits));
+        }
+        let found = self.nearest(alloc, k, q, within)?;
+        Ok(write_hits(found.as_slice(), at, hits))
     }
 }

@@ -7,7 +7,7 @@ ghost use Rattle.map_c.specs.Forms.{IsRightPlace};
 ghost use Rattle.map_c.specs.Status.{code, no_memory, out_of_range};
 
 use crate::searched::Searched;
-use crate::{Content, Hit, Place, Refusal, read_place, write_hits};
+use crate::{Content, Hit, Place, Refusal, read_place};
 use map_fold::{MAX_FOUND, MAX_WITHIN};
 use std::alloc::Global;
 
@@ -105,9 +105,8 @@ fn add_nearest<S: Searched>(
     ensures refused { IfErr result (λ r. ((code r ≡ out_of_range) × (IsRightPlace place.now → ⊥)) ⊎ ((code r ≡ no_memory) × (16 < k))) }
 {
     let point = read_place(place)?;
-    let found = searched.nearest_to(alloc, k, &point, within)?;
-    write_hits(found.as_slice(), at, hits);
-    Ok(at + found.len())
+    let end = searched.write_nearest(alloc, k, &point, within, at, hits)?;
+    Ok(end)
 }
 
 // Whether the hits of so many places fit, and their counts.

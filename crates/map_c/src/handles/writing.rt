@@ -3,17 +3,34 @@ ghost use Rattle.std.specs.Prelude.{◌≡◌, ◌+◌, ◌≤◌, ◌++◌, len
 ghost use Rattle.map_c.specs.Answers.{c_hit, c_item, c_point, c_suspended};
 
 use crate::handles::forms::{Hit, Item, Point};
+use kd_frozen::Shortlist;
 use map_fold::Label;
 
-/// Writes the hits from a place on.
-pub fn write_hits(found: &[map_fold::Hit], at: usize, hits: &mut [Hit])
+/// Writes the hits from a place on, and returns where they end.
+pub fn write_hits(found: &[map_fold::Hit], at: usize, hits: &mut [Hit]) -> usize
     requires { at + length found.now ≤ length hits.old }
+    ensures end { result ≡ at + length found.now }
     ensures written { take (at + length found.now) hits.new ≡ take at hits.old ++ map c_hit found.now }
     ensures length { length hits.new ≡ length hits.old }
 {
     for i in 0..found.len() {
         hits[at + i] = hit_of(&found[i]);
     }
+    at + found.len()
+}
+
+/// The same of a list of few.
+pub fn write_few(found: &Shortlist, at: usize, hits: &mut [Hit]) -> usize
+    requires { at + length found.now ≤ length hits.old }
+    ensures end { result ≡ at + length found.now }
+    ensures written { take (at + length found.now) hits.new ≡ take at hits.old ++ map c_hit found.now }
+    ensures length { length hits.new ≡ length hits.old }
+{
+    let count = found.len();
+    for i in 0..count {
+        hits[at + i] = hit_of(&found.hit(i));
+    }
+    at + count
 }
 
 /// What C has a struct for.
