@@ -24,7 +24,7 @@ void *__wrap_realloc(void *old, size_t size) { return left >= 0 && left-- == 0 ?
 typedef struct {
     corv_map map;
     corv_view view, copy;
-    corv_frozen frozen, same;
+    corv_frozen frozen, same, box, same_box;
     corv_job job;
     corv_built built;
     corv_point row[ROW];
@@ -56,6 +56,9 @@ static int32_t copied(life *l) { return corv_view_copy(&l->view, &l->copy); }
 static int32_t asked(life *l) { return corv_map_nearest(&l->map, l->places, 200, -1, l->hits, MOST, &l->n); }
 static int32_t asked_each(life *l) { return corv_view_nearest_each(&l->copy, l->places, 2, 200, -1, l->hits, 2 * MOST, l->counts, 2, &l->n); }
 static int32_t frozen_now(life *l) { return corv_view_freeze(&l->copy, &l->frozen); }
+static int32_t frozen_box(life *l) { return corv_view_freeze_box(&l->copy, &near_origin, &l->box); }
+static int32_t copied_box(life *l) { return corv_frozen_copy(&l->box, &l->same_box); }
+static int32_t asked_box(life *l) { return corv_frozen_nearest(&l->same_box, l->places, 200, -1, l->hits, MOST, &l->n); }
 static int32_t copied_frozen(life *l) { return corv_frozen_copy(&l->frozen, &l->same); }
 static int32_t asked_frozen(life *l) { return corv_frozen_nearest(&l->frozen, l->places, 200, -1, l->hits, MOST, &l->n); }
 static int32_t asked_each_frozen(life *l) { return corv_frozen_nearest_each(&l->same, l->places, 2, 200, -1, l->hits, 2 * MOST, l->counts, 2, &l->n); }
@@ -85,7 +88,8 @@ static const struct {
     {"view", seen, CORV_DONE},         {"add the rest", added_last, CORV_DONE}, {"copy", copied, CORV_DONE},
     {"nearest", asked, CORV_DONE},     {"nearest_each", asked_each, CORV_DONE}, {"inside", listed, CORV_DONE},
     {"freeze", frozen_now, CORV_DONE}, {"copy the index", copied_frozen, CORV_DONE}, {"nearest in it", asked_frozen, CORV_DONE},
-    {"nearest_each in it", asked_each_frozen, CORV_DONE},
+    {"nearest_each in it", asked_each_frozen, CORV_DONE}, {"freeze a box", frozen_box, CORV_DONE},
+    {"copy the box", copied_box, CORV_DONE}, {"nearest in the box", asked_box, CORV_DONE},
     {"ball", listed_in_a_ball, CORV_DONE}, {"lonely", listed_alone, CORV_DONE}, {"clusters", listed_in_clusters, CORV_DONE},
     {"items", listed_whole, CORV_DONE}, {"a page", listed_by_pages, CORV_DONE}, {"box_items", listed_in_a_box, CORV_DONE},
     {"ball_items", listed_around, CORV_DONE}, {"begin", begun, CORV_DONE}, {"move", moved, CORV_DONE},
@@ -136,6 +140,8 @@ static bool live(long refused, corv_totals *end) {
     left = -1;
     *end = totals_of(l);
     corv_built_free(&l->built);
+    corv_frozen_free(&l->same_box);
+    corv_frozen_free(&l->box);
     corv_frozen_free(&l->same);
     corv_frozen_free(&l->frozen);
     corv_job_free(&l->job);

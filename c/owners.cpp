@@ -190,7 +190,7 @@ static std::vector<corv::Place> looked_from() {
 
 // An index against the view that it was made of: points that coincide, suspended and dropped ones, and a map that goes on.
 static void an_index_answers_what_the_view_does() {
-    const corv::Box hidden = {{-40, -40, -40}, {40, 50, 40}}, gone = {{60, -200, -200}, {90, 200, 200}};
+    const corv::Box hidden = {{-40, -40, -40}, {40, 50, 40}}, gone = {{60, -200, -200}, {90, 200, 200}}, part = {{-70, -60, -50}, {50, 60, 70}};
     const auto points = scattered(9000);
     const auto places = looked_from();
     for (std::size_t held : {0, 1, 12, 13, 25, 9000}) {
@@ -201,15 +201,17 @@ static void an_index_answers_what_the_view_does() {
         auto view = map.view();
         auto frozen = map.freeze();
         map.restore(std::array{hidden});
-        auto other = view.freeze();
+        auto other = view.freeze(), in_part = view.freeze(part), in_none = view.freeze(corv::Box{}).copy();
         for (std::uint32_t k : {1, 2, 5, 16, 17, 256})
             for (auto within : {std::optional<std::uint64_t>(), std::optional<std::uint64_t>(0), std::optional<std::uint64_t>(30)}) {
                 corv::Hits due, found;
                 view.nearest_each(places, k, within, due);
                 frozen.nearest_each(places, k, within, found);
                 HOLDS(is_same(due.all, found.all) && due.counts == found.counts);
-                other.nearest_each(places, k, within, found);
-                HOLDS(is_same(due.all, found.all) && due.counts == found.counts);
+                for (auto index : {&other, &in_part, &in_none}) {
+                    index->nearest_each(places, k, within, found);
+                    HOLDS(is_same(due.all, found.all) && due.counts == found.counts);
+                }
                 for (std::size_t i = 0; i < places.size(); i += 50)
                     HOLDS(is_same(view.nearest(places[i], k, within), frozen.nearest(places[i], k, within)));
             }

@@ -23,6 +23,7 @@ static void is(int line, const char *call, int32_t status, int32_t due) {
 
 static const corv_place origin = {0, 0, 0}, outside = {0, FARTHEST + 1, 0};
 static const corv_box all = {{-FARTHEST, -FARTHEST, -FARTHEST}, {FARTHEST + 1, FARTHEST + 1, FARTHEST + 1}};
+static const corv_box near_origin = {{-20, -20, -20}, {20, 20, 20}};
 static const corv_box turned = {{0, 0, 0}, {9, -1, 9}}, too_wide = {{0, 0, 0}, {0, 0, FARTHEST + 2}};
 
 /* Points in a row, each 10 mm from the next one, so that a tree that takes them in turn gets uneven. */
@@ -82,6 +83,7 @@ static void an_empty_handle_is_told(void) {
     IS(CORV_EMPTY, corv_view_totals(&view, &totals));
     IS(CORV_EMPTY, corv_map_freeze(&map, &frozen));
     IS(CORV_EMPTY, corv_view_freeze(&view, &frozen));
+    IS(CORV_EMPTY, corv_view_freeze_box(&view, &turned, &frozen));
     IS(CORV_EMPTY, corv_frozen_copy(&frozen, &other));
     IS(CORV_EMPTY, corv_map_detach(&map, 9, &job));
     IS(CORV_EMPTY, corv_job_build(&job, &built));
@@ -291,6 +293,13 @@ static void an_index_stays(corv_map *map) {
     IS(CORV_DONE, corv_view_freeze(&view, &frozen));
     IS(CORV_FULL, corv_view_freeze(&view, &frozen));
     IS(CORV_FULL, corv_map_freeze(map, &frozen));
+    IS(CORV_FULL, corv_view_freeze_box(&view, &turned, &frozen));
+    is_asked_for_the_nearest(first, false);
+    corv_frozen_free(&frozen);
+    IS(CORV_BAD_BOX, corv_view_freeze_box(&view, &turned, &frozen));
+    IS(CORV_BAD_BOX, corv_view_freeze_box(&view, &too_wide, &frozen));
+    is_asked_for_the_nearest(first, true);
+    IS(CORV_DONE, corv_view_freeze_box(&view, &near_origin, &frozen));
     corv_view_free(&view);
     is_asked_for_the_nearest(first, false);
     IS(CORV_DONE, corv_frozen_copy(&frozen, &copy));

@@ -142,12 +142,16 @@ int32_t corv_view_totals(corv_view *view, corv_totals *totals);
 
 /* A frozen index has the live points of a map or a view as they were when it was made, under their numbers, and follows no update. It is
  * for when many places are searched for before the map changes, as while a scan is fitted to it: each is found sooner, with the same
- * hits. It takes 32 bytes a point, and as much again while it is made, in time of the order of n log n. It keeps nothing of the map's
- * tree. */
+ * hits. It takes 32 bytes a point, and as much again while it is made, in time of the order of n log n. Unless it is of
+ * a box, it keeps nothing of the map's tree. */
 /* Makes one of what is live in the map now. FULL (the index), EMPTY (the map), NO_MEMORY. */
 int32_t corv_map_freeze(corv_map *map, corv_frozen *frozen);
 /* The same of what is live in the view, in any thread. */
 int32_t corv_view_freeze(corv_view *view, corv_frozen *frozen);
+/* The same, for places in the box, of which alone the points are laid: the view is asked where a nearer one may lie outside, and the index
+ * keeps it. A place never needs it that lies in the box, at least `within` from each lower face and more from each upper one.
+ * FULL (the index), EMPTY (the view), BAD_BOX, NO_MEMORY. */
+int32_t corv_view_freeze_box(corv_view *view, const corv_box *box, corv_frozen *frozen);
 /* Makes another handle of the same index, which takes a small block: each thread that asks has one of its own, and asks without a lock.
  * FULL (the copy), EMPTY (the index), NO_MEMORY. */
 int32_t corv_frozen_copy(corv_frozen *frozen, corv_frozen *copy);

@@ -394,6 +394,13 @@ public:
         return frozen;
     }
 
+    /// The same, for places in the box, of which alone the points are laid. It keeps the view, and asks it where a nearer one may lie outside.
+    Frozen freeze(const Box &box) {
+        Frozen frozen;
+        detail::check(corv_view_freeze_box(get(), &box, frozen.get()));
+        return frozen;
+    }
+
     /// Another view of the same, for another thread.
     View copy() {
         View other;

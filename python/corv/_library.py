@@ -135,7 +135,7 @@ def signatures():
         **{"map_log": [handle, u64, *answer, POINTER(u64)]},
         **{"region_begin": [u64, u64, u64, array, POINTER(Region)], "region_move": [POINTER(Region), array, *answer]},
         **{call: [handle, handle] for call in ("map_view", "view_copy", "job_build", "map_freeze", "view_freeze", "frozen_copy")},
-        **{"view_renew": [handle, u32, u32, handle], "built_replay": [handle], "map_swap": [handle, handle, u32]},
+        **{"view_freeze_box": [handle, array, handle], "view_renew": [handle, u32, u32, handle], "built_replay": [handle], "map_swap": [handle, handle, u32]},
         **{f"{kind}_free": [handle] for kind in ("map", "view", "frozen", "job", "built")},
     }
 

@@ -200,6 +200,15 @@ class View(Asked):
 
     _kind = "view"
 
+    def freeze(self, box=None):
+        """The same, or that for places in a box, of which alone the points are laid. It keeps the view, and asks it where a nearer one may
+        lie outside."""
+        if box is None:
+            return super().freeze()
+        frozen = Frozen()
+        self._call("freeze_box", one_box(box), frozen._handle)
+        return frozen
+
     def copy(self):
         """Another view of the same, for another thread."""
         other = View()

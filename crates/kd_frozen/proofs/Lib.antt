@@ -4,7 +4,7 @@ mod CloseBounds
 mod Holes
 mod Hulls
 mod Laid
-mod Live
+pub mod Live
 mod Outside
 mod Parted
 mod Round

@@ -17,6 +17,7 @@ use Rattle.point_geom.proofs.point.Point.TheSendSync as s14
 use Rattle.rebuild_core.proofs.Crossing.{state_send}
 use Rattle.rebuild_parts.proofs.Handing.{version_send, version_sync}
 use Rattle.map_c.specs.contracts.handles.content.Content.{the_row}
+use Rattle.map_c.specs.contracts.handles.content.Around as around
 use Rattle.map_c.specs.contracts.handles.content.Index as index
 use Rattle.map_c.specs.contracts.handles.content.Map as kept
 use Rattle.map_c.specs.contracts.handles.content.View as seen
@@ -69,9 +70,17 @@ job_send = search items depth 40 fits 20000
 done_send : IsSend done.the_row
 done_send = search items depth 40 fits 20000
 
+around_send : IsSend around.the_row
+around_send = search (version_send, version_sync, s12.the_send, s12.the_sync, s13.the_send, s13.the_sync, sendable, std.crosses) depth 40 fits 20000
+
 index_send : IsSend index.the_row
 index_send =
     search (
+      around_send,
+      o.the_field_send,
+      o.the_field_sync,
+      o.the_send,
+      o.the_sync,
       frozen.the_send,
       frozen.the_sync,
       cell.the_send,

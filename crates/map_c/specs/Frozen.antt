@@ -7,9 +7,11 @@ use Rattle.map_items.specs.declared.item.Item.{Item}
 use Rattle.kd_tree.specs.Contents.{contents}
 use Rattle.rebuild_parts.specs.Seen.{VersionAt}
 use Rattle.map_c.specs.Answers.{shown_in}
-use Rattle.map_c.specs.Status.{done, empty, full, no_memory}
+use Rattle.map_c.specs.Forms.{IsRightBox}
+use Rattle.map_c.specs.Status.{bad_box, done, empty, full, no_memory}
 use Rattle.map_c.specs.declared.handles.content.Content.{Content}
 use Rattle.map_c.specs.declared.handles.content.Content.TheVariants as content
+use Rattle.map_c.specs.declared.handles.forms.Bounds.{Bounds}
 
 -- the items of the frozen index that a handle holds, if it holds one
 abbrev pub frozen_in : Option Content → Option (List Item)
@@ -35,6 +37,19 @@ pub record IsFrozen (c d : Option Content) : Type 0 where
   pub made : Content
   pub holds : d ≡ Some made
   pub frozen : IsFrozenOf version made
+
+-- `IsFrozen`, where the points in a box are laid, and there is such a box
+pub record IsBoxFrozen (b : Bounds) (c d : Option Content) : Type 0 where
+  pub range : IsRightBox b
+  pub whole : IsFrozen c d
+
+-- why that isn't made into a handle that held this
+abbrev pub IsBoxRefusal : Bounds → Option Content → Option Content → ℤ → Type 0
+IsBoxRefusal b c was status =
+    ((status ≡ full) × (was ≡ None → ⊥))
+    ⊎ ((status ≡ empty) × (shown_in c ≡ None))
+    ⊎ ((status ≡ bad_box) × (IsRightBox b → ⊥))
+    ⊎ (status ≡ no_memory)
 
 -- the second handle holds the index that the first holds
 abbrev pub IsCopyOf : Option Content → Option Content → Type 0

@@ -4,6 +4,7 @@ pub mod Building
 pub mod BuiltSubtree
 pub mod Forms
 pub mod Frozen
+pub mod Laid
 pub mod RawContent
 pub mod Logged
 pub mod Maps

@@ -5,8 +5,9 @@ ghost use Rattle.map_c.specs.Frozen.{frozen_in};
 
 use crate::handles::macros::ask;
 use crate::searching::{search, search_each};
-use crate::{Bounds, DONE, Handle, Hit, Item, Place, Totals, count_in_box, list, totals_of};
-use kd_frozen::Frozen;
+use crate::{
+    Bounds, DONE, Handle, Hit, Index, Item, Place, Totals, count_in_box, list, totals_of,
+};
 use kd_tree::Tree;
 use std::alloc::Global;
 
@@ -67,7 +68,7 @@ pub extern "C" fn corv_frozen_nearest(
 {
     *count = 0;
     *count = ask!(alloc, frozen, |content| {
-        search::<Frozen>(alloc, &content, place, k, within, hits)
+        search::<Index>(alloc, &content, place, k, within, hits)
     });
     DONE
 }
@@ -132,7 +133,7 @@ pub extern "C" fn corv_frozen_nearest_each(
 {
     *count = 0;
     *count = ask!(alloc, frozen, |content| {
-        search_each::<Frozen>(alloc, &content, places, k, within, hits, counts)
+        search_each::<Index>(alloc, &content, places, k, within, hits, counts)
     });
     DONE
 }

@@ -1,14 +1,15 @@
-//! Frozen indexes, made, copied and freed. They don't follow the map's updates.
+//! Frozen indexes of a map, of a view and of a box of a view, made, copied and freed. They don't follow the map's updates.
 ghost use Rattle.std.specs.Prelude.{◌≡◌, IfErr, IfOk, None, Some};
 ghost use Rattle.map_c.specs.Answers.{IsViewRefusal};
-ghost use Rattle.map_c.specs.Frozen.{IsCopyOf, IsCopyRefusal, IsFrozen, IsFrozenOf, IsMadeInto};
+ghost use Rattle.map_c.specs.Frozen.{IsBoxFrozen, IsBoxRefusal, IsCopyOf, IsCopyRefusal, IsFrozen, IsFrozenOf, IsMadeInto};
 ghost use Rattle.map_c.specs.Status.{code};
 ghost use Rattle.map_c.specs.declared.handles.content.Content.TheVariants as is;
 
 use crate::handles::macros::ask;
-use crate::{Content, DONE, Handle, Index, Refusal, boxed, frozen_index, shown};
+use crate::{Around, Bounds, Content, DONE, Handle, Index, Refusal, boxed, frozen_index, read_box, shown};
 use kd_frozen::Frozen;
 use map_fold::NoMemory;
+use point_geom::Cuboid;
 use rebuild_core::Version;
 use std::alloc::Global;
 use std::sync::Arc;
@@ -40,7 +41,11 @@ fn made_of(alloc: Global, version: &Version) -> Result<Box<Content>, NoMemory>
 {
     let live = Frozen::of(alloc, version.tree())?;
     let frozen = Arc::new(alloc, live)?;
-    boxed(alloc, Content::Frozen(Index { frozen }))
+    let index = Index {
+        frozen,
+        around: None,
+    };
+    boxed(alloc, Content::Frozen(index))
 }
 
 /// As of a map, of what is live in the view.
@@ -51,6 +56,50 @@ pub extern "C" fn corv_view_freeze(alloc: Global, view: &mut Handle, frozen: &mu
         view.old.held.content view.new.held.content frozen.old.held.content frozen.new.held.content result }
 {
     corv_map_freeze(alloc, view, frozen)
+}
+
+/// The same, for places in a box, of which alone the points are laid side by side. The index keeps the view, which is searched where
+/// a nearer point may lie outside.
+#[unsafe(no_mangle)]
+pub extern "C" fn corv_view_freeze_box(
+    alloc: Global,
+    view: &mut Handle,
+    bounds: &Bounds,
+    frozen: &mut Handle,
+) -> i32
+    ensures { IsMadeInto (IsBoxFrozen bounds.now view.old.held.content frozen.new.held.content)
+        (IsBoxRefusal bounds.now view.old.held.content frozen.old.held.content)
+        view.old.held.content view.new.held.content frozen.old.held.content frozen.new.held.content result }
+{
+    if !frozen.is_empty() {
+        return Refusal::Full.status();
+    }
+    *frozen = Handle::of(ask!(alloc, view, |content| {
+        box_of(alloc, &content, bounds)
+    }));
+    DONE
+}
+
+fn box_of(alloc: Global, content: &Content, bounds: &Bounds) -> Result<Box<Content>, Refusal>
+    ensures made { IfOk result (λ index. IsBoxFrozen bounds.now (Some content.now) (Some index.value)) }
+    ensures refused { IfErr result (λ r. IsBoxRefusal bounds.now (Some content.now) None (code r)) }
+{
+    let version = shown(content)?;
+    let cuboid = read_box(bounds)?;
+    Ok(laid_of(alloc, version, cuboid)?)
+}
+
+fn laid_of(alloc: Global, version: &Arc<Version>, cuboid: Cuboid) -> Result<Box<Content>, NoMemory>
+    ensures { IfOk result (λ index. IsFrozenOf version.now.value index.value) }
+{
+    let inside = Frozen::inside(alloc, version.tree(), &cuboid)?;
+    let frozen = Arc::new(alloc, inside)?;
+    let version = Arc::try_clone(version)?;
+    let index = Index {
+        frozen,
+        around: Some(Around { version, cuboid }),
+    };
+    boxed(alloc, Content::Frozen(index))
 }
 
 /// Makes another handle of the same index, which isn't copied.
@@ -71,15 +120,15 @@ fn copy_of(alloc: Global, content: &Content) -> Result<Box<Content>, Refusal>
     ensures made { IfOk result (λ copy. IsCopyOf (Some content.now) (Some copy.value)) }
     ensures refused { IfErr result (λ r. IsCopyRefusal (Some content.now) None (code r)) }
 {
-    let frozen = frozen_index(content)?;
-    Ok(shared(alloc, frozen)?)
+    let index = frozen_index(content)?;
+    Ok(shared(alloc, index)?)
 }
 
-fn shared(alloc: Global, frozen: &Arc<Frozen>) -> Result<Box<Content>, NoMemory>
-    ensures { IfOk result (λ copy. copy.value ≡ is.Frozen frozen.now.value) }
+fn shared(alloc: Global, index: &Index) -> Result<Box<Content>, NoMemory>
+    ensures { IfOk result (λ copy. copy.value ≡ is.Frozen index.now) }
 {
-    let frozen = Arc::try_clone(frozen)?;
-    boxed(alloc, Content::Frozen(Index { frozen }))
+    let other = index.share()?;
+    boxed(alloc, Content::Frozen(other))
 }
 
 /// Frees what the handle holds. The index goes with its last handle.

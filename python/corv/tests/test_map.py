@@ -64,14 +64,17 @@ class Answers(unittest.TestCase):
         self.map.suspend([[[-9_000] * 3, [5_000] * 3]])
         places = [point[:3] for point in cloud(3, 130, 25_000)]
         with self.map.view() as view:
-            frozen = view.freeze()
+            frozen, of_box = view.freeze(), view.freeze([[-8_000] * 3, [9_000] * 3])
             want = [*view.nearest(places, 5, 6_000)]
+            with self.assertRaises(corv.BadBox):
+                view.freeze([[0] * 3, [-1] * 3])
         self.map.delete([ALL])
         self.assertEqual([*self.map.freeze().nearest(places, 5)], [[]] * len(places))
         other = frozen.copy()
         frozen.close()
         for threads in (1, 3):
-            self.assertEqual([*other.nearest(places, 5, 6_000, threads=threads)], want)
+            for index in (other, of_box):
+                self.assertEqual([*index.nearest(places, 5, 6_000, threads=threads)], want)
         with self.assertRaises(corv.Closed):
             frozen.nearest(places)
 

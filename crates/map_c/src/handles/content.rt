@@ -9,6 +9,7 @@ use crate::handles::built_subtree::BuiltSubtree;
 use crate::handles::detached_job::DetachedJob;
 use kd_frozen::Frozen;
 use map_fold::NoMemory;
+use point_geom::Cuboid;
 use rebuild_core::{MapState, Version};
 use std::alloc::Global;
 use std::marker::Model;
@@ -61,17 +62,55 @@ impl Model for View {
     ghost view = { λ s. s.version.value };
 }
 
-/// A share of a frozen index.
+/// A share of a frozen index: of all that is searched, or of what lies in a cuboid of a version that is searched.
 #[derive(Drop)]
 pub struct Index {
     pub frozen: Arc<Frozen>,
+    pub around: Option<Around>,
+}
+
+/// A share of a version of which a cuboid is frozen.
+#[derive(Drop)]
+pub struct Around {
+    pub version: Arc<Version>,
+    pub cuboid: Cuboid,
 }
 
 impl Model for Index {
     ghost use Rattle.std.specs.Prelude.{List};
     ghost use Rattle.map_items.specs.declared.item.Item.{Item};
+    ghost use Rattle.map_c.specs.Laid.{IsLaid, searched_items};
 
     ghost Value = { List Item };
 
-    ghost view = { λ i. i.frozen.value };
+    ghost view = { λ i. searched_items i.frozen.value i.around };
+
+    ghost invariant = { λ i. IsLaid i.frozen.value i.around };
+}
+
+impl Index {
+    /// Another share of the same.
+    pub fn share(&self) -> Result<Index, NoMemory>
+        ensures { IfOk result (λ other. other ≡ self.now) }
+    {
+        let frozen = Arc::try_clone(&self.frozen)?;
+        let around = match &self.around {
+            None => None,
+            Some(around) => Some(around.share()?),
+        };
+        Ok(Index { frozen, around })
+    }
+}
+
+impl Around {
+    fn share(&self) -> Result<Around, NoMemory>
+        ensures version { IfOk result (λ other. other.version.value ≡ self.now.version.value) }
+        ensures cuboid { IfOk result (λ other. other.cuboid ≡ self.now.cuboid) }
+    {
+        let version = Arc::try_clone(&self.version)?;
+        Ok(Around {
+            version,
+            cuboid: self.cuboid,
+        })
+    }
 }

@@ -5,10 +5,9 @@ ghost use Rattle.map_c.specs.Frozen.{frozen_in};
 ghost use Rattle.map_c.specs.Status.{code};
 ghost use Rattle.map_c.specs.declared.handles.refusal.Refusal.TheVariants.{Empty};
 
-use crate::handles::content::Content;
+use crate::handles::content::{Content, Index};
 use crate::handles::forms::Totals;
 use crate::handles::refusal::Refusal;
-use kd_frozen::Frozen;
 use rebuild_core::Version;
 use std::sync::Arc;
 
@@ -30,12 +29,12 @@ pub fn shown(content: &Content) -> Result<&Arc<Version>, Refusal>
 }
 
 /// The frozen index that it holds; `Empty`, if it holds none.
-pub fn frozen_index(content: &Content) -> Result<&Arc<Frozen>, Refusal>
-    ensures frozen { IfOk result (λ f. frozen_in (Some content.now) ≡ Some f.now.value) }
+pub fn frozen_index(content: &Content) -> Result<&Index, Refusal>
+    ensures frozen { IfOk result (λ i. frozen_in (Some content.now) ≡ Some i.now) }
     ensures refused { IfErr result (λ r. (r ≡ Empty) × (frozen_in (Some content.now) ≡ None)) }
 {
     match content {
-        Content::Frozen(index) => Ok(&index.frozen),
+        Content::Frozen(index) => Ok(index),
         Content::Map(_)
         | Content::View(_)
         | Content::Job(_)
