@@ -18,6 +18,15 @@ impl MapState {
         self.former = Some(version);
     }
 
+    /// Takes out the version that gives the next update memory, if any. A swap or settling would drop it: a caller under
+    /// a lock drops it later, or gives it back by `recycle`.
+    pub fn take_former(&mut self) -> Option<Arc<Version>>
+        ensures same { self.new.state ≡ self.old.state }
+        ensures spare { self.new.spare ≡ self.old.spare }
+    {
+        self.former.take()
+    }
+
     // With the memory of the version before.
     pub(crate) fn take_scratch(&mut self, alloc: Global) -> Scratch
         ensures same { self.new.state ≡ self.old.state }
