@@ -5,9 +5,7 @@ ghost use Rattle.map_c.specs.Frozen.{frozen_in};
 
 use crate::handles::macros::ask;
 use crate::searching::{search, search_each};
-use crate::{
-    Bounds, DONE, Handle, Hit, Index, Item, Place, Totals, count_in_box, list, totals_of,
-};
+use crate::{Bounds, DONE, Handle, Hit, Index, Item, Place, Totals, count_in_box, list, totals_of};
 use kd_tree::Tree;
 use std::alloc::Global;
 

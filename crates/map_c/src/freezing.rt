@@ -6,7 +6,9 @@ ghost use Rattle.map_c.specs.Status.{code};
 ghost use Rattle.map_c.specs.declared.handles.content.Content.TheVariants as is;
 
 use crate::handles::macros::ask;
-use crate::{Around, Bounds, Content, DONE, Handle, Index, Refusal, boxed, frozen_index, read_box, shown};
+use crate::{
+    Around, Bounds, Content, DONE, Handle, Index, Refusal, boxed, frozen_index, read_box, shown,
+};
 use kd_frozen::Frozen;
 use map_fold::NoMemory;
 use point_geom::Cuboid;
@@ -74,9 +76,7 @@ pub extern "C" fn corv_view_freeze_box(
     if !frozen.is_empty() {
         return Refusal::Full.status();
     }
-    *frozen = Handle::of(ask!(alloc, view, |content| {
-        box_of(alloc, &content, bounds)
-    }));
+    *frozen = Handle::of(ask!(alloc, view, |content| { box_of(alloc, &content, bounds) }));
     DONE
 }
 

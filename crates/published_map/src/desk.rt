@@ -104,9 +104,9 @@ impl<L: MapName> Shared<L> {
     {
         let mut locked = self.lock.lock(rt);
         let (left, all_detached_items) = (locked.retired.for_worker(), locked.all_detached_items());
-        let former = locked.version();
+        let versions = locked.take_versions();
         let done = locked.swap(rt, alloc, built, mark, most);
-        let spent = locked.retire_swapped(former, done.is_ok());
+        let spent = locked.retire_swapped(versions, done.is_ok());
         MutexGuard::unlock(locked);
         drop((left, all_detached_items, spent));
         done

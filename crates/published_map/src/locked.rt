@@ -8,7 +8,7 @@ ghost use Rattle.published_map.specs.Answers.{Updated};
 
 use crate::marked_subtree::MarkedSubtree;
 use crate::pass::Pass;
-use crate::retired::Retired;
+use crate::retired::{Retired, Versions};
 use crate::turn::{read_newest, take_step};
 use left_right::Absorb;
 use map_items::{Entry, NoMemory, Update};
@@ -60,7 +60,7 @@ where
 
 impl<L: MapName> Locked<L> {
     /// `None` where it can't be shared once more.
-    pub fn version(&self) -> Option<Arc<Version>>
+    fn version(&self) -> Option<Arc<Version>>
         ensures { IfSome result (λ v. v.value ≡ self.now.state.version) }
     {
         Arc::try_clone(self.state.version()).ok()
@@ -72,19 +72,27 @@ impl<L: MapName> Locked<L> {
         self.retired.after_update(&mut self.state, former)
     }
 
-    /// After a refusal the other side still shows what is kept already.
-    pub fn retire_swapped(
-        &mut self,
-        former: Option<Arc<Version>>,
-        has_published: bool,
-    ) -> Option<Arc<Version>>
+    /// What a swap or settling would free under the lock. The state has the second no more.
+    pub fn take_versions(&mut self) -> Versions
         ensures same { self.new ≡ self.old }
     {
+        (self.version(), self.state.take_former())
+    }
+
+    /// Retires what `take_versions` returned. After a refusal the other side still shows what is kept already, and the next update
+    /// gets its memory after all.
+    pub fn retire_swapped(&mut self, versions: Versions, has_published: bool) -> Versions
+        ensures same { self.new ≡ self.old }
+    {
+        let (published, reused) = versions;
         if has_published {
-            self.retired.after_swap(&mut self.state, former)
-        } else {
-            former
+            let spent = self.retired.after_swap(&mut self.state, published);
+            return (spent, reused);
         }
+        if let Some(version) = reused {
+            self.state.recycle(version);
+        }
+        (published, None)
     }
 
     pub fn is_newest(&self, kept: &Published<L>) -> bool {
@@ -170,20 +178,16 @@ impl<L: MapName> Locked<L> {
         Ok(mark)
     }
 
-    pub fn settle<R: Wait>(
-        &mut self,
-        rt: &R,
-        alloc: Global,
-    ) -> (Result<(), NoMemory>, Option<Arc<Version>>)
+    pub fn settle<R: Wait>(&mut self, rt: &R, alloc: Global) -> (Result<(), NoMemory>, Versions)
         ensures settled { OnOk result.0 (IsSettleStep self.old.state self.new.state) }
         ensures same { OnErr result.0 (self.new.state ≡ self.old.state) }
     {
-        let former = self.version();
+        let versions = self.take_versions();
         let done = match self.state.plan_settle(alloc) {
             Ok(planned) => self.step(rt, planned),
             Err(none) => Err(none),
         };
-        let spent = self.retire_swapped(former, done.is_ok());
+        let spent = self.retire_swapped(versions, done.is_ok());
         (done, spent)
     }
 

@@ -10,6 +10,9 @@ use rebuild_parts::Version;
 use shown_versions::{MapName, Published};
 use std::sync::Arc;
 
+/// The published version, unless it could not be shared, and the one that gives the next update memory, if any.
+pub type Versions = (Option<Arc<Version>>, Option<Arc<Version>>);
+
 /// Versions that wait to be freed. What a call returns is to be dropped once the lock is given back.
 #[derive(Drop)]
 pub struct Retired<L: MapName>
