@@ -1,6 +1,7 @@
 //! Frozen indexes beside the tree that they were made of: equal points, lines, lattices, corners of space, one point and none, asked
 //! from among the points and from far outside; and boxes that cut what is found.
 ghost use Rattle.std.specs.Prelude.{◌≤◌};
+ghost use Rattle.std.specs.Option.{ForSome};
 
 use crate::tests::assertions::{holds, made, same};
 use crate::tests::draw::Draw;
@@ -15,6 +16,7 @@ use map_fold::{Points, Tag};
 use point_geom::{Cuboid, Point};
 use std::alloc::Global;
 use std::process::Abort;
+use std::thread::Threads;
 
 // The last coordinate there is.
 const FAR: i64 = 1_099_511_627_776;
@@ -176,8 +178,23 @@ fn each_list_of_many_places_is_what_one_search_finds(rt: HostRuntime) {
     // Above 16 hits, or for fewer than 256 places, lists aren't filled where they are.
     for (count, k, within) in [(300, 17, Some(3)), (255, 16, None), (256, 16, Some(3))] {
         let queries = Points::from(draw.points(&rt, alloc, count));
-        let lists = frozen_nearest_each(&rt, alloc, &frozen, k, &queries, within);
-        let lists = made(&rt, lists);
-        are_as_single(&rt, alloc, &lists, &tree, &queries, k, within);
+        finds_each(&rt, alloc, &tree, &frozen, &queries, k, within);
     }
+}
+
+fn finds_each<R: Threads + Sync + Abort>(
+    rt: &R,
+    alloc: Global,
+    tree: &Tree,
+    frozen: &Frozen,
+    queries: &Points,
+    k: u32,
+    within: Option<u64>,
+)
+    requires k_to { k ≤ 256 }
+    requires k_from { 1 ≤ k }
+    requires within_to { ForSome within (λ r. r ≤ 4398046511104) }
+{
+    let lists = frozen_nearest_each(rt, alloc, frozen, k, queries, within);
+    are_as_single(rt, alloc, &made(rt, lists), tree, queries, k, within);
 }
