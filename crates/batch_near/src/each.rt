@@ -24,6 +24,9 @@ const LEAST_PIECE: usize = 128;
 // A list of at most 16 hits has them inside itself.
 const INLINE: u32 = 16;
 
+// What an index saves one query is what so many of its points cost.
+const POINTS_A_QUERY: usize = 6;
+
 // In millimetres of x. After 32 slabs the same come again.
 const WIDTH: u64 = 2_048;
 
@@ -31,8 +34,9 @@ const SLABS: u64 = 32;
 
 /// For each query, in order, what `nearest` returns: its first k live points, at most `within` millimetres away. Pieces
 /// of at least 128 queries go to as many threads as there are processors; what gets none is searched by the caller's.
-/// Up to k = 16 only the lists take memory. Above, `NoMemory` comes once the other pieces are searched; and joining the
-/// pieces takes about twice the lists' memory, without what is outside a list.
+/// Up to k = 16 only the lists have to have memory; so many queries that it pays are searched in a frozen index of the
+/// tree, if there is memory for it. Above, `NoMemory` comes once the other pieces are searched; and joining the pieces
+/// takes about twice the lists' memory, without what is outside a list.
 pub fn nearest_each<R: Threads + Sync>(
     rt: &R,
     alloc: Global,
@@ -44,7 +48,34 @@ pub fn nearest_each<R: Threads + Sync>(
     requires query { IsQuery k within }
     ensures found { IfOk result (λ lists. lists ≡ nearest_each (contents tree.now) k queries.now within) }
 {
+    if pays_to_freeze(rt, tree, k, queries.len()) {
+        if let Ok(lists) = frozen_first(rt, alloc, tree, k, queries, within) {
+            return Ok(lists);
+        }
+    }
     each(rt, alloc, Searched::Tree(tree), k, queries, within)
+}
+
+// One thread makes the index, and all of them save time by it.
+fn pays_to_freeze<R: Threads>(rt: &R, tree: &Tree, k: u32, queries: usize) -> bool {
+    let piece = queries / pieces_of(rt, queries);
+    k <= INLINE && tree.counts().live as usize / POINTS_A_QUERY <= piece
+}
+
+// The index is dropped before the tree is searched in its place, so that its memory is there again.
+fn frozen_first<R: Threads + Sync>(
+    rt: &R,
+    alloc: Global,
+    tree: &Tree,
+    k: u32,
+    queries: &Points,
+    within: Option<u64>,
+) -> Result<HitLists, NoMemory>
+    requires query { IsQuery k within }
+    ensures found { IfOk result (λ lists. lists ≡ nearest_each (contents tree.now) k queries.now within) }
+{
+    let frozen = Frozen::of(alloc, tree)?;
+    frozen_nearest_each(rt, alloc, &frozen, k, queries, within)
 }
 
 /// For each query, in order, what `Frozen::nearest` finds for it: what `nearest_each` finds in a tree whose live items these are.
@@ -97,7 +128,7 @@ fn in_place<R: Threads + Sync>(
     ensures { IfOk result (λ lists. lists.items ≡ nearest_each (items_of searched.entry) k queries.now within) }
 {
     let mut lists = empty_lists(alloc, queries.len())?;
-    let pieces = (queries.len() / LEAST_PIECE).clamp(1, current_num_threads(rt));
+    let pieces = pieces_of(rt, queries.len());
     fill(
         rt,
         alloc,
@@ -109,6 +140,12 @@ fn in_place<R: Threads + Sync>(
         lists.as_mut_slice(),
     );
     Ok(lists)
+}
+
+fn pieces_of<R: Threads>(rt: &R, queries: usize) -> usize
+    ensures { 1 ≤ result }
+{
+    (queries / LEAST_PIECE).clamp(1, current_num_threads(rt))
 }
 
 // The calling thread starts the others: each takes its time before it could start another.

@@ -51,6 +51,18 @@ fn each_list_is_what_a_single_search_finds(rt: HostRuntime) {
     }
 }
 
+#[test]
+fn many_queries_of_few_points_find_what_single_searches_find(rt: HostRuntime) {
+    let alloc = rt.alloc();
+    let tree = restored(&rt, alloc, &cloud(&rt, alloc, 300, 1));
+    // By an index up to 16 hits, above by the tree.
+    for (k, within) in [(1, None), (16, Some(300)), (17, Some(300))] {
+        let queries = Points::from(cloud(&rt, alloc, 1_000, 7));
+        let lists = made(&rt, nearest_each(&rt, alloc, &tree, k, &queries, within));
+        are_as_single(&rt, alloc, &lists, &tree, &queries, k, within);
+    }
+}
+
 /// Each list is what one search of the tree finds.
 pub fn are_as_single(
     rt: &impl Abort,
