@@ -1,4 +1,4 @@
--- A segment's hits are those of its sides and of the cell between them.
+-- Cells of which no number is twice: sides of a segment, and what a leaf's next cell gives.
 use Rattle.std.proofs.Common.{◌≡◌, ℕ, ◌+◌, ◌≤◌, inl, inr, true, false, cond, List, [], ◌∷◌, ◌++◌, take, refl, sym, ap, ◌∙◌, arith, Option}
 use Rattle.std.specs.Prelude.{◌==◌, not, sum_by}
 use Rattle.std.proofs.lemmas.List.{take-take}
@@ -33,21 +33,20 @@ front_distinct left right i k = record {
       omega (arith, sum_by-append g left (i ∷ right), sum_by-cons g i right, sum_by-append g (kept (i ∷ [])) (left ++ right), sum_by-append g left right, kept_fewer g i, k.once n);
 }
 
-fewer : (left right one other : List Item) (i : Item) (n : ℕ) → AreDistinct (left ++ i ∷ right)
-    → left ++ right ≡ one ++ other
+fewer : (others one other : List Item) (i : Item) (n : ℕ) → AreDistinct (i ∷ others) → others ≡ one ++ other
     → sum_by (λ w. cond (n == w.number) 1 0) one + sum_by (λ w. cond (n == w.number) 1 0) other ≤ 1
-fewer left right one other i n k e =
+fewer others one other i n k e =
     let g : Item → ℕ = λ w. cond (n == w.number) 1 0 in
-    omega (arith, sum_by-append g left (i ∷ right), sum_by-cons g i right, sum_by-append g left right, ap (sum_by g) e, sum_by-append g one other, k.once n)
+    omega (arith, sum_by-cons g i others, ap (sum_by g) e, sum_by-append g one other, k.once n)
 
 -- no number is twice on one side
-pub near_distinct : (left right near far : List Item) (i : Item) → AreDistinct (left ++ i ∷ right) → IsEitherWay (left ++ right) near far → AreDistinct near
-near_distinct left right near far i k (inl e) = record { once = λ n. omega (arith, fewer left right near far i n k e) }
-near_distinct left right near far i k (inr e) = record { once = λ n. omega (arith, fewer left right far near i n k e) }
+pub near_distinct : (others near far : List Item) (i : Item) → AreDistinct (i ∷ others) → IsEitherWay others near far → AreDistinct near
+near_distinct others near far i k (inl e) = record { once = λ n. omega (arith, fewer others near far i n k e) }
+near_distinct others near far i k (inr e) = record { once = λ n. omega (arith, fewer others far near i n k e) }
 
-pub far_distinct : (left right near far : List Item) (i : Item) → AreDistinct (left ++ i ∷ right) → IsEitherWay (left ++ right) near far → AreDistinct far
-far_distinct left right near far i k (inl e) = record { once = λ n. omega (arith, fewer left right near far i n k e) }
-far_distinct left right near far i k (inr e) = record { once = λ n. omega (arith, fewer left right far near i n k e) }
+pub far_distinct : (others near far : List Item) (i : Item) → AreDistinct (i ∷ others) → IsEitherWay others near far → AreDistinct far
+far_distinct others near far i k (inl e) = record { once = λ n. omega (arith, fewer others near far i n k e) }
+far_distinct others near far i k (inr e) = record { once = λ n. omega (arith, fewer others far near i n k e) }
 
 moved : (q : Place) (r : Option ℕ) (i : Item) (left right : List Item) (hits : List Hit)
     → AreDistinct (kept (i ∷ []) ++ (left ++ right))
@@ -67,18 +66,11 @@ moved q r i left right hits d =
     ∙ ap (λ z. put_all (one ++ z) hits) (sym (candidates-append q r (i ∷ []) right))
     ∙ ap (λ z. put_all z hits) (sym (candidates-append q r left (i ∷ right)))
 
--- the near side, then the cell, then the far side
-pub between : (k : ℕ) (q : Place) (r : Option ℕ) (i : Item) (left right near far : List Item) (hits one two three : List Hit) → AreDistinct (left ++ i ∷ right) → IsEitherWay (left ++ right) near far
-    → one ≡ take k (put_all (candidates near q r) hits) → two ≡ take k (put_all (candidates (i ∷ []) q r) one) → three ≡ take k (put_all (candidates far q r) two)
-    → three ≡ take k (put_all (candidates (left ++ i ∷ right) q r) hits)
-between k q r i left right near far hits one two three d way e f g =
-    let front = front_distinct left right i d in
-    near_first k q r i near far (left ++ right) (kept (i ∷ []) ++ (left ++ right)) hits one two three front refl way e f g ∙ ap (take k) (moved q r i left right hits front)
-
 -- one item more, after the others
 pub one_more : (k : ℕ) (q : Place) (r : Option ℕ) (i : Item) (m : List Item) (hits one two : List Hit) → AreDistinct (m ++ i ∷ [])
     → one ≡ take k (put_all (candidates m q r) hits) → two ≡ take k (put_all (candidates (i ∷ []) q r) one)
     → two ≡ take k (put_all (candidates (m ++ i ∷ []) q r) hits)
 one_more k q r i m hits one two d e f =
+    let front = front_distinct m [] i d in
     let same : two ≡ take k two = f ∙ sym (take-take k k (put_all (candidates (i ∷ []) q r) one) (omega arith)) ∙ ap (take k) (sym f) in
-    between k q r i m [] m [] hits one two two d (inl refl) e f same
+    near_first k q r i m [] (m ++ []) (kept (i ∷ []) ++ (m ++ [])) hits one two two front refl (inl refl) e f same ∙ ap (take k) (moved q r i m [] hits front)

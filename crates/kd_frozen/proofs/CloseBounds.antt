@@ -2,7 +2,7 @@
 use Rattle.std.proofs.Common.{◌≡◌, ℕ, ◌-◌, ◌^◌, ◌<◌, ◌≤◌, min, get_or, inl, inr, arith, All, List, [], ◌∷◌, ◌++◌, length, take, sym, ap, ◌∙◌, subst, Option}
 use Rattle.std.proofs.Math.Seq.{take-append_seam, drop-append_seam}
 use Rattle.std.proofs.lemmas.List.{get_or-map, length-map}
-use Rattle.std.proofs.lemmas.List.Elements.{All-append, All-cons, All-drop, All-head, All-nil, All-tail, All-take}
+use Rattle.std.proofs.lemmas.List.Elements.{All-cons, All-drop, All-head, All-nil, All-tail, All-take}
 use Rattle.point_geom.specs.Place.{Place}
 use Rattle.point_geom.specs.Distances.{dist2}
 use Rattle.map_items.specs.declared.item.Item.{Item}
@@ -74,18 +74,16 @@ Fits q i = dist2 q i.point < 2 ^ 64
 
 -- the parts of what is close are close
 pub top_close : (m : List Cell) (q : Place) (s : Parts) → ArePartsOf m q s → AreClose q (items_of m) → dist2 q s.top.now.point < 2 ^ 64
-top_close m q s p h = All-head (Fits q) (item_of s.top.now) p.right (all_back (Fits q) p.left (item_of s.top.now ∷ p.right) (subst (All (Fits q)) p.items h))
+top_close m q s p h = All-head (Fits q) (item_of s.top.now) p.others (subst (All (Fits q)) p.items h)
 
-left_and_right : (q : Place) (left right : List Item) (i : Item) → AreClose q (left ++ i ∷ right) → AreClose q (left ++ right)
-left_and_right q left right i h = All-append (Fits q) left right (all_front (Fits q) left (i ∷ right) h) (All-tail (Fits q) i right (all_back (Fits q) left (i ∷ right) h))
+others_close : (m : List Cell) (q : Place) (s : Parts) (p : ArePartsOf m q s) → AreClose q (items_of m) → AreClose q p.others
+others_close m q s p h = All-tail (Fits q) (item_of s.top.now) p.others (subst (All (Fits q)) p.items h)
 
 pub near_close : (m : List Cell) (q : Place) (s : Parts) → ArePartsOf m q s → AreClose q (items_of m) → AreClose q (items_of s.near.now)
-near_close m q s p h =
-    all_near (Fits q) (p.left ++ p.right) (items_of s.near.now) (items_of s.far.now) p.turned (left_and_right q p.left p.right (item_of s.top.now) (subst (AreClose q) p.items h))
+near_close m q s p h = all_near (Fits q) p.others (items_of s.near.now) (items_of s.far.now) p.turned (others_close m q s p h)
 
 pub far_close : (m : List Cell) (q : Place) (s : Parts) → ArePartsOf m q s → AreClose q (items_of m) → AreClose q (items_of s.far.now)
-far_close m q s p h =
-    all_far (Fits q) (p.left ++ p.right) (items_of s.near.now) (items_of s.far.now) p.turned (left_and_right q p.left p.right (item_of s.top.now) (subst (AreClose q) p.items h))
+far_close m q s p h = all_far (Fits q) p.others (items_of s.near.now) (items_of s.far.now) p.turned (others_close m q s p h)
 
 -- and so is a cell of it
 pub cell_close : (m : List Cell) (q : Place) (n : ℕ) (c : Cell) → n < length m → c ≡ get_or m n c → AreClose q (items_of m) → dist2 q c.point < 2 ^ 64

@@ -1,12 +1,12 @@
 -- Cells that are laid in the order of their segments.
-use Rattle.std.proofs.Common.{◌≡◌, ℕ, zero, suc, ◌+◌, ◌/◌, ◌≤◌, ◌≤ℤ◌, ℤ, false, List, [], ◌∷◌, ◌++◌, length, take, drop, sym, ap, ◌∙◌, subst, arith, length-append}
+use Rattle.std.proofs.Common.{◌≡◌, ℕ, zero, suc, ◌+◌, ◌-◌, ◌*◌, ◌/◌, ◌≤◌, ◌≤ℤ◌, ℤ, false, List, [], ◌∷◌, ◌++◌, length, take, drop, sym, ap, ◌∙◌, subst, arith, length-append}
 use Rattle.std.specs.Prelude.{All, IsPermutation}
 use Rattle.std.specs.Ordering.{is_lt, int_cmp}
 use Rattle.std.proofs.Math.Seq.{take-append_seam, drop-append_seam}
 use Rattle.std.proofs.lemmas.Int.{ints}
 use Rattle.std.proofs.lemmas.List.{append_assoc, length-map, map-append}
 use Rattle.std.proofs.lemmas.List.Elements.{All-map, All-weaker}
-use Rattle.std.proofs.lemmas.List.Sorted.{All-permutation, IsPermutation-append, IsPermutation-cons, IsPermutation-map, IsPermutation-refl, IsPermutation-trans, length_permutation}
+use Rattle.std.proofs.lemmas.List.Sorted.{All-permutation, IsPermutation-append, IsPermutation-cons, IsPermutation-map, IsPermutation-middle, IsPermutation-refl, IsPermutation-trans, length_permutation}
 use Rattle.point_geom.specs.Axes.{on}
 use Rattle.point_geom.specs.declared.axis.Axis.{Axis}
 use Rattle.map_items.specs.declared.item.Item.{Item}
@@ -16,8 +16,7 @@ use Rattle.kd_search.specs.Points.{AreBelow, AreAbove}
 use Rattle.kd_frozen.specs.declared.cell.Cell.{Cell}
 use Rattle.kd_frozen.specs.declared.cell.TheConstants.{LEAF}
 use Rattle.kd_frozen.specs.Cells.{item_of, items_of}
-use Rattle.kd_frozen.specs.Segments.{AddsParted, AreHalves, AreParted, IsParted, IsTopped, middle}
-use Rattle.kd_frozen.proofs.Parted.{drop_next}
+use Rattle.kd_frozen.specs.Segments.{AddsParted, AreCut, AreParted, IsParted, IsPlane, cut}
 
 not_less : (x y : ℤ) → is_lt (int_cmp x y) ≡ false → y ≤ℤ x
 not_less x y h = grind (arith, ints)
@@ -35,32 +34,30 @@ above_of a c m k =
     (All-weaker (λ (d : Cell). is_lt (int_cmp (on a d.point) (on a c.point)) ≡ false) (λ (d : Cell). on a c.point ≤ℤ on a d.point) (λ d h. not_less (on a d.point) (on a c.point) h) m k)
 
 -- parts that were searched by the coordinate on the axis b
-pub halves_on : (b a : Axis) (m left : List Cell) (c : Cell) (right : List Cell) → a ≡ b → IsPermutation m (left ++ c ∷ right) → length left ≡ middle m
-    → All (λ d. is_lt (int_cmp (on b c.point) (on b d.point)) ≡ false) left × All (λ d. is_lt (int_cmp (on b d.point) (on b c.point)) ≡ false) right → AreHalves m a left c right
-halves_on b a m left c right e same half around = record {
+pub cut_on : (b a : Axis) (share : ℕ) (m left : List Cell) (c : Cell) (right : List Cell) → a ≡ b → IsPermutation m (left ++ c ∷ right) → length left ≡ (length m - 1) * share / 256
+    → All (λ d. is_lt (int_cmp (on b c.point) (on b d.point)) ≡ false) left × All (λ d. is_lt (int_cmp (on b d.point) (on b c.point)) ≡ false) right → AreCut m a share left c right
+cut_on b a share m left c right e same first around = record {
   same = same;
-  half = half;
+  first = first;
   below = rw e (below_of b c left around.0);
   above = rw e (above_of b c right around.1);
 }
 
-laid_parted : (one other : List Cell) (c : Cell) → length one ≡ (length one + length other) / 2
+laid_parted : (one other : List Cell) (c : Cell) → length one ≡ (length one + length other) * c.share / 256
     → AreBelow c.axis c.point (items_of one) → AreAbove c.axis c.point (items_of other) → AreParted one
-    → AreParted other → AreParted (one ++ c ∷ other)
-laid_parted one other c half below above left right = parted
+    → AreParted other → AreParted (c ∷ (one ++ other))
+laid_parted one other c first below above left right = parted
   where
-    parted : (n : ℕ) → IsParted n (one ++ c ∷ other)
+    parted : (n : ℕ) → IsParted n (c ∷ (one ++ other))
     parted zero = tt
     parted (suc n) = λ more.
-        let m = one ++ c ∷ other in
-        let at : length one ≡ middle m = omega (arith, length-append one (c ∷ other), half) in
-        let front : take (middle m) m ≡ one = ap (λ j. take j m) (sym at) ∙ take-append_seam one (c ∷ other) in
-        let back : drop (middle m) m ≡ c ∷ other = ap (λ j. drop j m) (sym at) ∙ drop-append_seam one (c ∷ other) in
-        let rest : drop (middle m + 1) m ≡ other = drop_next m (middle m) c other back in (
-          subst (λ z. IsTopped z (drop (middle m) m)) (sym front)
-              (subst (λ z. IsTopped one z) (sym back) (below, above)),
+        let m = one ++ other in
+        let at : length one ≡ cut c (length m) = first ∙ ap (cut c) (sym (length-append one other)) in
+        let front : take (cut c (length m)) m ≡ one = ap (λ j. take j m) (sym at) ∙ take-append_seam one other in
+        let back : drop (cut c (length m)) m ≡ other = ap (λ j. drop j m) (sym at) ∙ drop-append_seam one other in (
+          subst (λ z. IsPlane c z (drop (cut c (length m)) m)) (sym front) (subst (λ z. IsPlane c one z) (sym back) (below, above)),
           subst (IsParted n) (sym front) (left n),
-          subst (IsParted n) (sym rest) (right n),
+          subst (IsParted n) (sym back) (right n),
         )
 
 same_items : (xs ys : List Cell) → IsPermutation xs ys → IsPermutation (items_of xs) (items_of ys)
@@ -69,39 +66,40 @@ same_items xs ys p = IsPermutation-map item_of xs ys p
 item_lengths : (xs : List Cell) (ys : List Cell) → IsPermutation (items_of xs) (items_of ys) → length xs ≡ length ys
 item_lengths xs ys p = omega (arith, length_permutation (items_of xs) (items_of ys) p, length-map xs item_of, length-map ys item_of)
 
--- both sides and the cell between them
-pub laid : (m left right : List Cell) (a : Axis) (top c : Cell) (old first second new : List Cell) → AreHalves m a left top right → c ≡ record top { axis = a }
-    → AddsParted left old first → second ≡ first ++ c ∷ [] → AddsParted right second new → AddsParted m old new
-laid m left right a top c old first second new s is one f other = record {
-  added = one.added ++ c ∷ other.added;
+-- the cell and both its sides
+pub laid : (m left right : List Cell) (a : Axis) (share : ℕ) (top c : Cell) (old first second new : List Cell) → AreCut m a share left top right → c ≡ record top { axis = a; share = share }
+    → first ≡ old ++ c ∷ [] → AddsParted left first second → AddsParted right second new → AddsParted m old new
+laid m left right a share top c old first second new s is f one other = record {
+  added = c ∷ (one.added ++ other.added);
   behind =
-      other.behind ∙ ap (λ z. z ++ other.added) (f ∙ ap (λ z. z ++ c ∷ []) one.behind)
-      ∙ append_assoc (old ++ one.added) (c ∷ []) other.added ∙ append_assoc old one.added (c ∷ other.added);
+      other.behind ∙ ap (λ z. z ++ other.added) (one.behind ∙ ap (λ z. z ++ one.added) f)
+      ∙ append_assoc (old ++ c ∷ []) one.added other.added ∙ append_assoc old (c ∷ []) (one.added ++ other.added);
   same =
-      let items : items_of (one.added ++ c ∷ other.added) ≡ items_of one.added ++ item_of top ∷ items_of other.added =
-      map-append item_of one.added (c ∷ other.added) ∙ ap (λ d. items_of one.added ++ item_of d ∷ items_of other.added) is in
-      let sides =
-      IsPermutation-append (items_of left) (items_of one.added) (item_of top ∷ items_of right)
-      (item_of top ∷ items_of other.added) one.same
-      (IsPermutation-cons (item_of top) (items_of right) (items_of other.added) other.same) in
-      let first : IsPermutation (items_of m) (items_of left ++ item_of top ∷ items_of right) =
+      let i = item_of top in
+      let items : items_of (c ∷ (one.added ++ other.added)) ≡ i ∷ (items_of one.added ++ items_of other.added) =
+      ap (λ d. item_of d ∷ items_of (one.added ++ other.added)) is ∙ ap (λ z. i ∷ z) (map-append item_of one.added other.added) in
+      let sides : IsPermutation (i ∷ (items_of left ++ items_of right)) (i ∷ (items_of one.added ++ items_of other.added)) =
+      IsPermutation-cons i (items_of left ++ items_of right) (items_of one.added ++ items_of other.added)
+      (IsPermutation-append (items_of left) (items_of one.added) (items_of right) (items_of other.added) one.same other.same) in
+      let first : IsPermutation (items_of m) (items_of left ++ i ∷ items_of right) =
       subst (IsPermutation (items_of m)) (map-append item_of left (top ∷ right))
       (same_items m (left ++ top ∷ right) s.same) in
-      subst (IsPermutation (items_of m)) (sym items) (IsPermutation-trans (items_of m) _ _ first sides);
+      subst (IsPermutation (items_of m)) (sym items)
+      (IsPermutation-trans (items_of m) _ _ first (IsPermutation-trans _ _ _ (IsPermutation-middle (items_of left) i (items_of right)) sides));
   parted =
-      let half : length one.added ≡ (length one.added + length other.added) / 2 =
-      omega (arith, s.half, length_permutation m (left ++ top ∷ right) s.same, length-append left (top ∷ right), item_lengths left one.added one.same, item_lengths right other.added other.same) in
+      let others : length m - 1 ≡ length one.added + length other.added =
+      omega (arith, length_permutation m (left ++ top ∷ right) s.same, length-append left (top ∷ right), item_lengths left one.added one.same, item_lengths right other.added other.same) in
+      let first : length one.added ≡ (length one.added + length other.added) * c.share / 256 =
+      sym (item_lengths left one.added one.same) ∙ s.first ∙ ap (λ j. j * share / 256) others ∙ ap (λ (d : Cell). (length one.added + length other.added) * d.share / 256) (sym is) in
       let below : AreBelow a top.point (items_of one.added) = All-permutation (λ (i : Item). on a i.point ≤ℤ on a top.point) (items_of left) (items_of one.added) one.same s.below in
       let above : AreAbove a top.point (items_of other.added) = All-permutation (λ (i : Item). on a top.point ≤ℤ on a i.point) (items_of right) (items_of other.added) other.same s.above in
-      laid_parted one.added other.added c half (rw is below) (rw is above) one.parted other.parted;
+      laid_parted one.added other.added c first (rw is below) (rw is above) one.parted other.parted;
 }
 
 short_parted : (m : List Cell) → length m ≤ LEAF → AreParted m
-short_parted m few = parted
-  where
-    parted : (n : ℕ) → IsParted n m
-    parted zero = tt
-    parted (suc n) = λ more. absurd (omega arith)
+short_parted m few zero = tt
+short_parted [] few (suc n) = tt
+short_parted (c ∷ m) few (suc n) = λ more. absurd (omega (arith, few, more))
 
 -- a leaf's cells
 pub laid_leaf : (m old new : List Cell) → length m ≤ LEAF → new ≡ old ++ m → AddsParted m old new

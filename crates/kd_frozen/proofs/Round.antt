@@ -11,17 +11,18 @@ use Rattle.kd_tree.specs.Contents.{AreDistinct}
 use Rattle.kd_search.specs.Nearest.{IsBound, put_all}
 use Rattle.kd_search.specs.Points.{AreAway}
 use Rattle.kd_search.proofs.Bounds.{left_out}
+use Rattle.kd_search.proofs.Offered.{near_first}
 use Rattle.kd_frozen.specs.declared.cell.Cell.{Cell}
 use Rattle.kd_frozen.specs.declared.parts.Parts.{Parts}
 use Rattle.kd_frozen.specs.Cells.{item_of, items_of}
 use Rattle.kd_frozen.specs.Segments.{ArePartsOf, plane_gap2}
-use Rattle.kd_frozen.proofs.Between.{between, far_distinct, front_once, near_distinct, one_more}
+use Rattle.kd_frozen.proofs.Between.{far_distinct, front_once, near_distinct, one_more}
 
 pub near_once : (m : List Cell) (q : Place) (s : Parts) → ArePartsOf m q s → AreDistinct (items_of m) → AreDistinct (items_of s.near.now)
-near_once m q s p d = near_distinct p.left p.right (items_of s.near.now) (items_of s.far.now) (item_of s.top.now) (subst AreDistinct p.items d) p.turned
+near_once m q s p d = near_distinct p.others (items_of s.near.now) (items_of s.far.now) (item_of s.top.now) (subst AreDistinct p.items d) p.turned
 
 pub far_once : (m : List Cell) (q : Place) (s : Parts) → ArePartsOf m q s → AreDistinct (items_of m) → AreDistinct (items_of s.far.now)
-far_once m q s p d = far_distinct p.left p.right (items_of s.near.now) (items_of s.far.now) (item_of s.top.now) (subst AreDistinct p.items d) p.turned
+far_once m q s p d = far_distinct p.others (items_of s.near.now) (items_of s.far.now) (item_of s.top.now) (subst AreDistinct p.items d) p.turned
 
 -- the near side, the cell, and the far side
 pub all_parts : (k : ℕ) (q : Place) (r : Option ℕ) (m : List Cell) (s : Parts) (hits one two three : List Hit) → ArePartsOf m q s → AreDistinct (items_of m)
@@ -30,8 +31,7 @@ pub all_parts : (k : ℕ) (q : Place) (r : Option ℕ) (m : List Cell) (s : Part
     → three ≡ take k (put_all (candidates (items_of s.far.now) q r) two)
     → three ≡ take k (put_all (candidates (items_of m) q r) hits)
 all_parts k q r m s hits one two three p d e f g =
-    between k q r (item_of s.top.now) p.left p.right (items_of s.near.now) (items_of s.far.now) hits one two three (subst AreDistinct p.items d) p.turned e f g
-    ∙ ap (λ z. take k (put_all (candidates z q r) hits)) (sym p.items)
+    near_first k q r (item_of s.top.now) (items_of s.near.now) (items_of s.far.now) p.others (items_of m) hits one two three d p.items p.turned e f g
 
 -- the near side alone, where the gap is beyond the bound
 pub near_alone : (k : ℕ) (q : Place) (r : Option ℕ) (m : List Cell) (s : Parts) (hits one : List Hit) (bound gap : ℕ) → ArePartsOf m q s → AreDistinct (items_of m)

@@ -1,5 +1,5 @@
 -- Segments that are parted by planes. Cited by private functions alone.
-use Rattle.std.specs.Prelude.{◌≤◌, ◌≡◌, ℕ, zero, suc, ◌-◌, ◌/◌, ◌+◌, ◌<◌, List, [], ◌∷◌, ◌++◌, length, take, drop, IsPermutation}
+use Rattle.std.specs.Prelude.{◌≤◌, ◌≡◌, ℕ, zero, suc, ◌-◌, ◌*◌, ◌/◌, ◌+◌, ◌<◌, List, [], ◌∷◌, ◌++◌, length, take, drop, IsPermutation}
 use Rattle.point_geom.specs.declared.axis.Axis.{Axis}
 use Rattle.point_geom.specs.Place.{Place}
 use Rattle.point_geom.specs.Axes.{on}
@@ -12,19 +12,21 @@ use Rattle.kd_frozen.specs.declared.cell.TheConstants.{LEAF}
 use Rattle.kd_frozen.specs.declared.parts.Parts.{Parts}
 use Rattle.kd_frozen.specs.Cells.{item_of, items_of}
 
--- the first of these cells parts the others from those on the left, on its axis
-abbrev pub IsTopped : List Cell → List Cell → Type 0
-IsTopped left [] = Unit {0}
-IsTopped left (c ∷ right) = AreBelow c.axis c.point (items_of left) × AreAbove c.axis c.point (items_of right)
+-- a cell parts others by its plane: on its axis none of these is above it, and none of those below
+abbrev pub IsPlane : Cell → List Cell → List Cell → Type 0
+IsPlane c left right = AreBelow c.axis c.point (items_of left) × AreAbove c.axis c.point (items_of right)
 
--- where the cell in the middle is
-abbrev pub middle : List Cell → ℕ
-middle m = (length m - 1) / 2
+-- how many of so many others come before its plane
+abbrev pub cut : Cell → ℕ → ℕ
+cut c others = others * c.share / 256
 
--- on the upper so many levels, what is longer than a leaf is parted by the cell in the middle
+-- on the upper so many levels, what is longer than a leaf is parted by its first cell
 abbrev pub IsParted : ℕ → List Cell → Type 0
 IsParted zero m = Unit {0}
-IsParted (suc n) m = LEAF < length m → IsTopped (take (middle m) m) (drop (middle m) m) × IsParted n (take (middle m) m) × IsParted n (drop (middle m + 1) m)
+IsParted (suc n) [] = Unit {0}
+IsParted (suc n) (c ∷ m) =
+    LEAF < length (c ∷ m) → IsPlane c (take (cut c (length m)) m) (drop (cut c (length m)) m)
+    × IsParted n (take (cut c (length m)) m) × IsParted n (drop (cut c (length m)) m)
 
 -- on all levels it is
 abbrev pub AreParted : List Cell → Type 0
@@ -37,10 +39,10 @@ pub record AddsParted (cells old new : List Cell) : Type 0 where
   pub same : IsPermutation (items_of cells) (items_of added)
   pub parted : AreParted added
 
--- The cell in the middle parts the others, on this axis.
-pub record AreHalves (m : List Cell) (a : Axis) (left : List Cell) (top : Cell) (right : List Cell) : Type 0 where
+-- A cell parts the others, on this axis, with so many 256ths of them before it.
+pub record AreCut (m : List Cell) (a : Axis) (share : ℕ) (left : List Cell) (top : Cell) (right : List Cell) : Type 0 where
   pub same : IsPermutation m (left ++ top ∷ right)
-  pub half : length left ≡ middle m
+  pub first : length left ≡ (length m - 1) * share / 256
   pub below : AreBelow a top.point (items_of left)
   pub above : AreAbove a top.point (items_of right)
 
@@ -48,13 +50,12 @@ pub record AreHalves (m : List Cell) (a : Axis) (left : List Cell) (top : Cell) 
 abbrev pub plane_gap2 : Cell → Place → ℕ
 plane_gap2 c q = gap2 (on c.axis q) (on c.axis c.point)
 
--- A segment is the cell in its middle, and what is before it and after it, one near and one far: of these the gap to the cell's
--- plane is no more than the distance to any item. All are parted.
+-- A segment is its first cell, and those on both sides of its plane, one near and one far: of these the gap to the plane is no more
+-- than the distance to any item. All are parted.
 pub record ArePartsOf (m : List Cell) (q : Place) (s : Parts) : Type 0 where
-  pub left : List Item
-  pub right : List Item
-  pub items : items_of m ≡ left ++ item_of s.top.now ∷ right
-  pub turned : IsEitherWay (left ++ right) (items_of s.near.now) (items_of s.far.now)
+  pub others : List Item
+  pub items : items_of m ≡ item_of s.top.now ∷ others
+  pub turned : IsEitherWay others (items_of s.near.now) (items_of s.far.now)
   pub top : plane_gap2 s.top.now q ≤ dist2 q s.top.now.point
   pub away : AreAway (plane_gap2 s.top.now q) q (items_of s.far.now)
   pub near_parted : AreParted s.near.now

@@ -57,6 +57,7 @@ fn push_live(item: &Item, cells: &mut Vec<Cell>) -> Result<(), NoMemory>
         point: item.point,
         number: item.number,
         axis: Axis::X,
+        share: 0,
     })?;
     Ok(())
 }

@@ -1,12 +1,17 @@
-//! Cells in the order of their segments, which are halved by medians.
-ghost use Rattle.std.specs.Prelude.{◌<◌, length, OnOk};
-ghost use Rattle.kd_frozen.specs.Segments.{AddsParted, AreHalves};
+//! Cells in the order of their segments, which are cut near the middle of what they span.
+ghost use Rattle.std.specs.Prelude.{◌^◌, ◌<◌, ◌≤◌, length, OnOk};
+ghost use Rattle.kd_frozen.specs.Segments.{AddsParted, AreCut};
 
-use crate::cell::{Cell, LEAF};
+use crate::cell::{Cell, LEAF, first_of};
+use crate::distance::coordinate;
+use crate::hull::hull_of;
 use map_items::NoMemory;
 use point_geom::{Axis, Extent};
 
-/// Puts these cells after those that are laid, each with the axis on which it parts its segment. Moves them.
+// At least so many 256ths of the other cells are on each side, so that there are few levels however the points lie.
+const LEAST: u64 = 16;
+
+/// Puts these cells after those that are laid, each with the axis on which it parts its segment, and where. Moves them.
 pub(crate) fn lay(cells: &mut [Cell], laid: &mut Vec<Cell>) -> Result<(), NoMemory>
     ensures { OnOk result (AddsParted cells.old laid.old.items laid.new.items) }
 {
@@ -14,40 +19,36 @@ pub(crate) fn lay(cells: &mut [Cell], laid: &mut Vec<Cell>) -> Result<(), NoMemo
         laid.extend_from_slice(cells)?;
         return Ok(());
     }
-    let axis = widest(cells);
-    let (left, top, right) = halves(cells, axis);
-    let top = Cell { axis, ..*top };
-    lay(left, laid)?;
+    let hull = hull_of(cells);
+    let axis = longest(&hull);
+    let share = share_to(cells, axis, middle(&hull, axis));
+    let (left, top, right) = cut(cells, axis, share);
+    let top = Cell {
+        axis,
+        share,
+        ..*top
+    };
     laid.push(top)?;
+    lay(left, laid)?;
     lay(right, laid)
 }
 
-// The cell at half of the length less one by the coordinate on this axis, with those before it and those after it. Each axis has
-// a search of its own, which so need not look up the coordinate that it compares.
-fn halves(cells: &mut [Cell], axis: Axis) -> (&mut [Cell], &mut Cell, &mut [Cell])
+// The cell at this share of the others by the coordinate on this axis, with those before it and those after it. Each axis has a
+// search of its own, which so need not look up the coordinate that it compares.
+fn cut(cells: &mut [Cell], axis: Axis, share: u8) -> (&mut [Cell], &mut Cell, &mut [Cell])
     requires { 0 < length cells.old }
-    ensures { AreHalves cells.old axis result.0.now result.1.now result.2.now }
+    ensures { AreCut cells.old axis share result.0.now result.1.now result.2.now }
 {
-    let half = (cells.len() - 1) / 2;
+    let at = first_of(cells.len() - 1, share);
     match axis {
-        Axis::X => cells.select_nth_unstable_by_key(half, |c: &Cell| c.point.x()),
-        Axis::Y => cells.select_nth_unstable_by_key(half, |c: &Cell| c.point.y()),
-        Axis::Z => cells.select_nth_unstable_by_key(half, |c: &Cell| c.point.z()),
+        Axis::X => cells.select_nth_unstable_by_key(at, |c: &Cell| c.point.x()),
+        Axis::Y => cells.select_nth_unstable_by_key(at, |c: &Cell| c.point.y()),
+        Axis::Z => cells.select_nth_unstable_by_key(at, |c: &Cell| c.point.z()),
     }
 }
 
-// The axis on which the points reach farthest, so that searches leave out the most. Any axis would be as right.
-fn widest(cells: &[Cell]) -> Axis {
-    let Some((first, rest)) = cells.split_first() else {
-        return Axis::X;
-    };
-    let hull = rest.iter().fold(
-        Extent::of(&first.point),
-        |hull, cell| hull.join(&Extent::of(&cell.point)),
-    );
-    longest(&hull)
-}
-
+// The axis on which the points reach farthest. There a plane in the middle has searches leave out the most; any axis and any share
+// would be as right.
 fn longest(hull: &Extent) -> Axis {
     let (lo, hi) = (hull.lo(), hull.hi());
     let x = hi.x().abs_diff(lo.x());
@@ -60,4 +61,34 @@ fn longest(hull: &Extent) -> Axis {
     } else {
         Axis::Z
     }
+}
+
+// Halfway between the faces on this axis, rounded down, so that it is below the upper one where they differ.
+fn middle(hull: &Extent, axis: Axis) -> i64 {
+    let lo = coordinate(&hull.lo(), axis);
+    let hi = coordinate(&hull.hi(), axis);
+    lo + (hi - lo) / 2
+}
+
+// How many 256ths of the others come before the last cell that isn't above this coordinate, so far as that leaves each side its
+// least. It is rounded up, so that up to 256 others are cut right there.
+fn share_to(cells: &[Cell], axis: Axis, middle: i64) -> u8
+    requires { 1 < length cells.now }
+{
+    let low = cells
+        .iter()
+        .filter(|c: &&Cell| coordinate(&c.point, axis) <= middle)
+        .count();
+    let before = in_32_bits(low.saturating_sub(1));
+    let others = in_32_bits(cells.len() - 1);
+    let share = (256 * before).div_ceil(others);
+    share.clamp(LEAST, 256 - LEAST) as u8
+}
+
+// A map has far fewer points. A division of 128 bits would be a call of the compiler's library, which programs in C may lack.
+fn in_32_bits(count: usize) -> u64
+    ensures most { result < 2 ^ 32 }
+    ensures some { 1 ≤ count → 1 ≤ result }
+{
+    count.min(u32::MAX as usize) as u64
 }

@@ -3,11 +3,11 @@ ghost use Rattle.std.specs.Prelude.{◌≡◌, ◌^◌, ◌<◌, ◌≤ℤ◌, t
 ghost use Rattle.point_geom.specs.Axes.{on};
 ghost use Rattle.kd_frozen.specs.Segments.{AreParted, ArePartsOf, plane_gap2};
 
-use crate::cell::{Cell, LEAF};
+use crate::cell::{Cell, LEAF, first_of};
 use crate::distance::{close_gap2, coordinate};
 use point_geom::{Point, dist2_on};
 
-/// The cell in the middle of a segment, the side of it on which the point is, and the other side.
+/// The first cell of a segment, the side of its plane on which the point is, and the other side.
 #[derive(Drop)]
 pub(crate) struct Parts<'a> {
     pub(crate) top: &'a Cell,
@@ -25,10 +25,10 @@ impl<'a> Parts<'a> {
         if cells.len() <= LEAF {
             return None;
         }
-        let (left, rest) = cells.split_at((cells.len() - 1) / 2);
-        let Some((top, right)) = rest.split_first() else {
+        let Some((top, rest)) = cells.split_first() else {
             return None;
         };
+        let (left, right) = rest.split_at(first_of(rest.len(), top.share));
         if is_below(q, top) {
             Some(Parts {
                 top,

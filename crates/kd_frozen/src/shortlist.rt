@@ -50,6 +50,7 @@ impl Shortlist {
             point: Point::default(),
             number: 0,
             axis: Axis::X,
+            share: 0,
         };
         let near = Near { cell, dist2: 0 };
         Shortlist {
