@@ -4,7 +4,8 @@ mod CloseBounds
 mod Holes
 mod Hulls
 mod Laid
-pub mod Live
 mod Outside
 mod Parted
 mod Round
+mod Squares
+pub mod Live
