@@ -113,25 +113,15 @@ impl Tree {
         match self.opened()? {
             None => Ok(Tree::empty()),
             Some(node) => {
-                let Opened {
-                    item,
-                    axis,
-                    pending,
-                    left,
-                    right,
-                    block,
-                } = node;
+                let Opened { left, right, .. } = node;
                 let (left, right) = match side {
                     Side::Left => (child, right),
                     Side::Right => (left, child),
                 };
                 let node = Opened {
-                    item,
-                    axis,
-                    pending,
                     left,
                     right,
-                    block,
+                    ..node
                 };
                 node.closed(alloc, steps)
             }
