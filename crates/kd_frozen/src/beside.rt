@@ -9,7 +9,7 @@ ghost use Rattle.kd_tree.specs.Contents.{contents};
 ghost use Rattle.kd_search.specs.Query.{IsQuery};
 
 use crate::Frozen;
-use kd_search::{Found, Query};
+use kd_search::Query;
 use kd_tree::Tree;
 use map_fold::Hits;
 use map_items::NoMemory;
@@ -35,15 +35,8 @@ pub fn nearest_beside(
     ensures inline { k ≤ 16 → IsOk result }
 {
     let _size = tree.size();
-    let query = Query {
-        k: k as usize,
-        point: *q,
-        within,
-    };
-    let mut found = Found {
-        hits: Hits::new(alloc),
-        bound: query.reach(),
-    };
+    let query = Query::new(k, q, within);
+    let mut found = query.start(alloc);
     frozen.search(&query, &mut found)?;
     if found.bound < outside_from(c, q) {
         return Ok(found.hits);

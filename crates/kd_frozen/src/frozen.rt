@@ -106,15 +106,8 @@ impl Frozen {
         ensures nearest { IfOk result (AreNearest self.now k q.now within) }
         ensures inline { k ≤ 16 → IsOk result }
     {
-        let query = Query {
-            k: k as usize,
-            point: *q,
-            within,
-        };
-        let mut found = Found {
-            hits: Hits::new(alloc),
-            bound: query.reach(),
-        };
+        let query = Query::new(k, q, within);
+        let mut found = query.start(alloc);
         self.search(&query, &mut found)?;
         Ok(found.hits)
     }
@@ -128,11 +121,7 @@ impl Frozen {
         ensures nearest { result ≡ true → AreNearest self.now k q.now within hits.new }
         ensures same { result ≡ false → hits.new ≡ hits.old }
     {
-        let query = Query {
-            k: k as usize,
-            point: *q,
-            within,
-        };
+        let query = Query::new(k, q, within);
         let cells = self.cells.as_slice();
         if query.k <= FEW && is_close(&self.hull, &query.point) {
             let _bound = fill(cells, &query, hits, query.reach());

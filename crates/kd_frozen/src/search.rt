@@ -9,9 +9,7 @@ ghost use Rattle.kd_frozen.specs.Segments.{AreParted};
 use crate::cell::Cell;
 use crate::parts::Parts;
 use kd_search::{Found, Query};
-use map_fold::Hit;
 use map_items::NoMemory;
-use point_geom::dist2;
 
 /// Adds the hits of a segment to those that are held, of which the first k are kept.
 pub(crate) fn add_from(cells: &[Cell], query: &Query, found: &mut Found) -> Result<(), NoMemory>
@@ -54,14 +52,5 @@ fn add(cell: &Cell, query: &Query, found: &mut Found) -> Result<(), NoMemory>
     ensures found { OnOk result (found.new.hits ≡ take query.now.k (put_all (candidates (item_of cell.now ∷ []) query.now.point query.now.within) found.old.hits)) }
     ensures inline { query.now.k ≤ 16 → IsOk result }
 {
-    let gap = dist2(&query.point, &cell.point);
-    if found.bound < gap {
-        return Ok(());
-    }
-    let hit = Hit {
-        number: cell.number,
-        point: cell.point,
-        dist2: gap,
-    };
-    query.put(hit, found)
+    query.offer(cell.number, &cell.point, found)
 }

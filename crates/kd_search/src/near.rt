@@ -1,5 +1,6 @@
 //! The nearest live points.
 ghost use Rattle.std.specs.Prelude.{◌≡◌, ◌≤◌, [], ◌∷◌, take, IfOk, IsOk, OnOk};
+ghost use Rattle.map_items.specs.Contents.{live_at};
 ghost use Rattle.map_fold.specs.Answers.{candidates, nearest, put_hit};
 ghost use Rattle.map_fold.specs.Nearest.{AreNearest};
 ghost use Rattle.kd_tree.specs.Contents.{contents};
@@ -35,15 +36,8 @@ pub fn nearest(
     ensures inline { k ≤ 16 → IsOk result }
 {
     let _size = tree.size();
-    let query = Query {
-        k: k as usize,
-        point: *q,
-        within,
-    };
-    let mut found = Found {
-        hits: Hits::new(alloc),
-        bound: query.reach(),
-    };
+    let query = Query::new(k, q, within);
+    let mut found = query.start(alloc);
     add_from(tree, Tag::KEEP, &query, &mut found)?;
     Ok(found.hits)
 }
@@ -110,6 +104,33 @@ pub struct Found {
 }
 
 impl Query {
+    /// What `nearest` searches for when it is called with these.
+    #[inline]
+    pub fn new(k: u32, q: &Point, within: Option<u64>) -> Query
+        requires { IsQuery k within }
+        ensures k { result.k ≡ k }
+        ensures point { result.point ≡ q.now }
+        ensures within { result.within ≡ within }
+    {
+        Query {
+            k: k as usize,
+            point: *q,
+            within,
+        }
+    }
+
+    /// What a search begins with: no hit. Takes no memory.
+    #[inline]
+    pub fn start(&self, alloc: Global) -> Found
+        ensures none { result.hits ≡ [] }
+        ensures bound { IsBound self.now.k self.now.within result.hits result.bound }
+    {
+        Found {
+            hits: Hits::new(alloc),
+            bound: self.reach(),
+        }
+    }
+
     /// The bound before any hit is held.
     pub fn reach(&self) -> u128
         ensures { IsBound self.now.k self.now.within [] result }
@@ -129,21 +150,32 @@ impl Query {
         if item.label != Label::Live {
             return Ok(());
         }
-        let gap = dist2(&self.point, &item.point);
+        self.offer(item.number, &item.point, found)
+    }
+
+    /// Puts a live point among those held, unless it is too far.
+    #[inline]
+    pub fn offer(&self, number: u32, point: &Point, found: &mut Found) -> Result<(), NoMemory>
+        requires { IsBound self.now.k self.now.within found.old.hits found.old.bound }
+        ensures bound { OnOk result (IsBound self.now.k self.now.within found.new.hits found.new.bound) }
+        ensures found { OnOk result (found.new.hits ≡ take self.now.k (put_all (candidates (live_at number point.now ∷ []) self.now.point self.now.within) found.old.hits)) }
+        ensures inline { self.now.k ≤ 16 → IsOk result }
+    {
+        let gap = dist2(&self.point, point);
         if found.bound < gap {
             return Ok(());
         }
         let hit = Hit {
-            number: item.number,
-            point: item.point,
+            number,
+            point: *point,
             dist2: gap,
         };
         self.put(hit, found)
     }
 
-    /// Puts a hit among those held, and draws the bound in.
+    // Puts a hit among those held, and draws the bound in.
     #[inline(never)]
-    pub fn put(&self, hit: Hit, found: &mut Found) -> Result<(), NoMemory>
+    fn put(&self, hit: Hit, found: &mut Found) -> Result<(), NoMemory>
         requires bound { IsBound self.now.k self.now.within found.old.hits found.old.bound }
         requires near { hit.dist2 ≤ found.old.bound }
         ensures bound { OnOk result (IsBound self.now.k self.now.within found.new.hits found.new.bound) }

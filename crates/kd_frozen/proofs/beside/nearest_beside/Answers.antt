@@ -16,10 +16,11 @@ alone c =
     let q = c.args.q.now in
     let r = c.args.within in
     let found = c.search.new.found in
+    let is = c.new-query.ensures in
     inside_alone (contents t) c.args.c.now k q r found.hits found.bound c.outside_from.result
-    (contents_distinct t c.size-size.ensures.sound) c.in_ok-search.ensures.bound c.if-found-outside_from.true
-    (omega arith) c.outside_from.ensures
-    (c.in_ok-search.ensures.found ∙ ap (λ (m : List Item). nearest m k q r) c.requires.frozen)
+    (contents_distinct t c.size-size.ensures.sound) (rw (is.k, is.within) at c.in_ok-search.ensures.bound)
+    c.if-found-outside_from.true (omega arith) c.outside_from.ensures
+    ((rw (is.k, is.point, is.within) at c.in_ok-search.ensures.found) ∙ ap (λ (m : List Item). nearest m k q r) c.requires.frozen)
 
 pub returns-then-found-outside_from-clause-found : goal.returns-then-found-outside_from-clause-found
 returns-then-found-outside_from-clause-found c = alone c

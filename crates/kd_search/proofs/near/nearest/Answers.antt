@@ -17,8 +17,9 @@ found c =
     let q = c.args.q.now in
     let r = c.args.within in
     let items = walk keep_tag c.args.tree.now in
-    c.in_ok-add_from.ensures.found
-    ∙ ap (λ z. take c.args.k (put_all (candidates items q r) z)) c.new.ensures
+    let is = c.new-query.ensures in
+    (rw (is.k, is.point, is.within) at c.in_ok-add_from.ensures.found)
+    ∙ ap (λ z. take c.args.k (put_all (candidates items q r) z)) c.start-found.ensures.none
     ∙ ap (take c.args.k) (put_all-nil (candidates items q r) ∙ sym (in_order-by_number q r items (walk_distinct keep_tag c.args.tree.now c.size-size.ensures.sound)))
 
 pub returns-clause-found : goal.returns-clause-found

@@ -20,11 +20,14 @@ seen c = ap (λ (z : List Cell). by_number (items_of z)) c.as_slice-cells.ensure
 pub fill-bound-requires-clause-close : goal.fill-bound-requires-clause-close
 fill-bound-requires-clause-close c =
     let inside = subst (λ (z : List Cell). AreIn c.self.inside.hull (items_of z)) (sym c.as_slice-cells.ensures.value) c.self.invariant.2 in
-    hull_close c.self.inside.hull c.args.q.now (items_of c.as_slice-cells.result.now) (c.is_close.ensures c.if-is_close.true) inside
+    hull_close c.self.inside.hull c.new-query.result.point (items_of c.as_slice-cells.result.now) (c.is_close.ensures c.if-is_close.true) inside
 
 -- by number, what is found is the nearest
 found : (c : After-fill-bound) → c.fill-bound.new.list ≡ nearest (by_number (items_of c.as_slice-cells.result.now)) c.args.k c.args.q.now c.args.within
-found c = from_none c.args.k c.args.q.now c.args.within (items_of c.as_slice-cells.result.now) c.args.hits.now c.fill-bound.new.list (once c) c.requires.none c.fill-bound.ensures.found
+found c =
+    let is = c.new-query.ensures in
+    from_none c.args.k c.args.q.now c.args.within (items_of c.as_slice-cells.result.now) c.args.hits.now c.fill-bound.new.list (once c) c.requires.none
+    (rw (is.k, is.point, is.within) at c.fill-bound.ensures.found)
 
 pub returns-then-is_close-clause-found : goal.returns-then-is_close-clause-found
 returns-then-is_close-clause-found c _ =

@@ -2,15 +2,15 @@ use Rattle.std.proofs.Common.{[], ◌∷◌, ◌≤◌, arith}
 use Rattle.std.proofs.lemmas.List.Elements.{All-cons, All-nil}
 use Rattle.point_geom.specs.Distances.{dist2}
 use Rattle.map_items.specs.declared.item.Item.{Item}
+use Rattle.map_items.specs.Contents.{live_at}
 use Rattle.kd_search.specs.Points.{AreAway}
 use Rattle.kd_search.proofs.Bounds.{left_out}
-use Rattle.kd_frozen.specs.Cells.{item_of}
-use Rattle.kd_frozen.proofs.search.add.Goals as goal
+use Rattle.kd_search.proofs.near.Query.offer.Goals as goal
 
 pub returns-then-found-gap-clause-found : goal.returns-then-found-gap-clause-found
 returns-then-found-gap-clause-found c =
-    let query = c.args.query.now in
-    let item = item_of c.args.cell.now in
+    let query = c.args.self.now in
+    let item = live_at c.args.number c.args.point.now in
     let gap = c.dist2-gap.result in
     let Far = λ (i : Item). gap ≤ dist2 query.point i.point in
     let away : AreAway gap query.point (item ∷ []) = All-cons Far item [] (omega (arith, c.dist2-gap.ensures.value)) (All-nil Far) in
