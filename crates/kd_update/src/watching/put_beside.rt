@@ -86,11 +86,9 @@ fn put_within<L: Ledger>(
     let count = moved_left(items, node.axis, &node.item.point);
     let next = node.axis.next();
     let (lefts, rights) = items.split_at_mut(count);
-    let left = put_within(alloc, node.left, lefts, next, scratch, steps)?;
-    let right = put_within(alloc, node.right, rights, next, scratch, steps)?;
     let node = OpenNode {
-        left,
-        right,
+        left: put_within(alloc, node.left, lefts, next, scratch, steps)?,
+        right: put_within(alloc, node.right, rights, next, scratch, steps)?,
         block: node.block.or_of(scratch),
         ..node
     };

@@ -65,14 +65,14 @@ put_within-requires-2 g t c κs within =
 
 pub joined-requires : goal.joined-requires
 joined-requires g t c =
-    step_sound c.requires.0 _ _ _ _ _ c.in_ok-left.left c.in_ok-right.right
-    (step g t (goal.at.joined-requires g t c).After-split_at_mut-lefts) c.requires.1 c.in_ok-left.ensures.grown
-    c.in_ok-right.ensures.grown
+    step_sound c.requires.0 _ _ _ _ _ c.in_ok-put_within.field-0 c.in_ok-put_within-2.field-0
+    (step g t (goal.at.joined-requires g t c).After-split_at_mut-lefts) c.requires.1 c.in_ok-put_within.ensures.grown
+    c.in_ok-put_within-2.ensures.grown
 
 pub returns : goal.returns
 returns g t c =
     let done =
-    whole_step _ _ _ _ _ c.in_ok-left.left c.in_ok-right.right
+    whole_step _ _ _ _ _ c.in_ok-put_within.field-0 c.in_ok-put_within-2.field-0
     (ap fork_in (sym c.in-Some.is) ∙ c.in_ok-node.ensures.parts)
-    (step g t (goal.at.returns g t c).After-split_at_mut-lefts) c.in_ok-left.ensures c.in_ok-right.ensures in
+    (step g t (goal.at.returns g t c).After-split_at_mut-lefts) c.in_ok-put_within.ensures c.in_ok-put_within-2.ensures in
     IfOk-weaker c.joined.result _ _ (λ v e. subst (λ u. IsWholeGrown c.args.tree c.args.items.now u) (sym e) done) c.joined.ensures.shape
