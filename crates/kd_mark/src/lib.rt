@@ -10,7 +10,7 @@ mod watch;
 mod watches;
 mod ways;
 
-pub use log_mark::note_pending;
+pub use log_mark::step_down;
 pub use mark::marked;
 pub use mark_watched::marked_watched;
 pub use rebuild::{LEAST, NEVER, joined, joined_and_rebuilt_if_due, rebuilt, rebuilt_if_due};

@@ -1,13 +1,15 @@
 //! What an action on chosen items does to watched subtrees, logged before it is done.
-ghost use Rattle.std.specs.Prelude.{◌≡◌, ◌+◌, ◌≤◌, ◌++◌, length, OnOk};
+ghost use Rattle.std.specs.Prelude.{◌≡◌, ◌+◌, ◌≤◌, ◌++◌, length, IfOk, OnOk};
+ghost use Rattle.node_labels.specs.Labels.{composed};
 ghost use Rattle.map_items.specs.Ops.{Extends};
+ghost use Rattle.kd_tree.specs.Parts.{child};
 ghost use Rattle.kd_tree.specs.Walk.{tagged};
 ghost use Rattle.kd_mark.specs.Watch.{handed, is_met, logged_mark};
 ghost use Rattle.kd_mark.specs.Watches.{AreExtended, AreFewMore, HaveRoom, with_marks};
 
 use crate::reach::{covers, meets, reach_of};
 use crate::watch::{Watch, note};
-use kd_tree::{Side, Tree};
+use kd_tree::{Side, Top, Tree};
 use map_items::{Choice, NoMemory, Op, Tag};
 use op_logger::{MAX_LOGGED, OpLog};
 
@@ -70,14 +72,34 @@ fn log_mark(
     let Some(top) = tree.top() else {
         return Ok(());
     };
-    let pending = top.pending.then(pending);
-    let next = top.child(*side);
-    note_pending(pending, rest, log)?;
+    let (next, pending) = step_down(&top, pending, *side, rest, log)?;
     log_mark(next, pending, rest, choice, tag, log)
 }
 
-/// Logs the action handed down to a child, where that is the watched root: `rest` is the path from there.
-pub fn note_pending(pending: Tag, rest: &[Side], log: &mut OpLog) -> Result<(), NoMemory>
+/// The child on the way to a watched root, and the action that is pending for it by then, which is logged where the child
+/// is that root: `rest` is the path from there.
+#[inline]
+pub fn step_down<'a>(
+    top: &Top<'a>,
+    pending: Tag,
+    side: Side,
+    rest: &[Side],
+    log: &mut OpLog,
+) -> Result<(&'a Tree, Tag), NoMemory>
+    requires { length log.old + length (handed rest.now (composed top.now.pending pending)) ≤ MAX_LOGGED }
+    ensures next { IfOk result (λ r. r.0.now ≡ child side top.now.left.now top.now.right.now) }
+    ensures pending { IfOk result (λ r. r.1 ≡ composed top.now.pending pending) }
+    ensures logged { OnOk result (log.new ≡ log.old ++ handed rest.now (composed top.now.pending pending)) }
+    ensures begins { Extends log.old log.new }
+    ensures few { length log.new ≤ length log.old + length (handed rest.now (composed top.now.pending pending)) }
+{
+    let below = top.pending.then(pending);
+    note_pending(below, rest, log)?;
+    Ok((top.child(side), below))
+}
+
+// Logs the action handed down to a child, where that is the watched root: `rest` is the path from there.
+fn note_pending(pending: Tag, rest: &[Side], log: &mut OpLog) -> Result<(), NoMemory>
     requires { length log.old + length (handed rest.now pending) ≤ MAX_LOGGED }
     ensures logged { OnOk result (log.new ≡ log.old ++ handed rest.now pending) }
     ensures begins { Extends log.old log.new }

@@ -8,7 +8,7 @@ ghost use Rattle.kd_update.specs.Watches.{with_puts};
 
 use crate::points::insert::goes_left;
 use crate::points::sides::goes_to;
-use kd_mark::{Watch, Watches, note, note_pending};
+use kd_mark::{Watch, Watches, note, step_down};
 use kd_tree::{Side, Tree};
 use map_items::{NoMemory, Op, Tag};
 use op_logger::{MAX_LOGGED, OpLog};
@@ -73,10 +73,8 @@ fn log_put(
     let Some(top) = tree.top() else {
         return Ok(());
     };
-    let pending = top.pending.then(pending);
-    let next = top.child(*side);
     let goes_on = goes_to(*side, goes_left(&point, top.axis, &top.item.point));
-    note_pending(pending, rest, log)?;
+    let (next, pending) = step_down(&top, pending, *side, rest, log)?;
     if !goes_on {
         return Ok(());
     }

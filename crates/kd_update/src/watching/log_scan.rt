@@ -7,7 +7,7 @@ ghost use Rattle.kd_update.specs.Crossing.{HaveRoomAtOnce, going, logged_scan, p
 
 use crate::points::insert::goes_left;
 use crate::points::sides::goes_to;
-use kd_mark::{Watch, Watches, note, note_pending};
+use kd_mark::{Watch, Watches, note, step_down};
 use kd_tree::{Side, Tree};
 use map_items::{Item, NoMemory, Op, Tag};
 use op_logger::{MAX_LOGGED, OpLog};
@@ -75,9 +75,7 @@ fn log_scan(
     let Some(top) = tree.top() else {
         return Ok(());
     };
-    let pending = top.pending.then(pending);
-    let next = top.child(*side);
-    note_pending(pending, rest, log)?;
+    let (next, pending) = step_down(&top, pending, *side, rest, log)?;
     keep_going(items, *side, top.axis, &top.item.point);
     log_scan(next, pending, rest, items, log)
 }
