@@ -5,7 +5,7 @@ ghost use Rattle.kd_tree.specs.Contents.{contents};
 ghost use Rattle.item_lists.specs.Listed.{numbered_from};
 ghost use Rattle.item_lists.specs.Sought.{wanted};
 
-use crate::gather::gather;
+use crate::gather::{Filter, gather};
 use crate::page::first_by_number;
 use crate::sought::Sought;
 use kd_search::count_in;
@@ -115,7 +115,12 @@ fn list(
 {
     let _size = tree.size();
     let mut items = Vec::new(alloc);
-    gather(tree, Tag::KEEP, from, bound, sought, &mut items)?;
+    let filter = Filter {
+        from,
+        bound,
+        sought,
+    };
+    gather(tree, Tag::KEEP, &filter, &mut items)?;
     let page = first_by_number(alloc, items, most)?;
     Ok(page)
 }
