@@ -5,6 +5,7 @@ ghost use Rattle.kd_frozen.specs.Segments.{AddsParted, AreCut};
 use crate::cell::{Cell, LEAF, first_of};
 use crate::distance::coordinate;
 use crate::hull::hull_of;
+use kd_tree::longest_axis;
 use map_items::NoMemory;
 use point_geom::{Axis, Extent};
 
@@ -19,8 +20,9 @@ pub(crate) fn lay(cells: &mut [Cell], laid: &mut Vec<Cell>) -> Result<(), NoMemo
         laid.extend_from_slice(cells)?;
         return Ok(());
     }
+    // On the longest axis a plane in the middle has searches leave out the most; any axis and any share would be as right.
     let hull = hull_of(cells);
-    let axis = longest(&hull);
+    let axis = longest_axis(&hull);
     let share = share_to(cells, axis, middle(&hull, axis));
     let (left, top, right) = cut(cells, axis, share);
     let top = Cell {
@@ -44,22 +46,6 @@ fn cut(cells: &mut [Cell], axis: Axis, share: u8) -> (&mut [Cell], &mut Cell, &m
         Axis::X => cells.select_nth_unstable_by_key(at, |c: &Cell| c.point.x()),
         Axis::Y => cells.select_nth_unstable_by_key(at, |c: &Cell| c.point.y()),
         Axis::Z => cells.select_nth_unstable_by_key(at, |c: &Cell| c.point.z()),
-    }
-}
-
-// The axis on which the points reach farthest. There a plane in the middle has searches leave out the most; any axis and any share
-// would be as right.
-fn longest(hull: &Extent) -> Axis {
-    let (lo, hi) = (hull.lo(), hull.hi());
-    let x = hi.x().abs_diff(lo.x());
-    let y = hi.y().abs_diff(lo.y());
-    let z = hi.z().abs_diff(lo.z());
-    if y <= x && z <= x {
-        Axis::X
-    } else if z <= y {
-        Axis::Y
-    } else {
-        Axis::Z
     }
 }
 

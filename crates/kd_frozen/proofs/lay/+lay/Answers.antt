@@ -16,6 +16,6 @@ pub returns : goal.returns
 returns t c =
     let s = c.cut-left in
     on_ok_weaker c.lay-2.result
-    (laid c.args.cells.now s.result.0.now s.result.2.now c.longest-axis.result c.share_to-share.result s.result.1.now _ c.args.laid.now.items
+    (laid c.args.cells.now s.result.0.now s.result.2.now c.longest_axis-axis.result c.share_to-share.result s.result.1.now _ c.args.laid.now.items
     c.push.new.self.items c.lay.new.laid.items _ s.ensures refl c.in_ok-push.ensures.items c.in_ok-lay.ensures)
     c.lay-2.ensures
