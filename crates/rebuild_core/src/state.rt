@@ -1,4 +1,4 @@
-ghost use Rattle.std.specs.Prelude.{◌≡◌, IfOk};
+ghost use Rattle.std.specs.Prelude.{◌≡◌, length, IfOk};
 ghost use Rattle.rebuild_core.specs.Lawful.{IsLawful, new_state};
 ghost use Rattle.kd_update.specs.Detached.{part_in};
 ghost use Rattle.rebuild_core.specs.StateView.{info_of};
@@ -118,6 +118,13 @@ impl MapState {
         ensures { result.now ≡ self.now.state.settings }
     {
         &self.settings
+    }
+
+    /// How many subtrees are detached.
+    pub fn count_detached(&self) -> usize
+        ensures { result ≡ length self.now.state.parts }
+    {
+        self.parts.len()
     }
 
     /// What can be seen of the detached subtree in this slot, from 1 to 4.
