@@ -66,10 +66,14 @@ impl<L: MapName> Locked<L> {
         Arc::try_clone(self.state.version()).ok()
     }
 
-    fn retire(&mut self, former: Option<Arc<Version>>) -> Option<Arc<Version>>
+    // Retires what an update replaced, before which so many subtrees were detached. One whose log was full is rebuilt, and not
+    // detached any more.
+    fn retire(&mut self, former: Option<Arc<Version>>, detached: usize) -> Option<Arc<Version>>
         ensures same { self.new ≡ self.old }
     {
-        self.retired.after_update(&mut self.state, former)
+        let has_rebuilt = self.state.count_detached() < detached;
+        self.retired
+            .after_update(&mut self.state, former, has_rebuilt)
     }
 
     /// What a swap or settling would free under the lock. The state has the second no more.
@@ -138,10 +142,11 @@ impl<L: MapName> Locked<L> {
         ensures same { OnErr result.0 (self.new.state ≡ self.old.state) }
     {
         let former = self.version();
+        let detached = self.state.count_detached();
         let _history = self.state.history();
         self.agree(rt, pass);
         let fault = match self.make(rt, alloc, pass, update) {
-            Ok(mark) => return (Ok(mark), self.retire(former)),
+            Ok(mark) => return (Ok(mark), self.retire(former, detached)),
             Err(fault) => fault,
         };
         if fault != StateFault::NoMemory {

@@ -22,10 +22,10 @@ where
     // The version before the published one: the next step writes over its other copy, on the writer's side, and would free it under
     // the lock.
     former: Option<Arc<Version>>,
-    // Whether an update, which makes few nodes, came after the former version.
+    // Whether an update that makes few nodes came after the former version.
     by_update: bool,
-    // What the last swap or settling replaced, once an update came after it. It may be the last to hold what was taken out of the
-    // tree, so a worker frees it.
+    // What the last swap, settling or update of many nodes replaced, once an update came after it. It may be the last to hold what
+    // was taken out of the tree, so a worker frees it.
     replaced: Option<Arc<Version>>,
     // What a pass kept before its update, unless that was the newest version. After several swaps it may hold what the first took
     // out.
@@ -43,15 +43,16 @@ impl<L: MapName> Retired<L> {
     }
 
     /// Retires `former`. The version before it becomes memory of the state's next update where an update replaced it; else a worker
-    /// frees it.
+    /// frees it. An update that has rebuilt a detached subtree is as a swap: it leaves far more than the next update needs.
     pub fn after_update(
         &mut self,
         state: &mut MapState,
         former: Option<Arc<Version>>,
+        has_rebuilt: bool,
     ) -> Option<Arc<Version>>
         ensures same { state.new ≡ state.old }
     {
-        let spent = self.retire(state, former, true)?;
+        let spent = self.retire(state, former, !has_rebuilt)?;
         replace(&mut self.replaced, Some(spent))
     }
 
