@@ -2,6 +2,7 @@ use Rattle.std.proofs.Common.{◌∙◌, ◌+◌, ap, sym}
 use Rattle.map_items.specs.Fold.{points_in}
 use Rattle.kd_update.specs.Detached.{watches_of}
 use Rattle.rebuild_core.specs.Lawful.{StateAt, Stored}
+use Rattle.rebuild_core.specs.Outcome.{MakesNodes}
 use Rattle.rebuild_core.specs.StateView.{state_of}
 use Rattle.map_update.specs.declared.draft.Draft.{Draft}
 use Rattle.rebuild_core.proofs.OnePoint.{thinned_from, turned_copy}
@@ -9,39 +10,30 @@ use Rattle.rebuild_core.proofs.Outcome.{makes_none, plan_makes}
 use Rattle.rebuild_core.proofs.Plans.{plan_shape}
 use Rattle.rebuild_core.proofs.Staying.{plan_kept, plan_left, plan_logged}
 use Rattle.rebuild_core.proofs.state.MapState.plan_draft.Goals as goal
+use Rattle.rebuild_core.proofs.state.MapState.plan_draft.Goals.{After-changed}
 
 pub returns-in_err-copy-clause-nodes : goal.returns-in_err-copy-clause-nodes
 returns-in_err-copy-clause-nodes g c = makes_none _ _ _ _ c.in_err-copy.ensures.nodes_made
 
-pub returns-in_err-draft-clause-nodes : goal.returns-in_err-draft-clause-nodes
-returns-in_err-draft-clause-nodes g c =
+-- what the update makes of a copy it makes of the state, whatever comes then
+makes : (g : _) (c : After-changed g) → MakesNodes c.args.update.now c.args.self.now.state c.args.steps.now c.changed.new.steps
+makes g c =
     let is = ap (λ (x : Stored). x.state) c.self.view_is in
     let copy = c.in_ok-copy.ensures in
     plan_makes c.args.update.now (state_of c.self.inside) c.args.self.now.state c.in_ok-copy.copy.tree
     c.copied.new.steps c.args.steps.now c.changed.new.steps c.in_ok-copy.copy.watches is
     (copy.tree ∙ ap (λ (x : StateAt). x.tree) (sym is)) copy.nodes_made
     (copy.watches ∙ ap (λ (x : StateAt). watches_of x.parts) (sym is))
-    c.in_err-draft.ensures.nodes_made c.in_err-draft.ensures.no_nodes_made
+    c.changed.ensures.nodes_made c.changed.ensures.no_nodes_made
+
+pub returns-in_err-draft-clause-nodes : goal.returns-in_err-draft-clause-nodes
+returns-in_err-draft-clause-nodes g c = makes g (goal.at.returns-in_err-draft-clause-nodes g c).After-changed
 
 pub returns-in_err-logs-clause-nodes : goal.returns-in_err-logs-clause-nodes
-returns-in_err-logs-clause-nodes g c =
-    let is = ap (λ (x : Stored). x.state) c.self.view_is in
-    let copy = c.in_ok-copy.ensures in
-    plan_makes c.args.update.now (state_of c.self.inside) c.args.self.now.state c.in_ok-copy.copy.tree
-    c.copied.new.steps c.args.steps.now c.changed.new.steps c.in_ok-copy.copy.watches is
-    (copy.tree ∙ ap (λ (x : StateAt). x.tree) (sym is)) copy.nodes_made
-    (copy.watches ∙ ap (λ (x : StateAt). watches_of x.parts) (sym is))
-    c.in_ok-draft.ensures.nodes_made c.in_ok-draft.ensures.no_nodes_made
+returns-in_err-logs-clause-nodes g c = makes g (goal.at.returns-in_err-logs-clause-nodes g c).After-changed
 
 pub returns-clause-nodes : goal.returns-clause-nodes
-returns-clause-nodes g c =
-    let is = ap (λ (x : Stored). x.state) c.self.view_is in
-    let copy = c.in_ok-copy.ensures in
-    plan_makes c.args.update.now (state_of c.self.inside) c.args.self.now.state c.in_ok-copy.copy.tree
-    c.copied.new.steps c.args.steps.now c.changed.new.steps c.in_ok-copy.copy.watches is
-    (copy.tree ∙ ap (λ (x : StateAt). x.tree) (sym is)) copy.nodes_made
-    (copy.watches ∙ ap (λ (x : StateAt). watches_of x.parts) (sym is))
-    c.in_ok-draft.ensures.nodes_made c.in_ok-draft.ensures.no_nodes_made
+returns-clause-nodes g c = makes g (goal.at.returns-clause-nodes g c).After-changed
 
 pub returns-clause-leaves : goal.returns-clause-leaves
 returns-clause-leaves g c =
