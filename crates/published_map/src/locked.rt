@@ -71,9 +71,9 @@ impl<L: MapName> Locked<L> {
     fn retire(&mut self, former: Option<Arc<Version>>, detached: usize) -> Option<Arc<Version>>
         ensures same { self.new ≡ self.old }
     {
-        let has_rebuilt = self.state.count_detached() < detached;
-        self.retired
-            .after_update(&mut self.state, former, has_rebuilt)
+        let is_small = self.state.count_detached() == detached;
+        let spent = self.retired.after_step(&mut self.state, former, is_small);
+        self.retired.leave(spent)
     }
 
     /// What a swap or settling would free under the lock. The state has the second no more.
@@ -90,7 +90,7 @@ impl<L: MapName> Locked<L> {
     {
         let (published, reused) = versions;
         if has_published {
-            let spent = self.retired.after_swap(&mut self.state, published);
+            let spent = self.retired.after_step(&mut self.state, published, false);
             return (spent, reused);
         }
         if let Some(version) = reused {

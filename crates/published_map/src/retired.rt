@@ -22,10 +22,10 @@ where
     // The version before the published one: the next step writes over its other copy, on the writer's side, and would free it under
     // the lock.
     former: Option<Arc<Version>>,
-    // Whether an update that makes few nodes came after the former version.
-    by_update: bool,
-    // What the last swap, settling or update of many nodes replaced, once an update came after it. It may be the last to hold what
-    // was taken out of the tree, so a worker frees it.
+    // Whether the step after the former version made few nodes.
+    by_small: bool,
+    // What the last step of many nodes replaced, once an update came after it. It may be the last to hold what was taken out of the
+    // tree, so a worker frees it.
     replaced: Option<Arc<Version>>,
     // What a pass kept before its update, unless that was the newest version. After several swaps it may hold what the first took
     // out.
@@ -36,55 +36,38 @@ impl<L: MapName> Retired<L> {
     pub fn new() -> Self {
         Retired {
             former: None,
-            by_update: false,
+            by_small: false,
             replaced: None,
             kept: None,
         }
     }
 
-    /// Retires `former`. The version before it becomes memory of the state's next update where an update replaced it; else a worker
-    /// frees it. An update that has rebuilt a detached subtree is as a swap: it leaves far more than the next update needs.
-    pub fn after_update(
+    /// Retires `former`, which a step replaced. The version before it becomes memory of the state's next update where a small step
+    /// replaced it, an update that rebuilds no detached subtree: any other leaves far more than that update needs. Else it is
+    /// returned.
+    pub fn after_step(
         &mut self,
         state: &mut MapState,
         former: Option<Arc<Version>>,
-        has_rebuilt: bool,
-    ) -> Option<Arc<Version>>
-        ensures same { state.new ≡ state.old }
-    {
-        let spent = self.retire(state, former, !has_rebuilt)?;
-        replace(&mut self.replaced, Some(spent))
-    }
-
-    /// As `after_update`, but a version before it that a swap or settling replaced is returned.
-    pub fn after_swap(
-        &mut self,
-        state: &mut MapState,
-        former: Option<Arc<Version>>,
-    ) -> Option<Arc<Version>>
-        ensures same { state.new ≡ state.old }
-    {
-        self.retire(state, former, false)
-    }
-
-    // The version before `former`, unless an update replaced it and it became memory of the next.
-    fn retire(
-        &mut self,
-        state: &mut MapState,
-        former: Option<Arc<Version>>,
-        by_update: bool,
+        is_small: bool,
     ) -> Option<Arc<Version>>
         ensures same { state.new ≡ state.old }
     {
         let spent = replace(&mut self.former, former);
-        let of_update = replace(&mut self.by_update, by_update);
+        let by_small = replace(&mut self.by_small, is_small);
         match spent {
-            Some(version) if of_update => {
+            Some(version) if by_small => {
                 state.recycle(version);
                 None
             }
             spent => spent,
         }
+    }
+
+    /// Leaves what `after_step` returned to a worker, and returns what was left to it before.
+    pub fn leave(&mut self, spent: Option<Arc<Version>>) -> Option<Arc<Version>> {
+        let version = spent?;
+        replace(&mut self.replaced, Some(version))
     }
 
     pub fn after_pass(&mut self, kept: Option<Published<L>>) -> Option<Published<L>> {
