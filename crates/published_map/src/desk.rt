@@ -1,6 +1,6 @@
 //! A shared map, as workers see it. A worker's call takes the lock in turns, and lists and compares what a subtree held between
 //! them.
-ghost use Rattle.std.specs.Prelude.{◌≡◌, IfErr};
+ghost use Rattle.std.specs.Prelude.{◌≡◌, IfErr, IfOk, IfSome};
 ghost use Rattle.rebuild_core.specs.Desk.{IsSwapCause};
 ghost use Rattle.published_map.specs.Late.{IsLateCause, most_done};
 
@@ -79,37 +79,33 @@ impl<L: MapName> Shared<L> {
     fn swap_within<R: Wait>(&self, rt: &R, alloc: Global, built: Built, most: u32) -> SwapOrLate
         ensures { IfErr result (IsLateCause built most) }
     {
-        let locked = self.lock.lock(rt);
-        let held = locked.held(built.ticket());
-        MutexGuard::unlock(locked);
-        let Some((detached_items, mark)) = held? else {
+        let Some(mark) = self.mark_of(rt, &built)? else {
             return Err(Late::Stale { built });
         };
-        if !detached_items.is_of(&built) {
-            return Err(Late::Stale { built });
-        }
-        self.swap_known(rt, alloc, built, &mark, most)
-    }
-
-    fn swap_known<R: Wait>(
-        &self,
-        rt: &R,
-        alloc: Global,
-        built: Built,
-        mark: &Mark<L>,
-        most: u32,
-    ) -> SwapOrLate
-        requires { mark.now.items ≡ built.items }
-        ensures { IfErr result (IsLateCause built most) }
-    {
         let mut locked = self.lock.lock(rt);
         let (left, all_detached_items) = (locked.retired.for_worker(), locked.all_detached_items());
         let versions = locked.take_versions();
-        let done = locked.swap(rt, alloc, built, mark, most);
+        let done = locked.swap(rt, alloc, built, &mark, most);
         let spent = locked.retire_swapped(versions, done.is_ok());
         MutexGuard::unlock(locked);
         drop((left, all_detached_items, spent));
         done
+    }
+
+    // The mark of what the value was built of, unless its subtree isn't detached any more. Items are compared without the lock.
+    fn mark_of<R: Wait>(&self, rt: &R, built: &Built) -> Result<Option<Mark<L>>, NoMemory>
+        ensures { IfOk result (λ o. IfSome o (λ mark. mark.items ≡ built.now.items)) }
+    {
+        let locked = self.lock.lock(rt);
+        let held = locked.held(built.ticket());
+        MutexGuard::unlock(locked);
+        let Some((detached_items, mark)) = held? else {
+            return Ok(None);
+        };
+        if !detached_items.is_of(built) {
+            return Ok(None);
+        }
+        Ok(Some(mark))
     }
 }
 
