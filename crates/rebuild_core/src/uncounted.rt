@@ -29,28 +29,8 @@ impl MapState {
         ensures refused { IfErr result (IsFault update self.old.state) }
         ensures same { OnErr result (self.new.state ≡ self.old.state) }
     {
-        self.update_by::<Brand>(alloc, caller, update, Blank::new(1))
-    }
-
-    fn update_by<L: Ledger>(
-        &mut self,
-        alloc: Global,
-        caller: u8,
-        update: Update,
-        blank: Blank,
-    ) -> Result<u64, StateFault>
-        requires caller_from { 1 ≤ caller }
-        requires caller_to { caller ≤ 8 }
-        requires blank { IsBlankOf L.name L.parts blank }
-        ensures stepped { OnOk result (IsUpdateStep caller update self.old.state self.new.state) }
-        ensures len { IfOk result (λ n. n ≡ length self.new.state.history) }
-        ensures room { OnOk result (HasRoom update self.old.state) }
-
-        ensures refused { IfErr result (IsFault update self.old.state) }
-        ensures same { OnErr result (self.new.state ≡ self.old.state) }
-    {
-        let mut steps: Steps<L> = Steps::new(blank);
-        self.update(alloc, caller, update, &mut steps)
+        let planned = self.plan_update_uncounted(alloc, caller, update)?;
+        Ok(self.enter_step(planned))
     }
 
     pub fn plan_update_uncounted(
