@@ -25,6 +25,37 @@ use std::thread::{Threads, join};
 
 type Run<L> = Result<(Vec<Pass<L>>, Replies), NoMemory>;
 
+// What the callers return, who run beside this worker.
+fn beside_worker<
+    L: MapName + Send + Sync,
+    G: Gate + Sync,
+    R: Threads + Wait + Sync,
+    F: FnOnce() -> T,
+    T,
+>(rt: &R, stage: &Stage<'_, L, G>, worker: u8, post: Post, callers: F) -> T
+    requires worker_from { 1 ≤ worker }
+    requires worker_to { worker ≤ 2 }
+    requires large_from { MIN_LARGE ≤ post.large }
+    requires large_to { post.large ≤ MAX_LARGE }
+    requires callers { F.pre callers }
+    ensures { F.post callers result }
+{
+    let alloc = stage.alloc;
+    let shared = stage.shared;
+    let gate = stage.gate;
+    let (_, all) = join(
+        rt,
+        move ||
+            requires { (1 ≤ worker) × (worker ≤ 2) × (MIN_LARGE ≤ post.large) × (post.large ≤ MAX_LARGE) }
+        {
+            let mut post = post;
+            work(rt, alloc, post.large, worker, shared, gate, &mut post.rest)
+        },
+        callers,
+    );
+    all
+}
+
 // Stops both workers when the callers have ended.
 fn beside_second<L: MapName + Send + Sync, G: Gate + Sync, R: Threads + Wait + Sync>(
     rt: &R,
@@ -39,17 +70,11 @@ fn beside_second<L: MapName + Send + Sync, G: Gate + Sync, R: Threads + Wait + S
     requires ready { CanRun L.callers L.parts L.voxel script.now passes.items }
     ensures { IfOk result (λ r. StandingAtEnd L.voxel L.callers script.now.commands r.0.items r.1) }
 {
-    let alloc = stage.alloc;
-    let shared = stage.shared;
-    let gate = stage.gate;
-    let (_, all) = join(
+    beside_worker(
         rt,
-        move ||
-            requires { (MIN_LARGE ≤ post.large) × (post.large ≤ MAX_LARGE) }
-        {
-            let mut post = post;
-            work(rt, alloc, post.large, 2, shared, gate, &mut post.rest)
-        },
+        stage,
+        2,
+        post,
         || -> Run<L>
             requires { IsPlainScript script.now × CanRun L.callers L.parts L.voxel script.now passes.items }
             ensures { IfOk result (λ r. StandingAtEnd L.voxel L.callers script.entry.now.commands r.0.items r.1) }
@@ -58,8 +83,7 @@ fn beside_second<L: MapName + Send + Sync, G: Gate + Sync, R: Threads + Wait + S
             stage.bells.stop();
             all
         },
-    );
-    all
+    )
 }
 
 /// Each caller runs its commands on a thread of its own, in order, while two workers rebuild; all meet at each barrier and at the
@@ -109,20 +133,16 @@ fn run_plain<L: MapName + Send + Sync, G: Gate + Sync, R: Threads + Wait + Sync>
         bells: &bells,
     };
     let _commands = script.commands();
-    let (_, all) = join(
+    beside_worker(
         rt,
-        move ||
-            requires { (MIN_LARGE ≤ post.large) × (post.large ≤ MAX_LARGE) }
-        {
-            let mut post = post;
-            work(rt, alloc, post.large, 1, shared, gate, &mut post.rest)
-        },
+        &stage,
+        1,
+        post,
         || -> Run<L>
             requires { IsPlainScript script.now × (MIN_LARGE ≤ other.large) × (other.large ≤ MAX_LARGE) × CanRun L.callers L.parts L.voxel script.now passes.items }
             ensures { IfOk result (λ r. StandingAtEnd L.voxel L.callers script.entry.now.commands r.0.items r.1) }
         { beside_second(rt, &stage, other, script, passes) },
-    );
-    all
+    )
 }
 
 // The replies on a map of this name, which has the callers up to the greatest that the script names, and no more.

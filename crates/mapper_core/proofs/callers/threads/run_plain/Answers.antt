@@ -1,7 +1,5 @@
 use Rattle.std.proofs.Common.{subst}
 use Rattle.scan_log.specs.Legal.{AreLegalReplies}
-use Rattle.published_map.proofs.Crossing.{shared_sync}
-use Rattle.mapper_core.proofs.Sent.{to_worker}
 use Rattle.mapper_core.specs.Ended.{HaveEnded}
 use Rattle.mapper_core.specs.Meetings.{StandingAtEnd}
 use Rattle.mapper_core.proofs.AtEnd.{ended_is_legal, have_ended}
@@ -14,7 +12,7 @@ returns-clause-legal g c =
     answer_gives (λ r. StandingAtEnd g.L.MapName.voxel g.L.MapName.callers s.commands r.0.items r.1) (λ r. AreLegalReplies s r.1)
     (λ r e. ended_is_legal g.L.MapName.callers s r.0.items r.1
     (subst (λ z. StandingAtEnd z g.L.MapName.callers s.commands r.0.items r.1) c.requires.ready.voxel e))
-    c.join-all.result.1 c.join-all.ensures.second
+    c.beside_worker.result c.beside_worker.ensures
 
 pub returns-clause-ended : goal.returns-clause-ended
 returns-clause-ended g c =
@@ -22,13 +20,4 @@ returns-clause-ended g c =
     answer_gives (λ r. StandingAtEnd g.L.MapName.voxel g.L.MapName.callers s.commands r.0.items r.1) (λ r. HaveEnded g.L.MapName.callers s r.0.items r.1)
     (λ r e. have_ended g.L.MapName.callers s r.0.items r.1
     (subst (λ z. StandingAtEnd z g.L.MapName.callers s.commands r.0.items r.1) c.requires.ready.voxel e))
-    c.join-all.result.1 c.join-all.ensures.second
-
-pub join-all-requires-send-F : goal.join-all-requires-send-F
-join-all-requires-send-F g c κs within =
-    let sent = c.type_bounds.send-L in
-    let seen = c.type_bounds.sync-L in
-    let gate = c.type_bounds.sync-G in
-    let host = c.type_bounds.sync-R in
-    let map = shared_sync _ g.L.MapName g.L.Ledger sent seen in
-    search to_worker depth 60 fits 100000
+    c.beside_worker.result c.beside_worker.ensures

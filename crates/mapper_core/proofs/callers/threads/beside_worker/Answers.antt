@@ -1,6 +1,6 @@
 use Rattle.published_map.proofs.Crossing.{shared_sync}
 use Rattle.mapper_core.proofs.Sent.{to_worker}
-use Rattle.mapper_core.proofs.callers.threads.beside_second.Goals as goal
+use Rattle.mapper_core.proofs.callers.threads.beside_worker.Goals as goal
 
 pub join-all-requires-send-F : goal.join-all-requires-send-F
 join-all-requires-send-F g c κs within =
