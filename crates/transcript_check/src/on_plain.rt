@@ -7,9 +7,9 @@ ghost use Rattle.transcript_check.specs.MarkedLines.{reply_at};
 
 use crate::held_map::{HeldMap, Replied};
 use crate::neighbours::{ball_reply, tree_of};
-use map_fold::{BoxReply, ClusterReply, HitLists, NearReply, NearsReply, PlainMap};
+use crate::on_tree::tree_reply;
+use map_fold::{BoxReply, HitLists, NearReply, NearsReply, PlainMap};
 use map_items::{MAX_POINTS, NoMemory, Settings, Update};
-use neighbour_sets::{Found, Grouped, clusters, lonely};
 use point_geom::Point;
 use scan_log::{Command, Reply};
 use std::alloc::Global;
@@ -66,17 +66,8 @@ fn answer_to(alloc: Global, map: &PlainMap, command: &Command, mark: u64) -> Res
         Command::Ball { k, r, point, .. } => {
             Reply::Ball(ball_reply(alloc, map, mark, *k, *r, point)?)
         }
-        Command::Lonely { k, r, .. } => {
-            let Found { count, items } = lonely(alloc, &tree_of(alloc, map)?, *r, *k)?;
-            Reply::Lonely(BoxReply { mark, count, items })
-        }
-        Command::Clusters { k, r, .. } => {
-            let Grouped { count, groups } = clusters(alloc, &tree_of(alloc, map)?, *r, *k)?;
-            Reply::Clusters(ClusterReply {
-                mark,
-                count,
-                groups,
-            })
+        Command::Lonely { .. } | Command::Clusters { .. } => {
+            tree_reply(alloc, &tree_of(alloc, map)?, mark, command)?
         }
         Command::Sync => totals(map, mark),
     })
