@@ -12,7 +12,7 @@ use crate::tests::assertions::{found, holds, made, same};
 use crate::tests::draw::Draw;
 use crate::tests::lists::holds_all;
 use crate::tests::numbered::Numbered;
-use crate::tests::watch::{all_became, drawn_map, grandsons, held_at};
+use crate::tests::watch::{all_became, drawn_map, grandchildren, held_at};
 use crate::tests::watching::{Watching, are_large};
 use kd_tree::{MAX_NODES, Path, Scratch, Side, Steps};
 use kd_update::{MAX_PASS_LEVELS, Watch, live_items, put_all_watched};
@@ -207,11 +207,11 @@ fn scanned_often(rt: &impl Abort, alloc: Global, both: Both, count: u32) -> Both
 #[test]
 fn a_scan_beside_watched_subtrees_does_what_its_points_do(rt: HostRuntime) {
     let alloc = rt.alloc();
-    let [first, second, ..] = grandsons();
+    let [first, second, ..] = grandchildren();
     let left = Path::root().down(Side::Left);
     for (large, count) in [(16, 12), (40, 39)] {
         scans_beside(&rt, alloc, &[left], large, count);
         scans_beside(&rt, alloc, &[second, first], large, count);
-        scans_beside(&rt, alloc, &grandsons(), large, count);
+        scans_beside(&rt, alloc, &grandchildren(), large, count);
     }
 }

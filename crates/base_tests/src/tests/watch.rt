@@ -39,7 +39,7 @@ pub fn perform_plainly(items: &mut Vec<Item>, op: &Op) -> Result<(), AllocError>
 }
 
 // Four places, two levels down.
-pub fn grandsons() -> [Path; 4] {
+pub fn grandchildren() -> [Path; 4] {
     let left = Path::root().down(Side::Left);
     let right = Path::root().down(Side::Right);
     [
@@ -116,7 +116,7 @@ fn an_action_is_logged_where_it_meets_a_watched_root_that_is_not_covered_from_ab
     let alloc = rt.alloc();
     // Four subtrees: 1 to 19, 21 to 39, 41 to 59 and 61 to 80.
     let map = balanced(&rt, alloc, 1, 81);
-    let mut at = Watching::new(&rt, alloc, map, &grandsons());
+    let mut at = Watching::new(&rt, alloc, map, &grandchildren());
     for row in [
         // It covers the first root, touches the first two, and misses all.
         (1, 20, Tag::SUSPEND, (1, 0, 0, 0)),
@@ -170,12 +170,12 @@ fn has_logged_both(rt: &impl Abort, alloc: Global, watches: &Watches, (from, to)
 #[test]
 fn what_was_logged_makes_a_watched_subtree_of_what_it_was(rt: HostRuntime) {
     let alloc = rt.alloc();
-    let [first, second, ..] = grandsons();
+    let [first, second, ..] = grandchildren();
     let left = Path::root().down(Side::Left);
     beside(&rt, alloc, &[left]);
     beside(&rt, alloc, &[second, left]);
     beside(&rt, alloc, &[first, second]);
-    beside(&rt, alloc, &grandsons());
+    beside(&rt, alloc, &grandchildren());
 }
 
 // A settled map of drawn points.
