@@ -110,16 +110,26 @@ fn update_is_written(
 fn an_update_has_one_line_with_all_its_numbers(rt: HostRuntime) {
     let alloc = rt.alloc();
     points_are_written(&rt, alloc);
-    wide_numbers_are_written(&rt, alloc);
     boxes_are_written(&rt, alloc);
+    wide_numbers_are_written(&rt, alloc);
 }
 
 fn points_are_written(rt: &impl Abort, alloc: Global) {
+    let add = Update::Add(points(rt, alloc));
+    let thin = Update::Thin(points(rt, alloc));
     let numbers = "1 -2 3 1000000000 0 -1000000000";
-    let update = Update::Add(points(rt, alloc));
-    update_is_written(rt, alloc, Format::One, 1, update, "add", numbers);
-    let update = Update::Thin(points(rt, alloc));
-    update_is_written(rt, alloc, Format::One, 2, update, "thin", numbers);
+    update_is_written(rt, alloc, Format::One, 1, add, "add", numbers);
+    update_is_written(rt, alloc, Format::One, 2, thin, "thin", numbers);
+}
+
+fn boxes_are_written(rt: &impl Abort, alloc: Global) {
+    let delete = Update::Delete(boxes(rt, alloc));
+    let suspend = Update::Suspend(boxes(rt, alloc));
+    let restore = Update::Restore(boxes(rt, alloc));
+    let numbers = "1 -2 3 2 -1 4 4 -5 6 1000000001 -5 7";
+    update_is_written(rt, alloc, Format::One, 3, delete, "delete", numbers);
+    update_is_written(rt, alloc, Format::One, 4, suspend, "suspend", numbers);
+    update_is_written(rt, alloc, Format::One, 5, restore, "restore", numbers);
 }
 
 fn wide_numbers_are_written(rt: &impl Abort, alloc: Global) {
@@ -128,16 +138,6 @@ fn wide_numbers_are_written(rt: &impl Abort, alloc: Global) {
     update_is_written(rt, alloc, Format::Two, 1, update, "add", numbers);
     let update = Update::Expire(4_194_304);
     update_is_written(rt, alloc, Format::Two, 4, update, "expire", "4194304");
-}
-
-fn boxes_are_written(rt: &impl Abort, alloc: Global) {
-    let numbers = "1 -2 3 2 -1 4 4 -5 6 1000000001 -5 7";
-    let update = Update::Delete(boxes(rt, alloc));
-    update_is_written(rt, alloc, Format::One, 3, update, "delete", numbers);
-    let update = Update::Suspend(boxes(rt, alloc));
-    update_is_written(rt, alloc, Format::One, 4, update, "suspend", numbers);
-    let update = Update::Restore(boxes(rt, alloc));
-    update_is_written(rt, alloc, Format::One, 5, update, "restore", numbers);
 }
 
 #[test]
