@@ -6,7 +6,7 @@ use crate::tests::grown::restored;
 use batch_near::nearest_each;
 use kd_search::nearest;
 use kd_tree::Tree;
-use map_fold::{HitLists, Points};
+use map_fold::{HitLists, Hits, Points};
 use point_geom::Point;
 use std::alloc::Global;
 use std::process::Abort;
@@ -77,7 +77,22 @@ pub fn are_as_single(
 {
     same(rt, "lists", lists.len(), queries.len());
     for (list, query) in lists.as_slice().iter().zip(queries.as_slice()) {
-        let want = made(rt, nearest(alloc, tree, k, query, within));
-        assert_eq!(rt; list.as_slice(), want.as_slice());
+        is_as_single(rt, alloc, list, tree, query, k, within);
     }
+}
+
+/// The list is what one search of the tree finds.
+pub fn is_as_single(
+    rt: &impl Abort,
+    alloc: Global,
+    list: &Hits,
+    tree: &Tree,
+    query: &Point,
+    k: u32,
+    within: Option<u64>,
+)
+    requires { IsQuery k within }
+{
+    let want = made(rt, nearest(alloc, tree, k, query, within));
+    assert_eq!(rt; list.as_slice(), want.as_slice());
 }

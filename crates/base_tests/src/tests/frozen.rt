@@ -1,16 +1,16 @@
 //! Frozen indexes beside the tree that they were made of: equal points, lines, lattices, corners of space, one point and none, asked
 //! from among the points and from far outside; and boxes that cut what is found.
 ghost use Rattle.std.specs.Prelude.{◌≤◌};
-ghost use Rattle.std.specs.Option.{ForSome};
+ghost use Rattle.kd_search.specs.Query.{IsQuery};
 
 use crate::tests::assertions::{holds, made, same};
 use crate::tests::draw::Draw;
-use crate::tests::each::are_as_single;
+use crate::tests::each::{are_as_single, is_as_single};
 use crate::tests::grown::grown;
 use crate::tests::places::{Place, at};
 use batch_near::frozen_nearest_each;
 use kd_frozen::{Frozen, Shortlist, nearest_beside};
-use kd_search::{count_in, nearest};
+use kd_search::count_in;
 use kd_tree::Tree;
 use map_fold::{Points, Tag};
 use point_geom::{Cuboid, Point};
@@ -105,19 +105,38 @@ fn from_place(rt: &impl Abort, alloc: Global, tree: &Tree, frozen: &Frozen, q: &
     for within in [None, Some(0), Some(3), Some(60), Some(4_398_046_511_104)] {
         for k in 1..18 {
             let got = made(rt, frozen.nearest(alloc, k, q, within));
-            let want = made(rt, nearest(alloc, tree, k, q, within));
-            assert_eq!(rt; got.as_slice(), want.as_slice());
+            is_as_single(rt, alloc, &got, tree, q, k, within);
         }
+    }
+}
+
+// Drawn points in a tree, frozen too, and what draws on.
+#[derive(Drop)]
+struct Scene {
+    draw: Draw,
+    tree: Tree,
+    frozen: Frozen,
+}
+
+impl Scene {
+    // Of so many points, drawn from this state on.
+    fn drawn(rt: &impl Abort, alloc: Global, state: u64, count: u32) -> Scene {
+        let mut draw = Draw { state };
+        let points = draw.points(rt, alloc, count);
+        let tree = grown(rt, alloc, points.as_slice(), Tag::KEEP);
+        let frozen = made(rt, Frozen::of(alloc, &tree));
+        Scene { draw, tree, frozen }
     }
 }
 
 #[test]
 fn few_are_found_in_a_list_of_their_own(rt: HostRuntime) {
     let alloc = rt.alloc();
-    let mut draw = Draw { state: 13 };
-    let points = draw.points(&rt, alloc, 200);
-    let tree = grown(&rt, alloc, points.as_slice(), Tag::KEEP);
-    let frozen = made(&rt, Frozen::of(alloc, &tree));
+    let Scene {
+        mut draw,
+        frozen,
+        ..
+    } = Scene::drawn(&rt, alloc, 13, 200);
     let q = draw.point(&rt);
     are_few(&rt, alloc, &frozen, 1, &q);
     are_few(&rt, alloc, &frozen, 16, &q);
@@ -144,9 +163,7 @@ fn are_few(rt: &impl Abort, alloc: Global, frozen: &Frozen, k: u32, q: &Point)
 #[test]
 fn what_is_beside_a_frozen_box_is_found_too(rt: HostRuntime) {
     let alloc = rt.alloc();
-    let mut draw = Draw { state: 9 };
-    let points = draw.points(&rt, alloc, 300);
-    let tree = grown(&rt, alloc, points.as_slice(), Tag::KEEP);
+    let Scene { mut draw, tree, .. } = Scene::drawn(&rt, alloc, 9, 300);
     for _ in 0..40 {
         let cuboid = draw.cuboid(&rt);
         let q = draw.point(&rt);
@@ -161,9 +178,7 @@ fn freezes_a_box(rt: &impl Abort, alloc: Global, tree: &Tree, cuboid: &Cuboid, q
     for within in [None, Some(0), Some(3), Some(60)] {
         for k in 1..18 {
             let got = nearest_beside(alloc, tree, cuboid, &frozen, k, q, within);
-            let got = made(rt, got);
-            let want = made(rt, nearest(alloc, tree, k, q, within));
-            assert_eq!(rt; got.as_slice(), want.as_slice());
+            is_as_single(rt, alloc, &made(rt, got), tree, q, k, within);
         }
     }
 }
@@ -171,30 +186,26 @@ fn freezes_a_box(rt: &impl Abort, alloc: Global, tree: &Tree, cuboid: &Cuboid, q
 #[test]
 fn each_list_of_many_places_is_what_one_search_finds(rt: HostRuntime) {
     let alloc = rt.alloc();
-    let mut draw = Draw { state: 11 };
-    let points = draw.points(&rt, alloc, 500);
-    let tree = grown(&rt, alloc, points.as_slice(), Tag::KEEP);
-    let frozen = made(&rt, Frozen::of(alloc, &tree));
+    let mut scene = Scene::drawn(&rt, alloc, 11, 500);
     // Above 16 hits, or for fewer than 256 places, lists aren't filled where they are.
-    for (count, k, within) in [(300, 17, Some(3)), (255, 16, None), (256, 16, Some(3))] {
-        let queries = Points::from(draw.points(&rt, alloc, count));
-        finds_each(&rt, alloc, &tree, &frozen, &queries, k, within);
-    }
+    finds_each(&rt, alloc, &mut scene, 300, 17, Some(3));
+    finds_each(&rt, alloc, &mut scene, 255, 16, None);
+    finds_each(&rt, alloc, &mut scene, 256, 16, Some(3));
 }
 
+// For so many places.
 fn finds_each<R: Threads + Sync + Abort>(
     rt: &R,
     alloc: Global,
-    tree: &Tree,
-    frozen: &Frozen,
-    queries: &Points,
+    scene: &mut Scene,
+    count: u32,
     k: u32,
     within: Option<u64>,
 )
-    requires k_to { k ≤ 256 }
-    requires k_from { 1 ≤ k }
-    requires within_to { ForSome within (λ r. r ≤ 4398046511104) }
+    requires { IsQuery k within }
 {
-    let lists = frozen_nearest_each(rt, alloc, frozen, k, queries, within);
-    are_as_single(rt, alloc, &made(rt, lists), tree, queries, k, within);
+    let queries = Points::from(scene.draw.points(rt, alloc, count));
+    let lists = frozen_nearest_each(rt, alloc, &scene.frozen, k, &queries, within);
+    let lists = made(rt, lists);
+    are_as_single(rt, alloc, &lists, &scene.tree, &queries, k, within);
 }
