@@ -14,13 +14,6 @@ use std::marker::Brand;
 use std::process::Abort;
 use std::sync::ledger::{Blank, Ledger};
 
-// Of forty items 19 are dropped, and the others suspended, which the children of the top are yet to hear.
-fn half_left<L: Ledger>(rt: &impl Abort, alloc: Global, steps: &mut Steps<L>) -> Tree {
-    let tree = forty(rt, alloc, steps);
-    let tree = left_dropped(rt, alloc, tree, steps);
-    made(rt, tree.tagged(alloc, Tag::SUSPEND, steps))
-}
-
 fn all_below(items: &[Item], n: u32) -> bool
     ensures { result ≡ true → AllByRecursion (λ i. i.number < n) items.now }
 {
@@ -30,42 +23,86 @@ fn all_below(items: &[Item], n: u32) -> bool
     }
 }
 
-// The tree rebuilt with a live item more, whose number is 100.
-fn with_hundredth<L: Ledger>(
-    rt: &impl Abort,
+// What trees are built and rebuilt with.
+#[derive(Drop)]
+struct Tools<L: Ledger> {
     alloc: Global,
-    tree: Tree,
-    scratch: &mut Scratch,
-    steps: &mut Steps<L>,
-) -> Result<Tree, NoMemory> {
-    let _size = tree.size();
-    let items = tree.flatten(alloc)?;
-    if !all_below(items.as_slice(), 100) {
-        panic!(rt; "a number from 100 on");
+    scratch: Scratch,
+    steps: Steps<L>,
+}
+
+impl<L: Ledger> Tools<L> {
+    // Of forty items 19 are dropped, and the others suspended, which the children of the top are yet to hear.
+    fn half_left(&mut self, rt: &impl Abort) -> Tree {
+        let tree = forty(rt, self.alloc, &mut self.steps);
+        let tree = left_dropped(rt, self.alloc, tree, &mut self.steps);
+        made(rt, tree.tagged(self.alloc, Tag::SUSPEND, &mut self.steps))
     }
-    let more = [item(rt, 100, 101)];
-    tree.rebuilt_with(alloc, &more, scratch, steps)
+
+    // The tree rebuilt with a live item more, whose number is 100.
+    fn with_hundredth(&mut self, rt: &impl Abort, tree: Tree) -> Result<Tree, NoMemory> {
+        let _size = tree.size();
+        let items = tree.flatten(self.alloc)?;
+        if !all_below(items.as_slice(), 100) {
+            panic!(rt; "a number from 100 on");
+        }
+        let more = [item(rt, 100, 101)];
+        tree.rebuilt_with(self.alloc, &more, &mut self.scratch, &mut self.steps)
+    }
+
+    // A copy rebuilt so. The nodes are the tree's too, which stays as it is.
+    fn rebuilt_beside(&mut self, rt: &impl Abort, tree: &Tree) -> Tree {
+        let copy = made(rt, tree.copy(self.alloc, &mut self.steps));
+        let copy = made(rt, self.with_hundredth(rt, copy));
+        same(rt, "the rebuilt tree", counts(&copy), (1, 21, 0));
+        same(rt, "the tree beside it", counts(tree), (0, 21, 19));
+        copy
+    }
+
+    // A restored copy of a tree that is dropped. The tree gives up its nodes, but for those that the copy has.
+    fn restored(&mut self, rt: &impl Abort) -> Tree {
+        let tree = self.half_left(rt);
+        let copy = made(rt, tree.copy(self.alloc, &mut self.steps));
+        let restored = made(rt, copy.tagged(self.alloc, Tag::RESTORE, &mut self.steps));
+        self.scratch.reclaim(tree);
+        restored
+    }
+
+    // What the first tree holds when it is rebuilt, beside itself and in its own nodes.
+    fn rebuilt_first(&mut self, rt: &impl Abort) -> Items {
+        let tree = self.half_left(rt);
+        let items = self.held_when_rebuilt(rt, &tree);
+        are_from_19_on(rt, items.as_slice());
+        // The tree's own nodes are used again, and some of them are left over.
+        let rebuilt = made(rt, self.with_hundredth(rt, tree));
+        holds_all(rt, self.alloc, &rebuilt, items.as_slice());
+        items
+    }
+
+    fn held_when_rebuilt(&mut self, rt: &impl Abort, tree: &Tree) -> Items {
+        let copy = self.rebuilt_beside(rt, tree);
+        made(rt, copy.flatten(self.alloc))
+    }
+
+    // The nodes that are left over take the next trees.
+    fn rebuilt_next(&mut self, rt: &impl Abort, items: &[Item]) {
+        let other = self.half_left(rt);
+        self.holds_when_rebuilt(rt, &other, items);
+        let restored = self.restored(rt);
+        self.holds_when_rebuilt(rt, &other, items);
+        same(rt, "the restored tree", counts(&restored), (21, 0, 19));
+    }
+
+    fn holds_when_rebuilt(&mut self, rt: &impl Abort, tree: &Tree, items: &[Item]) {
+        let copy = self.rebuilt_beside(rt, tree);
+        holds_all(rt, self.alloc, &copy, items);
+    }
 }
 
 // How many items are live, suspended and dropped.
 fn counts(tree: &Tree) -> (u32, u32, u32) {
     let counts = tree.counts();
     (counts.live, counts.suspended, counts.dropped)
-}
-
-// A copy rebuilt so. The nodes are the tree's too, which stays as it is.
-fn rebuilt_beside<L: Ledger>(
-    rt: &impl Abort,
-    alloc: Global,
-    tree: &Tree,
-    scratch: &mut Scratch,
-    steps: &mut Steps<L>,
-) -> Tree {
-    let copy = made(rt, tree.copy(alloc, steps));
-    let copy = made(rt, with_hundredth(rt, alloc, copy, scratch, steps));
-    same(rt, "the rebuilt tree", counts(&copy), (1, 21, 0));
-    same(rt, "the tree beside it", counts(tree), (0, 21, 19));
-    copy
 }
 
 // What was left, and the new item.
@@ -77,81 +114,16 @@ fn are_from_19_on(rt: &impl Abort, items: &[Item]) {
     same(rt, "no more", number(22), None);
 }
 
-// A restored copy of a tree that is dropped. The tree gives up its nodes, but for those that the copy has.
-fn restored<L: Ledger>(
-    rt: &impl Abort,
-    alloc: Global,
-    scratch: &mut Scratch,
-    steps: &mut Steps<L>,
-) -> Tree {
-    let tree = half_left(rt, alloc, steps);
-    let copy = made(rt, tree.copy(alloc, steps));
-    let restored = made(rt, copy.tagged(alloc, Tag::RESTORE, steps));
-    scratch.reclaim(tree);
-    restored
-}
-
 fn rebuilt_with<L: Ledger>(rt: &impl Abort, alloc: Global, blank: Blank)
     requires blank { IsBlankOf L.name L.parts blank }
 {
-    let mut steps: Steps<L> = Steps::new(blank);
-    let mut scratch = Scratch::new(alloc);
-    let items = rebuilt_first(rt, alloc, &mut scratch, &mut steps);
-    rebuilt_next(rt, alloc, items.as_slice(), &mut scratch, &mut steps);
-}
-
-// What the first tree holds when it is rebuilt, beside itself and in its own nodes.
-fn rebuilt_first<L: Ledger>(
-    rt: &impl Abort,
-    alloc: Global,
-    scratch: &mut Scratch,
-    steps: &mut Steps<L>,
-) -> Items {
-    let tree = half_left(rt, alloc, steps);
-    let items = held_when_rebuilt(rt, alloc, &tree, scratch, steps);
-    are_from_19_on(rt, items.as_slice());
-    // The tree's own nodes are used again, and some of them are left over.
-    let rebuilt = made(rt, with_hundredth(rt, alloc, tree, scratch, steps));
-    holds_all(rt, alloc, &rebuilt, items.as_slice());
-    items
-}
-
-fn held_when_rebuilt<L: Ledger>(
-    rt: &impl Abort,
-    alloc: Global,
-    tree: &Tree,
-    scratch: &mut Scratch,
-    steps: &mut Steps<L>,
-) -> Items {
-    let copy = rebuilt_beside(rt, alloc, tree, scratch, steps);
-    made(rt, copy.flatten(alloc))
-}
-
-// The nodes that are left over take the next trees.
-fn rebuilt_next<L: Ledger>(
-    rt: &impl Abort,
-    alloc: Global,
-    items: &[Item],
-    scratch: &mut Scratch,
-    steps: &mut Steps<L>,
-) {
-    let other = half_left(rt, alloc, steps);
-    holds_when_rebuilt(rt, alloc, &other, items, scratch, steps);
-    let restored = restored(rt, alloc, scratch, steps);
-    holds_when_rebuilt(rt, alloc, &other, items, scratch, steps);
-    same(rt, "the restored tree", counts(&restored), (21, 0, 19));
-}
-
-fn holds_when_rebuilt<L: Ledger>(
-    rt: &impl Abort,
-    alloc: Global,
-    tree: &Tree,
-    items: &[Item],
-    scratch: &mut Scratch,
-    steps: &mut Steps<L>,
-) {
-    let copy = rebuilt_beside(rt, alloc, tree, scratch, steps);
-    holds_all(rt, alloc, &copy, items);
+    let mut tools: Tools<L> = Tools {
+        alloc,
+        scratch: Scratch::new(alloc),
+        steps: Steps::new(blank),
+    };
+    let items = tools.rebuilt_first(rt);
+    tools.rebuilt_next(rt, items.as_slice());
 }
 
 #[test]

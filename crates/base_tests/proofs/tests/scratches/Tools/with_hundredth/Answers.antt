@@ -11,7 +11,7 @@ use Rattle.kd_tree.specs.Sound.{IsSound}
 use Rattle.kd_tree.specs.Contents.{AreDistinct, contents}
 use Rattle.kd_tree.proofs.Held.{are_contents_of, are_distinct, contents_kept, contents_rising}
 use Rattle.kd_update.proofs.Joins.{contents_size, walk_distinct}
-use Rattle.base_tests.proofs.tests.scratches.with_hundredth.Goals as goal
+use Rattle.base_tests.proofs.tests.scratches.Tools.with_hundredth.Goals as goal
 
 -- the contents are those of a map whose next number is 100
 below : (t : Shape) → IsSound t → AllByRecursion (λ i. i.number < 100) (contents t) → AreContents 0 100 (contents t)
