@@ -12,20 +12,33 @@ use std::thread::{Threads, yield_now};
 // How long a gate waits.
 const TURNS: u64 = 20_000_000;
 
-// It holds one build up until the next begins, and a caller after each of three commands until its build begins.
+// A count that rises to what others wait for, but not for ever.
 #[derive(Drop)]
-struct TwoBuilds {
-    // The ticket of the build that is held up.
-    held: u64,
-    // The ticket of the last build that began.
-    begun: AtomicU64,
+struct Awaited {
+    reached: AtomicU64,
     missed: AtomicBool,
 }
 
-impl TwoBuilds {
-    fn wait(&self, ticket: u64) {
+impl Awaited {
+    fn new() -> Awaited {
+        Awaited {
+            reached: AtomicU64::new(0),
+            missed: AtomicBool::new(false),
+        }
+    }
+
+    fn reached(&self) -> u64 {
+        self.reached.load(Ordering::SeqCst)
+    }
+
+    fn is_missed(&self) -> bool {
+        self.missed.load(Ordering::SeqCst)
+    }
+
+    // Waits until it is so high. Who waits in vain once is waited for no more.
+    fn wait(&self, least: u64) {
         for _ in 0..TURNS {
-            if ticket <= self.begun.load(Ordering::SeqCst) {
+            if self.is_missed() || least <= self.reached() {
                 return;
             }
             yield_now();
@@ -34,19 +47,28 @@ impl TwoBuilds {
     }
 }
 
+// It holds one build up until the next begins, and a caller after each of three commands until its build begins.
+#[derive(Drop)]
+struct TwoBuilds {
+    // The ticket of the build that is held up.
+    held: u64,
+    // The ticket of the last build that began.
+    begun: Awaited,
+}
+
 impl Gate for TwoBuilds {
     fn before_build(&self, ticket: u64) {
-        self.begun.store(ticket, Ordering::SeqCst);
+        self.begun.reached.store(ticket, Ordering::SeqCst);
         if ticket == self.held {
-            self.wait(ticket.saturating_add(1));
+            self.begun.wait(ticket.saturating_add(1));
         }
     }
 
     fn replied(&self, _caller: u8, index: u32) {
         match index {
-            0 => self.wait(1),
-            2 => self.wait(2),
-            3 => self.wait(3),
+            0 => self.begun.wait(1),
+            2 => self.begun.wait(2),
+            3 => self.begun.wait(3),
             _ => {}
         }
     }
@@ -105,27 +127,48 @@ fn callers_run_beside_each_other(rt: HostRuntime) {
     holds(&rt, "the end", out.bytes().ends_with(rest.as_bytes()));
 }
 
-// It holds each caller up after its reply until all eight were replied to.
+// It looks whether each command is told under the caller that the script names for it, and holds a caller up after its reply until so
+// many were told.
 #[derive(Drop)]
-struct AllEight {
-    replied: AtomicU64,
-    missed: AtomicBool,
+struct Replies {
+    callers: Vec<u8>,
+    held_to: u64,
+    told: Awaited,
+    misnamed: AtomicBool,
 }
 
-impl Gate for AllEight {
+impl Gate for Replies {
     fn before_build(&self, _ticket: u64) {}
 
-    fn replied(&self, _caller: u8, _index: u32) {
-        self.replied.fetch_add(1, Ordering::SeqCst);
-        for _ in 0..TURNS {
-            let is_over = self.missed.load(Ordering::SeqCst);
-            if is_over || 8 <= self.replied.load(Ordering::SeqCst) {
-                return;
-            }
-            yield_now();
+    fn replied(&self, caller: u8, index: u32) {
+        self.told.reached.fetch_add(1, Ordering::SeqCst);
+        if self.callers.as_slice().get(index as usize) != Some(&caller) {
+            self.misnamed.store(true, Ordering::SeqCst);
         }
-        self.missed.store(true, Ordering::SeqCst);
+        self.told.wait(self.held_to);
     }
+}
+
+// The log's commands are replied to under these callers, each held up until so many were, and this is written.
+fn replied<R: Threads + Wait + Abort + Sync>(
+    rt: &R,
+    alloc: Global,
+    log: &str,
+    callers: &[u8],
+    held_to: u64,
+) -> SureSink {
+    let gate = Replies {
+        callers: made(rt, callers.to_vec(alloc)),
+        held_to,
+        told: Awaited::new(),
+        misnamed: AtomicBool::new(false),
+    };
+    let out = done(rt, alloc, log, &gate);
+    holds(rt, "all came", !gate.told.is_missed());
+    same(rt, "replies", gate.told.reached(), callers.len() as u64);
+    let is_misnamed = gate.misnamed.load(Ordering::SeqCst);
+    holds(rt, "each under its caller", !is_misnamed);
+    out
 }
 
 #[test]
@@ -133,56 +176,21 @@ fn each_of_eight_callers_has_a_thread_of_its_own(rt: HostRuntime) {
     let log = "ikdmap 1 voxel 200 large 1500\n\
                @1 near 1 0 0 0\n@2 near 1 0 0 0\n@3 near 1 0 0 0\n@4 near 1 0 0 0\n\
                @5 near 1 0 0 0\n@6 near 1 0 0 0\n@7 near 1 0 0 0\n@8 near 1 0 0 0\n";
-    let gate = AllEight {
-        replied: AtomicU64::new(0),
-        missed: AtomicBool::new(false),
-    };
-    let out = done(&rt, rt.alloc(), log, &gate);
-    holds(&rt, "all came", !gate.missed.load(Ordering::SeqCst));
+    let callers = [1, 2, 3, 4, 5, 6, 7, 8];
+    let out = replied(&rt, rt.alloc(), log, &callers, 8);
     let want = b"@1 near 0\n@2 near 0\n@3 near 0\n@4 near 0\n\
                  @5 near 0\n@6 near 0\n@7 near 0\n@8 near 0\nend 0 live 0 suspended 0\n";
     are_bytes(&rt, "the transcript", out.bytes(), want);
 }
 
-// It looks whether each command is told under the caller that the script names for it.
-#[derive(Drop)]
-struct Names {
-    callers: Vec<u8>,
-    told: AtomicU64,
-    misnamed: AtomicBool,
-}
-
-impl Gate for Names {
-    fn before_build(&self, _ticket: u64) {}
-
-    fn replied(&self, caller: u8, index: u32) {
-        self.told.fetch_add(1, Ordering::SeqCst);
-        if self.callers.as_slice().get(index as usize) != Some(&caller) {
-            self.misnamed.store(true, Ordering::SeqCst);
-        }
-    }
-}
-
 #[test]
 fn a_gate_is_told_of_the_caller_that_was_replied_to(rt: HostRuntime) {
-    let alloc = rt.alloc();
     let log = "ikdmap 1 voxel 200 large 1500\n\
                @3 add 1 0 0\n\
                @8 near 1 0 0 0\n\
                @1 add 2 0 0\n\
                @3 near 1 0 0 0\n";
-    let gate = Names {
-        callers: made(&rt, [3, 8, 1, 3].to_vec(alloc)),
-        told: AtomicU64::new(0),
-        misnamed: AtomicBool::new(false),
-    };
-    let _ = done(&rt, alloc, log, &gate);
-    same(&rt, "replies", gate.told.load(Ordering::SeqCst), 4);
-    holds(
-        &rt,
-        "each under its caller",
-        !gate.misnamed.load(Ordering::SeqCst),
-    );
+    let _ = replied(&rt, rt.alloc(), log, &[3, 8, 1, 3], 0);
 }
 
 // After forty points and a barrier, where the tree is balanced, one build is held up until the last begins, and each command that
@@ -215,11 +223,10 @@ fn none_waits<R: Threads + Wait + Abort + Sync>(
     let log = after_forty(rt, alloc, rest);
     let gate = TwoBuilds {
         held,
-        begun: AtomicU64::new(0),
-        missed: AtomicBool::new(false),
+        begun: Awaited::new(),
     };
     let out = done(rt, alloc, log.as_str(), &gate);
-    holds(rt, "none was missed", !gate.missed.load(Ordering::SeqCst));
-    same(rt, "the last", gate.begun.load(Ordering::SeqCst), last);
+    holds(rt, "none was missed", !gate.begun.is_missed());
+    same(rt, "the last", gate.begun.reached(), last);
     are_bytes(rt, "the transcript", out.bytes(), want);
 }
