@@ -50,6 +50,14 @@ impl Company {
         }
     }
 
+    /// The same, but the writer never sleeps.
+    pub fn at_once(self) -> Company {
+        let mut company = self;
+        company.pause = Duration::ZERO;
+        company.turn = Duration::ZERO;
+        company
+    }
+
     fn reading(readers: u8, pause: u64) -> Company
         requires { readers ≤ 7 }
     {

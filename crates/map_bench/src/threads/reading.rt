@@ -16,27 +16,17 @@ pub fn read<L: MapName, R: Wait + Clock>(
     pass: &mut Pass<L>,
 ) -> Result<Times, Stop> {
     let mut times = Times::new(stage.alloc);
-    ask_until_over(rt, stage, pass, &mut times)?;
-    Ok(times)
-}
-
-fn ask_until_over<L: MapName, R: Wait + Clock>(
-    rt: &R,
-    stage: &Stage<'_, L>,
-    pass: &mut Pass<L>,
-    times: &mut Times,
-) -> Result<(), Stop> {
     for _ in rt.forever() {
         if stage.plan.is_over() {
             break;
         }
         if stage.plan.is_on() {
-            ask_each(rt, stage.alloc, stage.plan, pass, times)?;
+            ask_each(rt, stage.alloc, stage.plan, pass, &mut times)?;
         } else {
             sleep(rt, Duration::from_millis(1));
         }
     }
-    Ok(())
+    Ok(times)
 }
 
 // Asks at each place in turn.

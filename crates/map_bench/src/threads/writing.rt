@@ -1,4 +1,5 @@
 //! The writer.
+use super::company::Company;
 use super::roles::Stage;
 use super::times::{Kind, Times};
 use crate::bench::since;
@@ -18,42 +19,47 @@ pub fn write<L: MapName, R: Wait + Clock>(
     stage: &Stage<'_, L>,
     pass: &mut Pass<L>,
 ) -> Result<Times, Stop> {
-    let mut times = Times::new(stage.alloc);
-    let written = take_in_all(rt, stage, pass, &mut times);
+    let written = take_in_all(rt, stage, pass);
     stage.end();
-    written?;
+    let mut times = written?;
     times.sum = with_answers(0, stage.alloc, pass.version().tree(), &stage.plan.places)?;
     Ok(times)
 }
 
+// How long the updates beside the readers took.
 fn take_in_all<L: MapName, R: Wait + Clock>(
     rt: &R,
     stage: &Stage<'_, L>,
     pass: &mut Pass<L>,
-    times: &mut Times,
-) -> Result<(), Stop> {
-    for scan in stage.plan.before.as_slice() {
-        take_in(rt, stage, pass, scan, times)?;
-    }
+) -> Result<Times, Stop> {
+    let plan = stage.plan;
+    let company = plan.company;
+    let mut times = Times::new(stage.alloc);
+    let at_once = company.at_once();
+    take_in_each(rt, stage, pass, &plan.before, &at_once, &mut times)?;
     times.clear();
-    stage.plan.begin();
+    plan.begin();
     let begun = Instant::now(rt);
-    take_in_beside(rt, stage, pass, times)?;
-    times.end(rt, Kind::Whole, begun)
+    take_in_each(rt, stage, pass, &plan.beside, &company, &mut times)?;
+    times.end(rt, Kind::Whole, begun)?;
+    Ok(times)
 }
 
-fn take_in_beside<L: MapName, R: Wait + Clock>(
+// In the company's pace.
+fn take_in_each<L: MapName, R: Wait + Clock>(
     rt: &R,
     stage: &Stage<'_, L>,
     pass: &mut Pass<L>,
+    scans: &[Scan],
+    company: &Company,
     times: &mut Times,
 ) -> Result<(), Stop> {
-    for scan in stage.plan.beside.as_slice() {
-        pause(rt, stage.plan.company.pause);
+    for scan in scans {
+        pause(rt, company.pause);
         let begun = Instant::now(rt);
         take_in(rt, stage, pass, scan, times)?;
         let took = since(rt, begun)?;
-        pause(rt, stage.plan.company.turn.saturating_sub(took));
+        pause(rt, company.turn.saturating_sub(took));
     }
     Ok(())
 }
