@@ -1,9 +1,6 @@
-ghost use Rattle.std.specs.Prelude.{◌≡◌, ◌≤◌, ◌<◌, ◌+◌, length, IfOk};
-ghost use Rattle.std.specs.Option.{ForSome};
-ghost use Rattle.std.specs.Thread.{IsSync};
+ghost use Rattle.std.specs.{Prelude.{◌≡◌, ◌≤◌, ◌<◌, ◌+◌, length, IfOk}, Option.{ForSome}, Thread.{IsSync}};
 ghost use Rattle.kd_search.specs.Query.{IsQuery};
-ghost use Rattle.batch_near.specs.Searched.{items_of};
-ghost use Rattle.batch_near.specs.Slabs.{slab_of, AreFilled};
+ghost use Rattle.batch_near.specs.{Searched.{items_of}, Slabs.{slab_of, AreFilled}};
 ghost use Rattle.map_fold.specs.Answers.{nearest, nearest_each};
 ghost use Rattle.kd_tree.specs.Contents.{contents};
 

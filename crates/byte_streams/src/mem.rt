@@ -1,11 +1,7 @@
 //! A source and a sink in memory, for tests, that fail at listed calls.
-ghost use Rattle.std.specs.Prelude.{◌≡◌, ◌≤◌, ◌<◌, ◌==◌, ◌↔◌, [], ℕ, List, Some, false, take, min, length, is_err, IsTrue, IsErrOf, IfOk};
-ghost use Rattle.std.specs.List.{list_any};
-ghost use Rattle.std.specs.declared.option.Option.{Option};
-ghost use Rattle.std.specs.Io.{ReadsAtMost};
-ghost use Rattle.std.specs.Io.KnownBytes.{ReadConsumes, WriteAppends};
-ghost use Rattle.byte_streams.specs.Memory.{is_next_listed, has_failed, after_read, after_write};
-ghost use Rattle.byte_streams.specs.Outside.{HasCause, is_end};
+ghost use Rattle.std.specs.{Prelude.{◌≡◌, ◌≤◌, ◌<◌, ◌==◌, ◌↔◌, [], ℕ, List, Some, false, take, min, length, is_err, IsTrue, IsErrOf, IfOk}, List.{list_any}};
+ghost use Rattle.std.specs.{declared.option.Option.{Option}, Io.{ReadsAtMost}, Io.KnownBytes.{ReadConsumes, WriteAppends}};
+ghost use Rattle.byte_streams.specs.{Memory.{is_next_listed, has_failed, after_read, after_write}, Outside.{HasCause, is_end}};
 
 use crate::outside::{Failed, Sink, SinkFault, Source};
 use crate::sure::copy_front;

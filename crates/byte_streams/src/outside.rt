@@ -1,10 +1,7 @@
 //! Where a log comes from, and where its transcript goes.
-ghost use Rattle.std.specs.Prelude.{◌≤◌, ◌<◌, ◌≡◌, ℕ, Bool, List, length, IfOk};
-ghost use Rattle.std.specs.declared.option.Option.{Option};
-ghost use Rattle.std.specs.Io.{ReadsAtMost};
+ghost use Rattle.std.specs.{Prelude.{◌≤◌, ◌<◌, ◌≡◌, ℕ, Bool, List, length, IfOk}, declared.option.Option.{Option}, Io.{ReadsAtMost}};
 ghost use Rattle.std.specs.Io.KnownBytes.{ReadConsumes, WriteAppends};
-ghost use Rattle.byte_streams.specs.Outside.{HasCause, is_end};
-ghost use Rattle.byte_streams.specs.declared.outside.SinkFault.TheVariants.{NoMemory};
+ghost use Rattle.byte_streams.specs.{Outside.{HasCause, is_end}, declared.outside.SinkFault.TheVariants.{NoMemory}};
 
 use std::alloc::AllocError;
 use std::fmt::{Display, Error, Formatter, Write};

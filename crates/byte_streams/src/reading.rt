@@ -1,6 +1,5 @@
 //! Reading a log to its end.
-ghost use Rattle.std.specs.Prelude.{◌≡◌, ◌≤◌, ◌+◌, false, true, vec_len, IfOk, OnOk, IsErrOf};
-ghost use Rattle.std.specs.Io.KnownBytes.{Consumes, IsAtEnd};
+ghost use Rattle.std.specs.{Prelude.{◌≡◌, ◌≤◌, ◌+◌, false, true, vec_len, IfOk, OnOk, IsErrOf}, Io.KnownBytes.{Consumes, IsAtEnd}};
 ghost use Rattle.byte_streams.specs.Outside.{HasCause, HasRead};
 ghost use Rattle.byte_streams.specs.declared.reading.ReadStop.TheVariants as stop;
 

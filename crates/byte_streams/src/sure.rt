@@ -1,8 +1,6 @@
 //! A source and a sink in memory that never fail.
 ghost use Rattle.std.specs.Prelude.{◌≡◌, ◌≤◌, ◌<◌, ◌+◌, ◌^◌, ◌++◌, [], ℕ, List, Some, Ok, IfOk, false, drop, take, min, length};
-ghost use Rattle.std.specs.declared.option.Option.{Option};
-ghost use Rattle.std.specs.Io.{ReadsAtMost};
-ghost use Rattle.std.specs.Io.KnownBytes.{ReadConsumes, WriteAppends};
+ghost use Rattle.std.specs.{declared.option.Option.{Option}, Io.{ReadsAtMost}, Io.KnownBytes.{ReadConsumes, WriteAppends}};
 ghost use Rattle.byte_streams.specs.Outside.{HasCause, is_end};
 
 use crate::outside::{Failed, Sink, SinkFault, Source};

@@ -1,6 +1,5 @@
 //! Writing all the bytes.
-ghost use Rattle.std.specs.Prelude.{OnOk, OnErr};
-ghost use Rattle.std.specs.Io.KnownBytes.{Appends};
+ghost use Rattle.std.specs.{Prelude.{OnOk, OnErr}, Io.KnownBytes.{Appends}};
 ghost use Rattle.byte_streams.specs.Outside.{HasCause, AppendsFront};
 
 use crate::outside::{Sink, SinkFault};

@@ -1,9 +1,7 @@
 //! Which updates a log can spell.
-ghost use Rattle.std.specs.Prelude.{◌≡◌, All, true, false};
-ghost use Rattle.std.specs.List.{AllByRecursion};
+ghost use Rattle.std.specs.{Prelude.{◌≡◌, All, true, false}, List.{AllByRecursion}};
 ghost use Rattle.point_geom.specs.Place.{IsPlace};
-ghost use Rattle.scan_log.specs.declared.format.Format.TheVariants.{Two};
-ghost use Rattle.scan_log.specs.Scripts.{IsBoxCorner, IsBoxNumber, IsCallerBox, IsScannedPlace};
+ghost use Rattle.scan_log.specs.{declared.format.Format.TheVariants.{Two}, Scripts.{IsBoxCorner, IsBoxNumber, IsCallerBox, IsScannedPlace}};
 ghost use Rattle.history_log.specs.Lines.{HasLines};
 
 use map_items::Update;

@@ -2,9 +2,7 @@
 ghost use Rattle.std.specs.Prelude.{◌≡◌, ◌<◌, ◌≤◌, IfErr, IfOk, OnOk, length};
 ghost use Rattle.map_items.specs.Fold.{fold};
 ghost use Rattle.kd_tree.specs.Maps.{map_of};
-ghost use Rattle.scan_log.specs.Commands.{updates_made};
-ghost use Rattle.scan_log.specs.Spelling.{Spells};
-ghost use Rattle.scan_log.specs.Written.{script_text};
+ghost use Rattle.scan_log.specs.{Commands.{updates_made}, Spelling.{Spells}, Written.{script_text}};
 ghost use Rattle.history_log.specs.Log.{AreLines, AreWhole, EndsThere, IsLogFault, JoinInTurn, StayWritten, fault_of, header_text, log_part, script_of};
 
 use crate::counting::lines_in;

@@ -1,12 +1,8 @@
 //! Appending the lines of an update.
-ghost use Rattle.std.specs.Prelude.{◌≡◌, ◌<◌, ◌≤◌, ◌+◌, ◌++◌, IfNone, IfOk, IfSome, OnOk, length};
-ghost use Rattle.std.specs.List.{flat_map};
-ghost use Rattle.scan_log.specs.declared.command.Command.TheVariants.{Change};
-ghost use Rattle.scan_log.specs.declared.commands.TheConstants.{MAX_COMMANDS};
-ghost use Rattle.scan_log.specs.declared.format.Format.TheVariants.{Two};
-ghost use Rattle.scan_log.specs.Written.{command_text};
-ghost use Rattle.history_log.specs.Lines.{HasLines, line_count, line_of, part_of};
-ghost use Rattle.history_log.specs.Log.{IsEntryStop, opening};
+ghost use Rattle.std.specs.{Prelude.{◌≡◌, ◌<◌, ◌≤◌, ◌+◌, ◌++◌, IfNone, IfOk, IfSome, OnOk, length}, List.{flat_map}};
+ghost use Rattle.scan_log.specs.{declared.command.Command.TheVariants.{Change}, declared.commands.TheConstants.{MAX_COMMANDS}};
+ghost use Rattle.scan_log.specs.{declared.format.Format.TheVariants.{Two}, Written.{command_text}};
+ghost use Rattle.history_log.specs.{Lines.{HasLines, line_count, line_of, part_of}, Log.{IsEntryStop, opening}};
 
 use crate::Stop;
 use crate::fitting::has_lines;

@@ -1,9 +1,7 @@
 ghost use Rattle.std.specs.Prelude.{◌≡◌, ◌≤◌, None, take, IfOk};
-ghost use Rattle.map_fold.specs.Answers.{inside_all};
-ghost use Rattle.map_fold.specs.Neighbours.{ball};
+ghost use Rattle.map_fold.specs.{Answers.{inside_all}, Neighbours.{ball}};
 ghost use Rattle.kd_tree.specs.Contents.{contents};
-ghost use Rattle.item_lists.specs.Listed.{numbered_from};
-ghost use Rattle.item_lists.specs.Sought.{wanted};
+ghost use Rattle.item_lists.specs.{Listed.{numbered_from}, Sought.{wanted}};
 
 use crate::gather::{Filter, gather};
 use crate::page::first_by_number;

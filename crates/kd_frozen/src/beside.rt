@@ -1,10 +1,7 @@
 //! A search of a tree of which a box is frozen.
 ghost use Rattle.std.specs.Prelude.{◌≡◌, ◌+◌, ◌≤◌, ◌-ℤ◌, false, unsigned_abs, IfOk, IsOk};
-ghost use Rattle.point_geom.specs.Place.{IsCoordinate, IsCornerNumber, Place};
-ghost use Rattle.point_geom.specs.Boxes.{holds};
-ghost use Rattle.point_geom.specs.Distances.{dist2};
-ghost use Rattle.map_fold.specs.Answers.{inside_all, nearest};
-ghost use Rattle.map_fold.specs.Nearest.{AreNearest};
+ghost use Rattle.point_geom.specs.{Place.{IsCoordinate, IsCornerNumber, Place}, Boxes.{holds}, Distances.{dist2}};
+ghost use Rattle.map_fold.specs.{Answers.{inside_all, nearest}, Nearest.{AreNearest}};
 ghost use Rattle.kd_tree.specs.Contents.{contents};
 ghost use Rattle.kd_search.specs.Query.{IsQuery};
 

@@ -7,10 +7,7 @@ ghost use Rattle.point_geom.specs.Distances.{dist2};
 ghost use Rattle.map_fold.specs.Answers.{candidates, put_hit};
 ghost use Rattle.kd_tree.specs.Contents.{AreDistinct};
 ghost use Rattle.kd_search.specs.Nearest.{IsBound, put_all};
-ghost use Rattle.kd_frozen.specs.Cells.{item_of, items_of};
-ghost use Rattle.kd_frozen.specs.Close.{AreClose, IsCloseBound};
-ghost use Rattle.kd_frozen.specs.Segments.{AreParted};
-ghost use Rattle.kd_frozen.specs.Shortlist.{hit_at};
+ghost use Rattle.kd_frozen.specs.{Cells.{item_of, items_of}, Close.{AreClose, IsCloseBound}, Segments.{AreParted}, Shortlist.{hit_at}};
 
 use crate::cell::Cell;
 use crate::distance::close_dist2;

@@ -1,8 +1,6 @@
 //! Squared distances that fit 64 bits.
 ghost use Rattle.std.specs.Prelude.{◌≡◌, ◌^◌, ◌<◌};
-ghost use Rattle.point_geom.specs.Axes.{on};
-ghost use Rattle.point_geom.specs.Place.{IsCoordinate};
-ghost use Rattle.point_geom.specs.Distances.{dist2, gap2};
+ghost use Rattle.point_geom.specs.{Axes.{on}, Place.{IsCoordinate}, Distances.{dist2, gap2}};
 
 use point_geom::{Axis, Point};
 

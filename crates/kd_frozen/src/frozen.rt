@@ -1,13 +1,10 @@
 //! The live items of a tree in one array.
-ghost use Rattle.std.specs.Prelude.{◌≡◌, ◌≤◌, ◌==◌, ℕ, [], false, length, true, IfOk, IsOk, OnOk};
-ghost use Rattle.std.specs.declared.option.Option.{Option};
+ghost use Rattle.std.specs.{Prelude.{◌≡◌, ◌≤◌, ◌==◌, ℕ, [], false, length, true, IfOk, IsOk, OnOk}, declared.option.Option.{Option}};
 ghost use Rattle.point_geom.specs.Place.{Place};
 ghost use Rattle.map_items.specs.Contents.{live_items};
-ghost use Rattle.map_fold.specs.Answers.{inside_all, nearest};
-ghost use Rattle.map_fold.specs.Nearest.{AreNearest};
+ghost use Rattle.map_fold.specs.{Answers.{inside_all, nearest}, Nearest.{AreNearest}};
 ghost use Rattle.kd_tree.specs.Contents.{AreDistinct, by_number, contents};
-ghost use Rattle.kd_search.specs.Nearest.{IsBound};
-ghost use Rattle.kd_search.specs.Query.{IsQuery};
+ghost use Rattle.kd_search.specs.{Nearest.{IsBound}, Query.{IsQuery}};
 ghost use Rattle.kd_frozen.specs.Cells.{items_of};
 
 use crate::cell::Cell;
@@ -41,8 +38,7 @@ impl Model for Frozen {
     ghost use Rattle.std.specs.Prelude.{List};
     ghost use Rattle.map_items.specs.declared.item.Item.{Item};
     ghost use Rattle.kd_tree.specs.Contents.{AreDistinct, by_number};
-    ghost use Rattle.kd_frozen.specs.Cells.{items_of};
-    ghost use Rattle.kd_frozen.specs.Segments.{AreParted};
+    ghost use Rattle.kd_frozen.specs.{Cells.{items_of}, Segments.{AreParted}};
     ghost use Rattle.kd_search.specs.Points.{AreIn};
 
     ghost Value = { List Item };

@@ -1,8 +1,6 @@
 //! Where all cells are.
 ghost use Rattle.std.specs.Prelude.{◌≡◌, ◌^◌, ◌<◌, true};
-ghost use Rattle.point_geom.specs.Distances.{dist2};
-ghost use Rattle.point_geom.specs.Extents.{IsIn};
-ghost use Rattle.point_geom.specs.Place.{Place};
+ghost use Rattle.point_geom.specs.{Distances.{dist2}, Extents.{IsIn}, Place.{Place}};
 ghost use Rattle.kd_search.specs.Points.{AreIn};
 ghost use Rattle.kd_frozen.specs.Cells.{items_of};
 

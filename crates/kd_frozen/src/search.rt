@@ -3,8 +3,7 @@ ghost use Rattle.std.specs.Prelude.{◌≡◌, ◌≤◌, [], ◌∷◌, take, I
 ghost use Rattle.map_fold.specs.Answers.{candidates};
 ghost use Rattle.kd_tree.specs.Contents.{AreDistinct};
 ghost use Rattle.kd_search.specs.Nearest.{IsBound, put_all};
-ghost use Rattle.kd_frozen.specs.Cells.{item_of, items_of};
-ghost use Rattle.kd_frozen.specs.Segments.{AreParted};
+ghost use Rattle.kd_frozen.specs.{Cells.{item_of, items_of}, Segments.{AreParted}};
 
 use crate::cell::Cell;
 use crate::parts::Parts;

@@ -1,12 +1,8 @@
 //! The nearest so far, at most 16: cells, which are seen as hits.
-ghost use Rattle.std.specs.Prelude.{◌≡◌, ◌+◌, ◌<◌, ◌≤◌, [], get_or, length, slice_set, take};
-ghost use Rattle.std.specs.Ordering.{is_lt, nat_cmp, ordering_then};
+ghost use Rattle.std.specs.{Prelude.{◌≡◌, ◌+◌, ◌<◌, ◌≤◌, [], get_or, length, slice_set, take}, Ordering.{is_lt, nat_cmp, ordering_then}};
 ghost use Rattle.point_geom.specs.Axes.{place_cmp};
-ghost use Rattle.map_fold.specs.declared.hits.Hit.{Hit};
-ghost use Rattle.map_fold.specs.Answers.{is_nearer, put_hit};
-ghost use Rattle.map_fold.specs.Nearest.{AreRanked};
-ghost use Rattle.kd_frozen.specs.declared.shortlist.Near.{Near};
-ghost use Rattle.kd_frozen.specs.Shortlist.{hit_at, hits_of};
+ghost use Rattle.map_fold.specs.{declared.hits.Hit.{Hit}, Answers.{is_nearer, put_hit}, Nearest.{AreRanked}};
+ghost use Rattle.kd_frozen.specs.{declared.shortlist.Near.{Near}, Shortlist.{hit_at, hits_of}};
 
 use crate::cell::Cell;
 use map_fold::{Hit, Hits};
@@ -30,8 +26,7 @@ pub struct Shortlist {
 
 impl Model for Shortlist {
     ghost use Rattle.std.specs.Prelude.{List, ◌≡◌, ◌≤◌, length, take};
-    ghost use Rattle.map_fold.specs.declared.hits.Hit.{Hit};
-    ghost use Rattle.map_fold.specs.Nearest.{AreRanked};
+    ghost use Rattle.map_fold.specs.{declared.hits.Hit.{Hit}, Nearest.{AreRanked}};
     ghost use Rattle.kd_frozen.specs.Shortlist.{hits_of};
 
     ghost Value = { List Hit };

@@ -2,10 +2,8 @@
 ghost use Rattle.std.specs.Prelude.{◌≡◌, ◌+◌, ◌≤◌, ◌++◌, length, IfOk, OnOk};
 ghost use Rattle.node_labels.specs.Labels.{composed};
 ghost use Rattle.map_items.specs.Ops.{Extends};
-ghost use Rattle.kd_tree.specs.Parts.{child};
-ghost use Rattle.kd_tree.specs.Walk.{tagged};
-ghost use Rattle.kd_mark.specs.Watch.{handed, is_met, logged_mark};
-ghost use Rattle.kd_mark.specs.Watches.{AreExtended, AreFewMore, HaveRoom, with_marks};
+ghost use Rattle.kd_tree.specs.{Parts.{child}, Walk.{tagged}};
+ghost use Rattle.kd_mark.specs.{Watch.{handed, is_met, logged_mark}, Watches.{AreExtended, AreFewMore, HaveRoom, with_marks}};
 
 use crate::reach::{covers, meets, reach_of};
 use crate::watch::{Watch, note};

@@ -2,13 +2,9 @@
 //! alone.
 ghost use Rattle.std.specs.Prelude.{◌≡◌, ◌+◌, ◌*◌, ◌≤◌, IfOk};
 ghost use Rattle.map_items.specs.Contents.{chosen_by, mark};
-ghost use Rattle.kd_tree.specs.Shape.{numbers};
-ghost use Rattle.kd_tree.specs.Contents.{contents};
-ghost use Rattle.kd_mark.specs.Refresh.{AreAmong, IsRefresh};
-ghost use Rattle.kd_mark.specs.Update.{IsBalancedBelow};
-ghost use Rattle.kd_mark.specs.Made.{entered_mark, made_mark};
-ghost use Rattle.kd_mark.specs.Mark.{RebuildsNoneEntered, marked_shape};
-ghost use Rattle.kd_mark.specs.Several.{AreLargeAt, IsUpdatedClear};
+ghost use Rattle.kd_tree.specs.{Shape.{numbers}, Contents.{contents}};
+ghost use Rattle.kd_mark.specs.{Refresh.{AreAmong, IsRefresh}, Update.{IsBalancedBelow}, Made.{entered_mark, made_mark}};
+ghost use Rattle.kd_mark.specs.{Mark.{RebuildsNoneEntered, marked_shape}, Several.{AreLargeAt, IsUpdatedClear}};
 
 use crate::reach::{covers, meets, reach_of};
 use crate::rebuild::joined_and_rebuilt_if_due;

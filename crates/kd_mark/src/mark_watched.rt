@@ -1,13 +1,9 @@
 //! Actions on chosen items while subtrees are watched: logged first, then done.
 ghost use Rattle.std.specs.Prelude.{◌≡◌, ◌+◌, ◌*◌, ◌≤◌, IfOk, OnOk};
 ghost use Rattle.map_items.specs.Contents.{chosen_by, mark};
-ghost use Rattle.kd_tree.specs.Shape.{numbers};
-ghost use Rattle.kd_tree.specs.Contents.{contents};
-ghost use Rattle.kd_mark.specs.Refresh.{AreAmong, IsRefresh};
-ghost use Rattle.kd_mark.specs.Made.{entered_mark};
-ghost use Rattle.kd_mark.specs.Mark.{RebuildsNoneEntered, marked_shape};
-ghost use Rattle.kd_mark.specs.Several.{AreLargeAt, AreWatched, IsBalancedClear};
-ghost use Rattle.kd_mark.specs.Watch.{IsWatched, logged_mark};
+ghost use Rattle.kd_tree.specs.{Shape.{numbers}, Contents.{contents}};
+ghost use Rattle.kd_mark.specs.{Refresh.{AreAmong, IsRefresh}, Made.{entered_mark}, Mark.{RebuildsNoneEntered, marked_shape}};
+ghost use Rattle.kd_mark.specs.{Several.{AreLargeAt, AreWatched, IsBalancedClear}, Watch.{IsWatched, logged_mark}};
 ghost use Rattle.kd_mark.specs.Watches.{AreExtended, AreFewMore, HaveRoom, paths_in, with_marks};
 
 use crate::log_mark::log_each_mark;

@@ -1,11 +1,7 @@
 //! Rebuilding by medians.
 ghost use Rattle.std.specs.Prelude.{◌≡◌, ◌+◌, ◌≤◌, IfOk, length};
 ghost use Rattle.node_labels.specs.Labels.{keep_tag};
-ghost use Rattle.kd_tree.specs.Shape.{levels, nodes, numbers};
-ghost use Rattle.kd_tree.specs.Sound.{IsSoundFork};
-ghost use Rattle.kd_tree.specs.Contents.{contents};
-ghost use Rattle.kd_tree.specs.Criteria.{AllMeetCriteria};
-ghost use Rattle.kd_tree.specs.Parts.{fork_of, joined};
+ghost use Rattle.kd_tree.specs.{Shape.{levels, nodes, numbers}, Sound.{IsSoundFork}, Contents.{contents}, Criteria.{AllMeetCriteria}, Parts.{fork_of, joined}};
 ghost use Rattle.kd_mark.specs.Refresh.{AreAmong, IsRefresh, IsNotDue, RefreshesIfDue};
 
 use kd_tree::{OpenNode, Scratch, Steps, Tree};

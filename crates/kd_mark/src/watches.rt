@@ -1,6 +1,5 @@
 //! A short list of watches.
-ghost use Rattle.std.specs.Prelude.{◌≡◌, ◌==◌, ◌<◌, ◌≤◌, [], ◌∷◌, ◌++◌, length, slice_index_or, OnOk, OnErr};
-ghost use Rattle.std.specs.List.{remove};
+ghost use Rattle.std.specs.{Prelude.{◌≡◌, ◌==◌, ◌<◌, ◌≤◌, [], ◌∷◌, ◌++◌, length, slice_index_or, OnOk, OnErr}, List.{remove}};
 
 use crate::watch::Watch;
 use map_items::NoMemory;

@@ -1,9 +1,7 @@
 //! Which watched paths end at a node, and which go on to a child.
 ghost use Rattle.std.specs.Prelude.{◌≡◌, ◌-◌, ◌≤◌, ◌∷◌, ◌++◌, length};
 ghost use Rattle.kd_tree.specs.Apart.{is_here, is_none_left, onward};
-ghost use Rattle.kd_mark.specs.Several.{large_at};
-ghost use Rattle.kd_mark.specs.Watches.{paths_in};
-ghost use Rattle.kd_mark.specs.Ways.{paths_of, way_of};
+ghost use Rattle.kd_mark.specs.{Several.{large_at}, Watches.{paths_in}, Ways.{paths_of, way_of}};
 
 use crate::rebuild::NEVER;
 use crate::watch::Watch;
@@ -12,8 +10,7 @@ use kd_tree::Side;
 /// The remaining paths at a node. A type parameter, so that an update without watches asks and hands on nothing.
 pub trait Ways: Copy {
     ghost use Rattle.std.specs.Prelude.{◌≡◌, List};
-    ghost use Rattle.kd_tree.specs.Apart.{is_here, onward};
-    ghost use Rattle.kd_tree.specs.declared.path.Side.{Side};
+    ghost use Rattle.kd_tree.specs.{Apart.{is_here, onward}, declared.path.Side.{Side}};
 
     ghost paths: { Self → List (List Side) };
 

@@ -1,6 +1,5 @@
 //! Items by number, up to a count.
-ghost use Rattle.std.specs.Prelude.{◌≡◌, ◌≤◌, length, take, OnOk};
-ghost use Rattle.std.specs.List.{insert};
+ghost use Rattle.std.specs.{Prelude.{◌≡◌, ◌≤◌, length, take, OnOk}, List.{insert}};
 ghost use Rattle.kd_tree.specs.Contents.{insert_item};
 
 use map_items::{Item, NoMemory};

@@ -2,11 +2,7 @@
 ghost use Rattle.std.specs.Prelude.{◌≡◌, ◌+◌, ◌≤◌, [], ◌∷◌, ◌++◌, true, length, take, IfOk, None, OnOk};
 ghost use Rattle.map_fold.specs.Answers.{inside, inside_all};
 ghost use Rattle.kd_tree.specs.Contents.{contents};
-ghost use Rattle.kd_search.specs.First.{AreFirst, AreFullTo};
-ghost use Rattle.kd_search.specs.Inserted.{insert_all};
-ghost use Rattle.kd_search.specs.Pending.{items_of, nodes_of};
-ghost use Rattle.kd_search.specs.Query.{IsQuery};
-ghost use Rattle.kd_search.specs.Sides.{IsEitherWay};
+ghost use Rattle.kd_search.specs.{First.{AreFirst, AreFullTo}, Inserted.{insert_all}, Pending.{items_of, nodes_of}, Query.{IsQuery}, Sides.{IsEitherWay}};
 
 use crate::by_number::insert_by_number;
 use crate::pending::{Pending, PendingTop};

@@ -1,12 +1,9 @@
 //! The nearest live points.
 ghost use Rattle.std.specs.Prelude.{◌≡◌, ◌≤◌, [], ◌∷◌, take, IfOk, IsOk, OnOk};
 ghost use Rattle.map_items.specs.Contents.{live_at};
-ghost use Rattle.map_fold.specs.Answers.{candidates, nearest, put_hit};
-ghost use Rattle.map_fold.specs.Nearest.{AreNearest};
-ghost use Rattle.kd_tree.specs.Contents.{contents};
-ghost use Rattle.kd_tree.specs.Walk.{walk};
-ghost use Rattle.kd_search.specs.Nearest.{IsBound, put_all};
-ghost use Rattle.kd_search.specs.Query.{IsQuery};
+ghost use Rattle.map_fold.specs.{Answers.{candidates, nearest, put_hit}, Nearest.{AreNearest}};
+ghost use Rattle.kd_tree.specs.{Contents.{contents}, Walk.{walk}};
+ghost use Rattle.kd_search.specs.{Nearest.{IsBound, put_all}, Query.{IsQuery}};
 
 use crate::pending::live_under;
 use crate::sides::Sides;

@@ -3,9 +3,7 @@ ghost use Rattle.std.specs.Prelude.{◌≡◌, [], length, IfNone, IfSome};
 ghost use Rattle.node_labels.specs.Labels.{keep_tag};
 ghost use Rattle.map_items.specs.Contents.{live_items};
 ghost use Rattle.kd_tree.specs.Walk.{walk};
-ghost use Rattle.kd_search.specs.First.{AreFrom};
-ghost use Rattle.kd_search.specs.Points.{AreIn};
-ghost use Rattle.kd_search.specs.Pending.{IsTopOf, items_of};
+ghost use Rattle.kd_search.specs.{First.{AreFrom}, Points.{AreIn}, Pending.{IsTopOf, items_of}};
 
 use kd_tree::Tree;
 use map_items::{Item, Tag};

@@ -1,9 +1,7 @@
 //! The live points of a box.
 ghost use Rattle.std.specs.Prelude.{◌≡◌, ◌+◌, ◌≤◌, ◌<◌, [], ◌∷◌, IfSome, IsNone, ◌↔◌};
 ghost use Rattle.map_fold.specs.Answers.{count, inside_all};
-ghost use Rattle.kd_tree.specs.Contents.{contents};
-ghost use Rattle.kd_tree.specs.Shape.{nodes};
-ghost use Rattle.kd_tree.specs.Walk.{walk};
+ghost use Rattle.kd_tree.specs.{Contents.{contents}, Shape.{nodes}, Walk.{walk}};
 ghost use Rattle.kd_search.specs.Best.{best_from, best_inside, IsBest};
 
 use crate::pending::live_under;

@@ -2,10 +2,7 @@
 ghost use Rattle.std.specs.Prelude.{◌≡◌, ◌+◌, ◌≤◌, ◌∷◌, ◌++◌, IfOk, IfSome, IsNone, ◌↔◌};
 ghost use Rattle.node_labels.specs.Labels.{keep_tag};
 ghost use Rattle.map_items.specs.Contents.{everything, mark};
-ghost use Rattle.kd_tree.specs.Shape.{leaf, numbers};
-ghost use Rattle.kd_tree.specs.Walk.{tagged};
-ghost use Rattle.kd_tree.specs.Sound.{IsSound, IsTopSound};
-ghost use Rattle.kd_tree.specs.Contents.{contents};
+ghost use Rattle.kd_tree.specs.{Shape.{leaf, numbers}, Walk.{tagged}, Sound.{IsSound, IsTopSound}, Contents.{contents}};
 ghost use Rattle.kd_tree.specs.Parts.{contents_of_parts, joined, pushed, with_child};
 
 use crate::open_node::{Block, OpenNode, Opened};

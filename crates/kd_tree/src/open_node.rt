@@ -1,12 +1,8 @@
 //! Nodes taken apart and put together. The memory of a node that isn't shared is kept meanwhile, for the node that is
 //! made of the parts. A shared node is never written.
-ghost use Rattle.std.specs.Prelude.{◌≡◌, ◌+◌, ◌≤◌, ◌∷◌, ◌++◌, Some, IfOk, IfErr, IfSome, IsNone, ◌↔◌};
-ghost use Rattle.std.specs.Arc.{arc_value};
-ghost use Rattle.kd_tree.specs.Shape.{leaf, fork, numbers};
-ghost use Rattle.kd_tree.specs.Sound.{IsSound, IsSoundFork, IsTopSound};
-ghost use Rattle.kd_tree.specs.Contents.{contents};
-ghost use Rattle.kd_tree.specs.Parts.{contents_of_parts, fork_in, fork_of, joined, pushed};
-ghost use Rattle.kd_tree.specs.View.{IsKeptAt, AreTopParts, IsTakenOf, shape_at, top_of};
+ghost use Rattle.std.specs.{Prelude.{◌≡◌, ◌+◌, ◌≤◌, ◌∷◌, ◌++◌, Some, IfOk, IfErr, IfSome, IsNone, ◌↔◌}, Arc.{arc_value}};
+ghost use Rattle.kd_tree.specs.{Shape.{leaf, fork, numbers}, Sound.{IsSound, IsSoundFork, IsTopSound}, Contents.{contents}};
+ghost use Rattle.kd_tree.specs.{Parts.{contents_of_parts, fork_in, fork_of, joined, pushed}, View.{IsKeptAt, AreTopParts, IsTakenOf, shape_at, top_of}};
 
 use crate::node::{Node, Root};
 use crate::{Scratch, Steps, Tree};

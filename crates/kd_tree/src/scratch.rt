@@ -1,10 +1,7 @@
 //! Memory that is used again: a list of items, and old nodes.
 ghost use Rattle.std.specs.Prelude.{◌≡◌, ◌+◌, ◌<◌, ◌≤◌, ◌^◌, ◌++◌, ℕ, IfOk, OnOk, IsPermutation, length, map};
 ghost use Rattle.node_labels.specs.Labels.{keep_tag};
-ghost use Rattle.kd_tree.specs.Shape.{levels, nodes, numbers};
-ghost use Rattle.kd_tree.specs.Walk.{walk};
-ghost use Rattle.kd_tree.specs.Contents.{AreDistinct, AreKept, by_number, contents};
-ghost use Rattle.kd_tree.specs.Criteria.{AllMeetCriteria};
+ghost use Rattle.kd_tree.specs.{Shape.{levels, nodes, numbers}, Walk.{walk}, Contents.{AreDistinct, AreKept, by_number, contents}, Criteria.{AllMeetCriteria}};
 ghost use Rattle.kd_tree.specs.Build.{IsBuilt};
 
 use crate::blocks::Blocks;

@@ -1,7 +1,5 @@
 ghost use Rattle.std.specs.Prelude.{◌≡◌, ℕ, IfOk};
-ghost use Rattle.local_region.specs.Moves.{Moves, after};
-ghost use Rattle.local_region.specs.Removed.{AreLeftBehind, removed};
-ghost use Rattle.local_region.specs.Map.{AreHeld, not_left};
+ghost use Rattle.local_region.specs.{Moves.{Moves, after}, Removed.{AreLeftBehind, removed}, Map.{AreHeld, not_left}};
 ghost use Rattle.map_items.specs.Fold.{MapAt, step};
 ghost use Rattle.map_items.specs.declared.update.Update.TheVariants as update;
 

@@ -1,7 +1,6 @@
 ghost use Rattle.std.specs.Prelude.{◌≡◌, ◌≤◌, false, true, IfSome, IsNone};
 ghost use Rattle.point_geom.specs.Place.{IsCoordinate};
-ghost use Rattle.local_region.specs.Regions.{IsRegion, IsStart, IsStartCorner, begun, first_start, is_in};
-ghost use Rattle.local_region.specs.Moves.{after, next_start};
+ghost use Rattle.local_region.specs.{Regions.{IsRegion, IsStart, IsStartCorner, begun, first_start, is_in}, Moves.{after, next_start}};
 
 use crate::RegionRules;
 use crate::limits::{FARTHEST, LONGEST};

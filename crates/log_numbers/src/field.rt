@@ -1,6 +1,5 @@
 //! The number that a whole field spells.
-ghost use Rattle.std.specs.Prelude.{◌≡◌, MatchOption, true, false};
-ghost use Rattle.std.specs.Str.Parse.{signed_digits_value};
+ghost use Rattle.std.specs.{Prelude.{◌≡◌, MatchOption, true, false}, Str.Parse.{signed_digits_value}};
 ghost use Rattle.log_numbers.specs.Numerals.{capped, is_numeral};
 
 use crate::front::front_number;

@@ -1,7 +1,5 @@
 //! The number that bytes begin with.
-ghost use Rattle.std.specs.Prelude.{◌≡◌, ◌≤◌, ◌+◌, ◌-◌, ◌*◌, MatchOption, min, false};
-ghost use Rattle.std.specs.Str.{all_ascii_digits};
-ghost use Rattle.std.specs.Str.Parse.{signed_digits_value};
+ghost use Rattle.std.specs.{Prelude.{◌≡◌, ◌≤◌, ◌+◌, ◌-◌, ◌*◌, MatchOption, min, false}, Str.{all_ascii_digits}, Str.Parse.{signed_digits_value}};
 ghost use Rattle.log_numbers.specs.Numerals.{IsRead, first_field, is_numeral, is_positive_numeral, is_zero, plain_value, without_minus};
 
 // Beyond every limit, so more digits need no more room.

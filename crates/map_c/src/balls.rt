@@ -1,8 +1,6 @@
 //! The live points of a ball, written where C wants them.
 ghost use Rattle.std.specs.Prelude.{◌≡◌, ◌≤◌, IfErr, IfOk, OnOk, Some, false, length, true};
-ghost use Rattle.map_c.specs.Answers.{IsTold, shown_in};
-ghost use Rattle.map_c.specs.Status.{code};
-ghost use Rattle.map_c.specs.Balls.{IsAskRefusal, IsBall, IsBallAsked, IsBallRefusal};
+ghost use Rattle.map_c.specs.{Answers.{IsTold, shown_in}, Status.{code}, Balls.{IsAskRefusal, IsBall, IsBallAsked, IsBallRefusal}};
 
 use crate::handles::macros::ask;
 use crate::handles::writing::write_all;

@@ -1,7 +1,6 @@
 //! Detached subtrees, rebuilt and brought up to date. Nothing here asks the map.
 ghost use Rattle.std.specs.Prelude.{◌≡◌, ◌≢◌, None};
-ghost use Rattle.map_c.specs.Building.{IsBuildRefusal, IsJobBuilt, IsReplayRefusal, IsReplayed};
-ghost use Rattle.map_c.specs.Status.{done};
+ghost use Rattle.map_c.specs.{Building.{IsBuildRefusal, IsJobBuilt, IsReplayRefusal, IsReplayed}, Status.{done}};
 
 use crate::{DONE, Handle, Refusal, build, replay, status_of};
 use std::alloc::Global;

@@ -1,8 +1,7 @@
 //! Subtrees, detached as jobs.
 ghost use Rattle.std.specs.Prelude.{◌≡◌, ◌≢◌, ◌≤◌, IfErr, IfOk, None, OnErr, Some};
 ghost use Rattle.rebuild_core.specs.Detach.{IsSlot};
-ghost use Rattle.map_c.specs.Swapping.{IsDetachRefusal, IsDetached};
-ghost use Rattle.map_c.specs.Status.{code, done};
+ghost use Rattle.map_c.specs.{Swapping.{IsDetachRefusal, IsDetached}, Status.{code, done}};
 ghost use Rattle.map_c.specs.declared.handles.content.Content.TheVariants as is;
 
 use crate::{Content, DONE, DetachedJob, Handle, Map, Refusal, boxed};

@@ -1,7 +1,6 @@
 //! Frozen indexes of a map, of a view and of a box of a view, made, copied and freed. They don't follow the map's updates.
 ghost use Rattle.std.specs.Prelude.{◌≡◌, IfErr, IfOk, None, Some};
-ghost use Rattle.map_c.specs.Answers.{IsViewRefusal};
-ghost use Rattle.map_c.specs.Frozen.{IsBoxFrozen, IsBoxRefusal, IsCopyOf, IsCopyRefusal, IsFrozen, IsFrozenOf, IsMadeInto};
+ghost use Rattle.map_c.specs.{Answers.{IsViewRefusal}, Frozen.{IsBoxFrozen, IsBoxRefusal, IsCopyOf, IsCopyRefusal, IsFrozen, IsFrozenOf, IsMadeInto}};
 ghost use Rattle.map_c.specs.Status.{code};
 ghost use Rattle.map_c.specs.declared.handles.content.Content.TheVariants as is;
 

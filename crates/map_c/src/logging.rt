@@ -2,9 +2,7 @@
 ghost use Rattle.std.specs.Prelude.{◌≡◌, ◌≢◌, ◌<◌, ◌≤◌, IfErr, IfOk, None, Some, length, take};
 ghost use Rattle.rebuild_core.specs.Lawful.{StateAt};
 ghost use Rattle.history_log.specs.Log.{IsStop};
-ghost use Rattle.map_c.specs.Answers.{IsTold};
-ghost use Rattle.map_c.specs.Logged.{IsLogRefusal, IsLogged, IsPart, stop_code};
-ghost use Rattle.map_c.specs.Status.{done};
+ghost use Rattle.map_c.specs.{Answers.{IsTold}, Logged.{IsLogRefusal, IsLogged, IsPart, stop_code}, Status.{done}};
 
 use crate::{Content, DONE, Handle, Refusal};
 use history_log::{LogPart, Stop, history_lines};

@@ -2,8 +2,7 @@
 ghost use Rattle.std.specs.Prelude.{◌≡◌, ◌≢◌, IfOk, None};
 ghost use Rattle.map_items.specs.Sizes.{AreSizes};
 ghost use Rattle.rebuild_core.specs.Lawful.{new_state};
-ghost use Rattle.map_c.specs.Maps.{IsNew, IsNewRefusal};
-ghost use Rattle.map_c.specs.Status.{done};
+ghost use Rattle.map_c.specs.{Maps.{IsNew, IsNewRefusal}, Status.{done}};
 ghost use Rattle.map_c.specs.declared.handles.content.Content.TheVariants as content_is;
 
 use crate::{Content, DONE, Handle, Map, Refusal, boxed};

@@ -1,8 +1,6 @@
 //! Live points that have no other near them, and those that chains of short steps join.
 ghost use Rattle.std.specs.Prelude.{◌≡◌, ◌≢◌, IfErr, IfOk, Some, length};
-ghost use Rattle.map_c.specs.Answers.{IsTold};
-ghost use Rattle.map_c.specs.Neighbours.{AreClusters, AreClustersRefusal, AreLonely, AreLonelyRefusal, c_cluster};
-ghost use Rattle.map_c.specs.Status.{code, done};
+ghost use Rattle.map_c.specs.{Answers.{IsTold}, Neighbours.{AreClusters, AreClustersRefusal, AreLonely, AreLonelyRefusal, c_cluster}, Status.{code, done}};
 
 use crate::balls::shown_if_asked;
 use crate::handles::macros::ask;

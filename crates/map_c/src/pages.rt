@@ -1,8 +1,6 @@
 //! What a handle shows, listed by number from a number on, as far as there is room.
 ghost use Rattle.std.specs.Prelude.{IfErr, IfOk, Some};
-ghost use Rattle.map_c.specs.Answers.{IsTold};
-ghost use Rattle.map_c.specs.Pages.{IsBallPage, IsBallPageRefusal, IsBoxPage, IsBoxPageRefusal, IsPage, IsPageRefusal};
-ghost use Rattle.map_c.specs.Status.{code};
+ghost use Rattle.map_c.specs.{Answers.{IsTold}, Pages.{IsBallPage, IsBallPageRefusal, IsBoxPage, IsBoxPageRefusal, IsPage, IsPageRefusal}, Status.{code}};
 
 use crate::handles::macros::ask;
 use crate::handles::reading::read_box;

@@ -1,8 +1,7 @@
 //! Regions, which are the caller's own numbers: they are checked at each move.
 ghost use Rattle.std.specs.Prelude.{◌≡◌, ◌≢◌, ◌<◌, IfErr, IfOk, length};
 ghost use Rattle.map_c.specs.Regions.{AreRightRules, IsBegun, IsBeginRefusal, IsMove, IsMoveRefusal, IsRightRegion, c_box, c_region, region_at, rules_at};
-ghost use Rattle.map_c.specs.Status.{code, done};
-ghost use Rattle.map_c.specs.declared.handles.refusal.Refusal.TheVariants.{BadNumber};
+ghost use Rattle.map_c.specs.{Status.{code, done}, declared.handles.refusal.Refusal.TheVariants.{BadNumber}};
 
 use crate::handles::macros::or_status;
 use crate::handles::writing::{ToC, write_all};

@@ -1,8 +1,7 @@
 //! New maps that hold what a handle shows.
 ghost use Rattle.std.specs.Prelude.{◌≡◌, ◌≢◌, IfErr, IfOk, None, Some};
 ghost use Rattle.map_items.specs.Sizes.{AreSizes};
-ghost use Rattle.map_c.specs.Renewal.{IsRenewRefusal, IsRenewed, IsRenewedOf};
-ghost use Rattle.map_c.specs.Status.{code, done};
+ghost use Rattle.map_c.specs.{Renewal.{IsRenewRefusal, IsRenewed, IsRenewedOf}, Status.{code, done}};
 
 use crate::handles::macros::ask;
 use crate::{Content, DONE, Handle, Map, Refusal, boxed, shown};

@@ -4,9 +4,7 @@ ghost use Rattle.std.specs.Prelude.{◌≡◌, ◌+◌, ◌≤◌, ◌++◌, len
 ghost use Rattle.map_fold.specs.Answers.{nearest};
 ghost use Rattle.kd_tree.specs.Contents.{contents};
 ghost use Rattle.kd_search.specs.Query.{IsQuery};
-ghost use Rattle.map_c.specs.Answers.{c_hit};
-ghost use Rattle.map_c.specs.Laid.{IsLaid, searched_items};
-ghost use Rattle.map_c.specs.declared.handles.refusal.Refusal.TheVariants.{Empty};
+ghost use Rattle.map_c.specs.{Answers.{c_hit}, Laid.{IsLaid, searched_items}, declared.handles.refusal.Refusal.TheVariants.{Empty}};
 
 use crate::{Around, Content, Hit, Index, Refusal, frozen_index, shown, write_few, write_hits};
 use kd_frozen::{Frozen, Shortlist, nearest_beside};

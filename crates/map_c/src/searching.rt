@@ -3,8 +3,7 @@ ghost use Rattle.std.specs.Prelude.{◌≡◌, ◌+◌, ◌*◌, ◌<◌, ◌≤
 ghost use Rattle.std.specs.Option.{ForSome};
 ghost use Rattle.kd_search.specs.Query.{IsQuery};
 ghost use Rattle.map_c.specs.Answers.{IsNearest, IsNearestEach, IsNearestEachRefusal, IsNearestRefusal, IsSearch, all_hits, hit_counts, nearest_hits, within_at};
-ghost use Rattle.map_c.specs.Forms.{IsRightPlace};
-ghost use Rattle.map_c.specs.Status.{code, no_memory, out_of_range};
+ghost use Rattle.map_c.specs.{Forms.{IsRightPlace}, Status.{code, no_memory, out_of_range}};
 
 use crate::searched::Searched;
 use crate::{Content, Hit, Place, Refusal, read_place};

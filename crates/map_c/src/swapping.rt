@@ -1,11 +1,9 @@
 //! Built subtrees, swapped in.
 ghost use Rattle.std.specs.Prelude.{◌≡◌, ◌≢◌, ◌==◌, ◌⊎◌, IfErr, IfOk, None, OnErr, OnOk, Some, not};
-ghost use Rattle.map_c.specs.Swapping.{IsBehind, IsLeft, IsStaleAs, IsSwapRefusal, IsSwapped};
-ghost use Rattle.map_c.specs.Status.{behind, code, done};
+ghost use Rattle.map_c.specs.{Swapping.{IsBehind, IsLeft, IsStaleAs, IsSwapRefusal, IsSwapped}, Status.{behind, code, done}};
 ghost use Rattle.map_items.specs.Ops.{Fit};
 ghost use Rattle.kd_tree.specs.Contents.{contents};
-ghost use Rattle.rebuild_core.specs.Known.{IsStale};
-ghost use Rattle.rebuild_core.specs.Detach.{IsLogAfter};
+ghost use Rattle.rebuild_core.specs.{Known.{IsStale}, Detach.{IsLogAfter}};
 ghost use Rattle.map_c.specs.declared.handles.refusal.Refusal.TheVariants as refused_as;
 
 use crate::{BuiltSubtree, Content, DONE, Handle, Refusal};

@@ -1,9 +1,7 @@
 //! Updates of a map. All updates of C are those of one caller.
 ghost use Rattle.std.specs.Prelude.{◌≡◌, IfErr, OnOk, OnErr, Some};
 ghost use Rattle.map_items.specs.declared.update.Update.TheVariants.{Add, Delete, Expire, Restore, Suspend, Thin};
-ghost use Rattle.map_c.specs.Forms.{boxes_at, points_at};
-ghost use Rattle.map_c.specs.Maps.{IsAnswer, IsBoxesAnswer, IsUpdated, IsPointsAnswer, IsUpdateRefusal};
-ghost use Rattle.map_c.specs.Status.{code};
+ghost use Rattle.map_c.specs.{Forms.{boxes_at, points_at}, Maps.{IsAnswer, IsBoxesAnswer, IsUpdated, IsPointsAnswer, IsUpdateRefusal}, Status.{code}};
 
 use crate::handles::macros::or_status;
 use crate::{Bounds, Content, Handle, Point, Refusal, read_boxes, read_points, status_of};

@@ -1,7 +1,6 @@
 //! Views, made, copied and freed.
 ghost use Rattle.std.specs.Prelude.{◌≡◌, IfErr, IfOk, None, Some};
-ghost use Rattle.map_c.specs.Answers.{IsViewOf, IsViewRefusal, IsViewed};
-ghost use Rattle.map_c.specs.Status.{code};
+ghost use Rattle.map_c.specs.{Answers.{IsViewOf, IsViewRefusal, IsViewed}, Status.{code}};
 ghost use Rattle.map_c.specs.declared.handles.content.Content.TheVariants as is;
 
 use crate::handles::macros::ask;

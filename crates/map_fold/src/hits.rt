@@ -1,8 +1,6 @@
 //! What a search for the nearest points finds.
-ghost use Rattle.std.specs.Prelude.{◌≡◌, ◌<◌, ◌≤◌, [], ◌∷◌, ◌++◌, ◌-◌, length, take, IsOk, OnOk, OnErr};
-ghost use Rattle.std.specs.List.{insert};
-ghost use Rattle.map_fold.specs.Answers.{put_hit, is_nearer};
-ghost use Rattle.map_fold.specs.Nearest.{AreRanked};
+ghost use Rattle.std.specs.{Prelude.{◌≡◌, ◌<◌, ◌≤◌, [], ◌∷◌, ◌++◌, ◌-◌, length, take, IsOk, OnOk, OnErr}, List.{insert}};
+ghost use Rattle.map_fold.specs.{Answers.{put_hit, is_nearer}, Nearest.{AreRanked}};
 
 use map_items::{NoMemory, Sequence};
 use point_geom::Point;
@@ -32,8 +30,7 @@ pub type HitLists = Sequence<Hits>;
 
 impl Model for Hits {
     ghost use Rattle.std.specs.Prelude.{List, ◌≡◌, ◌≤◌, true};
-    ghost use Rattle.map_fold.specs.declared.hits.Hit.{Hit};
-    ghost use Rattle.map_fold.specs.Nearest.{AreRanked};
+    ghost use Rattle.map_fold.specs.{declared.hits.Hit.{Hit}, Nearest.{AreRanked}};
 
     ghost Value = { List Hit };
 

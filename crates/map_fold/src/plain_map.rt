@@ -1,13 +1,10 @@
 //! The plain map, a list of items.
-ghost use Rattle.std.specs.Prelude.{◌≡◌, ◌+◌, ◌≤◌, ◌&&◌, [], ◌∷◌, filter, length, map, IfOk, IsOk};
-ghost use Rattle.std.specs.Option.{ForSome};
+ghost use Rattle.std.specs.{Prelude.{◌≡◌, ◌+◌, ◌≤◌, ◌&&◌, [], ◌∷◌, filter, length, map, IfOk, IsOk}, Option.{ForSome}};
 ghost use Rattle.point_geom.specs.Place.{Place};
 ghost use Rattle.node_labels.specs.Labels.{is_live};
 ghost use Rattle.map_items.specs.Contents.{AreContents, chosen_by, in_box, mark, marked_item, totals, live_count, suspended_count};
 ghost use Rattle.map_items.specs.Fold.{MapAt, mark_boxes, no_points, step, points_in, thin_points};
-ghost use Rattle.map_fold.specs.Answers.{count, inside, nearest, is_within};
-ghost use Rattle.map_fold.specs.Nearest.{AreNearest};
-ghost use Rattle.map_fold.specs.Thinned.{IsThinned};
+ghost use Rattle.map_fold.specs.{Answers.{count, inside, nearest, is_within}, Nearest.{AreNearest}, Thinned.{IsThinned}};
 ghost use Rattle.map_items.specs.declared.update.Update.TheVariants as Update;
 
 use crate::thin::thin_one;
@@ -28,8 +25,7 @@ pub struct PlainMap {
 }
 
 impl Model for PlainMap {
-    ghost use Rattle.map_items.specs.Fold.{MapAt};
-    ghost use Rattle.map_items.specs.Contents.{AreContents};
+    ghost use Rattle.map_items.specs.{Fold.{MapAt}, Contents.{AreContents}};
 
     ghost Value = { MapAt };
 

@@ -1,10 +1,8 @@
 //! Downsampling of a list of items.
 ghost use Rattle.std.specs.Prelude.{◌≡◌, ◌≤◌, List, ◌∷◌, ◌++◌, drop, filter, length, take, OnOk};
 ghost use Rattle.point_geom.specs.Place.{Place};
-ghost use Rattle.map_items.specs.declared.item.Item.{Item};
-ghost use Rattle.map_fold.specs.Answers.{inside_all};
-ghost use Rattle.map_fold.specs.Rivals.{AreRivals};
-ghost use Rattle.map_items.specs.Contents.{AreContents, centre_cmp, in_box, least, live_at, live_items, put, thin};
+ghost use Rattle.map_items.specs.{declared.item.Item.{Item}, Contents.{AreContents, centre_cmp, in_box, least, live_at, live_items, put, thin}};
+ghost use Rattle.map_fold.specs.{Answers.{inside_all}, Rivals.{AreRivals}};
 
 use crate::plain_map::mark_items;
 use map_items::{Choice, Item, NoMemory, Tag};

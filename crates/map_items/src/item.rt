@@ -1,7 +1,6 @@
 //! Items.
 ghost use Rattle.std.specs.Prelude.{◌≡◌, ◌&&◌, true};
-ghost use Rattle.point_geom.specs.Place.{IsCoordinate, IsCornerNumber};
-ghost use Rattle.point_geom.specs.Boxes.{holds, is_between};
+ghost use Rattle.point_geom.specs.{Place.{IsCoordinate, IsCornerNumber}, Boxes.{holds, is_between}};
 ghost use Rattle.node_labels.specs.Labels.{is_live};
 ghost use Rattle.map_items.specs.Contents.{chosen_by, comes_before, in_box, live_at, marked_item, relabelled};
 

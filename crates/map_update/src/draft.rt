@@ -1,15 +1,9 @@
 //! A tree in work beside watched subtrees. Each operation either crosses them, and is logged, or they are forgotten before.
-ghost use Rattle.std.specs.Prelude.{◌≡◌, ℕ, ◌<◌, ◌≤◌, List, Some, length, IfOk, IfSome, IsNone, ◌↔◌};
-ghost use Rattle.std.specs.List.{remove};
+ghost use Rattle.std.specs.{Prelude.{◌≡◌, ℕ, ◌<◌, ◌≤◌, List, Some, length, IfOk, IfSome, IsNone, ◌↔◌}, List.{remove}};
 ghost use Rattle.node_labels.specs.Labels.{keep_tag};
-ghost use Rattle.map_items.specs.Contents.{chosen_by, mark, put};
-ghost use Rattle.map_items.specs.declared.op.Op.TheVariants.{Mark, Put};
-ghost use Rattle.kd_tree.specs.Shape.{levels, nodes, numbers};
-ghost use Rattle.kd_tree.specs.Criteria.{AllMeetCriteria};
-ghost use Rattle.kd_mark.specs.Refresh.{AreAmong};
-ghost use Rattle.kd_tree.specs.Walk.{times};
-ghost use Rattle.kd_tree.specs.Contents.{contents};
-ghost use Rattle.kd_mark.specs.Watches.{HaveRoom, paths_in};
+ghost use Rattle.map_items.specs.{Contents.{chosen_by, mark, put}, declared.op.Op.TheVariants.{Mark, Put}};
+ghost use Rattle.kd_tree.specs.{Shape.{levels, nodes, numbers}, Criteria.{AllMeetCriteria}, Walk.{times}, Contents.{contents}};
+ghost use Rattle.kd_mark.specs.{Refresh.{AreAmong}, Watches.{HaveRoom, paths_in}};
 ghost use Rattle.map_update.specs.Draft.{AreSpared, DoesPlainly, IsDraft, IsDraftLeft, IsLawfulDraft, IsDrafted, KeepsDraft, MakesFew};
 ghost use Rattle.kd_update.specs.Detached.{PartAt};
 

@@ -2,8 +2,7 @@
 ghost use Rattle.std.specs.Prelude.{◌≡◌, ◌+◌, ◌≤◌, length, map, IfOk};
 ghost use Rattle.point_geom.specs.Boxes.{voxel};
 ghost use Rattle.kd_update.specs.Scan.{live_from};
-ghost use Rattle.map_update.specs.Entrants.{AreFirsts};
-ghost use Rattle.map_update.specs.Ranks.{HaveVoxels, entrant_of, items_in, rank_of};
+ghost use Rattle.map_update.specs.{Entrants.{AreFirsts}, Ranks.{HaveVoxels, entrant_of, items_in, rank_of}};
 
 use map_items::{Item, MAX_POINTS, NoMemory, Settings};
 use point_geom::{Cuboid, MAX_EDGE, Point, centre_dist2, voxel};

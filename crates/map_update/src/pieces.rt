@@ -1,11 +1,8 @@
 //! Items put in as few passes as may be, while a tree is watched. Nothing here knows where they come from.
 ghost use Rattle.std.specs.Prelude.{◌≡◌, ℕ, ◌<◌, ◌≤◌, List, length, All, IfOk};
 ghost use Rattle.kd_tree.specs.Contents.{contents};
-ghost use Rattle.kd_update.specs.Crossing.{HaveRoomAtOnce};
-ghost use Rattle.kd_update.specs.Scan.{MayJoin, put_each};
-ghost use Rattle.map_update.specs.Draft.{IsDraft, IsDraftLeft, IsLawfulDraft, IsDrafted, KeepsWatched};
-ghost use Rattle.kd_update.specs.Detached.{PartAt};
-ghost use Rattle.map_update.specs.Pieces.{MayPass};
+ghost use Rattle.kd_update.specs.{Crossing.{HaveRoomAtOnce}, Scan.{MayJoin, put_each}, Detached.{PartAt}};
+ghost use Rattle.map_update.specs.{Draft.{IsDraft, IsDraftLeft, IsLawfulDraft, IsDrafted, KeepsWatched}, Pieces.{MayPass}};
 
 use crate::draft::{Draft, Drafted};
 use kd_mark::Watch;

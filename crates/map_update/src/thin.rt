@@ -2,13 +2,9 @@
 ghost use Rattle.std.specs.Prelude.{◌≡◌, ◌+◌, ◌*◌, ◌≤◌, ◌<◌, [], ◌∷◌, length, IfOk};
 ghost use Rattle.point_geom.specs.Place.{Place};
 ghost use Rattle.node_labels.specs.Labels.{thin_tag};
-ghost use Rattle.map_items.specs.Contents.{in_box, mark, put, thin};
-ghost use Rattle.map_items.specs.Fold.{thin_points};
-ghost use Rattle.map_items.specs.Ops.{IsUnheld};
-ghost use Rattle.kd_tree.specs.Contents.{contents};
-ghost use Rattle.map_update.specs.Draft.{IsLawfulDraft, IsDrafted, KeepsDraft, KeepsWatched};
-ghost use Rattle.kd_tree.specs.Maps.{map_of};
-ghost use Rattle.map_update.specs.OnePoint.{IsRejected};
+ghost use Rattle.map_items.specs.{Contents.{in_box, mark, put, thin}, Fold.{thin_points}, Ops.{IsUnheld}};
+ghost use Rattle.kd_tree.specs.{Contents.{contents}, Maps.{map_of}};
+ghost use Rattle.map_update.specs.{Draft.{IsLawfulDraft, IsDrafted, KeepsDraft, KeepsWatched}, OnePoint.{IsRejected}};
 
 use crate::draft::{Draft, Drafted};
 use crate::update::added_one;

@@ -1,14 +1,9 @@
 //! What an update makes of a tree and of what is watched of it, operation by operation.
 ghost use Rattle.std.specs.Prelude.{◌≡◌, ◌+◌, ◌<◌, ◌≤◌, [], ◌∷◌, Some, length, IfOk};
 ghost use Rattle.point_geom.specs.Place.{Place};
-ghost use Rattle.map_items.specs.declared.op.Op.{Op};
-ghost use Rattle.map_items.specs.declared.op.Op.TheVariants.{Put};
-ghost use Rattle.map_items.specs.Contents.{put};
-ghost use Rattle.map_items.specs.Fold.{add_points, mark_boxes, points_in, step};
-ghost use Rattle.kd_tree.specs.Contents.{contents};
-ghost use Rattle.kd_tree.specs.Maps.{map_of};
-ghost use Rattle.map_update.specs.Draft.{DoesPlainly, IsLawfulDraft, IsDrafted, KeepsDraft, KeepsWatched, MakesFew};
-ghost use Rattle.map_update.specs.OnePoint.{IsRejected};
+ghost use Rattle.map_items.specs.{declared.op.Op.{Op}, declared.op.Op.TheVariants.{Put}, Contents.{put}, Fold.{add_points, mark_boxes, points_in, step}};
+ghost use Rattle.kd_tree.specs.{Contents.{contents}, Maps.{map_of}};
+ghost use Rattle.map_update.specs.{Draft.{DoesPlainly, IsLawfulDraft, IsDrafted, KeepsDraft, KeepsWatched, MakesFew}, OnePoint.{IsRejected}};
 ghost use Rattle.map_update.specs.Single.{most_ops, only_mark, only_op};
 
 use crate::draft::{Draft, Drafted};

@@ -1,18 +1,14 @@
 //! Points that have won their voxels, and wait to be put at once. Nothing here knows the state.
 ghost use Rattle.std.specs.Prelude.{◌≡◌, ℕ, ◌+◌, ◌*◌, ◌≤◌, ◌<◌, List, [], ◌∷◌, ◌++◌, ◌↔◌, length, IfOk, IfSome, IsNone};
 ghost use Rattle.point_geom.specs.Boxes.{voxel};
-ghost use Rattle.node_labels.specs.Labels.{thin_tag};
-ghost use Rattle.node_labels.specs.declared.label.Label.TheVariants.{Live};
+ghost use Rattle.node_labels.specs.{Labels.{thin_tag}, declared.label.Label.TheVariants.{Live}};
 ghost use Rattle.map_fold.specs.Answers.{count, inside_all};
-ghost use Rattle.map_items.specs.Contents.{in_box, mark, put, thin};
-ghost use Rattle.map_items.specs.Fold.{thin_points};
-ghost use Rattle.map_items.specs.Ops.{IsUnheld};
-ghost use Rattle.kd_tree.specs.Contents.{AreDistinct, contents};
+ghost use Rattle.map_items.specs.{Contents.{in_box, mark, put, thin}, Fold.{thin_points}, Ops.{IsUnheld}};
+ghost use Rattle.kd_tree.specs.{Contents.{AreDistinct, contents}, Maps.{map_of}};
 ghost use Rattle.kd_search.specs.Best.{IsBest};
 ghost use Rattle.map_update.specs.Draft.{IsDraft, IsDraftLeft, IsLawfulDraft, IsDrafted, KeepsDraft, KeepsWatched};
-ghost use Rattle.kd_tree.specs.Maps.{map_of};
-ghost use Rattle.kd_update.specs.Detached.{PartAt};
 ghost use Rattle.map_update.specs.Waiting.{NoneWaitsIn, IsJoined, IsWaiting, contents_of};
+ghost use Rattle.kd_update.specs.Detached.{PartAt};
 
 use crate::draft::{Draft, Drafted};
 use crate::entrants::{Entrant, firsts};

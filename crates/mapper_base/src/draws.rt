@@ -1,7 +1,6 @@
 //! Draws: pseudorandom numbers, the same at each run.
 ghost use Rattle.std.specs.Prelude.{◌≡◌, ◌<◌};
-ghost use Rattle.scan_log.specs.declared.format.Format.TheVariants.{One};
-ghost use Rattle.scan_log.specs.Scripts.{IsLogPlace};
+ghost use Rattle.scan_log.specs.{declared.format.Format.TheVariants.{One}, Scripts.{IsLogPlace}};
 
 use point_geom::Point;
 use std::marker::Model;
@@ -21,8 +20,7 @@ impl Model for Draws {
 }
 
 impl Draws {
-    ghost use Rattle.scan_log.specs.declared.format.Format.TheVariants.{One};
-    ghost use Rattle.scan_log.specs.Scripts.{IsScannedPlace};
+    ghost use Rattle.scan_log.specs.{declared.format.Format.TheVariants.{One}, Scripts.{IsScannedPlace}};
     ghost use Rattle.mapper_base.specs.Generated.{drawn, next, point};
 
     pub fn new() -> Draws

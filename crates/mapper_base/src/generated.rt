@@ -1,7 +1,5 @@
 //! The generated script: scans of a robot that moves a metre along x from scan to scan.
-ghost use Rattle.std.specs.Prelude.{◌≡◌, ◌≤◌, ◌<◌, ◌+◌, ◌*◌, ◌++◌, length, IfOk, OnOk};
-ghost use Rattle.std.specs.List.{AllByRecursion};
-ghost use Rattle.std.specs.Option.{ForSome};
+ghost use Rattle.std.specs.{Prelude.{◌≡◌, ◌≤◌, ◌<◌, ◌+◌, ◌*◌, ◌++◌, length, IfOk, OnOk}, List.{AllByRecursion}, Option.{ForSome}};
 ghost use Rattle.scan_log.specs.declared.format.Format.TheVariants.{One};
 ghost use Rattle.scan_log.specs.Scripts.{IsCaller, IsCallerBox, IsCommand, IsScannedPlace, asked, hits_of, points_of, submitted, with_command};
 ghost use Rattle.mapper_base.specs.Generated.{after, box_behind, deletions, generated, next_draws, points_of_draws, robot, scan_commands};

@@ -1,8 +1,6 @@
 //! Reading an input, and the log in it.
 ghost use Rattle.std.specs.Prelude.{◌≡◌, drop, IfOk, IfErr, IfSome};
-ghost use Rattle.mapper_base.specs.Asks.{CanBeDone, IsOfLog, log_of, most_of};
-ghost use Rattle.mapper_base.specs.Causes.{NotRead, ReadsInLimit, Says};
-ghost use Rattle.mapper_base.specs.Seen.{log_seen};
+ghost use Rattle.mapper_base.specs.{Asks.{CanBeDone, IsOfLog, log_of, most_of}, Causes.{NotRead, ReadsInLimit, Says}, Seen.{log_seen}};
 
 use crate::ending::Ending;
 use crate::{Ask, MAX_LOG};

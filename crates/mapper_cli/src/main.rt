@@ -3,8 +3,7 @@
 
 mod streams;
 
-ghost use Rattle.std.specs.Prelude.{◌≡◌};
-ghost use Rattle.std.specs.Process.{exit_status};
+ghost use Rattle.std.specs.{Prelude.{◌≡◌}, Process.{exit_status}};
 ghost use Rattle.mapper_cli.specs.Codes.{code_of};
 
 use crate::streams::{Input, Output};

@@ -4,10 +4,8 @@ ghost use Rattle.scan_log.specs.Legal.{AreLegalLines};
 ghost use Rattle.byte_streams.specs.Outside.{NoFault};
 ghost use Rattle.mapper_base.specs.Asks.{AskForLog, AskForRun, AskForScans, AskNothing, Asks, CanBeDone, IsOfLog, texts};
 ghost use Rattle.mapper_base.specs.Causes.{Ended, Ends, HasNoText, IsTextOf, ReadsInLimit};
-ghost use Rattle.mapper_base.specs.Done.{IsChecked, IsDriven, IsScriptMade, IsTranscribed, IsTranscribedInOrder};
-ghost use Rattle.mapper_base.specs.Endings.{IsOrNoMemory};
-ghost use Rattle.mapper_base.specs.Inputs.{IfBad, IfOverLimit, IfSpelled};
-ghost use Rattle.mapper_base.specs.Seen.{log_seen, out_seen, run_seen};
+ghost use Rattle.mapper_base.specs.{Done.{IsChecked, IsDriven, IsScriptMade, IsTranscribed, IsTranscribedInOrder}, Endings.{IsOrNoMemory}};
+ghost use Rattle.mapper_base.specs.{Inputs.{IfBad, IfOverLimit, IfSpelled}, Seen.{log_seen, out_seen, run_seen}};
 
 use crate::callers::threaded_plain;
 use byte_streams::{Sink, SinkFault, Source, write_all};

@@ -1,8 +1,6 @@
 //! Counts of labels.
 ghost use Rattle.std.specs.Prelude.{◌≡◌, ◌+◌, ◌≤◌, List, map};
-ghost use Rattle.node_labels.specs.Labels.{apply};
-ghost use Rattle.node_labels.specs.Tallies.{added, applied, counted, label_counts, total};
-ghost use Rattle.node_labels.specs.declared.label.Label.{Label};
+ghost use Rattle.node_labels.specs.{Labels.{apply}, Tallies.{added, applied, counted, label_counts, total}, declared.label.Label.{Label}};
 
 use crate::{Label, Tag};
 

@@ -1,7 +1,6 @@
 //! Actions on labels.
 ghost use Rattle.std.specs.Prelude.{◌≡◌};
-ghost use Rattle.node_labels.specs.Labels.{apply, composed};
-ghost use Rattle.node_labels.specs.declared.label.Label.{Label};
+ghost use Rattle.node_labels.specs.{Labels.{apply, composed}, declared.label.Label.{Label}};
 
 use crate::Label;
 

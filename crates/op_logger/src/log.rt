@@ -29,9 +29,8 @@ pub struct OpLog {
 
 impl Model for OpLog {
     ghost use Rattle.std.specs.Prelude.{List, ◌≡◌, ◌+◌, ◌≤◌, ◌++◌, length};
-    ghost use Rattle.op_logger.specs.Blocks.{ops_in};
+    ghost use Rattle.op_logger.specs.{Blocks.{ops_in}, declared.log.TheConstants.{MAX_LOGGED}};
     ghost use Rattle.map_items.specs.declared.op.Op.{Op};
-    ghost use Rattle.op_logger.specs.declared.log.TheConstants.{MAX_LOGGED};
 
     ghost Value = { List Op };
 

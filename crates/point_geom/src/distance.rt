@@ -1,8 +1,6 @@
 //! Squared distances.
 ghost use Rattle.std.specs.Prelude.{◌≡◌, ◌≤◌};
-ghost use Rattle.point_geom.specs.Place.{IsCoordinate, IsCornerNumber};
-ghost use Rattle.point_geom.specs.Axes.{on};
-ghost use Rattle.point_geom.specs.Distances.{gap2, dist2, centre_gap2, centre_dist2};
+ghost use Rattle.point_geom.specs.{Place.{IsCoordinate, IsCornerNumber}, Axes.{on}, Distances.{gap2, dist2, centre_gap2, centre_dist2}};
 
 use crate::{Axis, Cuboid, Point};
 

@@ -1,8 +1,6 @@
 //! Closed boxes.
-ghost use Rattle.std.specs.Prelude.{◌≡◌, ◌≤◌, ◌≤ℤ◌, ◌↔◌, max};
-ghost use Rattle.std.specs.Int.{int_max, int_min};
-ghost use Rattle.point_geom.specs.Place.{IsBelow, IsCoordinate, Place, Span};
-ghost use Rattle.point_geom.specs.Distances.{dist2, gap2};
+ghost use Rattle.std.specs.{Prelude.{◌≡◌, ◌≤◌, ◌≤ℤ◌, ◌↔◌, max}, Int.{int_max, int_min}};
+ghost use Rattle.point_geom.specs.{Place.{IsBelow, IsCoordinate, Place, Span}, Distances.{dist2, gap2}};
 ghost use Rattle.point_geom.specs.Extents.{IsIn, IsPart, clamped, joined_span, nearest_in, span_dist2, span_far2, spot};
 
 use crate::Point;

@@ -1,15 +1,9 @@
 //! Points.
 ghost use Rattle.std.specs.Prelude.{◌≡◌, ◌<◌, ℤ, OnOk, IfOk};
 ghost use Rattle.std.proofs.Common.{rules};
-ghost use Rattle.std.specs.Cmp.{partial_order_from_own_ties};
-ghost use Rattle.std.specs.Cmp.Rules.{comparing};
-ghost use Rattle.std.specs.Int.{int_max, int_min};
-ghost use Rattle.std.specs.Ordering.{as_partial_cmp};
-ghost use Rattle.point_geom.specs.Place.{IsCoordinate, IsPlace, bare};
-ghost use Rattle.point_geom.specs.Axes.{on, place_cmp, point_cmp, point_eq};
-ghost use Rattle.point_geom.specs.Extents.{low_corner, high_corner};
-ghost use Rattle.point_geom.specs.Packed.{packed, packed_intensity, packed_z};
-ghost use Rattle.point_geom.specs.Refusals.{point_of, within};
+ghost use Rattle.std.specs.{Cmp.{partial_order_from_own_ties}, Cmp.Rules.{comparing}, Int.{int_max, int_min}, Ordering.{as_partial_cmp}};
+ghost use Rattle.point_geom.specs.{Place.{IsCoordinate, IsPlace, bare}, Axes.{on, place_cmp, point_cmp, point_eq}, Extents.{low_corner, high_corner}};
+ghost use Rattle.point_geom.specs.{Packed.{packed, packed_intensity, packed_z}, Refusals.{point_of, within}};
 
 use crate::Axis;
 use std::cmp::Ordering;
@@ -34,9 +28,7 @@ pub struct Point {
 }
 
 impl Model for Point {
-    ghost use Rattle.point_geom.specs.Place.{IsCoordinate, Place};
-    ghost use Rattle.point_geom.specs.Packed.{packed, packed_intensity, packed_z};
-    ghost use Rattle.point_geom.specs.Packed.{packed_again};
+    ghost use Rattle.point_geom.specs.{Place.{IsCoordinate, Place}, Packed.{packed, packed_intensity, packed_z}, Packed.{packed_again}};
 
     ghost Value = { Place };
 

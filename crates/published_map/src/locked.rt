@@ -1,8 +1,7 @@
 //! What the lock guards. What a turn returns to be dropped is dropped once the lock is given back.
 ghost use Rattle.std.specs.Prelude.{◌≡◌, ◌≤◌, None, IfErr, IfOk, IfSome, OnErr, OnOk};
 ghost use mathlib.Core.List.{IsPrefix};
-ghost use Rattle.rebuild_core.specs.Lawful.{IsLawful};
-ghost use Rattle.rebuild_core.specs.Steps.{IsFault, IsSettleStep, entered};
+ghost use Rattle.rebuild_core.specs.{Lawful.{IsLawful}, Steps.{IsFault, IsSettleStep, entered}};
 ghost use Rattle.shown_versions.specs.Marks.{Added, Grown, IsMade};
 ghost use Rattle.published_map.specs.Answers.{Updated};
 
@@ -43,8 +42,7 @@ where
     ghost use Rattle.std.specs.Prelude.{◌≡◌};
     ghost use Rattle.left_right.specs.Sides.{view as seat_view};
     ghost use Rattle.rebuild_core.specs.Lawful.{Stored};
-    ghost use Rattle.published_map.specs.Held.{IsWhole};
-    ghost use Rattle.published_map.specs.MarkedSubtrees.{AreTrueOf};
+    ghost use Rattle.published_map.specs.{Held.{IsWhole}, MarkedSubtrees.{AreTrueOf}};
 
     ghost Value = { Stored };
 

@@ -1,6 +1,5 @@
 //! What detached subtrees held, by marks: so a turn of the lock knows what an earlier one saw.
-ghost use Rattle.std.specs.Prelude.{◌≡◌, ◌<◌, ◌++◌, [], ◌∷◌, length, slice_set, vec_len, vec_capacity, IfSome, IsNone};
-ghost use Rattle.std.specs.Option.{option_map};
+ghost use Rattle.std.specs.{Prelude.{◌≡◌, ◌<◌, ◌++◌, [], ◌∷◌, length, slice_set, vec_len, vec_capacity, IfSome, IsNone}, Option.{option_map}};
 ghost use Rattle.published_map.specs.MarkedSubtrees.{MarkedSubtreeAt, marked_subtree_of, with_marked_subtree};
 
 use shown_versions::{MapName, Mark};

@@ -1,8 +1,7 @@
 //! What a caller holds.
 ghost use Rattle.std.specs.Prelude.{◌≡◌, ◌≤◌, [], length, IfOk, IsOk};
 ghost use Rattle.kd_search.specs.Query.{IsQuery};
-ghost use Rattle.shown_versions.specs.Marks.{Grown, IsMade, seen_by_new};
-ghost use Rattle.shown_versions.specs.Versions.{IsVersionOf};
+ghost use Rattle.shown_versions.specs.{Marks.{Grown, IsMade, seen_by_new}, Versions.{IsVersionOf}};
 ghost use Rattle.published_map.specs.Answers.{box_reply, near_reply};
 
 use kd_search::{count_in, in_cuboid, nearest};

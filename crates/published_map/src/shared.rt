@@ -2,9 +2,7 @@
 ghost use Rattle.std.specs.Prelude.{◌≡◌, ◌+◌, ◌<◌, ℕ, length, slice_get, Some, IfOk, map};
 ghost use Rattle.rebuild_core.specs.Lawful.{IsLawful};
 ghost use Rattle.shown_versions.specs.Marks.{seen_by_new, callers_of, IsDistinct, AllMetNow, AllEnded};
-ghost use Rattle.published_map.specs.Answers.{Updated};
-ghost use Rattle.published_map.specs.Ends.{ended_of};
-ghost use Rattle.published_map.specs.Held.{IsOpenedAs};
+ghost use Rattle.published_map.specs.{Answers.{Updated}, Ends.{ended_of}, Held.{IsOpenedAs}};
 
 use crate::ended::{Ended, ended_all};
 use crate::locked::Locked;

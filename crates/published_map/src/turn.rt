@@ -2,8 +2,7 @@
 ghost use Rattle.std.specs.Prelude.{◌≡◌, ◌≤◌, true, is_some, length, IfOk, OnErr, OnOk};
 ghost use mathlib.Core.List.{IsPrefix};
 ghost use Rattle.left_right.specs.Sides.{view};
-ghost use Rattle.rebuild_core.specs.Lawful.{IsLawful};
-ghost use Rattle.rebuild_core.specs.Steps.{entered};
+ghost use Rattle.rebuild_core.specs.{Lawful.{IsLawful}, Steps.{entered}};
 ghost use Rattle.shown_versions.specs.Rules.{IsPublishedAs};
 ghost use Rattle.published_map.specs.Turns.{history_after};
 

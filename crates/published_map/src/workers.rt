@@ -1,8 +1,7 @@
 //! The turns of the lock that workers take. None takes time by the number of points in a detached subtree.
 ghost use Rattle.std.specs.Prelude.{◌≡◌, ◌≤◌, ◌↔◌, true, IfErr, IfOk, IfSome, IsNone, OnErr, OnOk};
 ghost use Rattle.rebuild_parts.specs.Built.{CanBeDoneOn};
-ghost use Rattle.rebuild_core.specs.Detach.{IsDetachStep, IsLogAfter, IsLogFault, IsNoDetach};
-ghost use Rattle.rebuild_core.specs.Swap.{IsNear, IsSwapStep};
+ghost use Rattle.rebuild_core.specs.{Detach.{IsDetachStep, IsLogAfter, IsLogFault, IsNoDetach}, Swap.{IsNear, IsSwapStep}};
 ghost use Rattle.kd_update.specs.Detached.{AreItemsOf};
 ghost use Rattle.published_map.specs.Late.{IsLateCause, IsLateThere};
 

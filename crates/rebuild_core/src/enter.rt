@@ -1,7 +1,5 @@
 ghost use Rattle.std.specs.Prelude.{◌≡◌, ◌-◌, ◌<◌, ◌≤◌, true, ◌++◌, length, is_some};
-ghost use Rattle.rebuild_core.specs.Lawful.{IsLawful};
-ghost use Rattle.rebuild_core.specs.StateView.{AreMade, IsNextOf};
-ghost use Rattle.rebuild_core.specs.Steps.{entered};
+ghost use Rattle.rebuild_core.specs.{Lawful.{IsLawful}, StateView.{AreMade, IsNextOf}, Steps.{entered}};
 ghost use Rattle.rebuild_parts.specs.History.{listed};
 
 use crate::{MapState, Planned};

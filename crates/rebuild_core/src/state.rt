@@ -1,7 +1,6 @@
 ghost use Rattle.std.specs.Prelude.{◌≡◌, length, IfOk};
-ghost use Rattle.rebuild_core.specs.Lawful.{IsLawful, new_state};
+ghost use Rattle.rebuild_core.specs.{Lawful.{IsLawful, new_state}, StateView.{info_of}};
 ghost use Rattle.kd_update.specs.Detached.{part_in};
-ghost use Rattle.rebuild_core.specs.StateView.{info_of};
 
 use kd_tree::{Scratch, Tree};
 use map_items::{Entry, NoMemory, Settings};
@@ -49,8 +48,7 @@ impl Drop for MapState {
 }
 
 impl Model for MapState {
-    ghost use Rattle.rebuild_core.specs.Lawful.{IsLawful, Stored};
-    ghost use Rattle.rebuild_core.specs.StateView.{AreMade, spare_of, state_of};
+    ghost use Rattle.rebuild_core.specs.{Lawful.{IsLawful, Stored}, StateView.{AreMade, spare_of, state_of}};
 
     ghost Value = { Stored };
 

@@ -2,8 +2,7 @@
 ghost use Rattle.std.specs.Prelude.{◌≡◌, ◌≤◌, length, IfErr, IfOk, OnErr, OnOk};
 ghost use Rattle.kd_tree.specs.Counter.{IsBlankOf};
 ghost use Rattle.kd_update.specs.Detached.{AreItemsOf};
-ghost use Rattle.rebuild_core.specs.Steps.{HasRoom, IsFault, IsUpdatePlan, IsUpdateStep};
-ghost use Rattle.rebuild_core.specs.Swap.{IsLate, IsNear, IsSwapFault, IsSwapPlan, IsSwapStep, MaySwap};
+ghost use Rattle.rebuild_core.specs.{Steps.{HasRoom, IsFault, IsUpdatePlan, IsUpdateStep}, Swap.{IsLate, IsNear, IsSwapFault, IsSwapPlan, IsSwapStep, MaySwap}};
 
 use crate::{MapState, Planned, SwapLeft};
 use kd_tree::Steps;

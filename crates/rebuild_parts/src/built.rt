@@ -1,12 +1,8 @@
 //! Rebuilt subtrees, which are brought up to date. Nothing here knows the state that they come from.
 ghost use Rattle.std.specs.Prelude.{◌≡◌, ◌+◌, ◌≤◌, [], ◌++◌, length, IfErr, IfOk};
 ghost use Rattle.map_items.specs.Ops.{Fit, numbers_put, replay};
-ghost use Rattle.kd_tree.specs.Shape.{levels, nodes, numbers};
-ghost use Rattle.kd_tree.specs.Contents.{contents};
-ghost use Rattle.kd_tree.specs.Criteria.{AllMeetCriteria};
-ghost use Rattle.kd_tree.specs.Counter.{IsBlankOf};
-ghost use Rattle.kd_mark.specs.Refresh.{AreAmong};
-ghost use Rattle.kd_mark.specs.Update.{IsBalancedBelow};
+ghost use Rattle.kd_tree.specs.{Shape.{levels, nodes, numbers}, Contents.{contents}, Criteria.{AllMeetCriteria}, Counter.{IsBlankOf}};
+ghost use Rattle.kd_mark.specs.{Refresh.{AreAmong}, Update.{IsBalancedBelow}};
 ghost use Rattle.rebuild_parts.specs.Built.{AreNumbersOf, IsLawfulBuilt, IsReplayOf};
 
 use crate::Job;

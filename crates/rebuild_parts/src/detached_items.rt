@@ -1,8 +1,7 @@
 //! What detached subtrees held: trees until somebody lists them, and then lists.
 ghost use Rattle.std.specs.Prelude.{◌≡◌, ◌↔◌, true, IfOk};
 ghost use Rattle.map_items.specs.Contents.{AreContents};
-ghost use Rattle.kd_tree.specs.Contents.{contents};
-ghost use Rattle.kd_tree.specs.Counter.{IsBlankOf};
+ghost use Rattle.kd_tree.specs.{Contents.{contents}, Counter.{IsBlankOf}};
 
 use crate::Built;
 use crate::same_items::{are_same, holds};
@@ -34,8 +33,7 @@ enum Listing {
 
 impl Model for DetachedItems {
     ghost use Rattle.std.specs.Prelude.{List};
-    ghost use Rattle.map_items.specs.declared.item.Item.{Item};
-    ghost use Rattle.map_items.specs.Contents.{AreContents};
+    ghost use Rattle.map_items.specs.{declared.item.Item.{Item}, Contents.{AreContents}};
 
     ghost Value = { List Item };
 

@@ -1,8 +1,6 @@
 //! Detached subtrees, handed out to be rebuilt. Nothing here knows the state that they come from.
 ghost use Rattle.std.specs.Prelude.{◌≡◌, IfErr, IfOk};
-ghost use Rattle.kd_tree.specs.Contents.{contents};
-ghost use Rattle.kd_tree.specs.Criteria.{AllMeetCriteria};
-ghost use Rattle.kd_tree.specs.Counter.{IsBlankOf};
+ghost use Rattle.kd_tree.specs.{Contents.{contents}, Criteria.{AllMeetCriteria}, Counter.{IsBlankOf}};
 ghost use Rattle.rebuild_parts.specs.Built.{AreNumbersOf, IsBuiltOf};
 
 use crate::{Built, DetachedItems};

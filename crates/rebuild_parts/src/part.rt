@@ -1,5 +1,4 @@
-ghost use Rattle.std.specs.Prelude.{◌≡◌, ◌≤◌, length, IfOk, IfSome, IsNone};
-ghost use Rattle.std.specs.Option.{option_map};
+ghost use Rattle.std.specs.{Prelude.{◌≡◌, ◌≤◌, length, IfOk, IfSome, IsNone}, Option.{option_map}};
 ghost use Rattle.kd_update.specs.Detached.{IsNewTicket, IsPlaceOf, part_in, part_of, paths, without, watches_of};
 
 use crate::DetachedItems;

@@ -1,8 +1,7 @@
 //! Lists and trees, compared without memory.
 ghost use Rattle.std.specs.Prelude.{◌≡◌, ◌∷◌, [], ◌↔◌, true};
 ghost use Rattle.map_items.specs.Contents.{AreContents, kept, Member};
-ghost use Rattle.kd_tree.specs.Contents.{contents};
-ghost use Rattle.kd_tree.specs.Walk.{walk};
+ghost use Rattle.kd_tree.specs.{Contents.{contents}, Walk.{walk}};
 ghost use Rattle.rebuild_parts.specs.DetachedItems.{AreAllFrom};
 
 use kd_tree::Tree;

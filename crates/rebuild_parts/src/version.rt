@@ -1,7 +1,6 @@
 ghost use Rattle.std.specs.Prelude.{◌≡◌, IfOk};
 ghost use Rattle.map_items.specs.Contents.{totals};
-ghost use Rattle.kd_tree.specs.Shape.{leaf};
-ghost use Rattle.kd_tree.specs.Contents.{contents};
+ghost use Rattle.kd_tree.specs.{Shape.{leaf}, Contents.{contents}};
 
 use kd_tree::{Scratch, Steps, Tree};
 use map_items::{Counts, NoMemory};

@@ -1,7 +1,5 @@
-ghost use Rattle.std.specs.Prelude.{◌≡◌, ◌+◌, ◌<◌, ◌↔◌, true, IfErr, OnErr, OnOk};
-ghost use Rattle.std.specs.List.{Contains};
-ghost use Rattle.rebuild_core.specs.Desk.{IsSwapCause};
-ghost use Rattle.rebuild_core.specs.Swap.{IsSwapStep};
+ghost use Rattle.std.specs.{Prelude.{◌≡◌, ◌+◌, ◌<◌, ◌↔◌, true, IfErr, OnErr, OnOk}, List.{Contains}};
+ghost use Rattle.rebuild_core.specs.{Desk.{IsSwapCause}, Swap.{IsSwapStep}};
 
 use map_items::{NoMemory, Ops};
 use rebuild_core::{Desk, MapState, SwapLeft, Swapped};

@@ -1,10 +1,6 @@
 //! Appending what lines of transcripts and logs are made of. On `NoMemory` a part may be appended: the line or the log is dropped.
-ghost use Rattle.std.specs.Prelude.{◌≡◌, [], ◌∷◌, ◌++◌, List, ℕ, OnOk, OnErr};
-ghost use Rattle.std.specs.Fmt.{signed_decimal};
-ghost use Rattle.std.specs.List.{flat_map};
-ghost use Rattle.scan_log.specs.declared.format.Format.{Format};
-ghost use Rattle.scan_log.specs.Spelling.{caller_field};
-ghost use Rattle.scan_log.specs.Transcript.{all_spaced, point_text, spaced};
+ghost use Rattle.std.specs.{Prelude.{◌≡◌, [], ◌∷◌, ◌++◌, List, ℕ, OnOk, OnErr}, Fmt.{signed_decimal}, List.{flat_map}};
+ghost use Rattle.scan_log.specs.{declared.format.Format.{Format}, Spelling.{caller_field}, Transcript.{all_spaced, point_text, spaced}};
 
 use crate::Format;
 use itoa::{Buffer, Integer};

@@ -1,9 +1,7 @@
 //! Reading boxes.
 ghost use Rattle.std.specs.Prelude.{◌≡◌, ◌<◌, ◌∷◌, length, map, IfOk, OnOk, Ok};
 ghost use Rattle.point_geom.specs.Boxes.{unit_box};
-ghost use Rattle.scan_log.specs.Outcomes.{Gives};
-ghost use Rattle.scan_log.specs.Reading.{box_of, boxes_of, corner_of, few_boxes_of, units_of, with_boxes};
-ghost use Rattle.scan_log.specs.Scripts.{IsBoxCorner};
+ghost use Rattle.scan_log.specs.{Outcomes.{Gives}, Reading.{box_of, boxes_of, corner_of, few_boxes_of, units_of, with_boxes}, Scripts.{IsBoxCorner}};
 
 use crate::fields::Fields;
 use crate::line_fault::LineFault;

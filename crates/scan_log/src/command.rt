@@ -137,9 +137,7 @@ impl Drop for Command {
 
 impl Command {
     ghost use Rattle.std.specs.Prelude.{◌≡◌, IfOk};
-    ghost use Rattle.scan_log.specs.declared.format.Format.TheVariants.{Two};
-    ghost use Rattle.scan_log.specs.Scripts.{IsCommand, asked, submitted};
-    ghost use Rattle.scan_log.specs.Commands.{command_caller};
+    ghost use Rattle.scan_log.specs.{declared.format.Format.TheVariants.{Two}, Scripts.{IsCommand, asked, submitted}, Commands.{command_caller}};
 
     /// The caller's number. A barrier has none.
     pub fn caller(&self) -> Option<u8>

@@ -1,7 +1,6 @@
 //! Reading the command of a line.
 ghost use Rattle.std.specs.Prelude.{◌≡◌};
-ghost use Rattle.scan_log.specs.declared.format.Format.TheVariants.{Two};
-ghost use Rattle.scan_log.specs.Outcomes.{Gives};
+ghost use Rattle.scan_log.specs.{declared.format.Format.TheVariants.{Two}, Outcomes.{Gives}};
 ghost use Rattle.scan_log.specs.Reading.{basic_of, called_of, caller_of, command_of, expiry_of, line_command, update_of};
 
 use crate::boxes::{boxes, units};

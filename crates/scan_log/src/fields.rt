@@ -1,10 +1,7 @@
 //! The fields of a line.
-ghost use Rattle.std.specs.Prelude.{◌≡◌, List, ℕ, [], ◌∷◌, length, drop, if◌then◌else◌, OnOk, IfOk, MatchResult};
-ghost use Rattle.std.specs.Option.{MatchOption};
-ghost use Rattle.scan_log.specs.declared.fault.LogCause.TheVariants.{WrongCount};
-ghost use Rattle.scan_log.specs.Lines.{fields_of};
-ghost use Rattle.scan_log.specs.Reading.{AreTooFew, first_coordinate, first_intensity, first_number};
-ghost use Rattle.scan_log.specs.Scripts.{IsLogCoordinate};
+ghost use Rattle.std.specs.{Prelude.{◌≡◌, List, ℕ, [], ◌∷◌, length, drop, if◌then◌else◌, OnOk, IfOk, MatchResult}, Option.{MatchOption}};
+ghost use Rattle.scan_log.specs.{declared.fault.LogCause.TheVariants.{WrongCount}, Lines.{fields_of}};
+ghost use Rattle.scan_log.specs.{Reading.{AreTooFew, first_coordinate, first_intensity, first_number}, Scripts.{IsLogCoordinate}};
 
 use crate::number::{as_coordinate, as_intensity};
 use crate::piece::{count_of, index_of};

@@ -1,8 +1,6 @@
 //! Reading the header.
 ghost use Rattle.std.specs.Prelude.{◌≡◌};
-ghost use Rattle.scan_log.specs.Formats.{format_of, is_version};
-ghost use Rattle.scan_log.specs.Lines.{fields_of};
-ghost use Rattle.scan_log.specs.Reading.{are_header_words, header_of};
+ghost use Rattle.scan_log.specs.{Formats.{format_of, is_version}, Lines.{fields_of}, Reading.{are_header_words, header_of}};
 
 use crate::fields::Fields;
 use crate::number::natural_in;

@@ -1,8 +1,6 @@
 //! The kept lines of a log.
-ghost use Rattle.std.specs.Prelude.{◌≡◌, ◌+◌, ◌≤◌, List, ℕ, [], ◌∷◌};
-ghost use Rattle.std.specs.Option.{MatchOption};
-ghost use Rattle.scan_log.specs.Faults.{line_feeds};
-ghost use Rattle.scan_log.specs.Lines.{is_kept_line, kept_from, lines_of};
+ghost use Rattle.std.specs.{Prelude.{◌≡◌, ◌+◌, ◌≤◌, List, ℕ, [], ◌∷◌}, Option.{MatchOption}};
+ghost use Rattle.scan_log.specs.{Faults.{line_feeds}, Lines.{is_kept_line, kept_from, lines_of}};
 
 use crate::piece::index_of;
 use std::marker::Model;

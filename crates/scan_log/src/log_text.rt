@@ -1,11 +1,8 @@
 //! Writing a script as a log.
-ghost use Rattle.std.specs.Prelude.{◌≡◌, ◌+◌, [], ◌∷◌, ◌++◌, length, codes, decimal, IfOk, OnOk};
-ghost use Rattle.std.specs.List.{flat_map};
-ghost use Rattle.scan_log.specs.Formats.{version_field};
-ghost use Rattle.scan_log.specs.Faults.{line_feeds};
+ghost use Rattle.std.specs.{Prelude.{◌≡◌, ◌+◌, [], ◌∷◌, ◌++◌, length, codes, decimal, IfOk, OnOk}, List.{flat_map}};
+ghost use Rattle.scan_log.specs.{Formats.{version_field}, Faults.{line_feeds}};
 ghost use Rattle.scan_log.specs.Spelling.{Spells, box_fields, caller_field, command_fields, header_fields, point_fields, update_fields, within_fields};
-ghost use Rattle.scan_log.specs.Transcript.{all_spaced, spaced};
-ghost use Rattle.scan_log.specs.Written.{command_text, corner_text, cuboid_text, joined_fields, written_line, script_text};
+ghost use Rattle.scan_log.specs.{Transcript.{all_spaced, spaced}, Written.{command_text, corner_text, cuboid_text, joined_fields, written_line, script_text}};
 
 use crate::append::{
     Listed, put, put_all, put_caller, put_head, put_named, put_point, put_spaced, put_three,

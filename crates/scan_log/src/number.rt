@@ -1,7 +1,6 @@
 //! Numbers in their one spelling.
 ghost use Rattle.std.specs.Prelude.{◌≡◌, ◌≤◌, ◌≤ℤ◌, IfOk, pos, negsuc};
-ghost use Rattle.scan_log.specs.Formats.{farthest, highest, lowest};
-ghost use Rattle.scan_log.specs.Numbers.{coordinate, corner_number, in_range, natural_in, natural_range, number_in};
+ghost use Rattle.scan_log.specs.{Formats.{farthest, highest, lowest}, Numbers.{coordinate, corner_number, in_range, natural_in, natural_range, number_in}};
 ghost use Rattle.scan_log.specs.Scripts.{IsBoxNumber, IsLogCoordinate};
 
 use crate::{Format, LogCause};

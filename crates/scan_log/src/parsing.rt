@@ -1,11 +1,7 @@
 //! Reading a log.
 ghost use Rattle.std.specs.Prelude.{◌≡◌, ◌≤◌, None, IfOk, IfErr, OnOk};
-ghost use Rattle.scan_log.specs.Faults.{first_fault, line_feeds};
-ghost use Rattle.scan_log.specs.Outcomes.{LogGives};
-ghost use Rattle.scan_log.specs.Reading.{body_of, log_of};
-ghost use Rattle.scan_log.specs.Refusal.{IsParseFault, IsSpelledOrFaulty};
-ghost use Rattle.scan_log.specs.Scripts.{ScriptAt};
-ghost use Rattle.scan_log.specs.Spelling.{Spells};
+ghost use Rattle.scan_log.specs.{Faults.{first_fault, line_feeds}, Outcomes.{LogGives}, Reading.{body_of, log_of}, Refusal.{IsParseFault, IsSpelledOrFaulty}};
+ghost use Rattle.scan_log.specs.{Scripts.{ScriptAt}, Spelling.{Spells}};
 
 use crate::commands::line_command;
 use crate::header::settings;

@@ -1,6 +1,5 @@
 //! Pieces of lines: where a line or a field ends, and which word a field is.
-ghost use Rattle.std.specs.Prelude.{◌≡◌, ◌<◌, ◌≤◌, ◌==◌, count_by, length, position, IfSome};
-ghost use Rattle.std.specs.Str.{bytes_eq};
+ghost use Rattle.std.specs.{Prelude.{◌≡◌, ◌<◌, ◌≤◌, ◌==◌, count_by, length, position, IfSome}, Str.{bytes_eq}};
 
 use memchr::memchr;
 

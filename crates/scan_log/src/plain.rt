@@ -1,9 +1,6 @@
 //! Scripts as they are run.
-ghost use Rattle.std.specs.Prelude.{◌≡◌, length, IfOk, OnOk, Some};
-ghost use Rattle.std.specs.List.{AllByRecursion};
-ghost use Rattle.scan_log.specs.declared.format.Format.TheVariants.{Two};
-ghost use Rattle.scan_log.specs.Scripts.{IsCommand, ScriptAt};
-ghost use Rattle.scan_log.specs.Plain.{IsPlainScript};
+ghost use Rattle.std.specs.{Prelude.{◌≡◌, length, IfOk, OnOk, Some}, List.{AllByRecursion}};
+ghost use Rattle.scan_log.specs.{declared.format.Format.TheVariants.{Two}, Scripts.{IsCommand, ScriptAt}, Plain.{IsPlainScript}};
 ghost use Rattle.scan_log.specs.Poses.{left_by, no_regions, plain, plain_command, plain_script, posed, regions_after};
 
 use crate::{Command, Format, Script};

@@ -1,7 +1,6 @@
 //! Reading points.
 ghost use Rattle.std.specs.Prelude.{◌≡◌, ◌<◌, ◌≤◌, ◌*◌, length, drop, Ok, OnOk};
-ghost use Rattle.scan_log.specs.declared.format.Format.TheVariants.{Two};
-ghost use Rattle.scan_log.specs.Outcomes.{Gives};
+ghost use Rattle.scan_log.specs.{declared.format.Format.TheVariants.{Two}, Outcomes.{Gives}};
 ghost use Rattle.scan_log.specs.Reading.{few_places_of, few_scanned_of, first_place, first_scanned, groups_of, place_of, places_of, scanned_places_of};
 ghost use Rattle.scan_log.specs.Scripts.{IsLogCoordinate};
 

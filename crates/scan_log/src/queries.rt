@@ -1,8 +1,6 @@
 //! Reading queries.
-ghost use Rattle.std.specs.Prelude.{◌≡◌};
-ghost use Rattle.std.specs.Option.{option_copied};
-ghost use Rattle.scan_log.specs.Outcomes.{Gives};
-ghost use Rattle.scan_log.specs.Reading.{ball_of, inside_of, near_of, nearest_of, nears_of, reach_of};
+ghost use Rattle.std.specs.{Prelude.{◌≡◌}, Option.{option_copied}};
+ghost use Rattle.scan_log.specs.{Outcomes.{Gives}, Reading.{ball_of, inside_of, near_of, nearest_of, nears_of, reach_of}};
 
 use crate::boxes::cuboid;
 use crate::fields::Fields;

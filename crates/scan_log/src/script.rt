@@ -1,8 +1,6 @@
 //! Scripts: what is in a log.
-ghost use Rattle.std.specs.Prelude.{◌≡◌, [], OnOk, OnErr, IfOk};
-ghost use Rattle.std.specs.List.{AllByRecursion};
-ghost use Rattle.scan_log.specs.declared.format.Format.TheVariants.{Two};
-ghost use Rattle.scan_log.specs.Scripts.{IsCommand, IsScript, ScriptAt, with_command};
+ghost use Rattle.std.specs.{Prelude.{◌≡◌, [], OnOk, OnErr, IfOk}, List.{AllByRecursion}};
+ghost use Rattle.scan_log.specs.{declared.format.Format.TheVariants.{Two}, Scripts.{IsCommand, IsScript, ScriptAt, with_command}};
 
 use crate::{Command, Format};
 use map_items::{NoMemory, Settings};

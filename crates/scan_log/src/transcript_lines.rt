@@ -1,9 +1,6 @@
 //! The lines of a transcript.
-ghost use Rattle.std.specs.Prelude.{◌≡◌, ◌∷◌, ◌++◌, [], codes, decimal, OnOk, OnErr};
-ghost use Rattle.std.specs.List.{flat_map};
-ghost use Rattle.std.specs.Option.{option_copied};
-ghost use Rattle.scan_log.specs.Spelling.{caller_field};
-ghost use Rattle.scan_log.specs.Transcript.{clusters_text, done_text, items_text, reply_text, spaced, totals_text};
+ghost use Rattle.std.specs.{Prelude.{◌≡◌, ◌∷◌, ◌++◌, [], codes, decimal, OnOk, OnErr}, List.{flat_map}, Option.{option_copied}};
+ghost use Rattle.scan_log.specs.{Spelling.{caller_field}, Transcript.{clusters_text, done_text, items_text, reply_text, spaced, totals_text}};
 
 use crate::append::{Listed, put, put_all, put_head, put_named, put_spaced};
 use crate::{Command, Format, Reply};

@@ -1,9 +1,7 @@
 //! The verdict on a transcript.
 ghost use Rattle.std.specs.Prelude.{◌≡◌, ◌+◌, ◌≤◌, ◌↔◌, IfOk};
 ghost use Rattle.scan_log.specs.Legal.{AreLegalLines};
-ghost use Rattle.transcript_check.specs.declared.verdict.Verdict.{Verdict};
-ghost use Rattle.transcript_check.specs.Heads.{SpellMarks, heads};
-ghost use Rattle.transcript_check.specs.MarkedLines.{line_texts, marks_of};
+ghost use Rattle.transcript_check.specs.{declared.verdict.Verdict.{Verdict}, Heads.{SpellMarks, heads}, MarkedLines.{line_texts, marks_of}};
 ghost use Rattle.transcript_check.specs.Verdicts.{IsVerdict, joined_lines};
 
 use crate::held_map::HeldMap;

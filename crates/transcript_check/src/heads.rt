@@ -1,6 +1,5 @@
 //! The mark that a line spells.
-ghost use Rattle.std.specs.Prelude.{◌≡◌, ℕ, List, ◌++◌, MatchOption, Some};
-ghost use Rattle.std.specs.Option.{option_copied};
+ghost use Rattle.std.specs.{Prelude.{◌≡◌, ℕ, List, ◌++◌, MatchOption, Some}, Option.{option_copied}};
 ghost use Rattle.log_numbers.specs.Numerals.{first_field};
 ghost use Rattle.scan_log.specs.Spelling.{caller_field};
 ghost use Rattle.transcript_check.specs.Heads.{head, SpellsMark};

@@ -1,6 +1,5 @@
 //! What a history is replayed on.
-ghost use Rattle.std.specs.Prelude.{◌≡◌, ◌+◌, ◌≤◌, IfOk};
-ghost use Rattle.std.specs.Option.{ForSome, option_copied};
+ghost use Rattle.std.specs.{Prelude.{◌≡◌, ◌+◌, ◌≤◌, IfOk}, Option.{ForSome, option_copied}};
 ghost use Rattle.map_items.specs.Fold.{no_points, points_in, step};
 ghost use Rattle.scan_log.specs.Plain.{IsPlain};
 ghost use Rattle.transcript_check.specs.MarkedLines.{reply_at};

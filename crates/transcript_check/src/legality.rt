@@ -1,11 +1,6 @@
 //! Whether marks are legal.
-ghost use Rattle.std.specs.Prelude.{◌≡◌, ◌+◌, ◌≤◌, length, map};
-ghost use Rattle.std.specs.Bool.{Decides};
-ghost use Rattle.std.specs.List.{AllByRecursion};
-ghost use Rattle.scan_log.specs.Commands.{is_for};
-ghost use Rattle.scan_log.specs.Legal.{AreInOrder, IsLegal, numbers_from};
-ghost use Rattle.scan_log.specs.Plain.{IsPlain};
-ghost use Rattle.scan_log.specs.Transcript.{marked_updates};
+ghost use Rattle.std.specs.{Prelude.{◌≡◌, ◌+◌, ◌≤◌, length, map}, Bool.{Decides}, List.{AllByRecursion}};
+ghost use Rattle.scan_log.specs.{Commands.{is_for}, Legal.{AreInOrder, IsLegal, numbers_from}, Plain.{IsPlain}, Transcript.{marked_updates}};
 ghost use Rattle.transcript_check.specs.MarkedLines.{AreCallersInOrder, is_late, marks_of, updates_of};
 
 use crate::lines::MarkedLine;

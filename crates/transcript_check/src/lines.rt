@@ -1,9 +1,6 @@
 //! The lines of a transcript, and their marks.
-ghost use Rattle.std.specs.Prelude.{◌≡◌, ◌≤◌, ℕ, List, ◌++◌, drop, length, slice_get, IfOk, IfErr, IfSome, IfNone};
-ghost use Rattle.std.specs.Option.{option_copied};
-ghost use Rattle.transcript_check.specs.Heads.{head, heads, SpellMarks, IsMarked};
-ghost use Rattle.transcript_check.specs.Verdicts.{joined_lines};
-ghost use Rattle.transcript_check.specs.MarkedLines.{line_texts, marks_of, WasUnspelled};
+ghost use Rattle.std.specs.{Prelude.{◌≡◌, ◌≤◌, ℕ, List, ◌++◌, drop, length, slice_get, IfOk, IfErr, IfSome, IfNone}, Option.{option_copied}};
+ghost use Rattle.transcript_check.specs.{Heads.{head, heads, SpellMarks, IsMarked}, Verdicts.{joined_lines}, MarkedLines.{line_texts, marks_of, WasUnspelled}};
 ghost use Rattle.transcript_check.specs.declared.lines.LineFault.TheVariants as fault;
 
 use crate::heads::mark_in;

@@ -4,8 +4,7 @@ ghost use Rattle.std.specs.Prelude.{◌≡◌, ◌≤◌, ◌&&◌, filter, leng
 ghost use Rattle.node_labels.specs.Labels.{is_live};
 ghost use Rattle.map_items.specs.Contents.{AreContents};
 ghost use Rattle.map_fold.specs.Neighbours.{ball, is_near};
-ghost use Rattle.kd_tree.specs.Contents.{contents};
-ghost use Rattle.kd_tree.specs.Counter.{IsBlankOf};
+ghost use Rattle.kd_tree.specs.{Contents.{contents}, Counter.{IsBlankOf}};
 ghost use Rattle.scan_log.specs.Transcript.{found_reply};
 
 use kd_tree::{Steps, Tree};

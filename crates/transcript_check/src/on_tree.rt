@@ -3,8 +3,7 @@ ghost use Rattle.std.specs.Prelude.{◌≡◌, IfOk, None};
 ghost use Rattle.kd_tree.specs.Contents.{contents};
 ghost use Rattle.map_fold.specs.Answers.{nears};
 ghost use Rattle.kd_search.specs.Query.{IsQuery};
-ghost use Rattle.scan_log.specs.Plain.{IsPlain};
-ghost use Rattle.scan_log.specs.Transcript.{reply_on, totals_on};
+ghost use Rattle.scan_log.specs.{Plain.{IsPlain}, Transcript.{reply_on, totals_on}};
 
 use kd_search::{count_in, in_cuboid, nearest};
 use kd_tree::Tree;

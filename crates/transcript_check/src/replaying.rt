@@ -1,11 +1,7 @@
 //! Replaying a history, and comparing each line with its reply.
-ghost use Rattle.std.specs.Prelude.{◌≡◌, ◌+◌, ◌≤◌, length, IfOk, MatchOption};
-ghost use Rattle.std.specs.Bool.{Decides};
-ghost use Rattle.std.specs.Option.{ForSome, option_copied};
+ghost use Rattle.std.specs.{Prelude.{◌≡◌, ◌+◌, ◌≤◌, length, IfOk, MatchOption}, Bool.{Decides}, Option.{ForSome, option_copied}};
 ghost use Rattle.map_items.specs.Fold.{fold_from};
-ghost use Rattle.scan_log.specs.Legal.{IsLegal};
-ghost use Rattle.scan_log.specs.Plain.{IsPlain};
-ghost use Rattle.scan_log.specs.Transcript.{reply_text, marked_updates};
+ghost use Rattle.scan_log.specs.{Legal.{IsLegal}, Plain.{IsPlain}, Transcript.{reply_text, marked_updates}};
 ghost use Rattle.transcript_check.specs.MarkedLines.{changes_of, line_texts, lines_under, marks_of, points_in_all, reply_at, updates_of};
 ghost use Rattle.transcript_check.specs.Verdicts.{IsFirstOther};
 

@@ -22,8 +22,7 @@ pub struct TreeMap {
 }
 
 impl Model for TreeMap {
-    ghost use Rattle.map_items.specs.Fold.{MapAt};
-    ghost use Rattle.map_items.specs.declared.limits.TheConstants.{MAX_LARGE};
+    ghost use Rattle.map_items.specs.{Fold.{MapAt}, declared.limits.TheConstants.{MAX_LARGE}};
     ghost use Rattle.kd_tree.specs.Maps.{map_of};
     ghost use Rattle.map_update.specs.Draft.{IsLawfulDraft};
 

@@ -1,8 +1,7 @@
 //! Trees that are taken apart at their tops, and put together.
 ghost use Rattle.std.specs.Prelude.{◌≡◌};
 ghost use Rattle.node_labels.specs.Labels.{keep_tag};
-ghost use Rattle.kd_tree.specs.Shape.{leaf, fork};
-ghost use Rattle.kd_tree.specs.Counter.{IsBlankOf};
+ghost use Rattle.kd_tree.specs.{Shape.{leaf, fork}, Counter.{IsBlankOf}};
 
 use crate::tests::assertions::{made, same};
 use crate::tests::forty::{forty_after, is_suspended, item};

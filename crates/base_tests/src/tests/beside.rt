@@ -1,12 +1,8 @@
 //! Scans put at once beside watched subtrees, and the same points one by one.
 ghost use Rattle.std.specs.Prelude.{◌≡◌, ◌+◌, ◌<◌, ◌≤◌, max, true, length};
-ghost use Rattle.kd_tree.specs.Apart.{AreAllApart, AreApart, IsClear};
-ghost use Rattle.kd_tree.specs.Shape.{levels, nodes};
-ghost use Rattle.kd_tree.specs.Counter.{IsBlankOf};
-ghost use Rattle.kd_update.specs.Crossing.{HaveRoomAtOnce};
-ghost use Rattle.kd_mark.specs.Several.{AreLargeAt};
-ghost use Rattle.kd_mark.specs.Watches.{paths_in};
-ghost use Rattle.kd_update.specs.declared.limits.TheConstants.{MAX_PASS_LEVELS};
+ghost use Rattle.kd_tree.specs.{Apart.{AreAllApart, AreApart, IsClear}, Shape.{levels, nodes}, Counter.{IsBlankOf}};
+ghost use Rattle.kd_update.specs.{Crossing.{HaveRoomAtOnce}, declared.limits.TheConstants.{MAX_PASS_LEVELS}};
+ghost use Rattle.kd_mark.specs.{Several.{AreLargeAt}, Watches.{paths_in}};
 
 use crate::tests::assertions::{found, holds, made, same};
 use crate::tests::draw::Draw;

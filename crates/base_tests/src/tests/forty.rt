@@ -1,8 +1,7 @@
 //! Forty items in a row, and the tree of them.
 ghost use Rattle.std.specs.Prelude.{◌≡◌, ◌≤◌, length, IfOk};
 ghost use Rattle.map_items.specs.Contents.{live_at};
-ghost use Rattle.kd_tree.specs.Contents.{AreDistinct, AreKept};
-ghost use Rattle.kd_tree.specs.Counter.{IsBlankOf};
+ghost use Rattle.kd_tree.specs.{Contents.{AreDistinct, AreKept}, Counter.{IsBlankOf}};
 
 use crate::tests::assertions::{holds, made, same};
 use crate::tests::lists::{holds_all, top_of};

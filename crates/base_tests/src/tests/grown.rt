@@ -1,8 +1,7 @@
 //! Trees of points, which have the numbers from 0 on.
 ghost use Rattle.std.specs.Prelude.{◌≡◌, ◌≤◌, length, false, IfOk};
 ghost use Rattle.node_labels.specs.Labels.{is_dropped};
-ghost use Rattle.kd_tree.specs.Contents.{AreDistinct, AreKept};
-ghost use Rattle.kd_tree.specs.Counter.{IsBlankOf};
+ghost use Rattle.kd_tree.specs.{Contents.{AreDistinct, AreKept}, Counter.{IsBlankOf}};
 
 use crate::tests::assertions::made;
 use kd_tree::{MAX_NODES, Steps, Tree};

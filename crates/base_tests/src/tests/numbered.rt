@@ -1,7 +1,6 @@
 //! Trees whose points are numbered in turn.
 ghost use Rattle.std.specs.Prelude.{◌<◌, Contains, ℕ};
-ghost use Rattle.kd_tree.specs.Shape.{numbers};
-ghost use Rattle.kd_tree.specs.Counter.{IsBlankOf};
+ghost use Rattle.kd_tree.specs.{Shape.{numbers}, Counter.{IsBlankOf}};
 
 use crate::tests::assertions::made;
 use kd_tree::{Steps, Tree};

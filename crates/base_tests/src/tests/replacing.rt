@@ -1,8 +1,6 @@
 //! Subtrees replaced with ample memory.
 ghost use Rattle.std.specs.Prelude.{◌≡◌, true, IfOk};
-ghost use Rattle.kd_tree.specs.Apart.{IsClear};
-ghost use Rattle.kd_tree.specs.Contents.{contents};
-ghost use Rattle.kd_tree.specs.Counter.{IsBlankOf};
+ghost use Rattle.kd_tree.specs.{Apart.{IsClear}, Contents.{contents}, Counter.{IsBlankOf}};
 ghost use Rattle.kd_mark.specs.Several.{AreLargeAt};
 
 use crate::tests::assertions::{found, holds, made, same};

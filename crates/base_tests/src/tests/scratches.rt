@@ -1,6 +1,5 @@
 //! Trees that are rebuilt in one scratch.
-ghost use Rattle.std.specs.Prelude.{◌≡◌, ◌<◌, true};
-ghost use Rattle.std.specs.List.{AllByRecursion};
+ghost use Rattle.std.specs.{Prelude.{◌≡◌, ◌<◌, true}, List.{AllByRecursion}};
 ghost use Rattle.kd_tree.specs.Counter.{IsBlankOf};
 
 use crate::tests::assertions::{made, same};

@@ -18,9 +18,7 @@ pub struct Script {
 
 impl Model for Script {
     ghost use Rattle.std.specs.Prelude.{List, []};
-    ghost use Rattle.map_items.specs.declared.op.Op.{Op};
-    ghost use Rattle.map_items.specs.Contents.{AreContents};
-    ghost use Rattle.map_items.specs.Ops.{Fit, replay};
+    ghost use Rattle.map_items.specs.{declared.op.Op.{Op}, Contents.{AreContents}, Ops.{Fit, replay}};
 
     ghost Value = { List Op };
 

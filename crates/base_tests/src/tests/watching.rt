@@ -1,10 +1,7 @@
 //! A map with watched subtrees, whose changes ask first for what they require.
 ghost use Rattle.std.specs.Prelude.{◌≡◌, ◌<◌, true};
-ghost use Rattle.kd_tree.specs.Shape.{levels, nodes};
-ghost use Rattle.kd_tree.specs.Counter.{IsBlankOf};
-ghost use Rattle.kd_mark.specs.Several.{AreLargeAt};
-ghost use Rattle.kd_mark.specs.Watch.{IsLargeAt};
-ghost use Rattle.kd_mark.specs.Watches.{HaveRoom, paths_in};
+ghost use Rattle.kd_tree.specs.{Shape.{levels, nodes}, Counter.{IsBlankOf}};
+ghost use Rattle.kd_mark.specs.{Several.{AreLargeAt}, Watch.{IsLargeAt}, Watches.{HaveRoom, paths_in}};
 
 use crate::tests::assertions::made;
 use crate::tests::draw::Action;

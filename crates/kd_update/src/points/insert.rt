@@ -2,14 +2,9 @@
 ghost use Rattle.std.specs.Prelude.{◌≡◌, ◌+◌, ◌*◌, ◌<◌, ◌≤◌, ◌∷◌, IfOk};
 ghost use Rattle.node_labels.specs.Labels.{keep_tag};
 ghost use Rattle.map_items.specs.Contents.{live_at, put};
-ghost use Rattle.kd_tree.specs.Shape.{levels, nodes, numbers};
-ghost use Rattle.kd_tree.specs.Walk.{times};
-ghost use Rattle.kd_tree.specs.Contents.{contents};
-ghost use Rattle.kd_mark.specs.Refresh.{AreAmong, IsRefresh};
-ghost use Rattle.kd_mark.specs.Update.{IsBalancedBelow};
-ghost use Rattle.kd_update.specs.Made.{entered_put};
-ghost use Rattle.kd_update.specs.Put.{RebuildsNoneOnRoute, goes_left, leaf_of, put_from, put_shape, side_of};
-ghost use Rattle.kd_mark.specs.Several.{AreLargeAt, IsUpdatedClear};
+ghost use Rattle.kd_tree.specs.{Shape.{levels, nodes, numbers}, Walk.{times}, Contents.{contents}};
+ghost use Rattle.kd_mark.specs.{Refresh.{AreAmong, IsRefresh}, Update.{IsBalancedBelow}, Several.{AreLargeAt, IsUpdatedClear}};
+ghost use Rattle.kd_update.specs.{Made.{entered_put}, Put.{RebuildsNoneOnRoute, goes_left, leaf_of, put_from, put_shape, side_of}};
 
 use crate::points::sides::by_side;
 use kd_mark::{Unwatched, Ways, joined_and_rebuilt_if_due, spared_from};

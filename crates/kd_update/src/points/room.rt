@@ -1,9 +1,7 @@
 //! Nothing here knows which point is put.
 ghost use Rattle.std.specs.Prelude.{◌≡◌, ◌+◌, ◌<◌, ◌≤◌, IfOk, length};
-ghost use Rattle.kd_tree.specs.Shape.{levels, nodes, numbers};
-ghost use Rattle.kd_tree.specs.Contents.{contents};
-ghost use Rattle.kd_mark.specs.Refresh.{AreAmong, IsRefresh};
-ghost use Rattle.kd_mark.specs.Update.{KeepsBalance};
+ghost use Rattle.kd_tree.specs.{Shape.{levels, nodes, numbers}, Contents.{contents}};
+ghost use Rattle.kd_mark.specs.{Refresh.{AreAmong, IsRefresh}, Update.{KeepsBalance}};
 
 use kd_mark::rebuilt;
 use kd_tree::{MAX_LEVELS, MAX_NODES, Steps, Tree};

@@ -1,13 +1,7 @@
 //! Subtrees that others stand in for. Nothing here looks into the tree that is put in.
 ghost use Rattle.std.specs.Prelude.{◌≡◌, ◌+◌, ◌≤◌, ◌∷◌, ◌++◌, ◌↔◌, [], true, false, length, None, Some, IfOk, IfSome, IsNone};
-ghost use Rattle.kd_tree.specs.Shape.{levels, nodes, numbers};
-ghost use Rattle.kd_tree.specs.Contents.{contents};
-ghost use Rattle.kd_tree.specs.Criteria.{AllMeetCriteria};
-ghost use Rattle.kd_tree.specs.Parts.{at, replaced_at};
-ghost use Rattle.kd_tree.specs.Apart.{IsClear};
-ghost use Rattle.kd_mark.specs.Refresh.{AreAmong};
-ghost use Rattle.kd_mark.specs.Update.{IsBalancedBelow};
-ghost use Rattle.kd_mark.specs.Several.{AreLargeAt, AreSameAt, IsBalancedClear};
+ghost use Rattle.kd_tree.specs.{Shape.{levels, nodes, numbers}, Contents.{contents}, Criteria.{AllMeetCriteria}, Parts.{at, replaced_at}, Apart.{IsClear}};
+ghost use Rattle.kd_mark.specs.{Refresh.{AreAmong}, Update.{IsBalancedBelow}, Several.{AreLargeAt, AreSameAt, IsBalancedClear}};
 ghost use Rattle.kd_update.specs.Replace.{HasRoomAt, RebuildsNoneAbove, IsNoLarger, IsReplaced, StandsFor};
 
 use crate::Replaced;

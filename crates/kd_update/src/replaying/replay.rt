@@ -1,11 +1,8 @@
 //! Nothing here knows where operations were logged.
 ghost use Rattle.std.specs.Prelude.{◌≡◌, ◌+◌, ◌<◌, ◌≤◌, [], ◌∷◌, ◌++◌, length, IfOk};
 ghost use Rattle.map_items.specs.Ops.{Fit, numbers_put, perform, replay};
-ghost use Rattle.kd_tree.specs.Shape.{levels, nodes, numbers};
-ghost use Rattle.kd_tree.specs.Contents.{contents};
-ghost use Rattle.kd_tree.specs.Counter.{IsBlankOf};
-ghost use Rattle.kd_mark.specs.Refresh.{AreAmong};
-ghost use Rattle.kd_mark.specs.Update.{IsBalancedBelow};
+ghost use Rattle.kd_tree.specs.{Shape.{levels, nodes, numbers}, Contents.{contents}, Counter.{IsBlankOf}};
+ghost use Rattle.kd_mark.specs.{Refresh.{AreAmong}, Update.{IsBalancedBelow}};
 ghost use Rattle.kd_update.specs.Replay.{IsPerformed, IsRun};
 
 use crate::replaying::runs::{most_at_once, put_run};

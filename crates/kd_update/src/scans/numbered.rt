@@ -1,10 +1,7 @@
 ghost use Rattle.std.specs.Prelude.{◌≡◌, ◌+◌, ◌≤◌, ◌++◌, length, IfOk};
-ghost use Rattle.map_items.specs.Contents.{AreContents};
-ghost use Rattle.map_items.specs.Fold.{add_points};
-ghost use Rattle.kd_tree.specs.Shape.{nodes, numbers};
-ghost use Rattle.kd_tree.specs.Contents.{contents};
-ghost use Rattle.kd_mark.specs.Refresh.{AreAmong};
-ghost use Rattle.kd_mark.specs.Update.{IsBalancedBelow};
+ghost use Rattle.map_items.specs.{Contents.{AreContents}, Fold.{add_points}};
+ghost use Rattle.kd_tree.specs.{Shape.{nodes, numbers}, Contents.{contents}};
+ghost use Rattle.kd_mark.specs.{Refresh.{AreAmong}, Update.{IsBalancedBelow}};
 ghost use Rattle.kd_update.specs.Scan.{live_from, numbers_in};
 
 use crate::put_all;

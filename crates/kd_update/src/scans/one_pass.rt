@@ -1,11 +1,8 @@
 //! Nothing here knows whether the bounds of a tree allow a pass.
 ghost use Rattle.std.specs.Prelude.{◌+◌, ◌<◌, max, length, IfOk};
-ghost use Rattle.kd_tree.specs.Shape.{leaf, nodes};
-ghost use Rattle.kd_tree.specs.Contents.{AreDistinct};
-ghost use Rattle.kd_tree.specs.Criteria.{AllMeetCriteria};
+ghost use Rattle.kd_tree.specs.{Shape.{leaf, nodes}, Contents.{AreDistinct}, Criteria.{AllMeetCriteria}};
 ghost use Rattle.kd_mark.specs.Update.{IsBalancedBelow};
-ghost use Rattle.kd_update.specs.Scan.{AreLive, IsGrown, IsPiece};
-ghost use Rattle.kd_update.specs.Crossing.{IsWholeGrown};
+ghost use Rattle.kd_update.specs.{Scan.{AreLive, IsGrown, IsPiece}, Crossing.{IsWholeGrown}};
 
 use crate::points::insert::leaf;
 use crate::scans::part_items::parted;

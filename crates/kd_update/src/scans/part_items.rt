@@ -1,8 +1,7 @@
 //! Where the points of a list go at the top of a tree.
 ghost use Rattle.std.specs.Prelude.{◌≡◌, ◌+◌, ◌<◌, ◌≤◌, true, false, max, length, take, drop, All, IfSome, IsNone, IsPermutation};
 ghost use Rattle.kd_tree.specs.Shape.{nodes};
-ghost use Rattle.kd_update.specs.Put.{goes_left};
-ghost use Rattle.kd_update.specs.Scan.{IsParted};
+ghost use Rattle.kd_update.specs.{Put.{goes_left}, Scan.{IsParted}};
 
 use crate::points::insert::goes_left;
 use kd_mark::LEAST;

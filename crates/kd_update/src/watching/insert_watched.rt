@@ -1,17 +1,10 @@
 ghost use Rattle.std.specs.Prelude.{◌≡◌, ◌+◌, ◌*◌, ◌<◌, ◌≤◌, ◌∷◌, IfOk, OnOk};
 ghost use Rattle.node_labels.specs.Labels.{keep_tag};
 ghost use Rattle.map_items.specs.Contents.{put};
-ghost use Rattle.kd_tree.specs.Shape.{levels, nodes, numbers};
-ghost use Rattle.kd_tree.specs.Walk.{times};
-ghost use Rattle.kd_tree.specs.Contents.{contents};
-ghost use Rattle.kd_mark.specs.Refresh.{AreAmong, IsRefresh};
-ghost use Rattle.kd_update.specs.Made.{entered_put};
-ghost use Rattle.kd_update.specs.Put.{RebuildsNoneOnRoute, put_shape};
-ghost use Rattle.kd_mark.specs.Several.{AreLargeAt, AreWatched, IsBalancedClear};
-ghost use Rattle.kd_mark.specs.Watch.{IsWatched};
-ghost use Rattle.kd_update.specs.Watch.{logged_put};
+ghost use Rattle.kd_tree.specs.{Shape.{levels, nodes, numbers}, Walk.{times}, Contents.{contents}};
+ghost use Rattle.kd_mark.specs.{Refresh.{AreAmong, IsRefresh}, Several.{AreLargeAt, AreWatched, IsBalancedClear}, Watch.{IsWatched}};
 ghost use Rattle.kd_mark.specs.Watches.{AreExtended, AreFewMore, HaveRoom, paths_in};
-ghost use Rattle.kd_update.specs.Watches.{with_puts};
+ghost use Rattle.kd_update.specs.{Made.{entered_put}, Put.{RebuildsNoneOnRoute, put_shape}, Watch.{logged_put}, Watches.{with_puts}};
 
 use crate::points::insert::{put, put_below};
 use crate::watching::log_put::log_puts;

@@ -2,9 +2,8 @@
 ghost use Rattle.std.specs.Prelude.{◌≡◌, ◌+◌, ◌≤◌, ◌++◌, length, OnOk};
 ghost use Rattle.map_items.specs.Ops.{Extends};
 ghost use Rattle.kd_tree.specs.Walk.{tagged};
-ghost use Rattle.kd_update.specs.Watch.{logged_put};
+ghost use Rattle.kd_update.specs.{Watch.{logged_put}, Watches.{with_puts}};
 ghost use Rattle.kd_mark.specs.Watches.{AreExtended, AreFewMore, HaveRoom};
-ghost use Rattle.kd_update.specs.Watches.{with_puts};
 
 use crate::points::insert::goes_left;
 use crate::points::sides::goes_to;

@@ -1,10 +1,8 @@
 //! Nothing here knows what is logged, or the bounds of a tree.
 ghost use Rattle.std.specs.Prelude.{ℕ, IfOk};
 ghost use Rattle.kd_tree.specs.Apart.{AreAllApart};
-ghost use Rattle.kd_update.specs.Scan.{IsPiece};
-ghost use Rattle.kd_mark.specs.Several.{AreLargeAt};
-ghost use Rattle.kd_update.specs.Crossing.{IsCrossed, IsWholeGrown};
-ghost use Rattle.kd_mark.specs.Ways.{paths_of};
+ghost use Rattle.kd_update.specs.{Scan.{IsPiece}, Crossing.{IsCrossed, IsWholeGrown}};
+ghost use Rattle.kd_mark.specs.{Several.{AreLargeAt}, Ways.{paths_of}};
 
 use crate::scans::one_pass::{put_at_once, put_first};
 use crate::scans::part_items::moved_left;

@@ -1,13 +1,8 @@
 ghost use Rattle.std.specs.Prelude.{◌≡◌, ◌+◌, ◌<◌, ◌≤◌, max, ◌++◌, length, IfOk, OnOk};
-ghost use Rattle.kd_tree.specs.Shape.{levels, nodes, numbers};
-ghost use Rattle.kd_tree.specs.Contents.{contents};
-ghost use Rattle.kd_tree.specs.Apart.{AreAllApart};
-ghost use Rattle.kd_mark.specs.Refresh.{AreAmong};
-ghost use Rattle.kd_update.specs.Scan.{MayJoin, numbers_in, put_each};
-ghost use Rattle.kd_mark.specs.Several.{AreLargeAt, AreWatched, IsBalancedClear};
-ghost use Rattle.kd_mark.specs.Watch.{IsWatched};
+ghost use Rattle.kd_tree.specs.{Shape.{levels, nodes, numbers}, Contents.{contents}, Apart.{AreAllApart}};
+ghost use Rattle.kd_mark.specs.{Refresh.{AreAmong}, Several.{AreLargeAt, AreWatched, IsBalancedClear}, Watch.{IsWatched}};
 ghost use Rattle.kd_mark.specs.Watches.{AreExtended, AreMore, paths_in};
-ghost use Rattle.kd_update.specs.Crossing.{HaveRoomAtOnce, logged_scan, with_scan};
+ghost use Rattle.kd_update.specs.{Scan.{MayJoin, numbers_in, put_each}, Crossing.{HaveRoomAtOnce, logged_scan, with_scan}};
 ghost use Rattle.kd_update.specs.declared.limits.TheConstants.{MAX_PASS_LEVELS};
 
 use crate::watching::log_scan::log_scans;

@@ -16,10 +16,9 @@ pub struct BuiltSubtree {
 
 impl Model for BuiltSubtree {
     ghost use Rattle.map_items.specs.Ops.{Fit};
-    ghost use Rattle.kd_tree.specs.Contents.{contents};
+    ghost use Rattle.kd_tree.specs.{Contents.{contents}, ShapeCode.{coded_shape}};
     ghost use Rattle.map_c.specs.BuiltSubtree.{BuiltSubtreeAt};
     ghost use Rattle.std.specs.Coded.{codes};
-    ghost use Rattle.kd_tree.specs.ShapeCode.{coded_shape};
 
     ghost Value = { BuiltSubtreeAt };
 

@@ -1,6 +1,5 @@
 //! What a handle can hold.
-ghost use Rattle.std.specs.Prelude.{◌≡◌, IfOk};
-ghost use Rattle.std.specs.Coded.{codes};
+ghost use Rattle.std.specs.{Prelude.{◌≡◌, IfOk}, Coded.{codes}};
 ghost use Rattle.kd_tree.specs.ShapeCode.{coded_shape};
 ghost use Rattle.rebuild_core.specs.Lawful.{StateAt};
 ghost use Rattle.rebuild_parts.specs.Seen.{VersionAt};

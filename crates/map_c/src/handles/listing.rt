@@ -1,7 +1,6 @@
 //! The points in a box, counted, and listed where C wants them.
 ghost use Rattle.std.specs.Prelude.{◌≡◌, IfErr, IfOk, Some, false, length, true};
-ghost use Rattle.map_c.specs.Answers.{IsCount, IsCountRefusal, IsInside, IsInsideRefusal, IsMost};
-ghost use Rattle.map_c.specs.Status.{code};
+ghost use Rattle.map_c.specs.{Answers.{IsCount, IsCountRefusal, IsInside, IsInsideRefusal, IsMost}, Status.{code}};
 
 use crate::handles::content::Content;
 use crate::handles::forms::{Bounds, Item};

@@ -1,8 +1,7 @@
 //! Points and boxes of C, as those of the library.
 ghost use Rattle.std.specs.Prelude.{◌≡◌, All, IfOk, IfErr, OnOk};
 ghost use Rattle.map_c.specs.Forms.{HasWrongBox, HasWrongPoint, IsRightBox, IsRightPlace, IsRightPoint, bounds_at, boxes_at, corner_at, place_at, point_at, points_at};
-ghost use Rattle.map_c.specs.Status.{IsNoList, bad_box, code, out_of_range};
-ghost use Rattle.map_c.specs.declared.handles.refusal.Refusal.TheVariants.{BadBox, OutOfRange};
+ghost use Rattle.map_c.specs.{Status.{IsNoList, bad_box, code, out_of_range}, declared.handles.refusal.Refusal.TheVariants.{BadBox, OutOfRange}};
 
 use crate::handles::forms::{Bounds, Place, Point};
 use crate::handles::refusal::Refusal;

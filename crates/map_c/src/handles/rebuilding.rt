@@ -1,7 +1,6 @@
 //! Jobs that are built, and built subtrees that are brought up to date, each in the place of the content that it was.
 ghost use Rattle.std.specs.Prelude.{◌≡◌, IfErr, None, OnErr, OnOk, Some};
-ghost use Rattle.map_c.specs.Building.{IsBuildRefusal, IsJobBuilt, IsReplayRefusal, IsReplayed};
-ghost use Rattle.map_c.specs.Status.{code};
+ghost use Rattle.map_c.specs.{Building.{IsBuildRefusal, IsJobBuilt, IsReplayRefusal, IsReplayed}, Status.{code}};
 
 use crate::handles::built_subtree::BuiltSubtree;
 use crate::handles::content::Content;

@@ -1,7 +1,6 @@
 //! Why a call is refused, and what it returns then.
 ghost use Rattle.std.specs.Prelude.{◌≡◌};
-ghost use Rattle.map_c.specs.Status.{code, refusal_of, c_status};
-ghost use Rattle.map_c.specs.declared.handles.refusal.Refusal.TheVariants.{NoMemory};
+ghost use Rattle.map_c.specs.{Status.{code, refusal_of, c_status}, declared.handles.refusal.Refusal.TheVariants.{NoMemory}};
 
 use map_fold::NoMemory;
 use rebuild_core::StateFault;

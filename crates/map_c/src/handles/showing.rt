@@ -1,8 +1,6 @@
 //! What a handle shows: its map as it is now, or its view; and the frozen index that it holds.
 ghost use Rattle.std.specs.Prelude.{◌≡◌, IfErr, IfOk, None, Some};
-ghost use Rattle.map_c.specs.Answers.{AreTotals, IsTotalsRefusal, shown_in};
-ghost use Rattle.map_c.specs.Frozen.{frozen_in};
-ghost use Rattle.map_c.specs.Status.{code};
+ghost use Rattle.map_c.specs.{Answers.{AreTotals, IsTotalsRefusal, shown_in}, Frozen.{frozen_in}, Status.{code}};
 ghost use Rattle.map_c.specs.declared.handles.refusal.Refusal.TheVariants.{Empty};
 
 use crate::handles::content::{Content, Index};

@@ -4,8 +4,7 @@ ghost use Rattle.clap.specs.Words.{app_of, found_of, one_text, subcommand_of, su
 ghost use Rattle.clap.specs.declared.builder.command.Command.TheViews.{out-Command as fields_of};
 ghost use Rattle.mapper_base.specs.declared.command_line.words.Ask.{Ask};
 ghost use Rattle.mapper_base.specs.declared.command_line.words.Ask.TheVariants as asks;
-ghost use Rattle.mapper_base.specs.Asks.{CanBeDone, spelled};
-ghost use Rattle.mapper_base.specs.CommandLine.{IsParsed, IsMatch, mapper, numbered, run};
+ghost use Rattle.mapper_base.specs.{Asks.{CanBeDone, spelled}, CommandLine.{IsParsed, IsMatch, mapper, numbered, run}};
 
 use crate::command_line::spelling::{length_of, scans_of};
 use crate::command_line::words::Ask;

@@ -1,8 +1,7 @@
 //! One command, on the state of a map.
 ghost use Rattle.std.specs.Prelude.{◌≡◌, ◌≤◌, ◌<◌, ◌+◌, length, IfOk, OnOk};
 ghost use Rattle.rebuild_core.specs.Steps.{HasRoom, IsSettleStep, IsUpdateStep};
-ghost use Rattle.scan_log.specs.Plain.{IsPlain};
-ghost use Rattle.scan_log.specs.Scripts.{submitted};
+ghost use Rattle.scan_log.specs.{Plain.{IsPlain}, Scripts.{submitted}};
 ghost use Rattle.mapper_base.specs.Turns.{Follows, IsMaintained, reply_of};
 
 use crate::{tree_reply, tree_totals};

@@ -1,12 +1,8 @@
 //! One text for each way to ask that takes no threads.
 ghost use Rattle.std.specs.Prelude.{◌≡◌, Some, IfOk, IfErr};
 ghost use Rattle.scan_log.specs.Written.{script_text};
-ghost use Rattle.mapper_base.specs.Asks.{CanBeDone};
-ghost use Rattle.mapper_base.specs.Causes.{HasNoText, IsTextOf, ReadsInLimit};
-ghost use Rattle.mapper_base.specs.Generated.{generated};
-ghost use Rattle.mapper_base.specs.Prints.{AreSerialLines, IsVerdictLine};
-ghost use Rattle.mapper_base.specs.Seen.{log_seen};
-ghost use Rattle.mapper_base.specs.Summary.{summary_of};
+ghost use Rattle.mapper_base.specs.{Asks.{CanBeDone}, Causes.{HasNoText, IsTextOf, ReadsInLimit}, Generated.{generated}};
+ghost use Rattle.mapper_base.specs.{Prints.{AreSerialLines, IsVerdictLine}, Seen.{log_seen}, Summary.{summary_of}};
 
 use crate::{
     Ask, Ending, Input, behind, in_order, made, read_input, read_script, summary, transcript,

@@ -1,8 +1,7 @@
 //! A script, run in the log's order.
 ghost use Rattle.std.specs.Prelude.{◌≡◌, IfOk};
 ghost use Rattle.rebuild_core.specs.Lawful.{new_state};
-ghost use Rattle.scan_log.specs.Poses.{plain_script};
-ghost use Rattle.scan_log.specs.Transcript.{replies, serial_marks, lines_text};
+ghost use Rattle.scan_log.specs.{Poses.{plain_script}, Transcript.{replies, serial_marks, lines_text}};
 
 use crate::serial_run::one_command::{answer, totals};
 use map_items::{NoMemory, Sequence};

@@ -1,11 +1,9 @@
 //! What a caller's thread does.
-ghost use Rattle.std.specs.Prelude.{◌≡◌, ◌≤◌, ◌+◌, true, length, IfOk, None};
-ghost use Rattle.std.specs.List.{AllByRecursion};
+ghost use Rattle.std.specs.{Prelude.{◌≡◌, ◌≤◌, ◌+◌, true, length, IfOk, None}, List.{AllByRecursion}};
 ghost use Rattle.scan_log.specs.Commands.{command_update, is_by};
 ghost use Rattle.scan_log.specs.declared.command.Command.TheVariants as command_of;
 ghost use Rattle.kd_tree.specs.Contents.{contents};
-ghost use Rattle.scan_log.specs.Plain.{IsPlain};
-ghost use Rattle.scan_log.specs.Transcript.{reply_on};
+ghost use Rattle.scan_log.specs.{Plain.{IsPlain}, Transcript.{reply_on}};
 ghost use Rattle.mapper_core.specs.Mine.{Tried, Turned};
 
 use super::alarm::{Bells, Signals};

@@ -1,6 +1,5 @@
 //! How many callers there are.
-ghost use Rattle.std.specs.Prelude.{◌≤◌, ℕ};
-ghost use Rattle.std.specs.List.{AllByRecursion};
+ghost use Rattle.std.specs.{Prelude.{◌≤◌, ℕ}, List.{AllByRecursion}};
 ghost use Rattle.scan_log.specs.Plain.{IsPlain};
 ghost use Rattle.mapper_core.specs.Meetings.{HasCaller};
 

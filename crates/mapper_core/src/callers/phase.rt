@@ -1,13 +1,9 @@
 //! The commands between two barriers.
-ghost use Rattle.std.specs.Prelude.{◌≡◌, ◌+◌, ◌-◌, ◌<◌, ◌≤◌, length, take, drop, slice_get, Some, IfOk, OnOk};
-ghost use Rattle.std.specs.List.{AllByRecursion};
-ghost use Rattle.std.specs.Thread.{IsSync, IsSend};
+ghost use Rattle.std.specs.{Prelude.{◌≡◌, ◌+◌, ◌-◌, ◌<◌, ◌≤◌, length, take, drop, slice_get, Some, IfOk, OnOk}, List.{AllByRecursion}, Thread.{IsSync, IsSend}};
 ghost use Rattle.scan_log.specs.declared.command.Command.TheVariants as command_of;
-ghost use Rattle.scan_log.specs.Plain.{IsPlain};
-ghost use Rattle.scan_log.specs.Scripts.{points_of};
+ghost use Rattle.scan_log.specs.{Plain.{IsPlain}, Scripts.{points_of}};
 ghost use Rattle.shown_versions.specs.Marks.{callers_of, IsDistinct, AllMetNow};
-ghost use Rattle.mapper_core.specs.Mine.{Turned};
-ghost use Rattle.mapper_core.specs.Meetings.{AllTurned, AllParted, IsOfCallers, IsPutBehind, Standing, IsTotal};
+ghost use Rattle.mapper_core.specs.{Mine.{Turned}, Meetings.{AllTurned, AllParted, IsOfCallers, IsPutBehind, Standing, IsTotal}};
 
 use super::alarm::Signals;
 use super::caller::run_own;

@@ -1,8 +1,6 @@
 //! A script, from barrier to barrier.
-ghost use Rattle.std.specs.Prelude.{◌≡◌, ◌<◌, ◌≤◌, length, IfOk};
-ghost use Rattle.std.specs.List.{AllByRecursion};
-ghost use Rattle.scan_log.specs.Plain.{IsPlain};
-ghost use Rattle.scan_log.specs.Scripts.{points_of};
+ghost use Rattle.std.specs.{Prelude.{◌≡◌, ◌<◌, ◌≤◌, length, IfOk}, List.{AllByRecursion}};
+ghost use Rattle.scan_log.specs.{Plain.{IsPlain}, Scripts.{points_of}};
 ghost use Rattle.mapper_core.specs.Meetings.{AreNewcomers, HasCaller, StandingAtEnd, is_barrier as is_sync};
 
 use super::phase::{barrier, held, phase};

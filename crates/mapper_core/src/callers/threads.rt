@@ -1,12 +1,8 @@
 //! The whole run of a script by its callers.
-ghost use Rattle.std.specs.Prelude.{◌≡◌, ◌<◌, ◌≤◌, ℕ, IfOk};
-ghost use Rattle.std.specs.List.{AllByRecursion};
-ghost use Rattle.scan_log.specs.Legal.{AreLegalReplies};
-ghost use Rattle.scan_log.specs.Plain.{IsPlainScript};
-ghost use Rattle.scan_log.specs.Poses.{plain_script};
+ghost use Rattle.std.specs.{Prelude.{◌≡◌, ◌<◌, ◌≤◌, ℕ, IfOk}, List.{AllByRecursion}};
+ghost use Rattle.scan_log.specs.{Legal.{AreLegalReplies}, Plain.{IsPlainScript}, Poses.{plain_script}};
 ghost use Rattle.published_map.specs.Held.{IsOpenedAs};
-ghost use Rattle.mapper_core.specs.Ended.{CanRun, HaveEnded};
-ghost use Rattle.mapper_core.specs.Meetings.{HasCaller, StandingAtEnd};
+ghost use Rattle.mapper_core.specs.{Ended.{CanRun, HaveEnded}, Meetings.{HasCaller, StandingAtEnd}};
 
 use super::alarm::{Bells, Post};
 use super::naming::callers_in;

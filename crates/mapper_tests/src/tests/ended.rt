@@ -1,6 +1,5 @@
 //! A script's callers on a shared map of the test's own, which is ended once they have: its passes are those that came back.
-ghost use Rattle.std.specs.Prelude.{◌≡◌, ◌<◌};
-ghost use Rattle.std.specs.List.{AllByRecursion};
+ghost use Rattle.std.specs.{Prelude.{◌≡◌, ◌<◌}, List.{AllByRecursion}};
 ghost use Rattle.published_map.specs.Held.{IsOpenedAs};
 ghost use Rattle.mapper_core.specs.Meetings.{HasCaller};
 
