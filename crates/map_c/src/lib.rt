@@ -25,7 +25,7 @@ pub use handles::detached_job::DetachedJob;
 pub use handles::forms::{Bounds, Cluster, Hit, Item, Place, Point, Region, Totals};
 pub use handles::handle::Handle;
 pub use handles::listing::{count_in_box, list};
-pub use handles::reading::{read_box, read_boxes, read_place, read_points};
+pub use handles::reading::{read_all, read_box, read_place};
 pub use handles::rebuilding::{build, replay};
 pub use handles::refusal::{DONE, Refusal, status_of};
 pub use handles::showing::{frozen_index, shown, totals_of};

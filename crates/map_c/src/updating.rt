@@ -4,7 +4,7 @@ ghost use Rattle.map_items.specs.declared.update.Update.TheVariants.{Add, Delete
 ghost use Rattle.map_c.specs.{Forms.{boxes_at, points_at}, Maps.{IsAnswer, IsBoxesAnswer, IsUpdated, IsPointsAnswer, IsUpdateRefusal}, Status.{code}};
 
 use crate::handles::macros::or_status;
-use crate::{Bounds, Content, Handle, Point, Refusal, read_boxes, read_points, status_of};
+use crate::{Bounds, Content, Handle, Point, Refusal, read_all, status_of};
 use map_fold::Update;
 use std::alloc::Global;
 
@@ -16,7 +16,7 @@ pub extern "C" fn corv_map_add(alloc: Global, map: &mut Handle, all: &[Point]) -
     if map.is_empty() {
         return Refusal::Empty.status();
     }
-    let points = or_status!(read_points(alloc, all));
+    let points = or_status!(read_all(alloc, all));
     updated(alloc, map, Update::Add(points))
 }
 
@@ -28,7 +28,7 @@ pub extern "C" fn corv_map_thin(alloc: Global, map: &mut Handle, all: &[Point]) 
     if map.is_empty() {
         return Refusal::Empty.status();
     }
-    let points = or_status!(read_points(alloc, all));
+    let points = or_status!(read_all(alloc, all));
     updated(alloc, map, Update::Thin(points))
 }
 
@@ -40,7 +40,7 @@ pub extern "C" fn corv_map_delete(alloc: Global, map: &mut Handle, boxes: &[Boun
     if map.is_empty() {
         return Refusal::Empty.status();
     }
-    let boxes = or_status!(read_boxes(alloc, boxes));
+    let boxes = or_status!(read_all(alloc, boxes));
     updated(alloc, map, Update::Delete(boxes))
 }
 
@@ -52,7 +52,7 @@ pub extern "C" fn corv_map_suspend(alloc: Global, map: &mut Handle, boxes: &[Bou
     if map.is_empty() {
         return Refusal::Empty.status();
     }
-    let boxes = or_status!(read_boxes(alloc, boxes));
+    let boxes = or_status!(read_all(alloc, boxes));
     updated(alloc, map, Update::Suspend(boxes))
 }
 
@@ -64,7 +64,7 @@ pub extern "C" fn corv_map_restore(alloc: Global, map: &mut Handle, boxes: &[Bou
     if map.is_empty() {
         return Refusal::Empty.status();
     }
-    let boxes = or_status!(read_boxes(alloc, boxes));
+    let boxes = or_status!(read_all(alloc, boxes));
     updated(alloc, map, Update::Restore(boxes))
 }
 

@@ -1,11 +1,11 @@
 //! Points and boxes of C, as those of the library.
-ghost use Rattle.std.specs.Prelude.{◌≡◌, All, IfOk, IfErr, OnOk};
-ghost use Rattle.map_c.specs.Forms.{HasWrongBox, HasWrongPoint, IsRightBox, IsRightPlace, IsRightPoint, bounds_at, boxes_at, corner_at, place_at, point_at, points_at};
-ghost use Rattle.map_c.specs.{Status.{IsNoList, bad_box, code, out_of_range}, declared.handles.refusal.Refusal.TheVariants.{BadBox, OutOfRange}};
+ghost use Rattle.std.specs.Prelude.{◌≡◌, All, Any, IfOk, IfErr, OnOk, map};
+ghost use Rattle.map_c.specs.{Forms.{IsRightBox, IsRightPlace, IsRightPoint, bounds_at, corner_at, place_at, point_at}, Status.{IsNoList, code}};
+ghost use Rattle.map_c.specs.declared.handles.refusal.Refusal.TheVariants.{BadBox, OutOfRange};
 
 use crate::handles::forms::{Bounds, Place, Point};
 use crate::handles::refusal::Refusal;
-use map_fold::{Cuboids, Points};
+use map_fold::Sequence;
 use point_geom::{Corner, Cuboid};
 use std::alloc::Global;
 
@@ -32,19 +32,6 @@ fn read_point(point: &Point) -> Result<point_geom::Point, Refusal>
     }
 }
 
-/// The points, in order.
-pub fn read_points(alloc: Global, all: &[Point]) -> Result<Points, Refusal>
-    ensures ok { IfOk result (λ points. points ≡ points_at all.now) }
-    ensures range { OnOk result (All IsRightPoint all.now) }
-    ensures refused { IfErr result (λ r. IsNoList out_of_range (HasWrongPoint all.now) (code r)) }
-{
-    let mut points = Points::new(alloc);
-    for one in all {
-        points.push(read_point(one)?)?;
-    }
-    Ok(points)
-}
-
 /// The box.
 pub fn read_box(bounds: &Bounds) -> Result<Cuboid, Refusal>
     ensures ok { IfOk result (λ c. c ≡ bounds_at bounds.now) }
@@ -67,15 +54,58 @@ fn read_corner(place: &Place) -> Corner
     }
 }
 
-/// The boxes, in order.
-pub fn read_boxes(alloc: Global, all: &[Bounds]) -> Result<Cuboids, Refusal>
-    ensures ok { IfOk result (λ cuboids. cuboids ≡ boxes_at all.now) }
-    ensures range { OnOk result (All IsRightBox all.now) }
-    ensures refused { IfErr result (λ r. IsNoList bad_box (HasWrongBox all.now) (code r)) }
-{
-    let mut cuboids = Cuboids::new(alloc);
-    for bounds in all {
-        cuboids.push(read_box(bounds)?)?;
+/// What is made of a struct of C.
+pub trait FromC<C>: Drop {
+    ghost use Rattle.map_c.specs.declared.handles.refusal.Refusal.{Refusal};
+
+    /// What the struct stands for.
+    ghost of_c: { C → Self };
+
+    /// Whether it stands for anything.
+    ghost is_right: { C → Type 0 };
+
+    /// Why it is refused otherwise.
+    ghost cause: { Refusal };
+
+    fn from_c(from: &C) -> Result<Self, Refusal>
+        ensures ok { IfOk result (λ made. made ≡ of_c from.now) }
+        ensures range { OnOk result (is_right from.now) }
+        ensures refused { IfErr result (λ r. (r ≡ cause) × (is_right from.now → ⊥)) };
+}
+
+impl FromC<Point> for point_geom::Point {
+    ghost of_c = { point_at };
+
+    ghost is_right = { IsRightPoint };
+
+    ghost cause = { OutOfRange };
+
+    fn from_c(point: &Point) -> Result<point_geom::Point, Refusal> {
+        read_point(point)
     }
-    Ok(cuboids)
+}
+
+impl FromC<Bounds> for Cuboid {
+    ghost of_c = { bounds_at };
+
+    ghost is_right = { IsRightBox };
+
+    ghost cause = { BadBox };
+
+    fn from_c(bounds: &Bounds) -> Result<Cuboid, Refusal> {
+        read_box(bounds)
+    }
+}
+
+/// Reads each of them, in order.
+pub fn read_all<C, T: FromC<C>>(alloc: Global, all: &[C]) -> Result<Sequence<T>, Refusal>
+    ensures ok { IfOk result (λ made. made ≡ map T.of_c all.now) }
+    ensures range { OnOk result (All T.is_right all.now) }
+    ensures refused { IfErr result (λ r. IsNoList (code T.cause) (Any (λ x. T.is_right x → ⊥) all.now) (code r)) }
+{
+    let mut made = Sequence::new(alloc);
+    for one in all {
+        made.push(T::from_c(one)?)?;
+    }
+    Ok(made)
 }
