@@ -1,14 +1,14 @@
-ghost use Rattle.std.specs.{Prelude.{◌≡◌, ◌≤◌, ◌<◌, ◌+◌, length, IfOk}, Option.{ForSome}, Thread.{IsSync}};
+ghost use Rattle.std.specs.{Prelude.{◌≡◌, ◌≤◌, ◌<◌, ◌+◌, length, map, IfOk}, Thread.{IsSync}};
 ghost use Rattle.kd_search.specs.Query.{IsQuery};
-ghost use Rattle.batch_near.specs.{Searched.{items_of}, Slabs.{slab_of, AreFilled}};
-ghost use Rattle.map_fold.specs.Answers.{nearest, nearest_each};
+ghost use Rattle.batch_near.specs.{Search.{found_by}, Slabs.{slab_of, AreFilled}};
+ghost use Rattle.map_fold.specs.Answers.{nearest_each};
 ghost use Rattle.kd_tree.specs.Contents.{contents};
 
-use crate::searched::Searched;
+use crate::search::{Search, Searched};
 use kd_frozen::Frozen;
 use kd_tree::Tree;
 use map_fold::{HitLists, Hits};
-use map_items::{MAX_FOUND, MAX_WITHIN, NoMemory, Points};
+use map_items::{NoMemory, Points};
 use point_geom::Point;
 use rayon::prelude::*;
 use rayon::{current_num_threads, join_mut};
@@ -45,12 +45,17 @@ pub fn nearest_each<R: Threads + Sync>(
     requires query { IsQuery k within }
     ensures found { IfOk result (λ lists. lists ≡ nearest_each (contents tree.now) k queries.now within) }
 {
+    let search = Search {
+        searched: Searched::Tree(tree),
+        k,
+        within,
+    };
     if pays_to_freeze(rt, tree, k, queries.len()) {
-        if let Ok(lists) = frozen_first(rt, alloc, tree, k, queries, within) {
+        if let Ok(lists) = frozen_first(rt, alloc, tree, search, queries) {
             return Ok(lists);
         }
     }
-    each(rt, alloc, Searched::Tree(tree), k, queries, within)
+    each(rt, alloc, search, queries)
 }
 
 // One thread makes the index, and all of them save time by it.
@@ -64,15 +69,18 @@ fn frozen_first<R: Threads + Sync>(
     rt: &R,
     alloc: Global,
     tree: &Tree,
-    k: u32,
+    search: Search<'_>,
     queries: &Points,
-    within: Option<u64>,
 ) -> Result<HitLists, NoMemory>
-    requires query { IsQuery k within }
-    ensures found { IfOk result (λ lists. lists ≡ nearest_each (contents tree.now) k queries.now within) }
+    ensures { IfOk result (λ lists. lists ≡ nearest_each (contents tree.now) search.entry.k queries.now search.entry.within) }
 {
     let frozen = Frozen::of(alloc, tree)?;
-    frozen_nearest_each(rt, alloc, &frozen, k, queries, within)
+    let search = Search {
+        searched: Searched::Frozen(&frozen),
+        k: search.k,
+        within: search.within,
+    };
+    each(rt, alloc, search, queries)
 }
 
 /// For each query, in order, what `Frozen::nearest` finds for it: what `nearest_each` finds in a tree whose live items these are.
@@ -88,25 +96,27 @@ pub fn frozen_nearest_each<R: Threads + Sync>(
     requires query { IsQuery k within }
     ensures found { IfOk result (λ lists. lists ≡ nearest_each frozen.now k queries.now within) }
 {
-    each(rt, alloc, Searched::Frozen(frozen), k, queries, within)
+    let search = Search {
+        searched: Searched::Frozen(frozen),
+        k,
+        within,
+    };
+    each(rt, alloc, search, queries)
 }
 
 fn each<R: Threads + Sync>(
     rt: &R,
     alloc: Global,
-    searched: Searched<'_>,
-    k: u32,
+    search: Search<'_>,
     queries: &Points,
-    within: Option<u64>,
 ) -> Result<HitLists, NoMemory>
-    requires query { IsQuery k within }
-    ensures found { IfOk result (λ lists. lists ≡ nearest_each (items_of searched.entry) k queries.now within) }
+    ensures { IfOk result (λ lists. lists ≡ map (found_by search.entry) queries.now) }
 {
     let queries = queries.as_slice();
-    let lists = if k <= INLINE && 2 * LEAST_PIECE <= queries.len() {
-        in_place(rt, alloc, searched, k, queries, within)?
+    let lists = if search.k <= INLINE && 2 * LEAST_PIECE <= queries.len() {
+        in_place(rt, alloc, search, queries)?
     } else {
-        in_pieces(rt, alloc, searched, k, queries, within)?
+        in_pieces(rt, alloc, search, queries)?
     };
     Ok(HitLists::from(lists))
 }
@@ -115,27 +125,15 @@ fn each<R: Threads + Sync>(
 fn in_place<R: Threads + Sync>(
     rt: &R,
     alloc: Global,
-    searched: Searched<'_>,
-    k: u32,
+    search: Search<'_>,
     queries: &[Point],
-    within: Option<u64>,
 ) -> Result<Vec<Hits>, NoMemory>
-    requires query { IsQuery k within }
-    requires k_to { k ≤ 16 }
-    ensures { IfOk result (λ lists. lists.items ≡ nearest_each (items_of searched.entry) k queries.now within) }
+    requires k_to { search.k ≤ 16 }
+    ensures { IfOk result (λ lists. lists.items ≡ map (found_by search.entry) queries.now) }
 {
     let mut lists = empty_lists(alloc, queries.len())?;
     let pieces = pieces_of(rt, queries.len());
-    fill(
-        rt,
-        alloc,
-        searched,
-        k,
-        within,
-        pieces,
-        queries,
-        lists.as_mut_slice(),
-    );
+    fill(rt, alloc, search, pieces, queries, lists.as_mut_slice());
     Ok(lists)
 }
 
@@ -149,20 +147,17 @@ fn pieces_of<R: Threads>(rt: &R, queries: usize) -> usize
 fn fill<R: Threads + Sync>(
     rt: &R,
     alloc: Global,
-    searched: Searched<'_>,
-    k: u32,
-    within: Option<u64>,
+    search: Search<'_>,
     pieces: usize,
     queries: &[Point],
     lists: &mut [Hits],
 )
-    requires query { IsQuery k within }
-    requires k_to { k ≤ 16 }
+    requires k_to { search.k ≤ 16 }
     requires len { length lists.old ≡ length queries.now }
-    ensures { lists.new ≡ nearest_each (items_of searched.entry) k queries.now within }
+    ensures { lists.new ≡ map (found_by search.entry) queries.now }
 {
     if pieces < 2 {
-        fill_piece(alloc, searched, k, within, queries, lists);
+        fill_piece(alloc, search, queries, lists);
         return;
     }
     let piece = queries.len() / pieces;
@@ -171,54 +166,37 @@ fn fill<R: Threads + Sync>(
     join_mut(
         rt,
         &mut ||
-            requires { (1 ≤ k) × (k ≤ 16) × ForSome within (λ r. r ≤ MAX_WITHIN) × (length first.now ≡ length these.now) }
-            ensures { first.exit.now ≡ nearest_each (items_of searched.entry) k these.entry.now within }
-        { fill_piece(alloc, searched, k, within, these, first) },
+            requires { (search.k ≤ 16) × (length first.now ≡ length these.now) }
+            ensures { first.exit.now ≡ map (found_by search.entry) these.entry.now }
+        { fill_piece(alloc, search, these, first) },
         &mut ||
-            requires { IsSync R.row × (1 ≤ k) × (k ≤ 16) × ForSome within (λ r. r ≤ MAX_WITHIN) × (2 ≤ pieces) × (length rest.now ≡ length others.now) }
-            ensures { rest.exit.now ≡ nearest_each (items_of searched.entry) k others.entry.now within }
-        { fill(rt, alloc, searched, k, within, pieces - 1, others, rest) },
+            requires { IsSync R.row × (search.k ≤ 16) × (2 ≤ pieces) × (length rest.now ≡ length others.now) }
+            ensures { rest.exit.now ≡ map (found_by search.entry) others.entry.now }
+        { fill(rt, alloc, search, pieces - 1, others, rest) },
     );
 }
 
 // Slab by slab: most of what a search reads is then still in the cache.
-fn fill_piece(
-    alloc: Global,
-    searched: Searched<'_>,
-    k: u32,
-    within: Option<u64>,
-    queries: &[Point],
-    lists: &mut [Hits],
-)
-    requires query { IsQuery k within }
-    requires k_to { k ≤ 16 }
+fn fill_piece(alloc: Global, search: Search<'_>, queries: &[Point], lists: &mut [Hits])
+    requires k_to { search.k ≤ 16 }
     requires len { length lists.old ≡ length queries.now }
-    ensures { lists.new ≡ nearest_each (items_of searched.entry) k queries.now within }
+    ensures { lists.new ≡ map (found_by search.entry) queries.now }
 {
     for slab in 0..SLABS {
-        fill_slab(alloc, searched, k, within, slab, queries, lists);
+        fill_slab(alloc, search, slab, queries, lists);
     }
 }
 
-fn fill_slab(
-    alloc: Global,
-    searched: Searched<'_>,
-    k: u32,
-    within: Option<u64>,
-    slab: u64,
-    queries: &[Point],
-    lists: &mut [Hits],
-)
-    requires query { IsQuery k within }
-    requires k_to { k ≤ 16 }
+fn fill_slab(alloc: Global, search: Search<'_>, slab: u64, queries: &[Point], lists: &mut [Hits])
+    requires k_to { search.k ≤ 16 }
     requires len { length lists.old ≡ length queries.now }
-    requires filled { AreFilled (λ q. nearest (items_of searched) k q within) slab queries.now lists.old }
-    ensures { AreFilled (λ q. nearest (items_of searched.entry) k q within) (slab + 1) queries.now lists.new }
+    requires filled { AreFilled (found_by search) slab queries.now lists.old }
+    ensures { AreFilled (found_by search.entry) (slab + 1) queries.now lists.new }
 {
     for place in 0..queries.len() {
         let query = &queries[place];
         if slab_of(query) == slab {
-            lists[place] = searched.nearest(alloc, k, query, within).unwrap();
+            lists[place] = search.nearest(alloc, query).unwrap();
         }
     }
 }
@@ -242,22 +220,18 @@ fn empty_lists(alloc: Global, count: usize) -> Result<Vec<Hits>, NoMemory>
 fn in_pieces<R: Threads + Sync>(
     rt: &R,
     alloc: Global,
-    searched: Searched<'_>,
-    k: u32,
+    search: Search<'_>,
     queries: &[Point],
-    within: Option<u64>,
 ) -> Result<Vec<Hits>, NoMemory>
-    requires query { IsQuery k within }
-    ensures { IfOk result (λ lists. lists.items ≡ nearest_each (items_of searched.entry) k queries.now within) }
+    ensures { IfOk result (λ lists. lists.items ≡ map (found_by search.entry) queries.now) }
 {
     let lists: Result<Vec<Hits>, NoMemory> = queries
         .par_iter()
         .with_min_len(LEAST_PIECE)
         .map(
             move |q: &Point| -> Result<Hits, NoMemory>
-                requires { (1 ≤ k) × (k ≤ MAX_FOUND) × ForSome within (λ r. r ≤ MAX_WITHIN) }
-                ensures { IfOk result (λ hits. hits ≡ nearest (items_of searched.entry) k q.now within) }
-            { searched.nearest(alloc, k, q, within) },
+                ensures { IfOk result (λ hits. hits ≡ found_by search.entry q.now) }
+            { search.nearest(alloc, q) },
         )
         .collect(rt, alloc)?;
     Ok(lists?)

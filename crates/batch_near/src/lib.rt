@@ -2,6 +2,6 @@
 #![tactic(auto)]
 
 mod each;
-mod searched;
+mod search;
 
 pub use each::{frozen_nearest_each, nearest_each};

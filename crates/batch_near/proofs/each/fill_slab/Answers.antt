@@ -1,8 +1,5 @@
-use Rattle.std.proofs.Common.{◌≡◌, ◌<◌, List, length, arith, rules}
-use Rattle.point_geom.specs.Place.{Place}
-use Rattle.map_fold.specs.declared.hits.Hit.{Hit}
-use Rattle.map_fold.specs.Answers.{nearest}
-use Rattle.batch_near.specs.Searched.{items_of}
+use Rattle.std.proofs.Common.{◌≡◌, ◌<◌, length, arith, rules}
+use Rattle.batch_near.specs.Search.{found_by}
 use Rattle.batch_near.specs.Slabs.{slab_of}
 use Rattle.batch_near.proofs.Slabs.{put_before, put_next, skip_next, all_filled}
 use Rattle.batch_near.proofs.each.fill_slab.Goals.{then-slab_of-slab+in-Heap-1, then-slab_of-slab+in-Inline-1, else-slab_of-slab}
@@ -13,7 +10,7 @@ loop-place-init c = (c.requires.filled, λ i d l s. absurd (omega (arith, l)))
 
 pub loop-place-preserved : goal.loop-place-preserved
 loop-place-preserved c =
-    let f : Place → List Hit = λ q. nearest (items_of c.args.searched) c.args.k q c.args.within in
+    let f = found_by c.args.search in
     let qs = c.args.queries.now in
     let lists = c.loop-place.lists in
     let slab = c.args.slab in
@@ -37,5 +34,5 @@ loop-place-preserved c =
 
 pub returns : goal.returns
 returns c =
-    let f : Place → List Hit = λ q. nearest (items_of c.args.searched) c.args.k q c.args.within in
+    let f = found_by c.args.search in
     all_filled f c.args.queries.now c.loop-place.lists c.args.slab c.loop-place.place c.loop-place-test.false c.loop-place.invariant.0 c.loop-place.invariant.1

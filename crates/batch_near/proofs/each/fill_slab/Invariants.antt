@@ -1,13 +1,9 @@
-use Rattle.std.proofs.Common.{List}
-use Rattle.point_geom.specs.Place.{Place}
-use Rattle.map_fold.specs.declared.hits.Hit.{Hit}
-use Rattle.map_fold.specs.Answers.{nearest}
-use Rattle.batch_near.specs.Searched.{items_of}
+use Rattle.batch_near.specs.Search.{found_by}
 use Rattle.batch_near.specs.Slabs.{AreFilled}
 use Rattle.batch_near.proofs.Slabs.{AreFilledTo}
 use Rattle.batch_near.proofs.each.fill_slab.Given as goal
 
 abbrev pub invariant-loop-place : goal.invariant-loop-place
 invariant-loop-place l =
-    let f : Place → List Hit = λ q. nearest (items_of l.searched) l.k q l.within in
+    let f = found_by l.search in
     AreFilled f l.slab l.queries l.lists × AreFilledTo f l.slab l.place l.queries l.lists
