@@ -4,6 +4,7 @@ pub mod OnePoint
 pub mod Detached
 pub mod Working
 pub mod Both
+pub mod Thinnings
 pub mod AtOnce
 pub mod Voxels
 pub mod Entering
@@ -13,3 +14,4 @@ pub mod Ranks
 pub mod Entrances
 pub mod Drafted
 pub mod Passes
+pub mod Clearing

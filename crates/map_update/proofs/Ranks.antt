@@ -1,5 +1,5 @@
--- Entrants in the order of their ranks, of which each voxel keeps the first.
-use Rattle.std.proofs.Common.{◌≡◌, ◌+◌, ℕ, inl, inr, Bool, true, false, cond, ℤ, List, [], ◌∷◌, map, length, refl, sym, ap, ◌∙◌, subst, arith, zero, suc, get_or}
+-- Entrants in order, of which each voxel keeps the first.
+use Rattle.std.proofs.Common.{◌≡◌, ◌+◌, ℕ, inl, inr, Bool, true, false, cond, List, [], ◌∷◌, map, length, refl, sym, ap, ◌∙◌, subst, arith, zero, suc, get_or}
 use Rattle.std.specs.Prelude.{All, ◌≤◌, ◌<◌}
 use Rattle.std.specs.Cmp.{IsTotalOrder, IsStrictWeakOrder}
 use Rattle.std.specs.FinMap.{int_cmp-IsAntisymmetric}
@@ -26,30 +26,20 @@ use Rattle.map_items.specs.declared.item.Item.{Item}
 use Rattle.map_items.specs.Contents.{centre_cmp, comes_before, Member}
 use Rattle.map_fold.proofs.Centre.{neither, not_itself, order}
 use Rattle.map_fold.proofs.Found.{member-map, member-map_of}
-use Rattle.map_fold.proofs.Order.{then_equal}
+use Rattle.map_fold.proofs.Order.{place_cmp_total, then_equal}
 use Rattle.kd_tree.proofs.Medians.{then_first}
 use Rattle.kd_update.specs.Scan.{live_from}
 use Rattle.map_update.specs.declared.entrants.Entrant.{Entrant}
 use Rattle.map_update.specs.Entrants.{HaveOwnVoxels, AreFirsts}
-use Rattle.map_update.specs.Ranks.{HaveVoxels, Rank, entrant_of, items_in, rank_cmp, rank_of, spot_cmp}
+use Rattle.map_update.specs.Ranks.{HaveVoxels, corner_cmp, entrant_cmp, entrant_of, inside_cmp, items_in}
 use Rattle.map_update.proofs.Voxels.{corners_alike, voxel_of}
 
--- the first has the lower rank
+-- the first comes before the second
 abbrev pub is_ahead : Entrant → Entrant → Bool
-is_ahead e f = is_lt (rank_cmp (rank_of e) (rank_of f))
+is_ahead e f = is_lt (entrant_cmp e f)
 
 abbrev pub is_same_voxel : Entrant → Entrant → Bool
 is_same_voxel e f = cuboid.eq-value.it e.cube f.cube
-
-spot_cmp_total : IsTotalOrder spot_cmp
-spot_cmp_total =
-    then_total
-    (then_total (on_total (λ (p : ℤ × ℤ × ℤ). p.0) int_cmp_total) (on_total (λ (p : ℤ × ℤ × ℤ). p.1) int_cmp_total))
-    (on_total (λ (p : ℤ × ℤ × ℤ). p.2) int_cmp_total)
-
--- corners by x, then by y, then by z
-abbrev corner_cmp : Corner → Corner → Ordering
-corner_cmp c d = ordering_then (int_cmp c.x d.x) (ordering_then (int_cmp c.y d.y) (int_cmp c.z d.z))
 
 corner_cmp_total : IsTotalOrder corner_cmp
 corner_cmp_total = then_total (on_total (λ (c : Corner). c.x) int_cmp_total) (then_total (on_total (λ (c : Corner). c.y) int_cmp_total) (on_total (λ (c : Corner). c.z) int_cmp_total))
@@ -60,20 +50,24 @@ corner_cmp-Equal c d e =
     let t = then_equal (int_cmp c.y d.y) _ s.1 in
     corners_alike c d (int_cmp-IsAntisymmetric c.x d.x s.0) (int_cmp-IsAntisymmetric c.y d.y t.0) (int_cmp-IsAntisymmetric c.z d.z t.1)
 
-rank_cmp_total : IsTotalOrder rank_cmp
-rank_cmp_total =
+entrant_cmp_total : IsTotalOrder entrant_cmp
+entrant_cmp_total =
     then_total
-    (then_total
-    (then_total
-    (then_total
-    (then_total (on_total (λ (k : Rank). k.0) int_cmp_total) (on_total (λ (k : Rank). k.1) int_cmp_total))
-    (on_total (λ (k : Rank). k.2) int_cmp_total))
-    (on_total (λ (k : Rank). k.3) nat_cmp_total))
-    (on_total (λ (k : Rank). k.4) spot_cmp_total))
-    (on_total (λ (k : Rank). k.5) nat_cmp_total)
+    (on_total (λ (e : Entrant). e.cube.lo) corner_cmp_total)
+    (then_total (on_total (λ (e : Entrant). centre_dist2 e.cube e.item.point) nat_cmp_total)
+    (then_total (on_total (λ (e : Entrant). e.item.point) place_cmp_total) (on_total (λ (e : Entrant). e.item.number) nat_cmp_total)))
 
-ahead_order : IsStrictWeakOrder is_ahead
-ahead_order = ranks_by rank_cmp_total rank_of
+pub ahead_order : IsStrictWeakOrder is_ahead
+ahead_order = ranks_by entrant_cmp_total (λ (e : Entrant). e)
+
+-- of corners that agree on x and y the z decides
+pub z_decides : (c d : Corner) (o : Ordering) → c.x ≡ d.x → c.y ≡ d.y → (c.z ≡ d.z → ⊥) → ordering_then (corner_cmp c d) o ≡ int_cmp c.z d.z
+z_decides c d o e f apart = rw e (rw f (rw (tied_itself int_cmp_total d.x) (rw (tied_itself int_cmp_total d.y) (decided (int_cmp c.z d.z) (λ g. apart (int_cmp-IsAntisymmetric c.z d.z g))))))
+  where
+    decided : (p : Ordering) → (p ≡ Equal → ⊥) → ordering_then p o ≡ p
+    decided Less h = refl
+    decided Equal h = absurd (h refl)
+    decided Greater h = refl
 
 -- none of the list is ahead of one that comes before it
 abbrev Ascend : List Entrant → Type 0
@@ -88,46 +82,17 @@ ascend_far (e ∷ es) far =
 ascend : (es : List Entrant) → IsSortedBy is_ahead es → Ascend es
 ascend es up = ascend_far es (sorted_far is_ahead ahead_order es up)
 
-then_assoc : (o p q : Ordering) → ordering_then (ordering_then o p) q ≡ ordering_then o (ordering_then p q)
-then_assoc Less p q = refl
-then_assoc Equal p q = refl
-then_assoc Greater p q = refl
-
--- how voxels are ordered, and how entrants are in their own
-abbrev voxel_cmp : Entrant → Entrant → Ordering
-voxel_cmp e f = corner_cmp e.cube.lo f.cube.lo
-
-abbrev own_cmp : Entrant → Entrant → Ordering
-own_cmp e f = ordering_then (nat_cmp (centre_dist2 e.cube e.item.point) (centre_dist2 f.cube f.item.point)) (ordering_then (place_cmp e.item.point f.item.point) (nat_cmp e.item.number f.item.number))
-
-regrouped : (x y z d p n : Ordering)
-    → ordering_then (ordering_then (ordering_then (ordering_then (ordering_then x y) z) d) p) n
-    ≡ ordering_then (ordering_then x (ordering_then y z)) (ordering_then d (ordering_then p n))
-regrouped x y z d p n =
-    let v = ordering_then (ordering_then x y) z in
-    then_assoc (ordering_then v d) p n ∙ then_assoc v d (ordering_then p n) ∙ ap (λ o. ordering_then o (ordering_then d (ordering_then p n))) (then_assoc x y z)
-
-parts : (e f : Entrant) → rank_cmp (rank_of e) (rank_of f) ≡ ordering_then (voxel_cmp e f) (own_cmp e f)
-parts e f =
-    regrouped (int_cmp e.cube.lo.x f.cube.lo.x) (int_cmp e.cube.lo.y f.cube.lo.y) (int_cmp e.cube.lo.z f.cube.lo.z)
-    (nat_cmp (centre_dist2 e.cube e.item.point) (centre_dist2 f.cube f.item.point)) (spot_cmp (rank_of e).4 (rank_of f).4) (nat_cmp e.item.number f.item.number)
-    ∙ ap (λ (o : Ordering). ordering_then (voxel_cmp e f) (ordering_then
-    (nat_cmp (centre_dist2 e.cube e.item.point) (centre_dist2 f.cube f.item.point))
-    (ordering_then o (nat_cmp e.item.number f.item.number))))
-    (then_assoc (int_cmp e.item.point.x f.item.point.x) (int_cmp e.item.point.y f.item.point.y) (int_cmp e.item.point.z f.item.point.z))
-
 -- in one voxel the first to win is ahead
 ahead_inside : (e f : Entrant) → e.cube ≡ f.cube → is_ahead e f ≡ comes_before f.cube e.item f.item
 ahead_inside e f same =
-    ap is_lt (parts e f)
-    ∙ ap (λ (c : Bounds). is_lt (ordering_then (corner_cmp c.lo f.cube.lo) (ordering_then
+    ap (λ (c : Bounds). is_lt (ordering_then (corner_cmp c.lo f.cube.lo) (ordering_then
     (nat_cmp (centre_dist2 c e.item.point) (centre_dist2 f.cube f.item.point))
     (ordering_then (place_cmp e.item.point f.item.point) (nat_cmp e.item.number f.item.number))))) same
     ∙ ap (λ (o : Ordering). is_lt (ordering_then o (centre_cmp f.cube e.item f.item))) (tied_itself corner_cmp_total f.cube.lo)
 
 -- what isn't ahead isn't in a voxel that is
-voxel_behind : (e f : Entrant) → is_ahead e f ≡ false → is_lt (voxel_cmp e f) ≡ false
-voxel_behind e f h = then_first (voxel_cmp e f) (own_cmp e f) (sym (ap is_lt (parts e f)) ∙ h)
+voxel_behind : (e f : Entrant) → is_ahead e f ≡ false → is_lt (corner_cmp e.cube.lo f.cube.lo) ≡ false
+voxel_behind e f h = then_first (corner_cmp e.cube.lo f.cube.lo) (inside_cmp e f) h
 
 -- voxels with the same lower corner are the same
 same_corner : (edge : ℕ) (e f : Entrant) → e.cube ≡ voxel edge e.item.point → f.cube ≡ voxel edge f.item.point → e.cube.lo ≡ f.cube.lo → e.cube ≡ f.cube
@@ -249,7 +214,7 @@ pub own_voxels : (edge : ℕ) (is : List Item) → HaveVoxels edge (map (entrant
 own_voxels edge [] = All-nil (λ (e : Entrant). e.cube ≡ voxel edge e.item.point)
 own_voxels edge (i ∷ is) = All-cons (λ (e : Entrant). e.cube ≡ voxel edge e.item.point) (entrant_of edge i) (map (entrant_of edge) is) refl (own_voxels edge is)
 
--- sorted by rank, and then one kept of each voxel: these are the first ones
+-- sorted, and then one kept of each voxel: these are the first ones
 pub sorted_firsts : (edge next : ℕ) (ps : List Place) (es : List Entrant) → 1 ≤ edge → IsPermutation (map (entrant_of edge) (live_from next ps)) es → IsSortedBy is_ahead es
     → AreFirsts edge next ps (items_in (dedup is_same_voxel es)) × HaveVoxels edge (dedup is_same_voxel es)
 sorted_firsts edge next ps es from same up = by_list es refl

@@ -2,11 +2,12 @@
 ghost use Rattle.std.specs.Prelude.{◌≡◌, ◌+◌, ◌≤◌, length, map, IfOk};
 ghost use Rattle.point_geom.specs.Boxes.{voxel};
 ghost use Rattle.kd_update.specs.Scan.{live_from};
-ghost use Rattle.map_update.specs.{Entrants.{AreFirsts}, Ranks.{HaveVoxels, entrant_of, items_in, rank_of}};
+ghost use Rattle.map_update.specs.{Entrants.{AreFirsts}, Ranks.{HaveVoxels, entrant_cmp, entrant_of, inside_cmp, items_in}};
 
 use map_items::{Item, MAX_POINTS, NoMemory, Settings};
 use point_geom::{Cuboid, MAX_EDGE, Point, centre_dist2, voxel};
 use std::alloc::Global;
+use std::cmp::Ordering;
 
 #[derive(Clone, Copy)]
 pub(crate) struct Entrant {
@@ -29,7 +30,7 @@ pub(crate) fn firsts(
 {
     let edge = settings.voxel();
     let mut entrants = entrants(alloc, edge, next, points)?;
-    entrants.sort_unstable_by_key(|e: &Entrant| e.rank());
+    entrants.sort_unstable_by(|a: &Entrant, b: &Entrant| a.compare(b));
     entrants.dedup_by_key(|e: &mut Entrant| e.cube);
     Ok(entrants)
 }
@@ -52,14 +53,33 @@ fn entrants(alloc: Global, edge: u32, next: u32, points: &[Point]) -> Result<Vec
 }
 
 impl Entrant {
-    // By the voxel, and in a voxel as its points win.
-    fn rank(&self) -> (i64, i64, i64, u128, (i64, i64, i64), u32)
-        ensures { result ≡ rank_of self.now }
+    // By the voxel, and in a voxel as its points win. Branches ask whether numbers differ, which is mostly predicted, and
+    // not which is lower.
+    #[inline]
+    fn compare(&self, other: &Entrant) -> Ordering
+        ensures { result ≡ entrant_cmp self.now other.now }
     {
-        let lo = self.cube.lo();
-        let away = centre_dist2(&self.item.point, &self.cube);
-        let p = &self.item.point;
-        let place = (p.x(), p.y(), p.z());
-        (lo.x, lo.y, lo.z, away, place, self.item.number)
+        let (one, two) = (self.cube.lo(), other.cube.lo());
+        if one.x != two.x {
+            one.x.cmp(&two.x)
+        } else if one.y != two.y {
+            one.y.cmp(&two.y)
+        } else if one.z != two.z {
+            one.z.cmp(&two.z)
+        } else {
+            self.compare_inside(other)
+        }
+    }
+
+    // Few entrants that are compared lie in one voxel, so this is kept out of the way.
+    #[inline(never)]
+    fn compare_inside(&self, other: &Entrant) -> Ordering
+        ensures { result ≡ inside_cmp self.now other.now }
+    {
+        let one = centre_dist2(&self.item.point, &self.cube);
+        let two = centre_dist2(&other.item.point, &other.cube);
+        let place = self.item.point.cmp_place(&other.item.point);
+        let number = self.item.number.cmp(&other.item.number);
+        one.cmp(&two).then(place.then(number))
     }
 }

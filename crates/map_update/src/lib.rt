@@ -5,6 +5,7 @@
 //! `thin`'s: their points, one of each voxel, are `entrants`, and wait in `waiting` until they are put.
 #![tactic(auto)]
 
+mod clear;
 mod draft;
 mod entrants;
 mod pieces;

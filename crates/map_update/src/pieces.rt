@@ -1,18 +1,65 @@
-//! Items put in as few passes as may be, while a tree is watched. Nothing here knows where they come from.
+//! Boxes thinned and items put in as few passes as may be, while a tree is watched. Nothing here knows where they come from.
 ghost use Rattle.std.specs.Prelude.{◌≡◌, ℕ, ◌<◌, ◌≤◌, List, length, All, IfOk};
+ghost use Rattle.node_labels.specs.Labels.{thin_tag};
+ghost use Rattle.map_items.specs.Contents.{mark};
 ghost use Rattle.kd_tree.specs.Contents.{contents};
 ghost use Rattle.kd_update.specs.{Crossing.{HaveRoomAtOnce}, Scan.{MayJoin, put_each}, Detached.{PartAt}};
-ghost use Rattle.map_update.specs.{Draft.{IsDraft, IsDraftLeft, IsLawfulDraft, IsDrafted, KeepsWatched}, Pieces.{MayPass}};
+ghost use Rattle.map_update.specs.{Clearing.{in_some}, Draft.{IsDraft, IsDraftLeft, IsLawfulDraft, IsDrafted, KeepsDraft, KeepsWatched}, Pieces.{MayPass}};
 
+use crate::clear::cleared_at_once;
 use crate::draft::{Draft, Drafted};
 use kd_mark::Watch;
 use kd_tree::{MAX_NODES, Scratch, Steps};
 use kd_update::{MAX_PASS_LEVELS, PASS_FROM, put_all, put_all_watched};
-use map_items::Item;
+use map_items::{Choice, Item, Tag};
+use point_geom::Cuboid;
 use std::alloc::Global;
 use std::sync::ledger::Ledger;
 
 impl Draft {
+    // Drops what is live in any of the cuboids: in one pass where nothing is watched, and else box by box, as each is
+    // logged.
+    pub(crate) fn cleared<L: Ledger>(
+        self,
+        alloc: Global,
+        large: u32,
+        cuboids: &mut [Cuboid],
+        steps: &mut Steps<L>,
+    ) -> Drafted
+        requires draft { (next : ℕ) × IsLawfulDraft large next self }
+        ensures contents { IfOk result (λ w. contents w.tree ≡ mark (contents self.tree) (in_some cuboids.old) thin_tag) }
+        ensures draft { (next : ℕ) → KeepsDraft large next next self result }
+        ensures drafted { IfOk result (IsDrafted 0 (length cuboids.old) self) }
+    {
+        if self.watches.len() > 0 {
+            return self.cleared_singly(alloc, large, cuboids, steps);
+        }
+        let Draft { tree, watches } = self;
+        let _size = tree.size();
+        let tree = cleared_at_once(alloc, tree, large, cuboids, steps)?;
+        Ok(Draft { tree, watches })
+    }
+
+    fn cleared_singly<L: Ledger>(
+        self,
+        alloc: Global,
+        large: u32,
+        cuboids: &[Cuboid],
+        steps: &mut Steps<L>,
+    ) -> Drafted
+        requires draft { (next : ℕ) × IsLawfulDraft large next self }
+        ensures contents { IfOk result (λ w. contents w.tree ≡ mark (contents self.tree) (in_some cuboids.now) thin_tag) }
+        ensures draft { (next : ℕ) → KeepsDraft large next next self result }
+        ensures drafted { IfOk result (IsDrafted 0 (length cuboids.now) self) }
+    {
+        let _size = self.tree.size();
+        let mut draft = self;
+        for cuboid in cuboids {
+            draft = draft.marked(alloc, large, &Choice::within(cuboid), Tag::THIN, steps)?;
+        }
+        Ok(draft)
+    }
+
     // `put_all` where nothing is watched. Else a pass takes what each log has room for, and where that is little an
     // item is put alone, after full logs are forgotten.
     pub(crate) fn put_items<L: Ledger>(

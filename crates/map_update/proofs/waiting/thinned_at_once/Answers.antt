@@ -1,4 +1,4 @@
-use Rattle.std.proofs.Common.{◌≡◌, [], ◌∷◌, ◌+◌, ◌*◌, ◌<◌, ◌≤◌, ◌∙◌, ℕ, List, ap, arith, drop, get_or, inl, inr, length, length-append, subst, sym}
+use Rattle.std.proofs.Common.{◌≡◌, [], ◌∷◌, ◌+◌, ◌++◌, ◌<◌, ◌≤◌, ◌⊎◌, ◌∙◌, ℕ, true, List, ap, arith, drop, get_or, inl, inr, length, length-append, subst, sym}
 use Rattle.std.specs.Prelude.{IfOk}
 use Rattle.std.proofs.lemmas.List.{drop_all}
 use Rattle.std.proofs.lemmas.List.Elements.{All-head, All-tail}
@@ -6,29 +6,25 @@ use Rattle.std.proofs.lemmas.Result.{IfOk-weaker}
 use Rattle.point_geom.specs.Place.{Bounds}
 use Rattle.point_geom.specs.Boxes.{voxel}
 use Rattle.map_items.specs.declared.item.Item.{Item}
-use Rattle.map_items.specs.Contents.{Member}
+use Rattle.map_items.specs.Contents.{Member, in_box}
 use Rattle.map_items.specs.Fold.{MapAt, thin_points}
 use Rattle.map_items.proofs.Folds.{thin_next}
 use Rattle.map_items.proofs.Numbered.{drop-at}
 use Rattle.kd_tree.specs.Contents.{contents}
 use Rattle.kd_tree.proofs.Held.{are_contents}
-use Rattle.kd_tree.specs.declared.path.Side.{Side}
-use Rattle.kd_mark.specs.Watches.{paths_in}
 use Rattle.map_update.specs.declared.entrants.Entrant.{Entrant}
 use Rattle.map_update.specs.declared.waiting.Waiting.{Waiting}
 use Rattle.map_update.specs.declared.draft.Draft.{Draft}
-use Rattle.map_update.specs.Draft.{IsDraft, IsDraftLeft, IsDrafted}
+use Rattle.map_update.specs.Draft.{HasRoomFor, IsDraft, IsDraftLeft}
 use Rattle.map_update.specs.Entrants.{HaveOwnVoxels, AreEntrants, AreFirsts, thin_each}
 use Rattle.kd_tree.specs.Maps.{map_of}
 use Rattle.map_update.specs.Ranks.{HaveVoxels, items_in}
-use Rattle.map_update.specs.Waiting.{AreClear, NoneWaitsIn, IsJoined, contents_of}
+use Rattle.map_update.specs.Waiting.{AreClear, IsClear, IsJoined, contents_of}
 use Rattle.map_update.proofs.AnyOrder.{thin_firsts}
 use Rattle.map_update.proofs.Entering.{entrants_after}
 use Rattle.map_update.proofs.Entrances.{none_clear, still_clear}
 use Rattle.map_update.proofs.Firsts.{firsts_enter}
-use Rattle.map_update.proofs.Detached.{left_itself}
-use Rattle.map_update.proofs.Drafted.{room_left, still_left, worked_itself, worked_then}
-use Rattle.map_update.proofs.Working.{draft_more, draft_on}
+use Rattle.map_update.proofs.Working.{draft_more}
 use Rattle.map_update.proofs.waiting.thinned_at_once.Goals as goal
 
 -- a map is what it holds and its next number
@@ -37,8 +33,20 @@ map_alike a m n e f = let F : List Item → ℕ → MapAt = λ x y. record { ite
 
 -- at most one item more waits
 joined_few : (box : Bounds) (v w : Waiting) → IsJoined box v w → length w.items.items ≤ length v.items.items + 1
-joined_few box v w (inl same) = omega (arith, ap (λ (xs : List Item). length xs) same)
-joined_few box v w (inr one) = omega (arith, ap (λ (xs : List Item). length xs) one.2, length-append v.items.items (one.0 ∷ []))
+joined_few box v w joined = over joined.items
+  where
+    over : (w.items.items ≡ v.items.items) ⊎ ((i : Item) × (in_box box i ≡ true) × (w.items.items ≡ v.items.items ++ i ∷ [])) → length w.items.items ≤ length v.items.items + 1
+    over (inl same) = omega (arith, ap (λ (xs : List Item). length xs) same)
+    over (inr one) = omega (arith, ap (λ (xs : List Item). length xs) one.2, length-append v.items.items (one.0 ∷ []))
+
+-- and at most one box more is to be thinned
+joined_few_thinned : (box : Bounds) (v w : Waiting) → IsJoined box v w → length w.cuboids.items ≤ length v.cuboids.items + 1
+joined_few_thinned box v w joined = over joined.cuboids
+  where
+    over : (w.cuboids.items ≡ v.cuboids.items) ⊎ ((d : Bounds) × ((i : Item) → in_box d i ≡ true → in_box box i ≡ true) × (w.cuboids.items ≡ v.cuboids.items ++ d ∷ []))
+        → length w.cuboids.items ≤ length v.cuboids.items + 1
+    over (inl same) = omega (arith, ap (λ (cs : List Bounds). length cs) same)
+    over (inr one) = omega (arith, ap (λ (cs : List Bounds). length cs) one.2, length-append v.cuboids.items (one.0 ∷ []))
 
 pub loop-entrant-init : goal.loop-entrant-init
 loop-entrant-init g c =
@@ -54,17 +62,15 @@ loop-entrant-init g c =
     let ready = firsts_enter edge next c.args.points.now (items_in es) m c.large-large.ensures.sizes.voxel_from held firsts in
     record {
       waiting =
-          c.none-waiting.ensures.waiting c.args.settings.now.large high (let d = c.requires.draft in
-          (d.0, d.1, draft_more c.args.settings.now.large next high d.0 d.1 c.args.draft (omega arith) d.2));
+          c.none-waiting.ensures.waiting high (let d = c.requires.draft in
+          (draft_more c.args.settings.now.large next high d.0 d.1 c.args.draft (omega arith) d.2).below);
       rest = ap (λ (xs : List Item). thin_each edge xs (items_in es)) c.none-waiting.ensures.held;
       ready = subst (λ (xs : List Item). AreEntrants high xs (items_in es)) (sym c.none-waiting.ensures.held) ready;
       apart = firsts.apart;
-      clear = none_clear edge c.none-waiting.result (items_in es) c.none-waiting.ensures.none;
-      draft =
-          λ last ps d. subst (IsDraftLeft c.args.settings.now.large high last ps) (sym c.none-waiting.ensures.same)
-          (ps, left_itself ps, draft_more c.args.settings.now.large next high last ps c.args.draft (omega arith) d);
-      drafted = subst (IsDrafted 0 0 c.args.draft) (sym c.none-waiting.ensures.same) (worked_itself 0 0 c.args.draft);
+      clear = none_clear edge c.none-waiting.result (items_in es) c.none-waiting.ensures.unthinned c.none-waiting.ensures.none;
+      draft = c.none-waiting.ensures.same;
       few = omega (arith, ap (λ (xs : List Item). length xs) c.none-waiting.ensures.none);
+      few_thinned = omega (arith, ap (λ (cs : List Bounds). length cs) c.none-waiting.ensures.unthinned);
     }
 
 -- the entrant and those that remain
@@ -85,7 +91,7 @@ thinned-requires-clause-clear g c =
     let voxels : HaveVoxels edge es = subst (HaveVoxels edge) (sym c.as_slice-entrant-items.ensures.value) c.in_ok-entrants.ensures.cubes in
     let left = items_in (drop (k + 1) es) in
     let clear : AreClear edge v (e.item ∷ left) = subst (λ (xs : List Entrant). AreClear edge v (items_in xs)) (cut es k e c.loop-entrant-test.true c.entrant-item.is) c.loop-entrant.invariant.clear in
-    subst (λ (b : Bounds). NoneWaitsIn b v) (sym (own edge es k e voxels c.loop-entrant-test.true c.entrant-item.is)) (All-head (λ (i : Item). NoneWaitsIn (voxel edge i.point) v) e.item left clear)
+    subst (λ (b : Bounds). IsClear b v) (sym (own edge es k e voxels c.loop-entrant-test.true c.entrant-item.is)) (All-head (λ (i : Item). IsClear (voxel edge i.point) v) e.item left clear)
 
 pub loop-entrant-preserved : goal.loop-entrant-preserved
 loop-entrant-preserved g c =
@@ -114,37 +120,40 @@ loop-entrant-preserved g c =
           subst (λ (xs : List Item). AreEntrants high xs left) (sym c.in_ok-waiting.ensures.held)
           (entrants_after edge high (contents_of v) e.item left c.loop-entrant.invariant.waiting.held ready);
       apart = apart.1;
-      clear = still_clear edge e.item left v w c.large-large.ensures.sizes.voxel_from apart.0 (All-tail (λ (i : Item). NoneWaitsIn (voxel edge i.point) v) e.item left clear) joined;
-      draft = λ last ps d. let j = c.loop-entrant.invariant.draft last ps d in draft_on c.args.settings.now.large high last ps j.0 w.draft j.1 (c.in_ok-waiting.ensures.draft last j.0 j.2);
-      drafted = worked_then 0 k 0 1 0 (k + 1) c.args.draft v.draft w.draft (omega arith) (omega arith) c.loop-entrant.invariant.drafted c.in_ok-waiting.ensures.drafted;
+      clear = still_clear edge e.item left v w c.large-large.ensures.sizes.voxel_from apart.0 (All-tail (λ (i : Item). IsClear (voxel edge i.point) v) e.item left clear) joined;
+      draft = c.in_ok-waiting.ensures.draft ∙ c.loop-entrant.invariant.draft;
       few = omega (arith, c.loop-entrant.invariant.few, joined_few (voxel edge e.item.point) v w joined);
+      few_thinned = omega (arith, c.loop-entrant.invariant.few_thinned, joined_few_thinned (voxel edge e.item.point) v w joined);
     }
+
+pub put-requires-clause-draft : goal.put-requires-clause-draft
+put-requires-clause-draft g c =
+    let large = c.args.settings.now.large in
+    let high = c.args.next + length c.args.points.now in
+    let d = c.requires.draft in
+    (d.0, d.1, rw c.large-large.ensures.value (subst (IsDraft large high d.0 d.1) (sym c.loop-entrant.invariant.draft) (draft_more large c.args.next high d.0 d.1 c.args.draft (omega arith) d.2)))
 
 pub returns-clause-draft : goal.returns-clause-draft
 returns-clause-draft g c = λ last ps d.
-    let w = c.loop-entrant.waiting in
+    let v = c.loop-entrant.waiting.draft in
     let large = c.args.settings.now.large in
     let high = c.args.next + length c.args.points.now in
-    let j = c.loop-entrant.invariant.draft last ps d in
-    IfOk-weaker c.put.result _ (IsDraftLeft large high last ps) (λ u l. draft_on large high last ps j.0 u j.1 l)
-    (subst (λ (l : ℕ). IsDraft l high last j.0 w.draft → IfOk c.put.result (IsDraftLeft l high last j.0))
-    c.large-large.ensures.value (c.put.ensures.draft last j.0) j.2)
+    subst (λ (l : ℕ). IsDraft l high last ps v → IfOk c.put.result (IsDraftLeft l high last ps)) c.large-large.ensures.value (c.put.ensures.draft last ps)
+    (subst (IsDraft large high last ps) (sym c.loop-entrant.invariant.draft) (draft_more large c.args.next high last ps c.args.draft (omega arith) d))
 
 pub returns-clause-kept : goal.returns-clause-kept
 returns-clause-kept g c = λ room x there own.
     let v = c.loop-entrant.waiting in
+    let same = sym c.loop-entrant.invariant.draft in
     let n = length c.args.points.now in
-    let k = c.loop-entrant.entrant-index in
-    let m = length v.items.items in
     let es = c.as_slice-entrant-items.result.now in
     let short : length es ≤ n = omega (arith, ap (λ (xs : List Entrant). length xs) c.as_slice-entrant-items.ensures.value, c.in_ok-entrants.ensures.few) in
-    let most : k ≤ length es = c.loop-entrant.auto.entrant-index-end in
+    let most : c.loop-entrant.entrant-index ≤ length es = c.loop-entrant.auto.entrant-index-end in
     let few = c.loop-entrant.invariant.few in
-    let drafted = c.loop-entrant.invariant.drafted in
-    let left = room_left 0 k m n c.args.draft v.draft (omega (arith, few, most, short)) drafted room in
-    let first = still_left 0 k n (2 * n) c.args.draft v.draft (omega arith) (omega (arith, most, short)) drafted room x there own in
-    subst (λ (q : List Side). IfOk c.put.result (λ (u : Draft). Member q (paths_in u.watches))) first.path
-    (c.put.ensures.kept left first.watch first.there (omega (arith, own, first.few, few, most, short)))
+    let few_thinned = c.loop-entrant.invariant.few_thinned in
+    let left : HasRoomFor (length v.items.items) c.args.draft = record { low = omega (arith, room.low, few, most, short); few = omega (arith, room.few, few, most, short) } in
+    c.put.ensures.kept (subst (HasRoomFor (length v.items.items)) same left) x (subst (λ (w : Draft). Member x w.watches) same there)
+    (omega (arith, own, few, few_thinned, most, short))
 
 pub returns-clause-stepped : goal.returns-clause-stepped
 returns-clause-stepped g c =

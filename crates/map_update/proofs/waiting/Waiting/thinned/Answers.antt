@@ -1,6 +1,8 @@
-use Rattle.std.proofs.Common.{◌≡◌, ℕ, ◌<◌, ◌≤◌, ◌++◌, ◌∙◌, [], ◌∷◌, inr, Bool, true, List, Some, ap, length, refl, subst, sym}
+use Rattle.std.proofs.Common.{◌≡◌, ℕ, ◌<◌, ◌≤◌, ◌++◌, ◌∙◌, [], ◌∷◌, inl, inr, Bool, true, false, List, Some, ap, length, refl, subst, sym}
 use Rattle.std.specs.Prelude.{IfSome, IsNone}
 use Rattle.std.specs.declared.option.Option.{Option}
+use Rattle.std.proofs.lemmas.Bool.{true≢false}
+use Rattle.std.proofs.lemmas.List.Elements.{All-weaker}
 use Rattle.std.proofs.lemmas.Result.{IfOk-weaker}
 use Rattle.point_geom.specs.Place.{Bounds}
 use Rattle.point_geom.specs.Boxes.{holds, voxel}
@@ -14,17 +16,16 @@ use Rattle.map_items.specs.Ops.{IsUnheld}
 use Rattle.map_fold.proofs.Centre.{live_is}
 use Rattle.map_fold.proofs.Found.{member-filter}
 use Rattle.kd_search.specs.Best.{IsBest}
+use Rattle.kd_mark.proofs.Results.{ok_both}
 use Rattle.kd_update.proofs.Grown.{live_of}
 use Rattle.map_update.specs.Waiting.{IsJoined, contents_of}
-use Rattle.map_update.proofs.Both.{distinct_both}
 use Rattle.map_update.proofs.Entering.{entered_none, entered_same, winner_below, winner_new}
 use Rattle.map_items.proofs.Numbered.{contents_rise}
+use Rattle.map_update.proofs.Thinnings.{ThinsAs, lost_thins}
 use Rattle.map_update.proofs.Winners.{alone_inside, held_wins, new_wins}
 use Rattle.map_update.specs.declared.waiting.Waiting.{Waiting}
-use Rattle.map_update.specs.Draft.{IsDraft, IsDraftLeft, IsDrafted}
-use Rattle.map_update.proofs.Detached.{left_itself}
-use Rattle.map_update.proofs.Drafted.{worked_itself}
 use Rattle.map_update.proofs.waiting.Waiting.thinned.Goals as goal
+use Rattle.map_update.proofs.waiting.Waiting.thinned.Goals.{After-lost}
 
 -- an item lies in its voxel
 inside : (edge : ℕ) (i : Item) (box : Bounds) → 1 ≤ edge → box ≡ voxel edge i.point → holds box i.point ≡ true
@@ -40,7 +41,7 @@ first_on i j box cube r same live e =
     ap (λ (b : Bounds). comes_before b (live_at i.number i.point) j) (sym same) ∙ ap (λ (x : Item). comes_before box x j) (sym (live_of i live)) ∙ sym e
 
 pub returns-in_default-clause-held : goal.returns-in_default-clause-held
-returns-in_default-clause-held g c =
+returns-in_default-clause-held c =
     let edge = c.args.settings.now.voxel in
     let i = c.args.entrant.now.item in
     let m = contents_of c.args.self in
@@ -49,16 +50,35 @@ returns-in_default-clause-held g c =
     IfOk-weaker c.with.result _ (λ w. contents_of w ≡ thin edge m i.number i.point) (λ w e. e ∙ sym (entered_none edge c.args.high i.number m i.point c.requires.waiting.held none)) c.with.ensures.held
 
 pub returns-in_default-clause-joined : goal.returns-in_default-clause-joined
-returns-in_default-clause-joined g c =
+returns-in_default-clause-joined c =
     let i = c.args.entrant.now.item in
-    let there = inside c.args.settings.now.voxel i c.args.entrant.now.cube c.large-large.ensures.sizes.voxel_from c.requires.cube in
-    IfOk-weaker c.with.result _ (IsJoined c.args.entrant.now.cube c.args.self) (λ w e. inr (i, there, e)) c.with.ensures.one
+    let there = inside c.args.settings.now.voxel i c.args.entrant.now.cube c.voxel-edge.ensures.sizes.voxel_from c.requires.cube in
+    ok_both c.with.result _ _ (IsJoined c.args.entrant.now.cube c.args.self) (λ w same e. record { cuboids = inl same; items = inr (i, there, e) }) c.with.ensures.same c.with.ensures.one
 
-pub rivals-best-requires-clause-distinct : goal.rivals-best-requires-clause-distinct
-rivals-best-requires-clause-distinct g c = distinct_both c.args.high c.args.self.draft.tree c.args.self.items.items c.requires.waiting.held
+-- what is thinned where the new item wins
+clears : (c : After-lost) → ThinsAs (contents_of c.args.self) c.args.entrant.now.cube c.lost.result
+clears c =
+    let m = contents_of c.args.self in
+    let box = c.args.entrant.now.cube in
+    let best = best_on m box box c.rivals-best.result.best c.in-Some.best refl c.rivals-best.ensures.best c.in-Some.is in
+    lost_thins c.args.high m box c.lost.result c.in-Some.best c.rivals-best.result.count c.requires.waiting.held best c.rivals-best.ensures.count c.lost.ensures
+
+pub cleared-requires-clause-clear : goal.cleared-requires-clause-clear
+cleared-requires-clause-clear c =
+    let k = clears (goal.at.cleared-requires-clause-clear c).After-lost in
+    let box = c.args.entrant.now.cube in
+    let small = c.lost.result in
+    record {
+      none = All-weaker (λ u. in_box box u ≡ false) (λ u. in_box small u ≡ false) (λ u out. outside u (in_box small u) refl k out) c.args.self.items.items c.requires.clear.none;
+      apart = λ i there. c.requires.clear.apart i (k.part i there);
+    }
+  where
+    outside : (u : Item) (b : Bool) → in_box c.lost.result u ≡ b → ThinsAs (contents_of c.args.self) c.args.entrant.now.cube c.lost.result → in_box c.args.entrant.now.cube u ≡ false → in_box c.lost.result u ≡ false
+    outside u true e k out = absurd (true≢false (sym (k.part u e) ∙ out))
+    outside u false e k out = e
 
 pub with-requires-then-comes_before-clause-new : goal.with-requires-then-comes_before-clause-new
-with-requires-then-comes_before-clause-new g c =
+with-requires-then-comes_before-clause-new c =
     let edge = c.args.settings.now.voxel in
     let i = c.args.entrant.now.item in
     let m = contents_of c.args.self in
@@ -66,12 +86,12 @@ with-requires-then-comes_before-clause-new g c =
     let best = best_on m c.args.entrant.now.cube cube c.rivals-best.result.best c.in-Some.best c.requires.cube c.rivals-best.ensures.best c.in-Some.is in
     let before = first_on i c.in-Some.best c.args.entrant.now.cube cube c.comes_before.result c.requires.cube c.requires.live c.comes_before.ensures ∙ c.if-comes_before.true in
     let wins = new_wins edge i.number m i.point c.in-Some.best (contents_rise 0 c.args.high m c.requires.waiting.held) c.requires.new best before in
-    let left = c.in_ok-cleared.ensures.held ∙ ap (λ (b : Bounds). mark m (in_box b) thin_tag) c.requires.cube in
+    let left = c.in_ok-cleared.ensures.held ∙ (clears (goal.at.with-requires-then-comes_before-clause-new c).After-lost).same ∙ ap (λ (b : Bounds). mark m (in_box b) thin_tag) c.requires.cube in
     let new = winner_new edge c.args.high i.number m i.point c.requires.waiting.held c.requires.new in
     subst (IsUnheld i.number) (sym left) (subst (λ (j : Item). IsUnheld j.number (mark m (in_box cube) thin_tag)) wins new)
 
 pub returns-then-comes_before-clause-held : goal.returns-then-comes_before-clause-held
-returns-then-comes_before-clause-held g c =
+returns-then-comes_before-clause-held c =
     let edge = c.args.settings.now.voxel in
     let i = c.args.entrant.now.item in
     let m = contents_of c.args.self in
@@ -79,19 +99,29 @@ returns-then-comes_before-clause-held g c =
     let best = best_on m c.args.entrant.now.cube cube c.rivals-best.result.best c.in-Some.best c.requires.cube c.rivals-best.ensures.best c.in-Some.is in
     let before = first_on i c.in-Some.best c.args.entrant.now.cube cube c.comes_before.result c.requires.cube c.requires.live c.comes_before.ensures ∙ c.if-comes_before.true in
     let wins = new_wins edge i.number m i.point c.in-Some.best (contents_rise 0 c.args.high m c.requires.waiting.held) c.requires.new best before in
-    let left = c.in_ok-cleared.ensures.held ∙ ap (λ (b : Bounds). mark m (in_box b) thin_tag) c.requires.cube in
+    let left = c.in_ok-cleared.ensures.held ∙ (clears (goal.at.returns-then-comes_before-clause-held c).After-lost).same ∙ ap (λ (b : Bounds). mark m (in_box b) thin_tag) c.requires.cube in
     IfOk-weaker c.with-then-comes_before.result _ (λ w. contents_of w ≡ thin edge m i.number i.point)
     (λ w e. e ∙ ap (λ (xs : List Item). put xs i.number i.point) left ∙ ap (λ (j : Item). put (mark m (in_box cube) thin_tag) j.number j.point) (sym wins)) c.with-then-comes_before.ensures.held
 
 pub returns-then-comes_before-clause-joined : goal.returns-then-comes_before-clause-joined
-returns-then-comes_before-clause-joined g c =
+returns-then-comes_before-clause-joined c =
     let i = c.args.entrant.now.item in
-    let there = inside c.args.settings.now.voxel i c.args.entrant.now.cube c.large-large.ensures.sizes.voxel_from c.requires.cube in
-    IfOk-weaker c.with-then-comes_before.result _ (IsJoined c.args.entrant.now.cube c.args.self)
-    (λ w e. inr (i, there, e ∙ ap (λ (ws : List Item). ws ++ i ∷ []) c.in_ok-cleared.ensures.same)) c.with-then-comes_before.ensures.one
+    let box = c.args.entrant.now.cube in
+    let there = inside c.args.settings.now.voxel i box c.voxel-edge.ensures.sizes.voxel_from c.requires.cube in
+    ok_both c.with-then-comes_before.result _ _ (IsJoined box c.args.self)
+    (λ w same e. record {
+      cuboids = inr (c.lost.result, (clears (goal.at.returns-then-comes_before-clause-joined c).After-lost).part, same ∙ c.in_ok-cleared.ensures.one);
+      items = inr (i, there, e ∙ ap (λ (ws : List Item). ws ++ i ∷ []) c.in_ok-cleared.ensures.same);
+    }) c.with-then-comes_before.ensures.same c.with-then-comes_before.ensures.one
+
+pub returns-then-comes_before-clause-draft : goal.returns-then-comes_before-clause-draft
+returns-then-comes_before-clause-draft c = IfOk-weaker c.with-then-comes_before.result _ (λ (w : Waiting). w.draft ≡ c.args.self.draft) (λ w same. same ∙ c.in_ok-cleared.ensures.draft) c.with-then-comes_before.ensures.draft
+
+pub returns-then-count-eq1-clause-joined : goal.returns-then-count-eq1-clause-joined
+returns-then-count-eq1-clause-joined c = record { cuboids = inl refl; items = inl refl }
 
 pub returns-then-count-eq1-clause-held : goal.returns-then-count-eq1-clause-held
-returns-then-count-eq1-clause-held g c =
+returns-then-count-eq1-clause-held c =
     let edge = c.args.settings.now.voxel in
     let i = c.args.entrant.now.item in
     let m = contents_of c.args.self in
@@ -102,14 +132,14 @@ returns-then-count-eq1-clause-held g c =
     sym (entered_same edge c.args.high i.number m i.point c.in-Some.best c.requires.waiting.held c.requires.below c.requires.new (alone_inside m cube c.in-Some.best best one) behind)
 
 pub with-requires-2-clause-live : goal.with-requires-2-clause-live
-with-requires-2-clause-live g c =
+with-requires-2-clause-live c =
     let m = contents_of c.args.self in
     let box = c.args.entrant.now.cube in
     let best = best_on m box box c.rivals-best.result.best c.in-Some.best refl c.rivals-best.ensures.best c.in-Some.is in
     live_is c.in-Some.best.label (member-filter (λ (i : Item). is_live i.label) c.in-Some.best m best.live).1
 
 pub with-requires-2-clause-below : goal.with-requires-2-clause-below
-with-requires-2-clause-below g c =
+with-requires-2-clause-below c =
     let edge = c.args.settings.now.voxel in
     let i = c.args.entrant.now.item in
     let m = contents_of c.args.self in
@@ -121,7 +151,7 @@ with-requires-2-clause-below g c =
     (winner_below edge c.args.high i.number m i.point c.requires.waiting.held c.requires.below)
 
 pub with-requires-2-clause-new : goal.with-requires-2-clause-new
-with-requires-2-clause-new g c =
+with-requires-2-clause-new c =
     let edge = c.args.settings.now.voxel in
     let i = c.args.entrant.now.item in
     let m = contents_of c.args.self in
@@ -135,7 +165,7 @@ with-requires-2-clause-new g c =
     c.in-Some.best (contents_rise 0 c.args.high m c.requires.waiting.held) c.requires.new best behind) new)
 
 pub returns-clause-held : goal.returns-clause-held
-returns-clause-held g c =
+returns-clause-held c =
     let edge = c.args.settings.now.voxel in
     let i = c.args.entrant.now.item in
     let m = contents_of c.args.self in
@@ -150,66 +180,16 @@ returns-clause-held g c =
     (sym (held_wins edge i.number m i.point old (contents_rise 0 c.args.high m c.requires.waiting.held)
     c.requires.new best behind))) c.with-2.ensures.held
 
--- where only what waits is more
-
-pub returns-in_default-clause-draft : goal.returns-in_default-clause-draft
-returns-in_default-clause-draft g c = λ last ps d.
-    IfOk-weaker c.with.result _ (λ (w : Waiting). IsDraftLeft c.args.settings.now.large c.args.high last ps w.draft)
-    (λ w same. subst (IsDraftLeft c.args.settings.now.large c.args.high last ps) (sym same) (ps, left_itself ps, d)) c.with.ensures.draft
-
-pub returns-in_default-clause-drafted : goal.returns-in_default-clause-drafted
-returns-in_default-clause-drafted g c =
-    IfOk-weaker c.with.result _ (λ (w : Waiting). IsDrafted 0 1 c.args.self.draft w.draft)
-    (λ w same. subst (IsDrafted 0 1 c.args.self.draft) (sym same) (worked_itself 0 1 c.args.self.draft)) c.with.ensures.draft
-
-pub returns-then-comes_before-clause-draft : goal.returns-then-comes_before-clause-draft
-returns-then-comes_before-clause-draft g c = λ last ps d.
-    IfOk-weaker c.with-then-comes_before.result _ (λ (w : Waiting). IsDraftLeft c.args.settings.now.large c.args.high last ps w.draft)
-    (λ w same. subst (IsDraftLeft c.args.settings.now.large c.args.high last ps) (sym same)
-    (subst (λ (l : ℕ). IsDraft l c.args.high last ps c.args.self.draft
-    → IsDraftLeft l c.args.high last ps c.in_ok-cleared.cleared.draft) c.large-large.ensures.value
-    (c.in_ok-cleared.ensures.draft last ps) d)) c.with-then-comes_before.ensures.draft
-
-pub returns-then-comes_before-clause-drafted : goal.returns-then-comes_before-clause-drafted
-returns-then-comes_before-clause-drafted g c =
-    IfOk-weaker c.with-then-comes_before.result _ (λ (w : Waiting). IsDrafted 0 1 c.args.self.draft w.draft)
-    (λ w same. subst (IsDrafted 0 1 c.args.self.draft) (sym same) c.in_ok-cleared.ensures.drafted) c.with-then-comes_before.ensures.draft
-
-pub returns-then-count-eq1-clause-draft : goal.returns-then-count-eq1-clause-draft
-returns-then-count-eq1-clause-draft g c = λ last ps d. (ps, left_itself ps, d)
-
-pub returns-then-count-eq1-clause-drafted : goal.returns-then-count-eq1-clause-drafted
-returns-then-count-eq1-clause-drafted g c = worked_itself 0 1 c.args.self.draft
+pub returns-clause-joined : goal.returns-clause-joined
+returns-clause-joined c =
+    let i = c.in-Some.best in
+    let box = c.args.entrant.now.cube in
+    let best = best_on (contents_of c.args.self) box box c.rivals-best.result.best i refl c.rivals-best.ensures.best c.in-Some.is in
+    ok_both c.with-2.result _ _ (IsJoined box c.args.self)
+    (λ w same e. record {
+      cuboids = inr (box, λ u k. k, same ∙ c.in_ok-cleared-2.ensures.one);
+      items = inr (i, best.held, e ∙ ap (λ (ws : List Item). ws ++ i ∷ []) c.in_ok-cleared-2.ensures.same);
+    }) c.with-2.ensures.same c.with-2.ensures.one
 
 pub returns-clause-draft : goal.returns-clause-draft
-returns-clause-draft g c = λ last ps d.
-    IfOk-weaker c.with-2.result _ (λ (w : Waiting). IsDraftLeft c.args.settings.now.large c.args.high last ps w.draft)
-    (λ w same. subst (IsDraftLeft c.args.settings.now.large c.args.high last ps) (sym same)
-    (subst (λ (l : ℕ). IsDraft l c.args.high last ps c.args.self.draft
-    → IsDraftLeft l c.args.high last ps c.in_ok-cleared-2.cleared.draft) c.large-large.ensures.value
-    (c.in_ok-cleared-2.ensures.draft last ps) d)) c.with-2.ensures.draft
-
-pub returns-clause-drafted : goal.returns-clause-drafted
-returns-clause-drafted g c =
-    IfOk-weaker c.with-2.result _ (λ (w : Waiting). IsDrafted 0 1 c.args.self.draft w.draft)
-    (λ w same. subst (IsDrafted 0 1 c.args.self.draft) (sym same) c.in_ok-cleared-2.ensures.drafted) c.with-2.ensures.draft
-
--- what is said of the settings' number, said of the one that is handed on
-
-pub with-requires-clause-waiting : goal.with-requires-clause-waiting
-with-requires-clause-waiting g c = rw c.large-large.ensures.value c.requires.waiting
-
-pub cleared-requires-clause-waiting : goal.cleared-requires-clause-waiting
-cleared-requires-clause-waiting g c = rw c.large-large.ensures.value c.requires.waiting
-
-pub cleared-requires-2-clause-waiting : goal.cleared-requires-2-clause-waiting
-cleared-requires-2-clause-waiting g c = rw c.large-large.ensures.value c.requires.waiting
-
-pub returns-in_default-clause-waiting : goal.returns-in_default-clause-waiting
-returns-in_default-clause-waiting g c = rw c.large-large.ensures.value at c.with.ensures.waiting
-
-pub returns-then-comes_before-clause-waiting : goal.returns-then-comes_before-clause-waiting
-returns-then-comes_before-clause-waiting g c = rw c.large-large.ensures.value at c.with-then-comes_before.ensures.waiting
-
-pub returns-clause-waiting : goal.returns-clause-waiting
-returns-clause-waiting g c = rw c.large-large.ensures.value at c.with-2.ensures.waiting
+returns-clause-draft c = IfOk-weaker c.with-2.result _ (λ (w : Waiting). w.draft ≡ c.args.self.draft) (λ w same. same ∙ c.in_ok-cleared-2.ensures.draft) c.with-2.ensures.draft
